@@ -1,0 +1,9 @@
+//! The history of a key-value store: texts, key states, changes, and the plain list of revisions.
+//!
+//! `specs/` has the definitions that every crate above speaks of: a history, the key at a revision,
+//! the state at a revision, and the laws about them.
+#![tactic(auto)]
+
+pub mod text;
+
+pub use text::Text;

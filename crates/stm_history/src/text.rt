@@ -1,0 +1,143 @@
+//! A text that contracts see as its bytes.
+ghost use Rattle.std.specs.Prelude.{◌≡◌, Some, refl, nat_eq, string_bytes, IfOk};
+ghost use Rattle.std.proofs.Common.{rules};
+ghost use Rattle.std.specs.Ordering.{nat_cmp};
+ghost use Rattle.std.specs.Hash as fed;
+ghost use Rattle.std.specs.Cmp.Rules.{comparing, hashing};
+ghost use Rattle.std.specs.Cmp.Lexicographic.{pointwise, slice_cmp};
+
+use std::alloc::{AllocError, Global};
+use std::cmp::Ordering;
+use std::convert::AsStr;
+use std::fmt;
+use std::hash::{Hash, Hasher};
+use std::marker::Model;
+
+/// A text: a key, a value or a message.
+///
+/// Contracts see its bytes, and never the room that it was given. It is made from a `String` and
+/// gives it back without taking memory.
+#[derive(Debug, Drop)]
+pub struct Text {
+    string: String,
+}
+
+impl Model for Text {
+    ghost use Rattle.std.specs.Prelude.{List, ℕ, string_bytes};
+
+    ghost Value = { List ℕ };
+
+    ghost view = { λ t. string_bytes t.string };
+}
+
+impl Text {
+    /// The text of a string. It takes no memory.
+    pub fn new(string: String) -> Text
+        ensures { result ≡ string_bytes string }
+    {
+        Text { string }
+    }
+
+    /// A copy of a text, the one call here beside `clone` that takes memory.
+    pub fn copy_of(alloc: Global, text: &str) -> Result<Text, AllocError>
+        ensures { IfOk result (λ t. t ≡ text.now) }
+    {
+        let string = String::from_str(alloc, text)?;
+        Ok(Text { string })
+    }
+
+    /// The text, as a string slice.
+    pub fn as_str(&self) -> &str
+        ensures { result.now ≡ self.now }
+    {
+        self.string.as_str()
+    }
+
+    /// The string of this text. It takes no memory.
+    pub fn into_string(self) -> String
+        ensures { string_bytes result ≡ self }
+    {
+        self.string
+    }
+}
+
+impl From<String> for Text {
+    ghost from_gives = { λ s t. t ≡ string_bytes s };
+
+    fn from(string: String) -> Text {
+        Text::new(string)
+    }
+}
+
+impl AsStr for Text {
+    ghost text = { λ t. t };
+
+    fn as_str(&self) -> &str {
+        Text::as_str(self)
+    }
+}
+
+impl fmt::Display for Text {
+    ghost output = { Some };
+
+    fn fmt<W: fmt::Write>(&self, f: &mut fmt::Formatter<W>) -> fmt::Result {
+        fmt::Display::fmt(&self.as_str(), f)
+    }
+}
+
+impl Clone for Text {
+    ghost is_clone = { λ t copy. copy ≡ t };
+
+    fn clone(&self) -> Result<Text, AllocError> {
+        let string = self.string.clone()?;
+        Ok(Text { string })
+    }
+}
+
+impl PartialEq for Text {
+    ghost eq = { pointwise nat_eq };
+
+    ghost laws = { Prim.search (comparing, rules) };
+
+    fn eq(&self, other: &Text) -> bool {
+        self.as_str() == other.as_str()
+    }
+}
+
+impl Eq for Text {
+    ghost laws = { Prim.search (comparing, rules) };
+}
+
+impl PartialOrd for Text {
+    ghost partial_cmp = { λ a b. Some (slice_cmp nat_cmp a b) };
+
+    ghost laws = { Prim.search (comparing, rules) };
+
+    fn partial_cmp(&self, other: &Text) -> Option<Ordering> {
+        Some(self.cmp(other))
+    }
+}
+
+impl Ord for Text {
+    ghost cmp = { slice_cmp nat_cmp };
+
+    ghost total = { Prim.search (comparing, rules) };
+
+    ghost matches_partial_cmp = { Prim.search (comparing, rules) };
+
+    ghost matches_eq = { Prim.search (comparing, rules) };
+
+    fn cmp(&self, other: &Text) -> Ordering {
+        self.as_str().cmp(other.as_str())
+    }
+}
+
+impl Hash for Text {
+    ghost hash_input = { fed.str };
+
+    ghost respects_eq = { Prim.search (hashing, rules) };
+
+    fn hash<H: Hasher>(&self, state: &mut H) {
+        self.as_str().hash(state);
+    }
+}

@@ -4,6 +4,13 @@
 //! the state at a revision, and the laws about them.
 #![tactic(auto)]
 
+pub mod change;
+pub mod key_state;
+pub mod laws;
+pub mod sequence;
 pub mod text;
 
+pub use change::Change;
+pub use key_state::{KeyState, ReadAnswer};
+pub use sequence::Sequence;
 pub use text::Text;

@@ -1,11 +1,11 @@
 -- The laws of histories, by induction on the revisions.
 use Rattle.std.proofs.Common.{◌≡◌, ℕ, ◌+◌, ◌≤◌, ◌<◌, Bool, true, false, List, [], ◌∷◌, length, Option, Some, None, suc, refl, sym, ◌∙◌, ap, subst, arith, cond, IfSome}
 use Rattle.std.specs.Prelude.{nat_le}
-use Rattle.std.proofs.lemmas.Bool.{leb-true, leb-false, le-leb, lt-leb}
+use Rattle.std.proofs.lemmas.Bool.{le-leb, lt-leb}
 use Rattle.stm_history.specs.declared.change.Change.{Change}
 use Rattle.stm_history.specs.declared.change.Change.TheVariants.{Put, Del}
 use Rattle.stm_history.specs.declared.key_state.KeyState.{KeyState}
-use Rattle.stm_history.specs.History.{History, Dated, DatedPut, now, number_of_last, add_revision, revisions_up_to, changes_of, with_change, puts_since_deletion, first_number, state_of, key_after, key_at, key_now, mod_of, change_of, after_change, state_after_put}
+use Rattle.stm_history.specs.History.{Dated, DatedPut, number_of_last, revisions_up_to, changes_of, with_change, puts_since_deletion, state_of, key_after, key_at, mod_of, change_of, after_change, state_after_put}
 use Rattle.stm_history.specs.Laws.{SameModMeansSameState, OlderRevisionsStay, OneMoreRevision, LastRevisionIsNow, NumbersStaySmall}
 
 -- a put on top of the puts of a key

@@ -4,7 +4,7 @@ use crate::text::Text;
 /// What a store has under a present key: etcd's `KeyValue` without the key itself.
 ///
 /// The revisions are those of the store's one counter. `lease` is 0 where the key hangs on none.
-#[derive(Debug, Drop)]
+#[derive(Debug, Drop, Clone)]
 pub struct KeyState {
     /// The value of the last put.
     pub value: Text,
@@ -19,7 +19,7 @@ pub struct KeyState {
 }
 
 /// The answer to a read of one key.
-#[derive(Debug, Drop)]
+#[derive(Debug, Drop, Clone)]
 pub struct ReadAnswer {
     /// The key that was read.
     pub key: Text,

@@ -7,10 +7,14 @@
 pub mod change;
 pub mod key_state;
 pub mod laws;
+pub mod revision;
+pub mod revisions;
 pub mod sequence;
 pub mod text;
 
 pub use change::Change;
 pub use key_state::{KeyState, ReadAnswer};
+pub use revision::Revision;
+pub use revisions::{HIGHEST_REVISION, Revisions};
 pub use sequence::Sequence;
 pub use text::Text;

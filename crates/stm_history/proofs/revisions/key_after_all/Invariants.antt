@@ -1,0 +1,16 @@
+use Rattle.std.proofs.Common.{◌≡◌, ◌+◌, ◌≤◌, length, take, reverse}
+use Rattle.stm_history.specs.History.{key_after}
+use Rattle.stm_history.specs.Walk.{version_of}
+use Rattle.stm_history.proofs.Walking.{walked}
+use Rattle.stm_history.proofs.revisions.key_after_all.Given as goal
+
+-- walking on over the revisions that are left tells the answer
+abbrev pub invariant-loop-left : goal.invariant-loop-left
+invariant-loop-left l = record {
+    within : l.left ≤ length l.revisions;
+    few : version_of l.found + l.left ≤ length l.revisions;
+    told : walked l.opening l.key l.found (reverse (take l.left l.revisions)) ≡ key_after l.opening l.key (reverse l.revisions)
+  }
+
+abbrev pub decreases-loop-left : goal.decreases-loop-left
+decreases-loop-left l = l.left

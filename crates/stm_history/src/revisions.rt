@@ -1,6 +1,6 @@
 //! The plain list of revisions: the history itself, searched from its end.
-ghost use Rattle.std.specs.Prelude.{◌≡◌, ◌+◌, ◌<◌, ◌≤◌, ◌^◌, IfOk, OnOk, OnErr, IfSome, List, reverse, length, Some};
-ghost use Rattle.stm_history.specs.History.{History, opened_at, now, add_revision, key_after, key_at, AreRevisions};
+ghost use Rattle.std.specs.Prelude.{◌≡◌, ◌+◌, ◌<◌, ◌≤◌, ◌^◌, IfOk, OnOk, OnErr, IfSome, List, reverse, length, Some, is_some};
+ghost use Rattle.stm_history.specs.History.{History, opened_at, now, add_revision, key_after, key_at, key_now, AreRevisions};
 ghost use Rattle.stm_history.specs.Walk.{put_before, version_of};
 
 use crate::change::Change;
@@ -87,6 +87,22 @@ fn key_after_all(opening: u64, revisions: &[Revision], key: &str) -> Result<Opti
     Ok(found)
 }
 
+/// Whether a key is present after these revisions, of which the last is the newest.
+fn is_present_after(opening: u64, revisions: &[Revision], key: &str) -> bool
+    ensures { result ≡ is_some (key_after opening key.now (reverse revisions.now)) }
+{
+    let mut left = revisions.len();
+    while left > 0 {
+        left -= 1;
+        match revisions[left].change_of(key) {
+            None => {}
+            Some(Change::Del { .. }) => return false,
+            Some(Change::Put { .. }) => return true,
+        }
+    }
+    false
+}
+
 impl Revisions {
     /// An empty store's history, which opens at this revision.
     pub fn new(alloc: Global, opening: u64) -> Revisions
@@ -120,6 +136,20 @@ impl Revisions {
     {
         let count = revision.saturating_sub(self.opening).min(self.revisions.len() as u64) as usize;
         key_after_all(self.opening, &self.revisions[..count], key)
+    }
+
+    /// A key as it is now.
+    pub fn key_now(&self, key: &str) -> Result<Option<KeyState>, AllocError>
+        ensures { IfOk result (λ s. s ≡ key_now self.now key.now) }
+    {
+        key_after_all(self.opening, self.revisions.as_slice(), key)
+    }
+
+    /// Whether a key is present now. It takes no memory.
+    pub fn is_present(&self, key: &str) -> bool
+        ensures { result ≡ is_some (key_now self.now key.now) }
+    {
+        is_present_after(self.opening, self.revisions.as_slice(), key)
     }
 
     /// Adds a revision, whose number is the next one.

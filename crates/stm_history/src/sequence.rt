@@ -67,3 +67,14 @@ impl<T> Sequence<T> {
         self.items
     }
 }
+
+impl<T: Clone + Drop> Clone for Sequence<T> {
+    ghost use Rattle.std.specs.List.{AllZip};
+
+    ghost is_clone = { AllZip T.is_clone };
+
+    fn clone(&self) -> Result<Sequence<T>, AllocError> {
+        let items = self.items.clone()?;
+        Ok(Sequence { items })
+    }
+}

@@ -1,6 +1,6 @@
 //! The plain list of revisions: the history itself, searched from its end.
 ghost use Rattle.std.specs.Prelude.{◌≡◌, ◌+◌, ◌<◌, ◌≤◌, ◌^◌, IfOk, OnOk, OnErr, IfSome, List, reverse, length, Some, is_some};
-ghost use Rattle.stm_history.specs.History.{History, opened_at, now, add_revision, key_after, key_at, key_now, AreRevisions};
+ghost use Rattle.stm_history.specs.History.{History, opened_at, now, add_revision, key_after, key_at, key_now, mod_of, AreRevisions};
 ghost use Rattle.stm_history.specs.Walk.{put_before, version_of};
 
 use crate::change::Change;
@@ -140,7 +140,8 @@ impl Revisions {
 
     /// A key as it is now.
     pub fn key_now(&self, key: &str) -> Result<Option<KeyState>, AllocError>
-        ensures { IfOk result (λ s. s ≡ key_now self.now key.now) }
+        ensures value { IfOk result (λ s. s ≡ key_now self.now key.now) }
+        ensures reached { IfOk result (λ s. mod_of s ≤ now self.now) }
     {
         key_after_all(self.opening, self.revisions.as_slice(), key)
     }

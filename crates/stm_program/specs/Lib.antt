@@ -1,1 +1,16 @@
 pub mod Syntax
+pub mod Size
+pub mod Coding
+pub mod ExpressionView
+pub mod ConditionView
+pub mod StatementView
+pub mod BlockView
+pub mod Weight
+pub mod Limits
+pub mod Words
+pub mod Outcome
+pub mod Elements
+pub mod Reading
+pub mod Grammar
+pub mod WordTexts
+pub mod Writing

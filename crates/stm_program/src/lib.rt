@@ -1,10 +1,30 @@
 //! Programs of the transaction language: their syntax, and reading and writing them as JSON.
 #![tactic(auto)]
 
+mod condition;
+mod expression;
+mod fault;
 mod level;
+mod limits;
 mod operator;
+mod program;
+mod read;
+mod spell;
+mod statement;
 mod variable;
+pub mod words;
+mod write;
 
+pub use condition::{Cond, CondNode};
+pub use expression::{Expr, ExprNode};
+pub use fault::{BadProgram, Cause, ReadError};
 pub use level::Level;
+pub use limits::fits;
 pub use operator::Operator;
+pub use program::Program;
+pub use read::{place_within, read_program};
+pub use spell::write_program;
+pub use statement::{Block, Stmt, StmtNode};
+pub use stm_history::Text;
 pub use variable::Variable;
+pub use write::Write;

@@ -1,0 +1,185 @@
+-- Recorded events against the history that they record.
+use Rattle.std.proofs.Common.{◌≡◌, ℕ, ◌+◌, ◌≤◌, ◌<◌, Bool, true, false, List, [], ◌∷◌, ◌++◌, length, map, Option, Some, None, suc, refl, sym, ◌∙◌, ap, subst, arith, cond, ne_eqb, eq-eqb}
+use Rattle.std.specs.Prelude.{bytes_eq, nat_eq}
+use Rattle.std.proofs.lemmas.List.{length-map, length-append}
+use Rattle.std.proofs.lemmas.Slice.Eq.{bytes_eq-Decides}
+use Rattle.stm_history.specs.declared.change.Change.{Change}
+use Rattle.stm_history.specs.declared.change.Change.TheVariants.{Put, Del}
+use Rattle.stm_history.specs.declared.key_state.KeyState.{KeyState}
+use Rattle.stm_history.specs.declared.revisions.TheConstants.{HIGHEST_REVISION}
+use Rattle.stm_history.specs.History.{number_of_last, key_of, change_of, key_after, after_change, state_after_put, HasDistinctKeys}
+use Rattle.stm_history.proofs.HistoryLaws.{one_more}
+use Rattle.stm_keys.specs.declared.event.Event.{Event}
+use Rattle.stm_keys.specs.declared.event.Event.TheVariants.{Put as PutEvent, Delete as DeleteEvent}
+use Rattle.stm_keys.specs.Events.{event_of, events_above, events_numbered, key_of_event, event_about, after_event, change_of_event}
+use Rattle.stm_keys.specs.Table.{after_one, after_all}
+use Rattle.stm_keys.specs.Keys.{changes_of, all_events, state_recorded, IsKept}
+
+-- equal bytes are one text
+same_text : (a b : List ℕ) → bytes_eq a b ≡ true → a ≡ b
+same_text a b equal = (bytes_eq-Decides a b).0 equal
+
+-- the event of a change is about the change's key, and shows the change
+key_of_event-event_of : (n : ℕ) (before : List ℕ → Option KeyState) (c : Change) → key_of_event (event_of n before c) ≡ key_of c
+key_of_event-event_of n before (Put key value lease) = refl
+key_of_event-event_of n before (Del key) = refl
+
+shows_put : (n : ℕ) (key value : List ℕ) (lease : ℕ) (s : Option KeyState) → change_of_event (PutEvent key (state_after_put n value lease s)) ≡ Put key value lease
+shows_put n key value lease None = refl
+shows_put n key value lease (Some s) = refl
+
+change_of_event-event_of : (n : ℕ) (before : List ℕ → Option KeyState) (c : Change) → change_of_event (event_of n before c) ≡ c
+change_of_event-event_of n before (Put key value lease) = shows_put n key value lease (before key)
+change_of_event-event_of n before (Del key) = refl
+
+pub changes_shown : (n : ℕ) (before : List ℕ → Option KeyState) (cs : List Change) → map change_of_event (map (event_of n before) cs) ≡ cs
+changes_shown n before [] = refl
+changes_shown n before (c ∷ cs) =
+    ap (λ d. d ∷ map change_of_event (map (event_of n before) cs)) (change_of_event-event_of n before c) ∙ ap (λ l. c ∷ l) (changes_shown n before cs)
+
+-- the event of a change depends on its key alone
+event_of_same : (n : ℕ) (s t : List ℕ → Option KeyState) (c : Change) → ((key : List ℕ) → s key ≡ t key) → event_of n s c ≡ event_of n t c
+event_of_same n s t (Put key value lease) same = ap (λ o. PutEvent key (state_after_put n value lease o)) (same key)
+event_of_same n s t (Del key) same = refl
+
+pub events_same : (n : ℕ) (s t : List ℕ → Option KeyState) (cs : List Change) → ((key : List ℕ) → s key ≡ t key) → map (event_of n s) cs ≡ map (event_of n t) cs
+events_same n s t [] same = refl
+events_same n s t (c ∷ cs) same =
+    ap (λ e. e ∷ map (event_of n s) cs) (event_of_same n s t c same) ∙ ap (λ l. event_of n t c ∷ l) (events_same n s t cs same)
+
+-- what the event of a change of a key makes of the key is what the change makes of it
+shown_of : (n : ℕ) (before : List ℕ → Option KeyState) (key : List ℕ) (c : Change) (s : Option KeyState) → key_of c ≡ key →
+    after_event (Some (event_of n before c)) s ≡ after_change n (Some c) (before key)
+shown_of n before key (Put k value lease) s same = ap (λ q. Some (state_after_put n value lease (before q))) same
+shown_of n before key (Del k) s same = refl
+
+about_case : (b : Bool) (n : ℕ) (before : List ℕ → Option KeyState) (key : List ℕ) (c : Change) (e : Option Event) (d : Option Change) → (b ≡ true → key_of c ≡ key) →
+    after_event e (before key) ≡ after_change n d (before key) →
+    after_event (cond b (Some (event_of n before c)) e) (before key) ≡ after_change n (cond b (Some c) d) (before key)
+about_case true n before key c e d same rest = shown_of n before key c (before key) (same refl)
+about_case false n before key c e d same rest = rest
+
+-- what the events of a revision make of a key is what its changes make of it
+pub after_about : (n : ℕ) (before : List ℕ → Option KeyState) (key : List ℕ) (cs : List Change) →
+    after_event (event_about key (map (event_of n before) cs)) (before key) ≡ after_change n (change_of key cs) (before key)
+after_about n before key [] = refl
+after_about n before key (c ∷ cs) =
+    ap (λ k. after_event (cond (bytes_eq k key) (Some (event_of n before c)) (event_about key (map (event_of n before) cs))) (before key)) (key_of_event-event_of n before c)
+    ∙ about_case (bytes_eq (key_of c) key) n before key c (event_about key (map (event_of n before) cs)) (change_of key cs) (same_text (key_of c) key)
+    (after_about n before key cs)
+
+-- a walk back over the recorded events finds what the key is
+pub recorded_state : (opening : ℕ) (key : List ℕ) (revisions : List (List Change)) →
+    state_recorded key (all_events opening revisions) ≡ key_after opening key revisions
+recorded_state opening key [] = refl
+recorded_state opening key (changes ∷ older) =
+    ap (after_event (event_about key (events_above opening changes older))) (recorded_state opening key older)
+    ∙ after_about (number_of_last opening (changes ∷ older)) (λ q. key_after opening q older) key changes
+    ∙ sym (one_more opening key changes older)
+
+-- the older of recorded revisions are recorded as they are without the newer ones
+pub older_recorded : (opening : ℕ) (newer older : List (List Event)) → newer ++ older ≡ all_events opening (changes_of (newer ++ older)) →
+    older ≡ all_events opening (changes_of older)
+older_recorded opening [] older is = is
+older_recorded opening (r ∷ newer) older is = older_recorded opening newer older (cc)
+
+-- the events of a number are those of the revision that stands there
+number_case : (b : Bool) (events rest x : List Event) → b ≡ true → events ≡ x → cond b events rest ≡ x
+number_case true events rest x holds same = same
+number_case false events rest x holds same = cc
+
+later_case : (b : Bool) (events rest x : List Event) → b ≡ false → rest ≡ x → cond b events rest ≡ x
+later_case true events rest x fails same = cc
+later_case false events rest x fails same = same
+
+length-changes_of : (recorded : List (List Event)) → length (changes_of recorded) ≡ length recorded
+length-changes_of recorded = length-map recorded (map change_of_event)
+
+pub numbered : (opening r : ℕ) (newer : List (List Event)) (x : List Event) (older : List (List Event)) → newer ++ x ∷ older ≡ all_events opening (changes_of (newer ++ x ∷ older)) →
+    r ≡ opening + suc (length older) → events_numbered opening r (changes_of (newer ++ x ∷ older)) ≡ x
+numbered opening r [] x older is place =
+    number_case (nat_eq (opening + suc (length (changes_of older))) r) (events_above opening (map change_of_event x) (changes_of older))
+    (events_numbered opening r (changes_of older)) x
+    (eq-eqb _ _ (omega (arith, length-changes_of older)))
+    (cc)
+numbered opening r (y ∷ newer) x older is place =
+    later_case (nat_eq (opening + suc (length (changes_of (newer ++ x ∷ older)))) r) (events_above opening (map change_of_event y) (changes_of (newer ++ x ∷ older)))
+    (events_numbered opening r (changes_of (newer ++ x ∷ older))) x
+    (ne_eqb _ _ (λ e. absurd (omega (arith, length-changes_of (newer ++ x ∷ older), length-append newer (x ∷ older)))))
+    (numbered opening r newer x older (cc) place)
+
+-- no revision has a number at or below the opening one
+pub none_numbered : (opening r : ℕ) (revisions : List (List Change)) → r ≤ opening → events_numbered opening r revisions ≡ []
+none_numbered opening r [] below = refl
+none_numbered opening r (changes ∷ older) below =
+    later_case (nat_eq (opening + suc (length older)) r) (events_above opening changes older) (events_numbered opening r older) []
+    (ne_eqb _ _ (λ e. absurd (omega arith)))
+    (none_numbered opening r older below)
+
+-- events of other keys leave a key
+untouched_case : (b : Bool) (c : Change) (d : Option Change) → cond b (Some c) d ≡ None → (b ≡ false) × (d ≡ None)
+untouched_case true c d none = cc
+untouched_case false c d none = (refl, none)
+
+untouched : (n : ℕ) (before : List ℕ → Option KeyState) (key : List ℕ) (cs : List Change) (s : Option KeyState) → change_of key cs ≡ None →
+    after_all (map (event_of n before) cs) key s ≡ s
+untouched n before key [] s none = refl
+untouched n before key (c ∷ cs) s none =
+    let others : (bytes_eq (key_of c) key ≡ false) × (change_of key cs ≡ None) = untouched_case (bytes_eq (key_of c) key) c (change_of key cs) none in
+    ap (λ k. after_all (map (event_of n before) cs) key (cond (bytes_eq k key) (after_event (Some (event_of n before c)) s) s)) (key_of_event-event_of n before c)
+    ∙ ap (λ b. after_all (map (event_of n before) cs) key (cond b (after_event (Some (event_of n before c)) s) s)) others.0
+    ∙ untouched n before key cs s others.1
+
+-- events of distinct keys, one after another, make of a key what its change makes of it
+all_case : (b : Bool) (n : ℕ) (before : List ℕ → Option KeyState) (key : List ℕ) (c : Change) (cs : List Change) →
+    (b ≡ true → key_of c ≡ key) → change_of (key_of c) cs ≡ None →
+    after_all (map (event_of n before) cs) key (before key) ≡ after_change n (change_of key cs) (before key) →
+    after_all (map (event_of n before) cs) key (cond b (after_event (Some (event_of n before c)) (before key)) (before key)) ≡ after_change n (cond b (Some c) (change_of key cs)) (before key)
+all_case true n before key c cs same apart rest =
+    untouched n before key cs (after_event (Some (event_of n before c)) (before key)) (subst (λ k. change_of k cs ≡ None) (same refl) apart)
+    ∙ shown_of n before key c (before key) (same refl)
+all_case false n before key c cs same apart rest = rest
+
+pub all_written : (n : ℕ) (before : List ℕ → Option KeyState) (key : List ℕ) (cs : List Change) → HasDistinctKeys cs →
+    after_all (map (event_of n before) cs) key (before key) ≡ after_change n (change_of key cs) (before key)
+all_written n before key [] apart = refl
+all_written n before key (c ∷ cs) apart =
+    ap (λ k. after_all (map (event_of n before) cs) key (cond (bytes_eq k key) (after_event (Some (event_of n before c)) (before key)) (before key))) (key_of_event-event_of n before c)
+    ∙ all_case (bytes_eq (key_of c) key) n before key c cs (same_text (key_of c) key) apart.0 (all_written n before key cs apart.1)
+
+-- one more revision keeps what a key store keeps
+pub kept_after : (opening : ℕ) (recorded : List (List Event)) (table : List ℕ → Option KeyState) (next : List ℕ → Option KeyState) (changes : List Change) (events : List Event) →
+    IsKept opening recorded table → opening + length recorded < HIGHEST_REVISION → HasDistinctKeys changes →
+    events ≡ map (event_of (opening + suc (length recorded)) table) changes →
+    ((key : List ℕ) → next key ≡ after_all events key (table key)) →
+    IsKept opening (events ∷ recorded) next
+kept_after opening recorded table next changes events kept room apart made written =
+    let n : ℕ = opening + suc (length recorded) in
+    let older : List (List Change) = changes_of recorded in
+    let number : n ≡ opening + suc (length older) = omega (arith, length-changes_of recorded) in
+    let shown : map change_of_event events ≡ changes = ap (map change_of_event) made ∙ changes_shown n table changes in
+    let above : events ≡ events_above opening changes older =
+    made ∙ events_same n table (λ key. key_after opening key older) changes kept.states
+    ∙ ap (λ m. map (event_of m (λ key. key_after opening key older)) changes) number in
+    record {
+      bounded = omega (arith, kept.bounded);
+      events =
+          ap (λ e. e ∷ recorded) above
+          ∙ ap (λ r. events_above opening changes older ∷ r) kept.events
+          ∙ ap (λ cs. events_above opening cs older ∷ all_events opening older) (sym shown);
+      states = λ key.
+          written key
+          ∙ ap (λ es. after_all es key (table key)) made
+          ∙ all_written n table key changes apart
+          ∙ ap (λ s. after_change n (change_of key changes) s) (kept.states key)
+          ∙ ap (λ m. after_change m (change_of key changes) (key_after opening key older)) number
+          ∙ sym (one_more opening key changes older)
+          ∙ ap (λ cs. key_after opening key (cs ∷ older)) (sym shown);
+    }
+
+-- the history after one more recorded revision
+pub shown_after : (opening : ℕ) (recorded : List (List Event)) (table : List ℕ → Option KeyState) (changes : List Change) (events : List Event) →
+    events ≡ map (event_of (opening + suc (length recorded)) table) changes →
+    changes_of (events ∷ recorded) ≡ changes ∷ changes_of recorded
+shown_after opening recorded table changes events made =
+    ap (λ cs. cs ∷ changes_of recorded) (ap (map change_of_event) made ∙ changes_shown (opening + suc (length recorded)) table changes)

@@ -1,0 +1,45 @@
+-- What a key store is: a history, and the list of the keys that are present.
+use Rattle.std.specs.Prelude.{◌≡◌, ℕ, ◌+◌, ◌≤◌, bytes_eq, List, [], ◌∷◌, length, map, reverse, Option, Some, None, nat_eq, nat_lt, if◌then◌else◌}
+use Rattle.std.specs.List.{IsDistinct}
+use Rattle.std.specs.Map.{lookup, keys_of}
+use Rattle.stm_history.specs.declared.change.Change.{Change}
+use Rattle.stm_history.specs.declared.key_state.KeyState.{KeyState}
+use Rattle.stm_history.specs.declared.revisions.TheConstants.{HIGHEST_REVISION}
+use Rattle.stm_history.specs.History.{History, key_after, key_at, key_now}
+use Rattle.stm_keys.specs.declared.event.Event.{Event}
+use Rattle.stm_keys.specs.Events.{events_above, change_of_event, event_about, after_event}
+
+-- what contracts see of a key store
+pub record Contents : Type 0 where
+  pub history : History
+  pub present : List (List ℕ × KeyState)
+
+-- the list has each present key once, with its state, and no other key
+pub record ListsPresent (h : History) (present : List (List ℕ × KeyState)) : Type 0 where
+  pub states : (key : List ℕ) → lookup (bytes_eq key) present ≡ key_now h key
+  pub once : IsDistinct bytes_eq (keys_of present)
+
+-- the key that a read at a revision shows: 0 names the last one
+abbrev pub key_read : History → List ℕ → ℕ → Option KeyState
+key_read h key revision = if nat_eq revision 0 then key_now h key else key_at h key revision
+
+-- the changes of recorded revisions
+abbrev pub changes_of : List (List Event) → List (List Change)
+changes_of recorded = map (map change_of_event) recorded
+
+-- the events of each revision, the newest first
+abbrev pub all_events : ℕ → List (List Change) → List (List Event)
+all_events opening [] = []
+all_events opening (changes ∷ older) = events_above opening changes older ∷ all_events opening older
+
+-- what a walk back over recorded revisions finds of a key
+abbrev pub state_recorded : List ℕ → List (List Event) → Option KeyState
+state_recorded key [] = None
+state_recorded key (events ∷ older) = after_event (event_about key events) (state_recorded key older)
+
+-- What a key store keeps true of its fields, the recorded revisions being the newest first: the counter fits, each
+-- recorded event is what its change shows, and the table has what each key is now.
+pub record IsKept (opening : ℕ) (recorded : List (List Event)) (table : List ℕ → Option KeyState) : Type 0 where
+  pub bounded : opening + length recorded ≤ HIGHEST_REVISION
+  pub events : recorded ≡ all_events opening (changes_of recorded)
+  pub states : (key : List ℕ) → table key ≡ key_after opening key (changes_of recorded)

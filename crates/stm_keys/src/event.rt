@@ -1,0 +1,38 @@
+//! What a change of a key shows to those who watch it.
+ghost use Rattle.std.specs.Prelude.{◌≡◌, option_copied};
+ghost use Rattle.stm_keys.specs.Events.{key_of_event, event_about};
+
+use stm_history::{KeyState, Text};
+
+/// One event of a revision: etcd's `Event` of a watch response.
+#[derive(Debug, Drop, Clone)]
+pub enum Event {
+    /// The key was put, and has this state since.
+    Put { key: Text, state: KeyState },
+    /// The key was deleted at this revision.
+    Delete { key: Text, revision: u64 },
+}
+
+impl Event {
+    /// The key that the event is about.
+    pub fn key(&self) -> &Text
+        ensures { result.now ≡ key_of_event self.now }
+    {
+        match self {
+            Event::Put { key, .. } => key,
+            Event::Delete { key, .. } => key,
+        }
+    }
+}
+
+/// The event of a key among the events of one revision, if there is one.
+pub(crate) fn find_event<'a>(events: &'a [Event], key: &str) -> Option<&'a Event>
+    ensures { option_copied result ≡ event_about key.now events.now }
+{
+    for event in events {
+        if event.key().as_str() == key {
+            return Some(event);
+        }
+    }
+    None
+}

@@ -1,0 +1,19 @@
+//! The keys of a store, at every revision.
+//!
+//! `Keys` is a history: the list of revisions since the store opened, each put with its key's full
+//! state, beside a table of what each key is now.
+#![tactic(auto)]
+
+pub mod event;
+pub mod keys;
+mod record;
+pub mod refusal;
+mod table;
+
+pub use event::Event;
+pub use keys::Keys;
+pub use refusal::{ApplyRefusal, ReadRefusal};
+pub use stm_history::{Change, HIGHEST_REVISION, KeyState, Sequence, Text};
+
+#[cfg(test)]
+mod tests;

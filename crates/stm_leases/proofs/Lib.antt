@@ -1,0 +1,5 @@
+pub mod Walk
+pub mod Tables
+pub mod InStep
+pub mod Ordered
+pub mod First

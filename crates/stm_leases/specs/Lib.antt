@@ -1,0 +1,4 @@
+pub mod LeaseLog
+pub mod Leases
+pub mod Due
+pub mod Kept

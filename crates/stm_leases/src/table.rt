@@ -1,0 +1,212 @@
+//! The leases.
+ghost use Rattle.std.specs.Prelude.{◌≡◌, ◌≢◌, ℕ, ◌-◌, ◌<◌, ◌≤◌, ◌↔◌, List, ◌∷◌, map, max, Some, None, Err, IsTrue, IsOk, IsOkUnless, OnOk, OnErr, IfOk, MatchOption, string_bytes};
+ghost use Rattle.std.specs.FinMap as finmap;
+ghost use Rattle.stm_leases.specs.LeaseLog.{LogItem, Grant, Renew, Revoke, Expire, Term};
+
+use crate::collect::{longest_due, texts};
+use crate::errors::{GrantError, KeysError, LeaseNotFound};
+use crate::lease::{Attachment, Lease};
+use indexmap::IndexMap;
+use std::alloc::{AllocError, Global};
+use std::marker::Model;
+use stm_lists::Lists;
+
+const HIGHEST_ID: u64 = 9223372036854775807;
+
+const HIGHEST_TTL: u64 = 9000000000;
+
+/// The live leases, and the keys that hang on them.
+///
+/// Contracts see the live leases by id, the lease of each attached key by the key's bytes, and the
+/// number `spare`: so many calls of `attach` have their room.
+#[derive(Drop)]
+pub struct Leases {
+    leases: IndexMap<u64, Lease>,
+    attached: IndexMap<String, Attachment>,
+    // For each live lease the list of the keys that hang on it.
+    keys: Lists<String>,
+    spare: usize,
+    alloc: Global,
+}
+
+impl Model for Leases {
+    ghost use Rattle.stm_leases.specs.Leases.{Leases as View, leases_code};
+
+    ghost Value = { View };
+
+    ghost coded = { leases_code };
+
+    ghost use Rattle.stm_leases.specs.Kept.{view_of, AreKept};
+
+    ghost view = { λ s. view_of s.leases s.attached s.spare };
+
+    ghost invariant = { λ s. AreKept s.leases s.attached s.keys s.spare };
+}
+
+impl Leases {
+    ghost use Rattle.stm_leases.specs.Leases.{IsLive, StandsFor, AreKeysOf, NoneIsDue, IsNextDue, lease_of, grant_refusal};
+
+    /// No leases. It takes no memory.
+    pub fn new(alloc: Global) -> Leases
+        ensures live { result.live ≡ finmap.empty }
+        ensures attached { result.attached ≡ finmap.empty }
+        ensures spare { result.spare ≡ 0 }
+    {
+        Leases {
+            leases: IndexMap::new(alloc),
+            attached: IndexMap::new(alloc),
+            keys: Lists::new(alloc),
+            spare: 0,
+            alloc,
+        }
+    }
+
+    /// Grants a lease of this id, which lives for `ttl` seconds from `now` on and from each renewal.
+    ///
+    /// It is refused for the first cause that `GrantError` lists; a refusal changes nothing.
+    pub fn grant(&mut self, id: u64, ttl: u64, now: u64) -> Result<(), GrantError>
+        ensures refusal { MatchOption (grant_refusal self.old id ttl) (IsOkUnless result GrantError.OutOfMemory) (λ cause. result ≡ Err cause) }
+        ensures ok { OnOk result (self.new ≡ record self.old { live = finmap.insert self.old.live id (record { ttl = ttl; renewed = now }) }) }
+        ensures log { OnOk result ((log : List LogItem) → StandsFor self.old log → StandsFor self.new (Grant id ttl now ∷ log)) }
+        ensures err { OnErr result (self.new ≡ self.old) }
+    {
+        if id == 0 || id > HIGHEST_ID {
+            return Err(GrantError::LeaseIdOutOfRange);
+        }
+        if ttl == 0 || ttl > HIGHEST_TTL {
+            return Err(GrantError::TtlOutOfRange);
+        }
+        if self.leases.contains_key(&id) {
+            return Err(GrantError::LeaseExists);
+        }
+        if self.leases.reserve(1).is_err() {
+            return Err(GrantError::OutOfMemory);
+        }
+        let Ok(keys) = self.keys.new_list() else {
+            return Err(GrantError::OutOfMemory);
+        };
+        let lease = Lease {
+            ttl,
+            renewed: now,
+            keys,
+        };
+        match self.leases.insert(id, lease) {
+            Ok(_) => Ok(()),
+            Err(_) => unreachable!(),
+        }
+    }
+
+    /// Renews a live lease at `now`, also one that is due. `LeaseNotFound` changes nothing.
+    pub fn keep_alive(&mut self, id: u64, now: u64) -> Result<(), LeaseNotFound>
+        ensures found { IsOk result ↔ IsLive self.old id }
+        ensures ok { (term : Term) → finmap.get self.old.live id ≡ Some term
+            → self.new ≡ record self.old { live = finmap.insert self.old.live id (record term { renewed = now }) } }
+        ensures log { OnOk result ((log : List LogItem) → StandsFor self.old log → StandsFor self.new (Renew id now ∷ log)) }
+        ensures err { OnErr result (self.new ≡ self.old) }
+    {
+        match self.leases.get_mut(&id) {
+            Some(lease) => {
+                lease.renewed = now;
+                Ok(())
+            }
+            None => Err(LeaseNotFound),
+        }
+    }
+
+    /// Whether the id is that of a live lease.
+    pub fn is_live(&self, id: u64) -> bool
+        ensures { result ≡ finmap.contains_key self.now.live id }
+    {
+        self.leases.contains_key(&id)
+    }
+
+    /// Makes sure of room for `additional` attaches. Want of memory changes nothing.
+    pub fn reserve_attach(&mut self, additional: usize) -> Result<(), AllocError>
+        ensures ok { OnOk result (self.new ≡ record self.old { spare = max self.old.spare additional }) }
+        ensures err { OnErr result (self.new ≡ self.old) }
+        ensures succeeds { additional ≤ self.old.spare → IsOk result }
+    {
+        if additional > self.spare {
+            self.attached.reserve(additional)?;
+            self.keys.reserve(additional)?;
+            self.spare = additional;
+        }
+        Ok(())
+    }
+
+    /// Hangs a key on a live lease. `key` and `copy` are two texts of the same bytes.
+    pub fn attach(&mut self, key: String, copy: String, id: u64)
+        requires same_text { string_bytes key ≡ string_bytes copy }
+        requires live { IsLive self.old id }
+        requires loose { lease_of self.old (string_bytes key) ≡ None }
+        requires room { 0 < self.old.spare }
+        ensures { self.new ≡ record self.old {
+            attached = finmap.insert self.old.attached (string_bytes key) id;
+            spare = self.old.spare - 1;
+        } }
+    {
+        let list = self.leases[&id].keys;
+        let Ok(node) = self.keys.push_back(list, copy) else {
+            unreachable!()
+        };
+        let place = Attachment { lease: id, node };
+        match self.attached.insert(key, place) {
+            Ok(_) => self.spare -= 1,
+            Err(_) => unreachable!(),
+        }
+    }
+
+    /// Takes a key off its lease, and gives the lease's id; `None` where it hung on none.
+    pub fn detach(&mut self, key: &str) -> Option<u64>
+        ensures id { result ≡ lease_of self.old key.now }
+        ensures detached { self.new ≡ record self.old { attached = finmap.remove self.old.attached key.now } }
+    {
+        let place = self.attached.swap_remove(key)?;
+        self.keys.unlink(place.node);
+        Some(place.lease)
+    }
+
+    /// The keys that hang on a live lease, ascending by bytes.
+    pub fn keys_of(&self, id: u64) -> Result<Vec<String>, KeysError>
+        ensures live { IsLive self.now id → IsOkUnless result KeysError.OutOfMemory }
+        ensures not_live { ¬ IsLive self.now id → result ≡ Err KeysError.LeaseNotFound }
+        ensures ok { IfOk result (λ keys. AreKeysOf self.now id (map string_bytes keys.items)) }
+    {
+        let Some(lease) = self.leases.get(&id) else {
+            return Err(KeysError::LeaseNotFound);
+        };
+        let mut keys = texts(self.alloc, &self.keys, lease.keys)?;
+        keys.sort()?;
+        // No node stands twice, so no key does.
+        self.keys.stands_once();
+        Ok(keys)
+    }
+
+    /// The lease that is due at `now` and was due first; of several at one moment the least id.
+    pub fn next_due(&self, now: u64) -> Option<u64>
+        ensures { MatchOption result (NoneIsDue self.now now) (IsNextDue self.now now) }
+    {
+        let (_, id) = longest_due(&self.leases, now)?;
+        Some(id)
+    }
+
+    /// Ends a live lease on which no key hangs, by a revocation or its expiry.
+    pub fn remove(&mut self, id: u64)
+        requires live { IsLive self.old id }
+        requires no_keys { (key : List ℕ) → lease_of self.old key ≢ Some id }
+        ensures ok { self.new ≡ record self.old { live = finmap.remove self.old.live id } }
+        ensures revoked { (log : List LogItem) → StandsFor self.old log → StandsFor self.new (Revoke id ∷ log) }
+        ensures expired { (log : List LogItem) → StandsFor self.old log → StandsFor self.new (Expire id ∷ log) }
+    {
+        if let Some(lease) = self.leases.swap_remove(&id) {
+            self.keys.drop_list(lease.keys);
+        }
+    }
+
+    /// The number of live leases.
+    pub fn len(&self) -> usize
+        ensures { result ≡ finmap.len self.now.live }
+    {
+        self.leases.len()
+    }
+}

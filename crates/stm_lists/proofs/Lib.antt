@@ -1,0 +1,6 @@
+pub mod Segments
+pub mod Changes
+pub mod Counts
+pub mod Steps
+pub mod Operations
+pub mod Viewed

@@ -1,0 +1,7 @@
+pub mod Rows
+pub mod IntegerRange
+pub mod WrittenNumber
+pub mod Entries
+pub mod RunLaws
+pub mod Turns
+pub mod Latest

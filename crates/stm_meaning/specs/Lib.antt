@@ -1,0 +1,10 @@
+pub mod Values
+pub mod Writes
+pub mod Outcome
+pub mod Meaning
+pub mod Tells
+pub mod Answer
+pub mod States
+pub mod Places
+pub mod Laws
+pub mod Faults

@@ -1,0 +1,12 @@
+-- How the result of an evaluation in the code tells the outcome of the definition.
+use Rattle.std.specs.Prelude.{◌≡◌, Result, Ok, Err, ⊤}
+use Rattle.stm_meaning.specs.declared.stop.Halt.{Halt}
+use Rattle.stm_meaning.specs.declared.stop.Halt.TheVariants.{OutOfMemory, Stopped}
+use Rattle.stm_meaning.specs.declared.session.Session.{Session}
+use Rattle.stm_meaning.specs.Outcome.{Outcome, Gives, Stops}
+
+-- the result and what the run has come to are the outcome, unless a growth was refused
+abbrev pub Tells : {X : Type 0} → Result X Halt → Session → Outcome X → Type 0
+Tells (Ok x) s outcome = outcome ≡ Gives x s
+Tells (Err OutOfMemory) s outcome = ⊤
+Tells (Err (Stopped stop)) s outcome = outcome ≡ Stops stop s

@@ -1,0 +1,58 @@
+//! Runs of whole programs.
+ghost use Rattle.std.specs.Prelude.{◌≡◌, IfOk};
+ghost use Rattle.stm_meaning.specs.declared.run.Answered.TheVariants.{Ended};
+ghost use Rattle.stm_meaning.specs.Meaning.{run_over, run_of, answered, run_block};
+ghost use Rattle.stm_meaning.specs.Outcome.{fresh};
+ghost use Rattle.stm_meaning.specs.States.{state_answers};
+
+use crate::lookup::Lookup;
+use crate::run::{Answered, End, Run};
+use crate::session::Session;
+use crate::state::State;
+use crate::statements::run_all;
+use crate::stop::{Halt, Stop};
+use std::alloc::{AllocError, Global};
+use stm_program::Program;
+
+/// The run that came to this end.
+fn ended(end: End, session: Session) -> Run
+    ensures { result ≡ run_of end session }
+{
+    Run {
+        end,
+        output: session.output,
+        trace: session.trace,
+        writes: session.writes,
+        reads: session.reads,
+    }
+}
+
+/// The run of a program over a look-up, such as a list of recorded answers: its end, or the first key that
+/// it wants and the look-up knows nothing of.
+///
+/// It is evaluated from its start. The one refusal is want of memory.
+#[tactic(auto, unfolding(crate::specs::Meaning::run_over))]
+pub fn run_answered<L: Lookup>(alloc: Global, program: &Program, lookup: &L) -> Result<Answered, AllocError>
+    ensures { IfOk result (λ answer. answer ≡ run_over (L.answers lookup.now) program.now) }
+{
+    let mut session = Session::new(alloc)?;
+    match run_all(alloc, lookup, &mut session, program.statements()) {
+        Ok(()) => Ok(Answered::Ended(ended(End::Done, session))),
+        Err(Halt::OutOfMemory) => Err(AllocError),
+        Err(Halt::Stopped(Stop::Aborted(text))) => Ok(Answered::Ended(ended(End::Aborted(text), session))),
+        Err(Halt::Stopped(Stop::Faulted(fault))) => Ok(Answered::Ended(ended(End::Faulted(fault), session))),
+        Err(Halt::Stopped(Stop::Wants(key))) => Ok(Answered::Wants { key, trace: session.trace }),
+    }
+}
+
+/// The run of a program alone on a state.
+///
+/// The one refusal is want of memory.
+pub fn run_alone(alloc: Global, program: &Program, state: &State) -> Result<Run, AllocError>
+    ensures { IfOk result (λ run. run_over (state_answers state.now) program.now ≡ Ended run) }
+{
+    match run_answered(alloc, program, state)? {
+        Answered::Ended(run) => Ok(run),
+        Answered::Wants { .. } => unreachable!(),
+    }
+}

@@ -1,0 +1,51 @@
+//! What expressions give.
+ghost use Rattle.stm_meaning.specs.Meaning.{evaluate};
+ghost use Rattle.stm_meaning.specs.Tells.{Tells};
+
+use crate::lookup::Lookup;
+use crate::numbers::{combine, number_of, spell};
+use crate::session::Session;
+use crate::stop::Halt;
+use crate::texts::{join, wanted_key};
+use crate::value::Value;
+use std::alloc::Global;
+use stm_program::{Expr, ExprNode};
+
+/// The value of an expression. Elements are evaluated from left to right, and kinds are looked at when all
+/// elements of a node have values.
+#[tactic(auto, unfolding(crate::specs::Meaning::evaluate))]
+pub(crate) fn value_of<L: Lookup>(alloc: Global, lookup: &L, session: &mut Session, expression: &Expr) -> Result<Value, Halt>
+    ensures { Tells result session.new (evaluate (L.answers lookup.now) expression.now session.old) }
+{
+    match &expression.node {
+        ExprNode::Text(text) => Ok(Value::Text(text.clone()?)),
+        ExprNode::Number(number) => Ok(Value::Number(*number)),
+        ExprNode::Variable(variable) => Ok(session.variables.get(*variable).clone()?),
+        ExprNode::Get(key) => {
+            let key = wanted_key(value_of(alloc, lookup, session, key)?)?;
+            session.get(alloc, lookup, key)
+        }
+        ExprNode::Rev(key) => {
+            let key = wanted_key(value_of(alloc, lookup, session, key)?)?;
+            session.rev(lookup, key)
+        }
+        ExprNode::Arithmetic(operator, left, right) => {
+            let left = value_of(alloc, lookup, session, left)?;
+            let right = value_of(alloc, lookup, session, right)?;
+            Ok(combine(*operator, left, right)?)
+        }
+        ExprNode::Cat(left, right) => {
+            let left = value_of(alloc, lookup, session, left)?;
+            let right = value_of(alloc, lookup, session, right)?;
+            Ok(join(left, right)??)
+        }
+        ExprNode::TextOf(number) => {
+            let number = value_of(alloc, lookup, session, number)?;
+            Ok(spell(alloc, number)??)
+        }
+        ExprNode::NumOf(text) => {
+            let text = value_of(alloc, lookup, session, text)?;
+            Ok(number_of(text)?)
+        }
+    }
+}

@@ -1,0 +1,101 @@
+//! What statements do.
+ghost use Rattle.std.specs.Prelude.{◌^◌, ◌<◌};
+ghost use Rattle.stm_program.specs.BlockView.{block_of};
+ghost use Rattle.stm_meaning.specs.Meaning.{run_statement, run_block, repeat};
+ghost use Rattle.stm_meaning.specs.Tells.{Tells};
+
+use crate::conditions::is_met;
+use crate::expressions::value_of;
+use crate::lookup::Lookup;
+use crate::session::Session;
+use crate::stop::{Halt, Stop};
+use crate::texts::{deletion, put, turns, wanted_text};
+use std::alloc::Global;
+use stm_program::{Block, Expr, Stmt, StmtNode, Variable};
+
+/// Runs a statement.
+#[cycle(statements)]
+#[tactic(auto, unfolding(crate::specs::Meaning::run_statement))]
+fn run_one<L: Lookup>(alloc: Global, lookup: &L, session: &mut Session, statement: &Stmt) -> Result<(), Halt>
+    ensures { Tells result session.new (run_statement (L.answers lookup.now) statement.now session.old) }
+{
+    match &statement.node {
+        StmtNode::Set(variable, value) => {
+            let value = value_of(alloc, lookup, session, value)?;
+            session.set(*variable, value);
+            Ok(())
+        }
+        StmtNode::Put(key, value, lease) => {
+            let key = value_of(alloc, lookup, session, key)?;
+            let value = value_of(alloc, lookup, session, value)?;
+            Ok(session.write(put(key, value, *lease)?)?)
+        }
+        StmtNode::Del(key) => {
+            let key = value_of(alloc, lookup, session, key)?;
+            Ok(session.write(deletion(key)?)?)
+        }
+        StmtNode::If(condition, then_block, else_block) => {
+            if is_met(alloc, lookup, session, condition)? {
+                return run_inner(alloc, lookup, session, then_block);
+            }
+            run_inner(alloc, lookup, session, else_block)
+        }
+        StmtNode::For(variable, count, limit, body) => {
+            let count = value_of(alloc, lookup, session, count)?;
+            let count = turns(count, *limit)?;
+            run_turns(alloc, lookup, session, *variable, count, body)
+        }
+        StmtNode::Emit(value) => {
+            let value = value_of(alloc, lookup, session, value)?;
+            Ok(session.emit(value)?)
+        }
+        StmtNode::Abort(text) => {
+            let text = wanted_text(value_of(alloc, lookup, session, text)?)?;
+            Err(Halt::Stopped(Stop::Aborted(text)))
+        }
+    }
+}
+
+/// Runs the turns of a loop.
+#[cycle(statements)]
+#[tactic(auto, unfolding(crate::specs::Meaning::repeat))]
+fn run_turns<L: Lookup>(
+    alloc: Global,
+    lookup: &L,
+    session: &mut Session,
+    variable: Variable,
+    count: u64,
+    body: &Block,
+) -> Result<(), Halt>
+    requires { count < 2 ^ 63 }
+    ensures { Tells result session.new (repeat variable (run_block (L.answers lookup.now) body.now) count 0 session.old) }
+{
+    for turn in 0..count {
+        session.begin_turn(variable, turn)?;
+        run_inner(alloc, lookup, session, body)?;
+    }
+    Ok(())
+}
+
+/// Runs the statements of an inner block.
+#[cycle(statements)]
+#[tactic(auto, unfolding(crate::specs::Meaning::run_block))]
+fn run_inner<L: Lookup>(alloc: Global, lookup: &L, session: &mut Session, block: &Block) -> Result<(), Halt>
+    ensures { Tells result session.new (run_block (L.answers lookup.now) block.now session.old) }
+{
+    for statement in block.statements.iter() {
+        run_one(alloc, lookup, session, statement)?;
+    }
+    Ok(())
+}
+
+/// Runs the statements of a program.
+#[tactic(auto, unfolding(crate::specs::Meaning::run_block))]
+pub(crate) fn run_all<L: Lookup>(alloc: Global, lookup: &L, session: &mut Session, statements: &[Stmt]) -> Result<(), Halt>
+    ensures { Tells result session.new (run_block (L.answers lookup.now) (block_of statements.now) session.old) }
+{
+    for statement in statements {
+        run_one(alloc, lookup, session, statement)?;
+    }
+    Ok(())
+}

@@ -1,0 +1,25 @@
+//! The values that expressions have.
+ghost use Rattle.std.specs.Prelude.{◌≡◌};
+
+use std::alloc::AllocError;
+use stm_history::Text;
+
+/// A value of a program: a text or a whole number.
+#[derive(Debug, PartialEq, Eq, Drop)]
+pub enum Value {
+    /// A text, of any length where it was read from a key.
+    Text(Text),
+    /// A whole number.
+    Number(i64),
+}
+
+impl Clone for Value {
+    ghost is_clone = { λ value copy. copy ≡ value };
+
+    fn clone(&self) -> Result<Value, AllocError> {
+        match self {
+            Value::Text(text) => Ok(Value::Text(text.clone()?)),
+            Value::Number(number) => Ok(Value::Number(*number)),
+        }
+    }
+}

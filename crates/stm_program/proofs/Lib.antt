@@ -1,0 +1,15 @@
+pub mod LimitLemmas
+pub mod WeightLemmas
+pub mod ReadLemmas
+pub mod BlockLemmas
+pub mod OutcomeLemmas
+pub mod WordLemmas
+pub mod ElementLemmas
+pub mod ExpressionSound
+pub mod ConditionSound
+pub mod StatementSound
+pub mod ExpressionComplete
+pub mod ConditionComplete
+pub mod StatementComplete
+pub mod WrittenLemmas
+pub mod WriteLoop

@@ -1,0 +1,33 @@
+-- What is known where reading answers a value.
+use Rattle.std.proofs.Common.{◌≡◌, ℕ, Bool, true, false, cond, Option, Some, None, Result, Ok, Err, refl}
+use Rattle.serde_json.specs.Data.{Data}
+use Rattle.stm_program.specs.declared.fault.Cause.{Cause}
+use Rattle.stm_program.specs.Outcome.{Outcome, bad, ◌>>=◌, within}
+use Rattle.stm_program.specs.Reading.{Read, one_part, two_parts}
+
+pub bind_ok : {A B : Type 0} (r : Outcome A) (f : A → Outcome B) (y : B) → (r >>= f) ≡ Ok y → (x : A) × (r ≡ Ok x) × (f x ≡ Ok y)
+bind_ok (Ok x) f y h = (x, refl, h)
+bind_ok (Err e) f y h = cc
+
+pub within_ok : {A : Type 0} (i : ℕ) (r : Outcome A) (x : A) → within i r ≡ Ok x → r ≡ Ok x
+within_ok i (Ok y) x h = h
+within_ok i (Err e) x h = cc
+
+pub guard_ok : {A : Type 0} (b : Bool) (x y : A) (cause : Cause) → cond b (Ok x) (bad cause) ≡ Ok y → (b ≡ true) × (x ≡ y)
+guard_ok true x y cause h = (refl, cc)
+guard_ok false x y cause h = cc
+
+pub one_part_ok : {A B : Type 0} (read : ℕ → Data → Read A) (make : A → B) (room : ℕ) (o : Option Data) (y : B × ℕ) → one_part read make room o ≡ Ok y
+    → (d : Data) × (x : A × ℕ) × (o ≡ Some d) × (read room d ≡ Ok x) × (y ≡ (make x.0, x.1))
+one_part_ok read make room None y h = cc
+one_part_ok read make room (Some d) y h =
+    let p = bind_ok (within 1 (read room d)) _ y h in
+    (d, p.0, refl, within_ok 1 _ _ p.1, cc p.2)
+
+pub two_parts_ok : {A B : Type 0} (read : ℕ → Data → Read A) (make : A → A → B) (room : ℕ) (o : Option (Data × Data)) (z : B × ℕ) → two_parts read make room o ≡ Ok z
+    → (p : Data × Data) × (x : A × ℕ) × (y : A × ℕ) × (o ≡ Some p) × (read room p.0 ≡ Ok x) × (read x.1 p.1 ≡ Ok y) × (z ≡ (make x.0 y.0, y.1))
+two_parts_ok read make room None z h = cc
+two_parts_ok read make room (Some p) z h =
+    let q = bind_ok (within 1 (read room p.0)) _ z h in
+    let r = bind_ok (within 2 (read q.0.1 p.1)) _ z q.2 in
+    (p, q.0, r.0, refl, within_ok 1 _ _ q.1, within_ok 2 _ _ r.1, cc r.2)

@@ -1,0 +1,83 @@
+-- Steps of reading.
+use Rattle.std.proofs.Common.{◌≡◌, ◌≢◌, ◌⊎◌, inl, inr, ℕ, zero, suc, ◌-◌, ◌<◌, List, [], ◌∷◌, length, Option, Some, None, Result, Ok, Err, refl, sym, ap, subst, ◌∙◌, arith}
+use Rattle.serde_json.specs.Data.{Data}
+use Rattle.serde_json.specs.View.{view, items_view}
+use Rattle.serde_json.specs.declared.value.Value.{Value}
+use Rattle.stm_program.specs.declared.fault.Cause.TheVariants.{TooDeep, TooManyNodes}
+use Rattle.stm_program.specs.declared.fault.ReadError.{ReadError}
+use Rattle.stm_program.specs.declared.fault.ReadError.TheVariants as error
+use Rattle.stm_program.specs.Outcome.{Outcome, bad, within, inside, Fails, Gives, Wraps}
+use Rattle.stm_program.specs.Elements.{one_of, worded}
+use Rattle.stm_program.specs.Reading.{expression_at, expression_body, condition_at, condition_array, statement_at, statement_array, block_by}
+
+-- a list that has not one element
+pub one_of-not_one : (vs : List Value) → length vs ≢ 1 → None ≡ one_of (items_view vs)
+one_of-not_one [] h = refl
+one_of-not_one (v ∷ []) h = absurd (h refl)
+one_of-not_one (v ∷ w ∷ vs) h = refl
+
+-- an outcome at an element, as the array's
+pub Gives-within : {X A : Type 0} (see : X → A) (index : ℕ) (outcome result : Result X ReadError) (reading : Outcome A)
+    → Gives see outcome reading → Wraps index outcome result → Gives see result (within index reading)
+Gives-within see index (Ok x) result reading given wrapped = rw (wrapped, given) refl
+Gives-within see index (Err error.OutOfMemory) result reading given wrapped = rw wrapped tt
+Gives-within see index (Err (error.BadProgram f)) result reading given (inl e) = rw e tt
+Gives-within see index (Err (error.BadProgram f)) result reading given (inr e) = rw (e, given) refl
+
+-- ---- one level of reading
+
+pub expression_at-deep : (levels room : ℕ) (d : Data) (e : ReadError) → levels ≡ 0 → e ≡ error.BadProgram (record { place = []; cause = TooDeep }) → Fails e (expression_at levels room d)
+unfolding expression_at
+expression_at-deep levels room d e h is = rw (is, h) refl
+
+pub expression_at-full : (levels room : ℕ) (d : Data) (e : ReadError) → 0 < levels → room ≡ 0 → e ≡ error.BadProgram (record { place = []; cause = TooManyNodes }) → Fails e (expression_at levels room d)
+unfolding expression_at
+expression_at-full zero room d e h k is = absurd (omega arith)
+expression_at-full (suc l) room d e h k is = rw (is, k) refl
+
+pub expression_at-step : (levels room : ℕ) (d : Data) → 0 < levels → 0 < room → expression_at levels room d ≡ expression_body (expression_at (levels - 1)) (room - 1) d
+unfolding expression_at
+expression_at-step zero room d h k = absurd (omega arith)
+expression_at-step (suc l) zero d h k = absurd (omega arith)
+expression_at-step (suc l) (suc r) d h k =
+    let e : suc l - 1 ≡ l = omega arith in
+    let f : suc r - 1 ≡ r = omega arith in
+    rw (e, f) refl
+
+pub condition_at-deep : (levels room : ℕ) (d : Data) (e : ReadError) → levels ≡ 0 → e ≡ error.BadProgram (record { place = []; cause = TooDeep }) → Fails e (condition_at levels room d)
+unfolding condition_at
+condition_at-deep levels room d e h is = rw (is, h) refl
+
+pub condition_at-full : (levels room : ℕ) (d : Data) (e : ReadError) → 0 < levels → room ≡ 0 → e ≡ error.BadProgram (record { place = []; cause = TooManyNodes }) → Fails e (condition_at levels room d)
+unfolding condition_at
+condition_at-full zero room d e h k is = absurd (omega arith)
+condition_at-full (suc l) room d e h k is = rw (is, k) refl
+
+pub condition_at-step : (levels room : ℕ) (d : Data) → 0 < levels → 0 < room
+    → condition_at levels room d ≡ condition_array (expression_at (levels - 1)) (condition_at (levels - 1)) (room - 1) (worded d)
+unfolding condition_at
+condition_at-step zero room d h k = absurd (omega arith)
+condition_at-step (suc l) zero d h k = absurd (omega arith)
+condition_at-step (suc l) (suc r) d h k =
+    let e : suc l - 1 ≡ l = omega arith in
+    let f : suc r - 1 ≡ r = omega arith in
+    rw (e, f) refl
+
+pub statement_at-deep : (levels room : ℕ) (d : Data) (e : ReadError) → levels ≡ 0 → e ≡ error.BadProgram (record { place = []; cause = TooDeep }) → Fails e (statement_at levels room d)
+unfolding statement_at
+statement_at-deep levels room d e h is = rw (is, h) refl
+
+pub statement_at-full : (levels room : ℕ) (d : Data) (e : ReadError) → 0 < levels → room ≡ 0 → e ≡ error.BadProgram (record { place = []; cause = TooManyNodes }) → Fails e (statement_at levels room d)
+unfolding statement_at
+statement_at-full zero room d e h k is = absurd (omega arith)
+statement_at-full (suc l) room d e h k is = rw (is, k) refl
+
+pub statement_at-step : (levels room : ℕ) (d : Data) → 0 < levels → 0 < room
+    → statement_at levels room d ≡ statement_array (expression_at (levels - 1)) (condition_at (levels - 1)) (block_by (statement_at (levels - 1))) (room - 1) (worded d)
+unfolding statement_at
+statement_at-step zero room d h k = absurd (omega arith)
+statement_at-step (suc l) zero d h k = absurd (omega arith)
+statement_at-step (suc l) (suc r) d h k =
+    let e : suc l - 1 ≡ l = omega arith in
+    let f : suc r - 1 ≡ r = omega arith in
+    rw (e, f) refl

@@ -1,0 +1,60 @@
+-- Which data spell which program: the grammar, apart from reading.
+use Rattle.std.specs.Prelude.{◌≡◌, ℕ, ℤ, pos, List, [], ◌∷◌, Some, codes}
+use Rattle.serde_json.specs.Data.{Num, Data, number, string, array, Items, no_items, item}
+use Rattle.serde_json.specs.Find.{as_integer}
+use Rattle.serde_json.specs.View.{items_of}
+use Rattle.stm_program.specs.declared.operator.Operator.{Operator}
+use Rattle.stm_program.specs.declared.operator.Operator.TheVariants.{Add, Sub, Mul, Div, Rem}
+use Rattle.stm_program.specs.Syntax.{Expression, Text, Number, Variable, Get, Rev, Arithmetic, Cat, TextOf, NumOf, Condition, Equal, Less, Not, And, Or, Statement, Set, Put, Del, If, For, Emit, Abort, Block, End, Then}
+
+-- an array of a word and the parts behind it
+abbrev pub spelled : List ℕ → List Data → Data
+spelled word parts = array (item (string word) (items_of parts))
+
+-- a whole number of JSON
+abbrev pub SpellsNumber : Data → ℤ → Type 0
+SpellsNumber d z = (n : Num) × (d ≡ number n) × (as_integer n ≡ Some z)
+
+abbrev pub operator_text : Operator → List ℕ
+operator_text Add = codes "add"
+operator_text Sub = codes "sub"
+operator_text Mul = codes "mul"
+operator_text Div = codes "div"
+operator_text Rem = codes "rem"
+
+abbrev pub SpellsExpression : Data → Expression → Type 0
+SpellsExpression d (Text s) = d ≡ string s
+SpellsExpression d (Number z) = SpellsNumber d z
+SpellsExpression d (Variable v) = (a : Data) × (d ≡ spelled (codes "var") (a ∷ [])) × SpellsNumber a (pos v)
+SpellsExpression d (Get e) = (a : Data) × (d ≡ spelled (codes "get") (a ∷ [])) × SpellsExpression a e
+SpellsExpression d (Rev e) = (a : Data) × (d ≡ spelled (codes "rev") (a ∷ [])) × SpellsExpression a e
+SpellsExpression d (Arithmetic o l r) = (a : Data) × (b : Data) × (d ≡ spelled (operator_text o) (a ∷ b ∷ [])) × SpellsExpression a l × SpellsExpression b r
+SpellsExpression d (Cat l r) = (a : Data) × (b : Data) × (d ≡ spelled (codes "cat") (a ∷ b ∷ [])) × SpellsExpression a l × SpellsExpression b r
+SpellsExpression d (TextOf e) = (a : Data) × (d ≡ spelled (codes "text_of") (a ∷ [])) × SpellsExpression a e
+SpellsExpression d (NumOf e) = (a : Data) × (d ≡ spelled (codes "num_of") (a ∷ [])) × SpellsExpression a e
+
+abbrev pub SpellsCondition : Data → Condition → Type 0
+SpellsCondition d (Equal l r) = (a : Data) × (b : Data) × (d ≡ spelled (codes "eq") (a ∷ b ∷ [])) × SpellsExpression a l × SpellsExpression b r
+SpellsCondition d (Less l r) = (a : Data) × (b : Data) × (d ≡ spelled (codes "less") (a ∷ b ∷ [])) × SpellsExpression a l × SpellsExpression b r
+SpellsCondition d (Not c) = (a : Data) × (d ≡ spelled (codes "not") (a ∷ [])) × SpellsCondition a c
+SpellsCondition d (And l r) = (a : Data) × (b : Data) × (d ≡ spelled (codes "and") (a ∷ b ∷ [])) × SpellsCondition a l × SpellsCondition b r
+SpellsCondition d (Or l r) = (a : Data) × (b : Data) × (d ≡ spelled (codes "or") (a ∷ b ∷ [])) × SpellsCondition a l × SpellsCondition b r
+
+-- a block is spelled by an array of what spells its statements, in order
+abbrev mutual
+  pub SpellsStatement : Data → Statement → Type 0
+  SpellsStatement d (Set v e) = (a : Data) × (b : Data) × (d ≡ spelled (codes "set") (a ∷ b ∷ [])) × SpellsNumber a (pos v) × SpellsExpression b e
+  SpellsStatement d (Put k e l) = (a : Data) × (b : Data) × (c : Data) × (d ≡ spelled (codes "put") (a ∷ b ∷ c ∷ [])) × SpellsExpression a k × SpellsExpression b e × SpellsNumber c (pos l)
+  SpellsStatement d (Del k) = (a : Data) × (d ≡ spelled (codes "del") (a ∷ [])) × SpellsExpression a k
+  SpellsStatement d (If i t e) = (a : Data) × (b : Items) × (c : Items) × (d ≡ spelled (codes "if") (a ∷ array b ∷ array c ∷ [])) × SpellsCondition a i × SpellsStatements b t × SpellsStatements c e
+  SpellsStatement d (For v e n s) = (a : Data) × (b : Data) × (c : Data) × (f : Items) × (d ≡ spelled (codes "for") (a ∷ b ∷ c ∷ array f ∷ [])) × SpellsNumber a (pos v) × SpellsExpression b e × SpellsNumber c (pos n) × SpellsStatements f s
+  SpellsStatement d (Emit e) = (a : Data) × (d ≡ spelled (codes "emit") (a ∷ [])) × SpellsExpression a e
+  SpellsStatement d (Abort e) = (a : Data) × (d ≡ spelled (codes "abort") (a ∷ [])) × SpellsExpression a e
+
+  pub SpellsStatements : Items → Block → Type 0
+  SpellsStatements ds End = ds ≡ no_items
+  SpellsStatements ds (Then s b) = (a : Data) × (rest : Items) × (ds ≡ item a rest) × SpellsStatement a s × SpellsStatements rest b
+
+-- a program is spelled by an array of its statements
+abbrev pub SpellsProgram : Data → Block → Type 0
+SpellsProgram d b = (ds : Items) × (d ≡ array ds) × SpellsStatements ds b

@@ -1,0 +1,62 @@
+//! Programs.
+ghost use Rattle.std.specs.Prelude.{◌≡◌};
+ghost use Rattle.stm_program.specs.BlockView.{block_of};
+ghost use Rattle.stm_program.specs.Limits.{Fits};
+
+use crate::statement::Stmt;
+use std::alloc::AllocError;
+use std::marker::Model;
+
+/// A program: statements within the limits.
+///
+/// It has at most 4096 nodes (a node is a statement, an expression or a condition), which stand at most
+/// 32 deep in one another. A text in it has at most 65536 bytes, a loop's limit is at most 1000, and a
+/// lease's id at most 9223372036854775807.
+#[derive(Debug, Drop)]
+pub struct Program {
+    statements: Vec<Stmt>,
+}
+
+impl Model for Program {
+    ghost use Rattle.stm_program.specs.Syntax.{Block};
+    ghost use Rattle.stm_program.specs.Coding.{coded_block};
+
+    ghost Value = { Block };
+
+    ghost coded = { coded_block };
+
+    ghost use Rattle.stm_program.specs.BlockView.{block_of};
+    ghost use Rattle.stm_program.specs.Limits.{Fits};
+
+    ghost view = { λ p. block_of p.statements.items };
+
+    ghost invariant = { λ p. Fits (block_of p.statements.items) };
+}
+
+impl Program {
+    /// The program of these statements, which are within the limits: `fits` tells. It takes no memory.
+    pub fn of(statements: Vec<Stmt>) -> Program
+        requires { Fits (block_of statements.items) }
+        ensures { result ≡ block_of statements.items }
+    {
+        Program { statements }
+    }
+
+    /// The statements in order. It takes no memory.
+    pub fn statements(&self) -> &[Stmt]
+        ensures same { block_of result.now ≡ self.now }
+        ensures fits { Fits self.now }
+    {
+        self.statements.as_slice()
+    }
+}
+
+/// A copy shares all but the outermost statements with its source: it costs one step for each of these.
+impl Clone for Program {
+    ghost is_clone = { λ p copy. copy ≡ p };
+
+    fn clone(&self) -> Result<Program, AllocError> {
+        let statements = self.statements.clone()?;
+        Ok(Program { statements })
+    }
+}

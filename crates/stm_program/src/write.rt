@@ -1,0 +1,46 @@
+//! What a program writes.
+use std::alloc::AllocError;
+use stm_history::Text;
+
+/// One write of a program, as it stands in a run's list of writes.
+#[derive(Debug, Drop, PartialEq, Eq)]
+pub enum Write {
+    /// The key has the value, on a lease (0 for none).
+    Put {
+        /// The key.
+        key: Text,
+        /// The value.
+        value: Text,
+        /// The lease's id, 0 for none.
+        lease: u64,
+    },
+    /// The key is absent.
+    Del {
+        /// The key.
+        key: Text,
+    },
+}
+
+impl Clone for Write {
+    ghost use Rattle.std.specs.Prelude.{◌≡◌};
+
+    ghost is_clone = { λ w copy. copy ≡ w };
+
+    fn clone(&self) -> Result<Write, AllocError> {
+        match self {
+            Write::Put { key, value, lease } => {
+                let key = key.clone()?;
+                let value = value.clone()?;
+                Ok(Write::Put {
+                    key,
+                    value,
+                    lease: *lease,
+                })
+            }
+            Write::Del { key } => {
+                let key = key.clone()?;
+                Ok(Write::Del { key })
+            }
+        }
+    }
+}

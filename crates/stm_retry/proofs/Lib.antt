@@ -1,0 +1,5 @@
+pub mod AnswerLemmas
+pub mod CommitLemmas
+pub mod EffectLemmas
+pub mod SoundLemmas
+pub mod WorldLemmas

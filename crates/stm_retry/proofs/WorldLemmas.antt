@@ -1,0 +1,160 @@
+-- What the calls of a world keep and tell.
+use Rattle.std.proofs.Common.{◌≡◌, ◌≢◌, ℕ, ◌+◌, ◌⊎◌, inl, inr, List, [], ◌∷◌, ◌++◌, length, Option, Some, None, Result, Ok, Err, Bool, true, false, cond, refl, sym, ◌∙◌, ap, subst, OnOk, OnErr}
+use Rattle.std.specs.Prelude.{◌==◌}
+use Rattle.std.specs.declared.alloc.AllocError.{AllocError}
+use Rattle.stm_program.specs.Syntax.{Block}
+use Rattle.stm_program.specs.declared.level.Level.{Level}
+use Rattle.stm_meaning.specs.declared.run.End.{End}
+use Rattle.stm_meaning.specs.declared.run.End.TheVariants.{Done, Aborted as AbortedEnd, Faulted as FaultedEnd}
+use Rattle.stm_meaning.specs.declared.run.Run.{Run}
+use Rattle.stm_meaning.specs.declared.run.Answered.{Answered}
+use Rattle.stm_meaning.specs.declared.run.Answered.TheVariants.{Ended as EndedRun, Wants}
+use Rattle.stm_meaning.specs.Writes.{latest_writes}
+use Rattle.stm_history.specs.declared.change.Change.{Change}
+use Rattle.stm_retry.specs.declared.event.WorldEvent.{WorldEvent}
+use Rattle.stm_retry.specs.declared.event.WorldEvent.TheVariants.{Start, Step}
+use Rattle.stm_retry.specs.declared.reply.Reply.{Reply}
+use Rattle.stm_retry.specs.declared.refusal.Denied.{Denied}
+use Rattle.stm_retry.specs.declared.refusal.Refusal.{Refusal}
+use Rattle.stm_retry.specs.declared.refusal.Refusal.TheVariants.{OutOfMemory, TooManyOps, LeaseNotFound, RevisionsUsedUp, BadLimit, NoRunner}
+use Rattle.stm_retry.specs.declared.runner.Runner.{Runner}
+use Rattle.stm_retry.specs.World.{World, Stepped, step, step_runner, step_live, step_on, start_runner, fetch, finish, commit, judged, evaluated, refused, runner_at, changes_of_writes, commit_refusal}
+use Rattle.stm_retry.specs.Made.{Made, as_reply}
+use Rattle.stm_retry.specs.Sound.{IsSound}
+use Rattle.stm_retry.specs.Means.{Means}
+use Rattle.stm_retry.specs.Tells.{Tells, TellsDenied, IsStep, is_want, ran_out}
+use Rattle.stm_retry.specs.World.{world_after, replies_to}
+use Rattle.std.proofs.Common.{◌<◌, get_or, drop, take, append_assoc}
+use Rattle.std.proofs.lemmas.List.{drop_more, take_more}
+use Rattle.stm_retry.proofs.SoundLemmas.{step_keeps}
+
+-- a step is refused for one of two causes
+abbrev IsRefusal : Refusal → Type 0
+IsRefusal cause = (cause ≡ BadLimit) ⊎ (cause ≡ NoRunner)
+
+abbrev RefusedOnly : Result Reply Denied → Type 0
+RefusedOnly (Ok reply) = Unit {0}
+RefusedOnly (Err denied) = IsRefusal denied.cause
+
+start_refused : (b : Bool) (w : World) (s : Stepped) → RefusedOnly s.reply → RefusedOnly (cond b (refused BadLimit w) s).reply
+start_refused true w s taken = inl refl
+start_refused false w s taken = taken
+
+start_only : (program : Block) (level : Level) (limit : ℕ) (w : World) → RefusedOnly (start_runner program level limit w).reply
+unfolding start_runner
+start_only program level limit w = start_refused (limit == 0) w _ tt
+
+judged_only : (id : ℕ) (r : Runner) (run : Run) (changes : List Change) (refusal : Option Refusal) (w : World) → RefusedOnly (judged id r run changes refusal w).reply
+judged_only id r run changes None w = tt
+judged_only id r run changes (Some cause) w = tt
+
+commit_only : (id : ℕ) (r : Runner) (run : Run) (w : World) → RefusedOnly (commit id r run w).reply
+unfolding commit
+commit_only id r run w =
+    judged_only id r run (changes_of_writes w.history run.writes) (commit_refusal (latest_writes run.writes) (changes_of_writes w.history run.writes) w.history) w
+
+finish_only : (id : ℕ) (r : Runner) (run : Run) (end : End) (w : World) → RefusedOnly (finish id r run end w).reply
+finish_only id r run Done w = commit_only id r run w
+finish_only id r run (AbortedEnd text) w = tt
+finish_only id r run (FaultedEnd fault) w = tt
+
+fetch_only : (id : ℕ) (r : Runner) (key : List ℕ) (w : World) → RefusedOnly (fetch id r key w).reply
+unfolding fetch
+fetch_only id r key w = tt
+
+on_only : (id : ℕ) (r : Runner) (answered : Answered) (w : World) → RefusedOnly (step_on id r answered w).reply
+on_only id r (Wants key trace) w = fetch_only id r key w
+on_only id r (EndedRun run) w = finish_only id r run run.end w
+
+live_only : (id : ℕ) (r : Runner) (w : World) → RefusedOnly (step_live id r w).reply
+unfolding step_live
+live_only id r w = on_only id r (evaluated r) w
+
+runner_only : (id : ℕ) (found : Option Runner) (w : World) → RefusedOnly (step_runner id found w).reply
+runner_only id None w = inr refl
+runner_only id (Some r) w = live_only id r w
+
+refused_only : (e : WorldEvent) (w : World) → RefusedOnly (step e w).reply
+refused_only (Start program level limit) w = start_only program level limit w
+refused_only (Step id) w = runner_only id (runner_at id w.runners) w
+
+tells_denied : (old new : World) (s : Stepped) (denied : Denied) (cause : Refusal) → IsRefusal cause → IsStep s (Err denied) new → TellsDenied old s denied cause new
+tells_denied old new s denied OutOfMemory (inl h) is = absurd (cc)
+tells_denied old new s denied OutOfMemory (inr h) is = absurd (cc)
+tells_denied old new s denied TooManyOps h is = is
+tells_denied old new s denied LeaseNotFound h is = is
+tells_denied old new s denied RevisionsUsedUp h is = is
+tells_denied old new s denied BadLimit h is = is
+tells_denied old new s denied NoRunner h is = is
+
+-- what the call of the machine makes is what the world's call tells
+pub made_tells : (old new : World) (e : WorldEvent) (outcome : Result (Result Reply Denied) AllocError) → Made old new outcome (step e old) →
+    Tells old e (as_reply outcome) new
+made_tells old new e (Ok (Ok reply)) made = record { reply_is = made.0; next_is = made.1 }
+made_tells old new e (Ok (Err denied)) made =
+    tells_denied old new (step e old) denied denied.cause (subst RefusedOnly (sym made.0) (refused_only e old)) (record { reply_is = made.0; next_is = made.1 })
+made_tells old new e (Err error) made = (made, refl)
+
+means_nothing : (old new : World) (e : WorldEvent) (denied : Denied) → new ≡ old → Means old e (Err denied) new
+means_nothing old new (Start program level limit) denied same = same
+means_nothing old new (Step id) denied same = same
+
+pub made_means : (old new : World) (e : WorldEvent) (outcome : Result (Result Reply Denied) AllocError) → IsSound old → Made old new outcome (step e old) →
+    Means old e (as_reply outcome) new
+made_means old new e (Ok reply) sound made =
+    subst (λ (r : Result Reply Denied). Means old e r new) (sym made.0)
+        (subst (λ (w : World). Means old e (step e old).reply w) (sym made.1) (step_keeps old e sound).means)
+made_means old new e (Err error) sound made = means_nothing old new e (record { cause = OutOfMemory; expired = [] }) made
+
+pub made_is_sound : (old new : World) (e : WorldEvent) (outcome : Result (Result Reply Denied) AllocError) → IsSound old → Made old new outcome (step e old) → IsSound new
+made_is_sound old new e (Ok reply) sound made = subst IsSound (sym made.1) (step_keeps old e sound).sound
+made_is_sound old new e (Err error) sound made = subst IsSound (sym made) sound
+
+pub started_is_sound : (old new : World) (program : Block) (level : Level) (limit : ℕ) (result : Result ℕ AllocError) → IsSound old →
+    OnOk result (new ≡ (start_runner program level limit old).next) → OnErr result (new ≡ old) → IsSound new
+started_is_sound old new program level limit (Ok id) sound ok err = subst IsSound (sym ok) (step_keeps old (Start program level limit) sound).sound
+started_is_sound old new program level limit (Err error) sound ok err = subst IsSound (sym err) sound
+
+-- ---- a run of events ----
+
+taken_denied : (old new : World) (s : Stepped) (denied : Denied) (cause : Refusal) → is_want cause ≡ false → TellsDenied old s denied cause new → IsStep s (Err denied) new
+taken_denied old new s denied OutOfMemory h told = absurd (cc)
+taken_denied old new s denied TooManyOps h told = told
+taken_denied old new s denied LeaseNotFound h told = told
+taken_denied old new s denied RevisionsUsedUp h told = told
+taken_denied old new s denied BadLimit h told = told
+taken_denied old new s denied NoRunner h told = told
+
+-- an event that memory sufficed for is taken
+pub taken : (old new : World) (e : WorldEvent) (reply : Result Reply Denied) → ran_out reply ≡ false → Tells old e reply new → IsStep (step e old) reply new
+taken old new e (Ok reply) h told = told
+taken old new e (Err denied) h told = taken_denied old new (step e old) denied denied.cause h told
+
+after_append : (es : List WorldEvent) (e : WorldEvent) (w : World) → world_after (es ++ e ∷ []) w ≡ (step e (world_after es w)).next
+after_append [] e w = refl
+after_append (x ∷ es) e w = after_append es e (step x w).next
+
+-- one more event of a run: the replies to all, the world after all, and the world after the events so far
+pub replies_step : (events : List WorldEvent) (i : ℕ) (e : WorldEvent) (w next : World) (reply : Result Reply Denied) (so_far : List (Result Reply Denied)) →
+    i < length events → e ≡ get_or events i e → IsStep (step e w) reply next →
+    (so_far ++ reply ∷ []) ++ replies_to (drop (i + 1) events) next ≡ so_far ++ replies_to (drop i events) w
+replies_step events i e w next reply so_far within is s =
+    append_assoc so_far (reply ∷ []) (replies_to (drop (i + 1) events) next)
+    ∙ ap (λ (w' : World). so_far ++ reply ∷ replies_to (drop (i + 1) events) w') s.next_is
+    ∙ ap (λ (r : Result Reply Denied). so_far ++ r ∷ replies_to (drop (i + 1) events) (step e w).next) s.reply_is
+    ∙ sym (ap (λ (l : List WorldEvent). so_far ++ replies_to l w) (drop_more events i e within ∙ ap (λ (x : WorldEvent). x ∷ drop (i + 1) events) (sym is)))
+
+pub rest_step : (events : List WorldEvent) (i : ℕ) (e : WorldEvent) (w next : World) (reply : Result Reply Denied) →
+    i < length events → e ≡ get_or events i e → IsStep (step e w) reply next →
+    world_after (drop (i + 1) events) next ≡ world_after (drop i events) w
+rest_step events i e w next reply within is s =
+    ap (world_after (drop (i + 1) events)) s.next_is
+    ∙ sym (ap (λ (l : List WorldEvent). world_after l w) (drop_more events i e within ∙ ap (λ (x : WorldEvent). x ∷ drop (i + 1) events) (sym is)))
+
+pub reached_step : (events : List WorldEvent) (i : ℕ) (e : WorldEvent) (w next start : World) (reply : Result Reply Denied) →
+    i < length events → e ≡ get_or events i e → IsStep (step e w) reply next → w ≡ world_after (take i events) start →
+    next ≡ world_after (take (i + 1) events) start
+reached_step events i e w next start reply within is s reached =
+    s.next_is ∙ ap (λ (x : World). (step e x).next) reached
+    ∙ sym (after_append (take i events) e start)
+    ∙ sym (ap (λ (l : List WorldEvent). world_after l start) (take_more events i e within ∙ ap (λ (x : WorldEvent). take i events ++ x ∷ []) (sym is)))

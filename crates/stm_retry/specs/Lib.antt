@@ -1,0 +1,7 @@
+pub mod Answers
+pub mod Made
+pub mod Means
+pub mod Replay
+pub mod Sound
+pub mod Tells
+pub mod World

@@ -130,6 +130,13 @@ impl Revisions {
         self.opening + self.revisions.len() as u64
     }
 
+    /// The revisions, the oldest first. It takes no memory.
+    pub fn as_slice(&self) -> &[Revision]
+        ensures { reverse result.now ≡ self.now.revisions }
+    {
+        self.revisions.as_slice()
+    }
+
     /// A key at a revision. At a revision that has not come yet a key is what it is now.
     pub fn key_at(&self, key: &str, revision: u64) -> Result<Option<KeyState>, AllocError>
         ensures { IfOk result (λ s. s ≡ key_at self.now key.now revision) }
@@ -142,6 +149,7 @@ impl Revisions {
     pub fn key_now(&self, key: &str) -> Result<Option<KeyState>, AllocError>
         ensures value { IfOk result (λ s. s ≡ key_now self.now key.now) }
         ensures reached { IfOk result (λ s. mod_of s ≤ now self.now) }
+        ensures fits { IfOk result (λ s. mod_of s ≤ HIGHEST_REVISION) }
     {
         key_after_all(self.opening, self.revisions.as_slice(), key)
     }

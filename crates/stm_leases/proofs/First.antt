@@ -63,6 +63,13 @@ step-cases : (now id : ℕ) (lease : Lease) (held : Option (ℕ × ℕ)) (o : Op
 step-cases now id lease held o is =
     ap (λ (p : Option ℕ). elim p as (λ _. Option (ℕ × ℕ)) [ None ↦ held | Some overdue ↦ elim held as (λ _. Option (ℕ × ℕ)) [ None ↦ Some (overdue, id) | Some h ↦ Some (longer_due h (overdue, id)) ] ]) is
 
+-- an entry that is e, and the time for which it has been due
+entry-is : (now : ℕ) (e : ℕ × Lease) (d id overdue : ℕ) (lease : Lease) → e ≡ (id, lease) → overdue_at now e.1 ≡ Some d → overdue_at now lease ≡ Some overdue → ◌≡◌ {A = ℕ × ℕ} (d, e.0) (overdue, id)
+entry-is now e d id overdue lease here first second =
+    let ids : e.0 ≡ id = ap (λ (x : ℕ × Lease). x.0) here in
+    let times : d ≡ overdue = same_Some d overdue (sym first ∙ ap (λ (x : ℕ × Lease). overdue_at now x.1) here ∙ second) in
+    λ i. (times i, ids i)
+
 pub best : (now : ℕ) (held : Option (ℕ × ℕ)) (entries : List (ℕ × Lease)) (r : ℕ × ℕ) → best_of now held entries ≡ Some r → IsBest now held entries r
 best now held [] r is =
     record {
@@ -95,7 +102,7 @@ best now held (e ∷ es) r is = by_due (overdue_at now e.1) refl (best now (best
               ];
               over_held = λ h same. let none = sym was ∙ same in absurd (cc);
               over_each = λ id overdue lease on o. elim on [
-                | inl here ↦ subst (λ (x : ℕ × ℕ). IsNoShorter r x) (here_is d id overdue lease here is_due o) (rest.over_held (d, e.0) step)
+                | inl here ↦ subst (λ (x : ℕ × ℕ). IsNoShorter r x) (entry-is now e d id overdue lease here is_due o) (rest.over_held (d, e.0) step)
                 | inr there ↦ rest.over_each id overdue lease there o
               ];
             }
@@ -115,15 +122,10 @@ best now held (e ∷ es) r is = by_due (overdue_at now e.1) refl (best now (best
               ];
               over_held = λ g same. let eq : h ≡ g = same_Some h g (sym was ∙ same) in subst (λ (x : ℕ × ℕ). IsNoShorter r x) eq (no_shorter-trans r (longer_due h (d, e.0)) h over chosen.over_best);
               over_each = λ id overdue lease on o. elim on [
-                | inl here ↦ subst (λ (x : ℕ × ℕ). IsNoShorter r x) (here_is d id overdue lease here is_due o) (no_shorter-trans r (longer_due h (d, e.0)) (d, e.0) over chosen.over_other)
+                | inl here ↦ subst (λ (x : ℕ × ℕ). IsNoShorter r x) (entry-is now e d id overdue lease here is_due o) (no_shorter-trans r (longer_due h (d, e.0)) (d, e.0) over chosen.over_other)
                 | inr there ↦ rest.over_each id overdue lease there o
               ];
             }
-        here_is : (d id overdue : ℕ) (lease : Lease) → e ≡ (id, lease) → overdue_at now e.1 ≡ Some d → overdue_at now lease ≡ Some overdue → ◌≡◌ {A = ℕ × ℕ} (d, e.0) (overdue, id)
-        here_is d id overdue lease here first second =
-            let ids : e.0 ≡ id = ap (λ (x : ℕ × Lease). x.0) here in
-            let times : d ≡ overdue = same_Some d overdue (sym first ∙ ap (λ (x : ℕ × Lease). overdue_at now x.1) here ∙ second) in
-            λ i. (times i, ids i)
 
 pub none_best : (now : ℕ) (held : Option (ℕ × ℕ)) (entries : List (ℕ × Lease)) → best_of now held entries ≡ None → NoneBest now held entries
 none_best now held [] is = record { none_held = is; none_due = λ id lease on. absurd on }

@@ -157,6 +157,16 @@ module _ {A : Type 0} where
         other_list : (q l : ℕ) → new_list_of q ≡ Some l → l ≢ list
         other_list q l is same = not_id q l is (in_step.own q id list (old q l is ∙ ap Some same) live)
 
+    -- a lease on which no key hangs has an empty list
+    pub no_entries : (id list : ℕ) → list_of id ≡ Some list → ((key : List ℕ) (place : Attachment) → place_of key ≡ Some place → place.lease ≢ id) → length (entries_at keys list) ≡ 0
+    no_entries id list live no_keys = by_entries (entries_at keys list) refl
+      where
+        by_entries : (xs : List (ℕ × String A)) → entries_at keys list ≡ xs → length xs ≡ 0
+        by_entries [] is = refl
+        by_entries (e ∷ xs) is =
+            let on : Holds (entries_at keys list) e.0 (string_bytes e.1) = subst (λ (ys : List (ℕ × String A)). Holds ys e.0 (string_bytes e.1)) (sym is) (inl (refl, refl)) in
+            absurd (no_keys (string_bytes e.1) (record { lease = id; node = e.0 }) (in_step.held id list e.0 (string_bytes e.1) live on) refl)
+
     -- the place of a key after a change at one key
     module _ (key : List ℕ) (slot : Option Attachment) (places : (q : List ℕ) → new_place_of q ≡ cond (bytes_eq key q) slot (place_of q)) where
       place_here : (q : List ℕ) → key ≡ q → new_place_of q ≡ slot

@@ -3,3 +3,4 @@ pub mod Tables
 pub mod InStep
 pub mod Ordered
 pub mod First
+pub mod Seen

@@ -24,9 +24,9 @@ use Rattle.stm_leases.specs.Kept.{Holds, AreInStep}
 
 -- what is neither above nor equal is below
 below : (r s : Ordering) → r ≡ ordering_reverse s → is_lt s ≡ false → is_eq r ≡ false → r ≡ Less
-below r Less flips no differs = absurd (cc)
-below r Equal flips no differs = let is = ap is_eq flips in absurd (cc)
-below r Greater flips no differs = flips
+below r Less flips no_fall differs = absurd (cc)
+below r Equal flips no_fall differs = let is = ap is_eq flips in absurd (cc)
+below r Greater flips no_fall differs = flips
 
 -- texts that do not fall and differ ascend
 ascending : (keys : List (List ℕ)) → ((k : ℕ) (d : List ℕ) → suc k < length keys → slice_cmp nat_cmp (get_or keys k d) (get_or keys (suc k) d) ≡ Less) → IsAscending keys
@@ -34,13 +34,16 @@ ascending [] up = tt
 ascending (key ∷ []) up = tt
 ascending (key ∷ (next ∷ rest)) up = (up 0 [] (omega arith), ascending (next ∷ rest) (λ k d within. up (suc k) d (omega arith)))
 
+contains-cons : {X : Type 0} (x y : X) (xs : List X) → Contains xs y → Contains (x ∷ xs) y
+contains-cons x y xs c = (suc c.0, omega (arith, c.1), c.2)
+
+bytes_flip : (x y : List ℕ) → bytes_eq x y ≡ bytes_eq y x
+bytes_flip x y =
+    both_ways (bytes_eq x y) (bytes_eq y x)
+    (λ t. (bytes_eq-Decides y x).1 (sym ((bytes_eq-Decides x y).0 t)))
+    (λ t. (bytes_eq-Decides x y).1 (sym ((bytes_eq-Decides y x).0 t)))
+
 module _ {A : Type 0} where
-  texts_of : List (ℕ × String A) → List (List ℕ)
-  texts_of entries = map (λ (e : ℕ × String A). string_bytes e.1) entries
-
-  contains-cons : {X : Type 0} (x y : X) (xs : List X) → Contains xs y → Contains (x ∷ xs) y
-  contains-cons x y xs c = (suc c.0, omega (arith, c.1), c.2)
-
   -- a key is among the texts exactly where a node holds it
   pub holds-contains : (node : ℕ) (key : List ℕ) (xs : List (ℕ × String A)) → Holds xs node key → Contains (map (λ (e : ℕ × String A). string_bytes e.1) xs) key
   holds-contains node key [] h = absurd h
@@ -76,12 +79,6 @@ module _ {A : Type 0} where
       others_differ e.0 (string_bytes e.1) xs (held e.0 (string_bytes e.1) (inl (refl, refl))) apart.0 (λ n k h. held n k (inr h)),
       keys_differ xs apart.1 (λ n k h. held n k (inr h)),
     )
-
-  bytes_flip : (x y : List ℕ) → bytes_eq x y ≡ bytes_eq y x
-  bytes_flip x y =
-      both_ways (bytes_eq x y) (bytes_eq y x)
-      (λ t. (bytes_eq-Decides y x).1 (sym ((bytes_eq-Decides x y).0 t)))
-      (λ t. (bytes_eq-Decides x y).1 (sym ((bytes_eq-Decides y x).0 t)))
 
   -- a sort of texts that differ makes them ascend
   pub sorted-ascends : (texts sorted : List (String A)) → IsPermutation texts sorted → IsSorted string_cmp sorted → IsDistinct bytes_eq (map string_bytes texts) → IsAscending (map string_bytes sorted)

@@ -1,5 +1,6 @@
 //! Walks over a list and over the table of leases.
-ghost use Rattle.std.specs.Prelude.{◌≡◌, map, option_map, IfOk, string_bytes, None};
+ghost use Rattle.std.specs.Prelude.{◌≡◌, map, option_map, IfOk, nat_eq, string_bytes, None};
+ghost use Rattle.indexmap.specs.IndexMap.{IsUnique};
 ghost use Rattle.stm_lists.specs.Lists.{HasList, entries_at};
 ghost use Rattle.stm_leases.specs.Due.{best_of, best_with, longer_due};
 
@@ -52,7 +53,8 @@ fn with_lease(best: Option<(u64, u64)>, id: u64, lease: &Lease, now: u64) -> Opt
 
 /// The lease that has been due for longest, with that time and its id.
 pub(crate) fn longest_due(leases: &IndexMap<u64, Lease>, now: u64) -> Option<(u64, u64)>
-    ensures { result ≡ best_of now None leases.now.entries }
+    ensures best { result ≡ best_of now None leases.now.entries }
+    ensures unique { IsUnique nat_eq leases.now }
 {
     let mut best = None;
     for (id, lease) in leases.iter() {

@@ -104,12 +104,17 @@ impl Leases {
         ensures log { OnOk result ((log : List LogItem) → StandsFor self.old log → StandsFor self.new (Renew id now ∷ log)) }
         ensures err { OnErr result (self.new ≡ self.old) }
     {
-        match self.leases.get_mut(&id) {
-            Some(lease) => {
-                lease.renewed = now;
-                Ok(())
-            }
-            None => Err(LeaseNotFound),
+        let Some(lease) = self.leases.get(&id) else {
+            return Err(LeaseNotFound);
+        };
+        let lease = Lease {
+            ttl: lease.ttl,
+            renewed: now,
+            keys: lease.keys,
+        };
+        match self.leases.insert(id, lease) {
+            Ok(_) => Ok(()),
+            Err(_) => unreachable!(),
         }
     }
 
@@ -198,9 +203,10 @@ impl Leases {
         ensures revoked { (log : List LogItem) → StandsFor self.old log → StandsFor self.new (Revoke id ∷ log) }
         ensures expired { (log : List LogItem) → StandsFor self.old log → StandsFor self.new (Expire id ∷ log) }
     {
-        if let Some(lease) = self.leases.swap_remove(&id) {
-            self.keys.drop_list(lease.keys);
-        }
+        let Some(lease) = self.leases.swap_remove(&id) else {
+            unreachable!()
+        };
+        self.keys.drop_list(lease.keys);
     }
 
     /// The number of live leases.

@@ -13,3 +13,8 @@ pub mod ConditionComplete
 pub mod StatementComplete
 pub mod WrittenLemmas
 pub mod WriteLoop
+pub mod MarkLemmas
+pub mod ExpressionMarks
+pub mod ConditionMarks
+pub mod StatementMarks
+pub mod ProgramLemmas

@@ -14,3 +14,4 @@ pub mod Reading
 pub mod Grammar
 pub mod WordTexts
 pub mod Writing
+pub mod FirstFault

@@ -1,7 +1,9 @@
 //! Reading programs.
-ghost use Rattle.std.specs.Prelude.{IfOk};
+ghost use Rattle.std.specs.Prelude.{◌≡◌, Ok as OkOf, None, IfOk, MatchResult};
 ghost use Rattle.serde_json.specs.View.{view};
+ghost use Rattle.stm_program.specs.FirstFault.{first_fault, IsFirstFault};
 ghost use Rattle.stm_program.specs.Grammar.{SpellsProgram};
+ghost use Rattle.stm_program.specs.Limits.{Fits};
 ghost use Rattle.stm_program.specs.Outcome.{Gives};
 ghost use Rattle.stm_program.specs.Reading.{program_of};
 
@@ -19,10 +21,26 @@ use serde_json::Value;
 use std::alloc::Global;
 
 /// The program that a JSON value spells, or the first fault.
-#[tactic(auto, unfolding(crate::specs::Reading::program_of))]
+///
+/// A program is an array of statements. The value is read in order, a value before its elements and
+/// these from the first to the last; at a node the depth is looked at first, then the number of nodes,
+/// then the shape, and then the elements. `BadProgram` is the first fault, with its place in the value.
+/// `OutOfMemory` may come in place of any other answer, where a growth was refused.
 pub fn read_program(alloc: Global, value: &Value) -> Result<Program, ReadError>
     ensures exact { Gives (λ p. p) result (program_of (view value.now)) }
+    // What is read is spelled so.
     ensures spelled { IfOk result (SpellsProgram (view value.now)) }
+    // A program within the limits that is spelled so is read.
+    ensures accepts { (p : _) → SpellsProgram (view value.now) p → Fits p → Gives (λ q. q) result (OkOf p) }
+    // Which fault it is.
+    ensures faults { MatchResult result (λ p. first_fault (view value.now) ≡ None) (IsFirstFault (view value.now)) }
+{
+    program(alloc, value)
+}
+
+#[tactic(auto, unfolding(crate::specs::Reading::program_of))]
+fn program(alloc: Global, value: &Value) -> Result<Program, ReadError>
+    ensures { Gives (λ p. p) result (program_of (view value.now)) }
 {
     let (statements, _left) = statements::statements(alloc, value, MAX_DEPTH, MAX_NODES)?;
     Ok(Program::of(statements))

@@ -2,4 +2,5 @@ pub mod AnswerLemmas
 pub mod CommitLemmas
 pub mod EffectLemmas
 pub mod SoundLemmas
+pub mod StateLemmas
 pub mod WorldLemmas

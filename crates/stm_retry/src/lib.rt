@@ -14,6 +14,7 @@ pub mod refusal;
 pub mod reply;
 pub mod runner;
 mod slots;
+mod state;
 pub mod world;
 
 pub use answers::ReadAnswers;
@@ -22,6 +23,6 @@ pub use event::WorldEvent;
 pub use refusal::{Denied, Expired, Refusal};
 pub use reply::Reply;
 pub use stm_history::{KeyState, ReadAnswer, Sequence, Text};
-pub use stm_meaning::{Fault, TraceItem, Value};
+pub use stm_meaning::{Fault, State, TraceItem, Value};
 pub use stm_program::{Level, Program};
 pub use world::{RunStop, World};

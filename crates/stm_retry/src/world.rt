@@ -8,6 +8,7 @@ ghost use Rattle.stm_retry.specs.World.{opened, start_runner, world_after, repli
 ghost use Rattle.stm_retry.specs.Made.{as_reply};
 ghost use Rattle.stm_retry.specs.Means.{Means};
 ghost use Rattle.stm_retry.specs.Replay.{replay, AreLegal};
+ghost use Rattle.stm_retry.specs.StateOf.{IsStateOf};
 ghost use Rattle.stm_retry.specs.Tells.{Tells, ran_out};
 
 use crate::entry::Entry;
@@ -15,9 +16,11 @@ use crate::event::WorldEvent;
 use crate::machine::{Machine, denied};
 use crate::refusal::{Denied, Expired, Refusal};
 use crate::reply::Reply;
+use crate::state::state_of;
 use std::alloc::{AllocError, Global};
 use std::marker::Model;
 use stm_history::{HIGHEST_REVISION, KeyState, Sequence};
+use stm_meaning::State;
 use stm_program::{Level, Program};
 
 /// Runners of programs over one store.
@@ -189,5 +192,12 @@ impl World {
         ensures { IfOk result (λ s. s ≡ key_now self.now.history key.now) }
     {
         self.machine.store.key_now(key)
+    }
+
+    /// The state of the store now: the present keys with their values and modification revisions.
+    pub fn state(&self) -> Result<State, AllocError>
+        ensures { IfOk result (λ state. IsStateOf self.now.history state) }
+    {
+        state_of(self.alloc, &self.machine.store)
     }
 }

@@ -1,8 +1,12 @@
-use Rattle.stm_program.proofs.StatementSound.{program_sound}
+use Rattle.serde_json.specs.View.{view}
+use Rattle.stm_program.proofs.ProgramLemmas.{spelled_by, accepted, faulted}
 use Rattle.stm_program.proofs.read.read_program.Goals as goal
 
-pub of-requires : goal.of-requires
-of-requires c = (program_sound _ _ c.in_ok-statements.ensures).1
-
 pub returns-clause-spelled : goal.returns-clause-spelled
-returns-clause-spelled c = rw c.of.ensures (program_sound _ _ c.in_ok-statements.ensures).0
+returns-clause-spelled c = spelled_by (view c.args.value.now) c.program.result c.program.ensures
+
+pub returns-clause-accepts : goal.returns-clause-accepts
+returns-clause-accepts c = accepted (view c.args.value.now) c.program.result c.program.ensures
+
+pub returns-clause-faults : goal.returns-clause-faults
+returns-clause-faults c = faulted (view c.args.value.now) c.program.result c.program.ensures

@@ -1,4 +1,6 @@
+use Rattle.std.proofs.Common.{sym, ◌∙◌}
+use Rattle.stm_leases.proofs.Seen.{contains-now}
 use Rattle.stm_leases.proofs.table.Leases.is_live.Goals as goal
 
 pub returns : goal.returns
-returns c = ?
+returns c = c.contains_key.ensures ∙ sym (contains-now _ _ _ _ c.self.view_is c.args.id)

@@ -1,28 +1,35 @@
+use Rattle.std.proofs.Common.{arith, ap, sym, ◌∙◌, option_map}
+use Rattle.stm_leases.proofs.InStep.{removed, no_entries}
+use Rattle.stm_leases.proofs.Seen.{live-absent, removed-view, removed-log, none-placed, list-updates}
 use Rattle.stm_leases.proofs.table.Leases.remove.Goals as goal
 
+pub unreachable-requires : goal.unreachable-requires
+unreachable-requires c = live-absent _ _ _ _ c.self.view_is c.args.id (sym c.swap_remove.ensures.value ∙ c.in_default.is) c.requires.live
+
 pub drop_list-requires-clause-there : goal.drop_list-requires-clause-there
-drop_list-requires-clause-there c = ?
+drop_list-requires-clause-there c =
+    let found = sym c.swap_remove.ensures.value ∙ c.in-Some.is in
+    c.self.invariant.in_step.listed c.args.id c.in-Some.lease.keys (ap (option_map (λ l. l.keys)) found)
 
 pub drop_list-requires-clause-empty : goal.drop_list-requires-clause-empty
-drop_list-requires-clause-empty c = ?
+drop_list-requires-clause-empty c =
+    let found = sym c.swap_remove.ensures.value ∙ c.in-Some.is in
+    no_entries _ _ _ _ _ c.self.inside.keys c.self.invariant.in_step c.args.id c.in-Some.lease.keys (ap (option_map (λ l. l.keys)) found) (none-placed _ _ _ _ c.self.view_is c.args.id c.requires.no_keys)
 
 pub invariant_of-self : goal.invariant_of-self
-invariant_of-self c = ?
+invariant_of-self c =
+    let found = sym c.swap_remove.ensures.value ∙ c.in-Some.is in
+    record {
+      in_step = removed _ _ _ _ _ _ c.self.invariant.in_step c.args.id c.in-Some.lease.keys (ap (option_map (λ l. l.keys)) found) (none-placed _ _ _ _ c.self.view_is c.args.id c.requires.no_keys) c.drop_list.ensures.dropped (list-updates _ _ c.args.id _ c.swap_remove.ensures.updates.0);
+      table_room = c.self.invariant.table_room;
+      list_room = omega (arith, c.self.invariant.list_room, c.drop_list.ensures.spare);
+    }
 
-pub returns-in-Some-clause-ok : goal.returns-in-Some-clause-ok
-returns-in-Some-clause-ok c = ?
+pub returns-clause-ok : goal.returns-clause-ok
+returns-clause-ok c = removed-view _ _ _ _ c.self.view_is _ c.args.id c.swap_remove.ensures.updates.0
 
-pub returns-in-Some-clause-revoked : goal.returns-in-Some-clause-revoked
-returns-in-Some-clause-revoked c = ?
+pub returns-clause-revoked : goal.returns-clause-revoked
+returns-clause-revoked c = λ log stands. removed-log _ _ _ _ c.self.view_is _ c.args.id c.swap_remove.ensures.updates.0 log stands
 
-pub returns-in-Some-clause-expired : goal.returns-in-Some-clause-expired
-returns-in-Some-clause-expired c = ?
-
-pub returns-in_default-clause-ok : goal.returns-in_default-clause-ok
-returns-in_default-clause-ok c = ?
-
-pub returns-in_default-clause-revoked : goal.returns-in_default-clause-revoked
-returns-in_default-clause-revoked c = ?
-
-pub returns-in_default-clause-expired : goal.returns-in_default-clause-expired
-returns-in_default-clause-expired c = ?
+pub returns-clause-expired : goal.returns-clause-expired
+returns-clause-expired c = λ log stands. removed-log _ _ _ _ c.self.view_is _ c.args.id c.swap_remove.ensures.updates.0 log stands

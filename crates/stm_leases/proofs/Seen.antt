@@ -1,0 +1,138 @@
+-- What callers see of the tables, and what each change of a table makes of it.
+use Rattle.std.proofs.Common.{◌≡◌, ◌≢◌, ◌⊎◌, ℕ, ◌+◌, ◌-◌, ◌<◌, ◌≤◌, Bool, true, false, cond, is_some, IsTrue, IsSome, List, [], ◌∷◌, map, length, Option, Some, None, option_map, String, string_bytes, nat_eq, refl, sym, ap, subst, ◌∙◌, inl, inr, arith}
+use Rattle.std.proofs.lemmas.Bool.{true≢false, cases_lt}
+use Rattle.std.proofs.lemmas.Option.{same_Some}
+use Rattle.std.specs.List.{IsDistinct}
+use Rattle.std.specs.Map.{lookup, keys_of}
+use Rattle.std.specs.Str.{bytes_eq}
+use Rattle.std.specs.FinMap as finmap
+use Rattle.indexmap.specs.IndexMap.{IndexMap, get, get_by_text, ContainsKey}
+use Rattle.stm_lists.specs.Lists.{Lists, entries_at}
+use Rattle.stm_leases.specs.LeaseLog.{LogItem, Term, term_of, due}
+use Rattle.stm_leases.specs.Leases.{Leases, StandsFor, IsLive, lease_of, NoneIsDue, IsNextDue, ComesNoLater}
+use Rattle.stm_leases.specs.Due.{overdue_at, best_of}
+use Rattle.stm_leases.specs.declared.lease.Lease.{Lease}
+use Rattle.stm_leases.specs.declared.lease.Attachment.{Attachment}
+use Rattle.stm_leases.specs.Kept.{term_in, view_of, list_in, Holds, AreInStep}
+use Rattle.stm_leases.proofs.Tables.{get-live, get-attached, live-insert, live-remove, attached-insert, attached-remove, log-insert, log-remove, log-renew, len-entries}
+use Rattle.stm_leases.proofs.First.{IsEntry, IsBest, NoneBest, best, none_best, lookup-entry, entry-lookup, due-for, due-some}
+
+through_list : (b : Bool) (o p : Option Lease) → option_map (λ (l : Lease). l.keys) (cond b o p) ≡ cond b (option_map (λ (l : Lease). l.keys) o) (option_map (λ (l : Lease). l.keys) p)
+through_list true o p = refl
+through_list false o p = refl
+
+-- a change of the table at one id changes the list of that id
+pub list-updates : {S : Type 0} (old new : IndexMap ℕ Lease S) (id : ℕ) (o : Option Lease) → ((q : ℕ) → get nat_eq new q ≡ cond (nat_eq id q) o (get nat_eq old q)) → (q : ℕ) → list_in new q ≡ cond (nat_eq id q) (option_map (λ (l : Lease). l.keys) o) (list_in old q)
+list-updates old new id o updates q = ap (option_map (λ (l : Lease). l.keys)) (updates q) ∙ through_list (nat_eq id q) o (get nat_eq old q)
+
+module _ {A S R : Type 0} (leases : IndexMap ℕ Lease S) (attached : IndexMap (String A) Attachment R) (spare : ℕ) (now : Leases) (seen : view_of leases attached spare ≡ now) where
+  pub live-now : (id : ℕ) → finmap.get now.live id ≡ option_map term_in (get nat_eq leases id)
+  live-now id = ap (λ (s : Leases). finmap.get s.live id) (sym seen) ∙ get-live leases attached spare id
+
+  pub lease_of-now : (key : List ℕ) → lease_of now key ≡ option_map (λ (p : Attachment). p.lease) (get_by_text attached key)
+  lease_of-now key = ap (λ (s : Leases). finmap.get s.attached key) (sym seen) ∙ get-attached leases attached spare key
+
+  pub contains-now : (id : ℕ) → finmap.contains_key now.live id ≡ is_some (get nat_eq leases id)
+  contains-now id = ap is_some (live-now id) ∙ by_lease (get nat_eq leases id)
+    where
+      by_lease : (o : Option Lease) → is_some (option_map term_in o) ≡ is_some o
+      by_lease None = refl
+      by_lease (Some l) = refl
+
+  pub live-found : (id : ℕ) (l : Lease) → get nat_eq leases id ≡ Some l → IsLive now id
+  live-found id l found = contains-now id ∙ ap is_some found
+
+  pub live-absent : (id : ℕ) → get nat_eq leases id ≡ None → IsLive now id → ⊥
+  live-absent id none live = true≢false (sym live ∙ contains-now id ∙ ap is_some none)
+
+  pub table-has : (id : ℕ) → IsLive now id → ContainsKey nat_eq leases id
+  table-has id live = sym (contains-now id) ∙ live
+
+  pub term-found : (id : ℕ) (l : Lease) (term : Term) → get nat_eq leases id ≡ Some l → finmap.get now.live id ≡ Some term → term_in l ≡ term
+  term-found id l term found is = same_Some (term_in l) term (sym (live-now id ∙ ap (option_map term_in) found) ∙ is)
+
+  -- the leases after a change of their table
+  pub inserted-view : (new : IndexMap ℕ Lease S) (id : ℕ) (l : Lease) → ((q : ℕ) → get nat_eq new q ≡ cond (nat_eq id q) (Some l) (get nat_eq leases q)) → view_of new attached spare ≡ record now { live = finmap.insert now.live id (term_in l) }
+  inserted-view new id l updates =
+      ap (λ live. record (view_of leases attached spare) { live = live }) (live-insert leases attached spare new id l updates)
+      ∙ ap (λ (s : Leases). record s { live = finmap.insert s.live id (term_in l) }) seen
+
+  pub removed-view : (new : IndexMap ℕ Lease S) (id : ℕ) → ((q : ℕ) → get nat_eq new q ≡ cond (nat_eq id q) None (get nat_eq leases q)) → view_of new attached spare ≡ record now { live = finmap.remove now.live id }
+  removed-view new id updates =
+      ap (λ live. record (view_of leases attached spare) { live = live }) (live-remove leases attached spare new id updates)
+      ∙ ap (λ (s : Leases). record s { live = finmap.remove s.live id }) seen
+
+  -- the attached keys after a change of theirs
+  pub attached-view : (new : IndexMap (String A) Attachment R) (key : List ℕ) (p : Attachment) → ((q : List ℕ) → get_by_text new q ≡ cond (bytes_eq key q) (Some p) (get_by_text attached q)) → view_of leases new (spare - 1) ≡ record now { attached = finmap.insert now.attached key p.lease; spare = now.spare - 1 }
+  attached-view new key p updates =
+      ap (λ keys. record (view_of leases attached spare) { attached = keys; spare = spare - 1 }) (attached-insert leases attached spare new key p updates)
+      ∙ ap (λ (s : Leases). record s { attached = finmap.insert s.attached key p.lease; spare = s.spare - 1 }) seen
+
+  pub detached-view : (new : IndexMap (String A) Attachment R) (key : List ℕ) → ((q : List ℕ) → get_by_text new q ≡ cond (bytes_eq key q) None (get_by_text attached q)) → view_of leases new spare ≡ record now { attached = finmap.remove now.attached key }
+  detached-view new key updates =
+      ap (λ keys. record (view_of leases attached spare) { attached = keys }) (attached-remove leases attached spare new key updates)
+      ∙ ap (λ (s : Leases). record s { attached = finmap.remove s.attached key }) seen
+
+  -- what the leases stand for after a change
+  pub granted-log : (new : IndexMap ℕ Lease S) (id : ℕ) (l : Lease) → ((q : ℕ) → get nat_eq new q ≡ cond (nat_eq id q) (Some l) (get nat_eq leases q)) → (log : List LogItem) → StandsFor now log → (q : ℕ) → finmap.get (view_of new attached spare).live q ≡ cond (nat_eq id q) (Some (term_in l)) (term_of log q)
+  granted-log new id l updates log stands q =
+      ap (λ (s : Leases). finmap.get s.live q) (inserted-view new id l updates) ∙ log-insert now log id (term_in l) stands q
+
+  pub renewed-log : (new : IndexMap ℕ Lease S) (id at : ℕ) (l old : Lease) → get nat_eq leases id ≡ Some old → term_in l ≡ record { ttl = old.ttl; renewed = at } → ((q : ℕ) → get nat_eq new q ≡ cond (nat_eq id q) (Some l) (get nat_eq leases q)) → (log : List LogItem) → StandsFor now log → (q : ℕ) → finmap.get (view_of new attached spare).live q ≡ cond (nat_eq id q) (option_map (λ (t : Term). record t { renewed = at }) (term_of log q)) (term_of log q)
+  renewed-log new id at l old found is updates log stands q =
+      ap (λ (s : Leases). finmap.get s.live q) (inserted-view new id l updates) ∙ ap (λ (t : Term). finmap.get (finmap.insert now.live id t) q) is
+      ∙ log-renew now log id at (term_in old) (live-now id ∙ ap (option_map term_in) found) stands q
+
+  pub removed-log : (new : IndexMap ℕ Lease S) (id : ℕ) → ((q : ℕ) → get nat_eq new q ≡ cond (nat_eq id q) None (get nat_eq leases q)) → (log : List LogItem) → StandsFor now log → (q : ℕ) → finmap.get (view_of new attached spare).live q ≡ cond (nat_eq id q) None (term_of log q)
+  removed-log new id updates log stands q =
+      ap (λ (s : Leases). finmap.get s.live q) (removed-view new id updates) ∙ log-remove now log id stands q
+
+  -- no key hangs on a lease, in the table
+  pub none-placed : (id : ℕ) → ((key : List ℕ) → lease_of now key ≢ Some id) → (key : List ℕ) (place : Attachment) → get_by_text attached key ≡ Some place → place.lease ≢ id
+  none-placed id none key place found same =
+      none key (lease_of-now key ∙ ap (option_map (λ (p : Attachment). p.lease)) found ∙ ap Some same)
+
+  pub len-now : IsDistinct nat_eq (keys_of leases.entries) → length leases.entries ≡ finmap.len now.live
+  len-now distinct = sym (len-entries term_in leases.entries distinct) ∙ ap (λ (s : Leases). finmap.len s.live) seen
+
+  -- the longest due lease is the next
+  pub none-due : (at : ℕ) → best_of at None leases.entries ≡ None → NoneIsDue now at
+  none-due at none id term is =
+      by_lease (get nat_eq leases id) refl (sym (live-now id) ∙ is)
+    where
+      by_lease : (o : Option Lease) → get nat_eq leases id ≡ o → option_map term_in o ≡ Some term → at < due term
+      by_lease None found same = absurd (cc)
+      by_lease (Some l) found same =
+          let terms : term_in l ≡ term = same_Some (term_in l) term same in
+          let not_due = (none_best at None leases.entries none).none_due id l (lookup-entry id l leases.entries found) in
+          elim (cases_lt at (l.renewed + l.ttl)) [
+            | inl later ↦ subst (λ (t : Term). at < due t) terms later
+            | inr now_due ↦ let is_due = due-some at l now_due in absurd (cc)
+          ]
+
+  pub next-due : (at overdue id : ℕ) → IsDistinct nat_eq (keys_of leases.entries) → best_of at None leases.entries ≡ Some (overdue, id) → IsNextDue now at id
+  next-due at overdue id distinct is =
+      let top = best at None leases.entries (overdue, id) is in
+      let found = entry_found top.from in
+      let lease = found.0 in
+      let when = due-for at overdue lease found.2 in
+      record {
+        term = term_in lease;
+        live = live-now id ∙ ap (option_map term_in) (entry-lookup id lease leases.entries distinct found.1);
+        is_due = omega arith;
+        first = λ other term is_term is_due. by_lease top other term is_due (get nat_eq leases other) refl (sym (live-now other) ∙ is_term) lease when;
+      }
+    where
+      entry_found : (None ≡ Some (overdue, id)) ⊎ ((lease : Lease) × IsEntry (id, lease) leases.entries × (overdue_at at lease ≡ Some overdue)) → (lease : Lease) × IsEntry (id, lease) leases.entries × (overdue_at at lease ≡ Some overdue)
+      entry_found (inl none) = absurd (cc)
+      entry_found (inr found) = found
+      by_lease : IsBest at None leases.entries (overdue, id) → (other : ℕ) (term : Term) → due term ≤ at → (o : Option Lease) → get nat_eq leases other ≡ o → option_map term_in o ≡ Some term → (lease : Lease) → lease.renewed + lease.ttl + overdue ≡ at → ComesNoLater (due (term_in lease)) id (due term) other
+      by_lease top other term is_due None at_other same lease when = absurd (cc)
+      by_lease top other term is_due (Some l) at_other same lease when =
+          let terms : term_in l ≡ term = same_Some (term_in l) term same in
+          let ttls : l.ttl ≡ term.ttl = ap (λ (t : Term). t.ttl) terms in
+          let renewals : l.renewed ≡ term.renewed = ap (λ (t : Term). t.renewed) terms in
+          let within : l.renewed + l.ttl ≤ at = omega arith in
+          let order = top.over_each other (at - (l.renewed + l.ttl)) l (lookup-entry other l leases.entries at_other) (due-some at l within) in
+          let longer = order.0 in
+          (omega arith, λ equal. let same_time : at - (l.renewed + l.ttl) ≡ overdue = omega arith in order.1 same_time)

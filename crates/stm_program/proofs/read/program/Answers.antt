@@ -1,0 +1,5 @@
+use Rattle.stm_program.proofs.StatementSound.{program_sound}
+use Rattle.stm_program.proofs.read.program.Goals as goal
+
+pub of-requires : goal.of-requires
+of-requires c = (program_sound _ _ c.in_ok-statements.ensures).1

@@ -86,7 +86,7 @@ pub are_small : (opening : ℕ) (key : List ℕ) (revisions : List (List Change)
 are_small opening key [] = tt
 are_small opening key (changes ∷ older) =
     subst (SmallIfPresent opening (suc (length older))) (sym (one_more opening key changes older))
-        (change_keeps_small opening (length older) (change_of key changes) (key_after opening key older) (are_small opening key older))
+    (change_keeps_small opening (length older) (change_of key changes) (key_after opening key older) (are_small opening key older))
 
 -- the modification revision of a key is at most the last revision
 pub mod_is_reached : (opening : ℕ) (key : List ℕ) (revisions : List (List Change)) → mod_of (key_after opening key revisions) ≤ number_of_last opening revisions
@@ -120,7 +120,7 @@ pub up_to_is_reached : (opening r : ℕ) (revisions : List (List Change)) →
 up_to_is_reached opening r [] = omega arith
 up_to_is_reached opening r (changes ∷ older) =
     chosen_is_reached opening changes older (revisions_up_to opening r older) (nat_le (number_of_last opening (changes ∷ older)) r)
-        (up_to_is_reached opening r older)
+    (up_to_is_reached opening r older)
 
 -- A change of the last revision either leaves the key, or gives it the new number, or deletes it. So a key
 -- whose modification revision it leaves as it was somewhere before has the state that it had there.
@@ -153,12 +153,12 @@ last_and_older : (opening : ℕ) (key : List ℕ) (changes : List Change) (older
 last_and_older opening key changes older s same equal =
     one_more opening key changes older ∙
     same_after_change (number_of_last opening (changes ∷ older)) (number_of_last opening older) (change_of key changes)
-        (key_after opening key older) (key_after opening key (revisions_up_to opening s older))
-        (omega arith)
-        (omega (arith, mod_is_reached opening key (revisions_up_to opening s older), up_to_is_reached opening s older))
-        (absent_at_zero opening key (revisions_up_to opening s older))
-        same
-        (ap mod_of (sym (one_more opening key changes older)) ∙ equal)
+    (key_after opening key older) (key_after opening key (revisions_up_to opening s older))
+    (omega arith)
+    (omega (arith, mod_is_reached opening key (revisions_up_to opening s older), up_to_is_reached opening s older))
+    (absent_at_zero opening key (revisions_up_to opening s older))
+    same
+    (ap mod_of (sym (one_more opening key changes older)) ∙ equal)
 
 same_if_mod_is : (opening : ℕ) (key : List ℕ) (revisions : List (List Change)) (r s : ℕ) →
     SameIfModIs opening key (revisions_up_to opening r revisions) (revisions_up_to opening s revisions)
@@ -166,17 +166,17 @@ same_if_mod_is opening key [] r s = λ equal. refl
 same_if_mod_is opening key (changes ∷ older) r s =
     let all_older : revisions_up_to opening (number_of_last opening older) older ≡ older = all_up_to opening (number_of_last opening older) older (omega arith) in
     let left : SameIfModIs opening key (changes ∷ older) (revisions_up_to opening s older) =
-        last_and_older opening key changes older s
-            (subst (λ l. SameIfModIs opening key l (revisions_up_to opening s older)) all_older (same_if_mod_is opening key older (number_of_last opening older) s)) in
+    last_and_older opening key changes older s
+    (subst (λ l. SameIfModIs opening key l (revisions_up_to opening s older)) all_older (same_if_mod_is opening key older (number_of_last opening older) s)) in
     let right : SameIfModIs opening key (changes ∷ older) (revisions_up_to opening r older) =
-        last_and_older opening key changes older r
-            (subst (λ l. SameIfModIs opening key l (revisions_up_to opening r older)) all_older (same_if_mod_is opening key older (number_of_last opening older) r)) in
+    last_and_older opening key changes older r
+    (subst (λ l. SameIfModIs opening key l (revisions_up_to opening r older)) all_older (same_if_mod_is opening key older (number_of_last opening older) r)) in
     by_both (SameIfModIs opening key) (changes ∷ older) (revisions_up_to opening r older) (revisions_up_to opening s older)
-        (nat_le (number_of_last opening (changes ∷ older)) r) (nat_le (number_of_last opening (changes ∷ older)) s)
-        (λ equal. refl)
-        left
-        (λ equal. sym (right (sym equal)))
-        (same_if_mod_is opening key older r s)
+    (nat_le (number_of_last opening (changes ∷ older)) r) (nat_le (number_of_last opening (changes ∷ older)) s)
+    (λ equal. refl)
+    left
+    (λ equal. sym (right (sym equal)))
+    (same_if_mod_is opening key older r s)
 
 pub same_mod_means_same_state : SameModMeansSameState
 same_mod_means_same_state h key r s = same_if_mod_is h.opening key h.revisions r s
@@ -193,5 +193,5 @@ small_in_more opening count more (Some s) h small =
 pub numbers_stay_small : NumbersStaySmall
 numbers_stay_small h key r =
     small_in_more h.opening (length (revisions_up_to h.opening r h.revisions)) (length h.revisions) (key_at h key r)
-        (omega (arith, up_to_is_reached h.opening r h.revisions))
-        (are_small h.opening key (revisions_up_to h.opening r h.revisions))
+    (omega (arith, up_to_is_reached h.opening r h.revisions))
+    (are_small h.opening key (revisions_up_to h.opening r h.revisions))

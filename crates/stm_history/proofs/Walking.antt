@@ -15,12 +15,12 @@ use Rattle.stm_history.specs.Walk.{put_before}
 abbrev pub continued : Option KeyState → List DatedPut → Option KeyState
 continued None puts = state_of puts
 continued (Some s) puts = Some record {
-    value = s.value;
-    create_rev = first_number s.create_rev puts;
-    mod_rev = s.mod_rev;
-    version = s.version + length puts;
-    lease = s.lease
-  }
+  value = s.value;
+  create_rev = first_number s.create_rev puts;
+  mod_rev = s.mod_rev;
+  version = s.version + length puts;
+  lease = s.lease;
+}
 
 pub continued_end : (found : Option KeyState) → continued found [] ≡ found
 continued_end None = refl
@@ -80,11 +80,11 @@ first_up_to opening r xs (suc i) k within count =
     let newest : reverse (take (suc i) xs) ≡ get_or xs i [] ∷ reverse (take i xs) = newest_first xs i [] (omega arith) in
     let size : length (reverse (take i xs)) ≡ i = length-reverse (take i xs) ∙ length-take-le i xs (omega arith) in
     chosen_first (nat_le (number_of_last opening (get_or xs i [] ∷ reverse (take i xs))) r)
-        (get_or xs i [] ∷ reverse (take i xs)) (revisions_up_to opening r (reverse (take i xs))) xs k i
-        (λ is. let reached : opening + suc (length (reverse (take i xs))) ≤ r = leb-true _ _ is in omega arith)
-        (λ is. let above : r < opening + suc (length (reverse (take i xs))) = leb-false _ _ is in
-            first_up_to opening r xs i k (omega arith) (omega arith))
-        (sym newest)
+    (get_or xs i [] ∷ reverse (take i xs)) (revisions_up_to opening r (reverse (take i xs))) xs k i
+    (λ is. let reached : opening + suc (length (reverse (take i xs))) ≤ r = leb-true _ _ is in omega arith)
+    (λ is. let above : r < opening + suc (length (reverse (take i xs))) = leb-false _ _ is in
+    first_up_to opening r xs i k (omega arith) (omega arith))
+    (sym newest)
     ∙ sym (ap (revisions_up_to opening r) newest)
 
 -- all revisions up to a number

@@ -103,12 +103,12 @@ first_number number (p ∷ older) = first_number p.number older
 abbrev pub state_of : List DatedPut → Option KeyState
 state_of [] = None
 state_of (p ∷ older) = Some record {
-    value = p.value;
-    create_rev = first_number p.number older;
-    mod_rev = p.number;
-    version = suc (length older);
-    lease = p.lease
-  }
+  value = p.value;
+  create_rev = first_number p.number older;
+  mod_rev = p.number;
+  version = suc (length older);
+  lease = p.lease;
+}
 
 -- what a key is after these revisions
 abbrev pub key_after : ℕ → List ℕ → List (List Change) → Option KeyState

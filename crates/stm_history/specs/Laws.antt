@@ -17,7 +17,7 @@ OlderRevisionsStay =
 abbrev pub OneMoreRevision : Type 0
 OneMoreRevision =
     (h : History) (changes : List Change) (key : List ℕ) →
-        key_now (add_revision h changes) key ≡ after_change (now (add_revision h changes)) (change_of key changes) (key_now h key)
+    key_now (add_revision h changes) key ≡ after_change (now (add_revision h changes)) (change_of key changes) (key_now h key)
 
 -- From the last revision on a key is what it is now.
 abbrev pub LastRevisionIsNow : Type 0
@@ -28,4 +28,4 @@ LastRevisionIsNow = (h : History) (key : List ℕ) (r : ℕ) → now h ≤ r →
 abbrev pub NumbersStaySmall : Type 0
 NumbersStaySmall =
     (h : History) (key : List ℕ) (r : ℕ) →
-        IfSome (key_at h key r) (λ s. (s.version ≤ length h.revisions) × (s.mod_rev ≤ now h) × (s.create_rev ≤ s.mod_rev) × (h.opening + 1 ≤ s.create_rev))
+    IfSome (key_at h key r) (λ s. (s.version ≤ length h.revisions) × (s.mod_rev ≤ now h) × (s.create_rev ≤ s.mod_rev) × (h.opening + 1 ≤ s.create_rev))

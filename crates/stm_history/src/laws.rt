@@ -4,31 +4,26 @@ ghost use Rattle.stm_history.specs.Laws.{SameModMeansSameState, OlderRevisionsSt
 /// Older revisions don't change: one more revision leaves every key at the revisions before it.
 pub fn older_revisions_stay()
     ensures { OlderRevisionsStay }
-{
-}
+{}
 
 /// One more revision changes each key by its change, and leaves the others.
 pub fn one_more_revision()
     ensures { OneMoreRevision }
-{
-}
+{}
 
 /// A key at the last revision, or at one that has not come yet, is what it is now.
 pub fn last_revision_is_now()
     ensures { LastRevisionIsNow }
-{
-}
+{}
 
 /// Equal modification revisions of one key, at any two revisions, mean the same state (0 is absent).
 ///
 /// So a compare of modification revisions is enough to know that nothing was changed.
 pub fn same_mod_means_same_state()
     ensures { SameModMeansSameState }
-{
-}
+{}
 
 /// The numbers of a present key are at most the numbers of the history, so they fit where those fit.
 pub fn numbers_stay_small()
     ensures { NumbersStaySmall }
-{
-}
+{}

@@ -29,7 +29,6 @@ impl Model for Revisions {
 
     ghost Value = { History };
 
-
     ghost view = { λ a. record { opening = a.opening; revisions = reverse a.revisions.items } };
 
     ghost invariant = { λ a. now (record { opening = a.opening; revisions = reverse a.revisions.items }) ≤ HIGHEST_REVISION };
@@ -67,7 +66,11 @@ fn with_older_put(
 }
 
 /// What a key is after these revisions, of which the last is the newest.
-fn key_after_all(opening: u64, revisions: &[Revision], key: &str) -> Result<Option<KeyState>, AllocError>
+fn key_after_all(
+    opening: u64,
+    revisions: &[Revision],
+    key: &str,
+) -> Result<Option<KeyState>, AllocError>
     requires { opening + length revisions.now < 2 ^ 63 }
     ensures { IfOk result (λ s. s ≡ key_after opening key.now (reverse revisions.now)) }
 {
@@ -127,7 +130,7 @@ impl Revisions {
         ensures value { result ≡ now self.now }
         ensures bounded { result ≤ HIGHEST_REVISION }
     {
-        self.opening + self.revisions.len() as u64
+        self.revisions.len() as u64 + self.opening
     }
 
     /// The revisions, the oldest first. It takes no memory.
@@ -141,7 +144,9 @@ impl Revisions {
     pub fn key_at(&self, key: &str, revision: u64) -> Result<Option<KeyState>, AllocError>
         ensures { IfOk result (λ s. s ≡ key_at self.now key.now revision) }
     {
-        let count = revision.saturating_sub(self.opening).min(self.revisions.len() as u64) as usize;
+        let count = revision
+            .saturating_sub(self.opening)
+            .min(self.revisions.len() as u64) as usize;
         key_after_all(self.opening, &self.revisions[..count], key)
     }
 

@@ -25,7 +25,9 @@ impl<T> Sequence<T> {
     pub fn new(alloc: Global) -> Sequence<T>
         ensures { result ≡ [] }
     {
-        Sequence { items: Vec::new(alloc) }
+        Sequence {
+            items: Vec::new(alloc),
+        }
     }
 
     /// The list of a vector's elements. It takes no memory.
@@ -64,7 +66,8 @@ impl<T> Sequence<T> {
     pub fn into_vec(self) -> Vec<T>
         ensures { result.items ≡ self }
     {
-        self.items
+        let Sequence { items } = self;
+        items
     }
 }
 

@@ -15,5 +15,3 @@ pub use keys::Keys;
 pub use refusal::{ApplyRefusal, ReadRefusal};
 pub use stm_history::{Change, HIGHEST_REVISION, KeyState, Sequence, Text};
 
-#[cfg(test)]
-mod tests;

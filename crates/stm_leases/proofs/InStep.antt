@@ -112,18 +112,18 @@ module _ {A : Type 0} where
           ];
           own = λ q r l is also. elim (cases_eq q id) [
             | inl same ↦ elim (cases_eq r id) [
-                | inl also_same ↦ same ∙ sym also_same
-                | inr other ↦ absurd (fresh_differs list l fresh (in_step.listed r l (old r l other also)) (sym (of_id q l same is)))
-              ]
+              | inl also_same ↦ same ∙ sym also_same
+              | inr other ↦ absurd (fresh_differs list l fresh (in_step.listed r l (old r l other also)) (sym (of_id q l same is)))
+            ]
             | inr differs ↦ elim (cases_eq r id) [
-                | inl also_same ↦ absurd (fresh_differs list l fresh (in_step.listed q l (old q l differs is)) (sym (of_id r l also_same also)))
-                | inr other ↦ in_step.own q r l (old q l differs is) (old r l other also)
-              ]
+              | inl also_same ↦ absurd (fresh_differs list l fresh (in_step.listed q l (old q l differs is)) (sym (of_id r l also_same also)))
+              | inr other ↦ in_step.own q r l (old q l differs is) (old r l other also)
+            ]
           ];
           placed = λ key place is.
-            let had = in_step.placed key place is in
-            let differs : place.lease ≢ id = λ same. let none = ap list_of same ∙ not_live in let some = had.1 in absurd (cc) in
-            (had.0, list_else id (Some list) lists place.lease differs ∙ had.1, rw (same_entries list had.0 (Some []) updates (fresh_differs list had.0 fresh (in_step.listed place.lease had.0 had.1))) had.2);
+              let had = in_step.placed key place is in
+              let differs : place.lease ≢ id = λ same. let none = ap list_of same ∙ not_live in let some = had.1 in absurd (cc) in
+              (had.0, list_else id (Some list) lists place.lease differs ∙ had.1, rw (same_entries list had.0 (Some []) updates (fresh_differs list had.0 fresh (in_step.listed place.lease had.0 had.1))) had.2);
           held = λ q l node key is holds. elim (cases_eq q id) [
             | inl same ↦ absurd (subst (λ (xs : List (ℕ × String A)). Holds xs node key) (ap (entries_at new_keys) (sym (of_id q l same is)) ∙ now_entries list [] updates) holds)
             | inr differs ↦
@@ -134,6 +134,7 @@ module _ {A : Type 0} where
       where
         of_id : (q l : ℕ) → q ≡ id → new_list_of q ≡ Some l → list ≡ l
         of_id q l same is = same_Some list l (sym (list_here id (Some list) lists) ∙ ap new_list_of (sym same) ∙ is)
+
         old : (q l : ℕ) → q ≢ id → new_list_of q ≡ Some l → list_of q ≡ Some l
         old q l differs is = sym (list_else id (Some list) lists q differs) ∙ is
 
@@ -144,18 +145,30 @@ module _ {A : Type 0} where
           listed = λ q l is. still_there list l None updates (other_list q l is) (in_step.listed q l (old q l is));
           own = λ q r l is also. in_step.own q r l (old q l is) (old r l also);
           placed = λ key place is.
-            let had = in_step.placed key place is in
-            let now : new_list_of place.lease ≡ Some had.0 = list_else id None lists place.lease (no_keys key place is) ∙ had.1 in
-            (had.0, now, rw (same_entries list had.0 None updates (other_list place.lease had.0 now)) had.2);
+              let had = in_step.placed key place is in
+              let now : new_list_of place.lease ≡ Some had.0 = list_else id None lists place.lease (no_keys key place is) ∙ had.1 in
+              (had.0, now, rw (same_entries list had.0 None updates (other_list place.lease had.0 now)) had.2);
           held = λ q l node key is holds. in_step.held q l node key (old q l is) (rw (same_entries list l None updates (other_list q l is)) at holds);
         }
       where
         not_id : (q l : ℕ) → new_list_of q ≡ Some l → q ≢ id
         not_id q l is same = let none = sym (list_here id None lists) ∙ ap new_list_of (sym same) ∙ is in absurd (cc)
+
         old : (q l : ℕ) → new_list_of q ≡ Some l → list_of q ≡ Some l
         old q l is = sym (list_else id None lists q (not_id q l is)) ∙ is
+
         other_list : (q l : ℕ) → new_list_of q ≡ Some l → l ≢ list
         other_list q l is same = not_id q l is (in_step.own q id list (old q l is ∙ ap Some same) live)
+
+    -- the lists of the ids stay
+    pub same_lists : ((q : ℕ) → new_list_of q ≡ list_of q) → AreInStep new_list_of place_of keys
+    same_lists same =
+        record {
+          listed = λ q l is. in_step.listed q l (sym (same q) ∙ is);
+          own = λ q r l is also. in_step.own q r l (sym (same q) ∙ is) (sym (same r) ∙ also);
+          placed = λ key place is. let had = in_step.placed key place is in (had.0, same place.lease ∙ had.1, had.2);
+          held = λ q l node key is holds. in_step.held q l node key (sym (same q) ∙ is) holds;
+        }
 
     -- a lease on which no key hangs has an empty list
     pub no_entries : (id list : ℕ) → list_of id ≡ Some list → ((key : List ℕ) (place : Attachment) → place_of key ≡ Some place → place.lease ≢ id) → length (entries_at keys list) ≡ 0
@@ -200,9 +213,9 @@ module _ {A : Type 0} where
                 elim (holds-parts n q (entries_at keys list) ((node, copy) ∷ []) (subst (λ (xs : List (ℕ × String A)). Holds xs n q) (ap (entries_at new_keys) same ∙ now_entries list entries updates) holds)) [
                   | inl left ↦ old_place q (record { lease = r; node = n }) (in_step.held r l n q is (subst (λ (m : ℕ). Holds (entries_at keys m) n q) (sym same) left))
                   | inr right ↦ elim right [
-                      | inl here ↦ place_here key (Some (record { lease = id; node = node })) places q (sym text ∙ here.1) ∙ rw (owner, here.0) refl
-                      | inr nothing ↦ absurd nothing
-                    ]
+                    | inl here ↦ place_here key (Some (record { lease = id; node = node })) places q (sym text ∙ here.1) ∙ rw (owner, here.0) refl
+                    | inr nothing ↦ absurd nothing
+                  ]
                 ]
             | inr differs ↦ old_place q (record { lease = r; node = n }) (in_step.held r l n q is (rw (same_entries list l (Some entries) updates differs) at holds))
           ];
@@ -210,12 +223,14 @@ module _ {A : Type 0} where
       where
         entries : List (ℕ × String A)
         entries = entries_at keys list ++ (node, copy) ∷ []
+
         kept : (l n : ℕ) (q : List ℕ) → Holds (entries_at keys l) n q → Holds (entries_at new_keys l) n q
         kept l n q holds =
             elim (cases_eq l list) [
               | inl same ↦ rw (same, now_entries list (entries_at keys list ++ (node, copy) ∷ []) updates) (holds-left n q (entries_at keys list) ((node, copy) ∷ []) (subst (λ (m : ℕ). Holds (entries_at keys m) n q) same holds))
               | inr differs ↦ rw (same_entries list l (Some (entries_at keys list ++ (node, copy) ∷ [])) updates differs) holds
             ]
+
         old_place : (q : List ℕ) (p : Attachment) → place_of q ≡ Some p → new_place_of q ≡ Some p
         old_place q p is =
             elim (cases_Bool (bytes_eq key q)) [
@@ -262,6 +277,7 @@ module _ {A : Type 0} where
       where
         entries : entries_at keys place.list ≡ place.before ++ (node, place.value) ∷ place.after
         entries = ap (λ o. unwrap_or o []) at.stands
+
         kept : (l n : ℕ) (q : List ℕ) → bytes_eq key q ≡ false → Holds (entries_at keys l) n q → Holds (entries_at new_keys l) n q
         kept l n q differs holds =
             elim (cases_eq l place.list) [

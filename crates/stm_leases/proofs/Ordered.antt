@@ -86,11 +86,14 @@ module _ {A : Type 0} where
     where
       all_differ : IsDistinct bytes_eq (map string_bytes sorted)
       all_differ = IsDistinct-IsPermutation bytes_eq bytes_flip (map string_bytes texts) (map string_bytes sorted) (IsPermutation-map string_bytes texts sorted moved) distinct
+
       at : (k : ℕ) (s : String A) (d : List ℕ) → k < length sorted → get_or (map string_bytes sorted) k d ≡ string_bytes (get_or sorted k s)
       at k s d within = get_or-map string_bytes sorted k s d within
+
       some_text : (xs : List (String A)) (k : ℕ) → k < length xs → String A
       some_text [] k within = absurd (omega arith)
       some_text (x ∷ xs) k within = x
+
       step : (k : ℕ) (d : List ℕ) → suc k < length (map string_bytes sorted) → slice_cmp nat_cmp (get_or (map string_bytes sorted) k d) (get_or (map string_bytes sorted) (suc k) d) ≡ Less
       step k d within =
           let long = length-map sorted string_bytes in
@@ -113,15 +116,15 @@ module _ {A : Type 0} where
         ascending = sorted-ascends texts sorted moved up distinct;
         each = λ key. (
           λ among.
-            let unsorted = Contains-permutation (map string_bytes sorted) (map string_bytes texts) key (IsPermutation-sym _ _ permuted) among in
-            let node = contains-holds key (entries_at keys list) (subst (λ (ks : List (List ℕ)). Contains ks key) are unsorted) in
-            seen key ∙ ap (option_map (λ (p : Attachment). p.lease)) (in_step.held id list node.0 key live node.1),
+              let unsorted = Contains-permutation (map string_bytes sorted) (map string_bytes texts) key (IsPermutation-sym _ _ permuted) among in
+              let node = contains-holds key (entries_at keys list) (subst (λ (ks : List (List ℕ)). Contains ks key) are unsorted) in
+              seen key ∙ ap (option_map (λ (p : Attachment). p.lease)) (in_step.held id list node.0 key live node.1),
           λ hangs.
-            let place = by_place key (place_of key) refl (sym (seen key) ∙ hangs) in
-            let had = in_step.placed key place.0 place.1 in
-            let same : had.0 ≡ list = same_Some had.0 list (sym had.1 ∙ ap list_of place.2 ∙ live) in
-            let holds = subst (λ (l : ℕ). Holds (entries_at keys l) place.0.node key) same had.2 in
-            Contains-permutation (map string_bytes texts) (map string_bytes sorted) key permuted (subst (λ (ks : List (List ℕ)). Contains ks key) (sym are) (holds-contains place.0.node key (entries_at keys list) holds)),
+              let place = by_place key (place_of key) refl (sym (seen key) ∙ hangs) in
+              let had = in_step.placed key place.0 place.1 in
+              let same : had.0 ≡ list = same_Some had.0 list (sym had.1 ∙ ap list_of place.2 ∙ live) in
+              let holds = subst (λ (l : ℕ). Holds (entries_at keys l) place.0.node key) same had.2 in
+              Contains-permutation (map string_bytes texts) (map string_bytes sorted) key permuted (subst (λ (ks : List (List ℕ)). Contains ks key) (sym are) (holds-contains place.0.node key (entries_at keys list) holds)),
         );
       }
     where

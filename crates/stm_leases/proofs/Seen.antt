@@ -1,7 +1,9 @@
 -- What callers see of the tables, and what each change of a table makes of it.
 use Rattle.std.proofs.Common.{◌≡◌, ◌≢◌, ◌⊎◌, ℕ, ◌+◌, ◌-◌, ◌<◌, ◌≤◌, Bool, true, false, cond, is_some, IsTrue, IsSome, List, [], ◌∷◌, map, length, Option, Some, None, option_map, String, string_bytes, nat_eq, refl, sym, ap, subst, ◌∙◌, inl, inr, arith}
-use Rattle.std.proofs.lemmas.Bool.{true≢false, cases_lt}
+use Rattle.std.proofs.lemmas.Bool.{true≢false, cases_lt, eqb-true}
+use Rattle.std.proofs.lemmas.Cmp.{nat_list_cmp_total}
 use Rattle.std.proofs.lemmas.Option.{same_Some}
+use Rattle.std.specs.Cmp.{eq_by_cmp_equiv}
 use Rattle.std.specs.List.{IsDistinct}
 use Rattle.std.specs.Map.{lookup, keys_of}
 use Rattle.std.specs.Str.{bytes_eq}
@@ -24,6 +26,14 @@ through_list false o p = refl
 -- a change of the table at one id changes the list of that id
 pub list-updates : {S : Type 0} (old new : IndexMap ℕ Lease S) (id : ℕ) (o : Option Lease) → ((q : ℕ) → get nat_eq new q ≡ cond (nat_eq id q) o (get nat_eq old q)) → (q : ℕ) → list_in new q ≡ cond (nat_eq id q) (option_map (λ (l : Lease). l.keys) o) (list_in old q)
 list-updates old new id o updates q = ap (option_map (λ (l : Lease). l.keys)) (updates q) ∙ through_list (nat_eq id q) o (get nat_eq old q)
+
+-- a renewal keeps the list of each id
+pub list-renewed : {S : Type 0} (old new : IndexMap ℕ Lease S) (id : ℕ) (was now : Lease) → get nat_eq old id ≡ Some was → now.keys ≡ was.keys → ((q : ℕ) → get nat_eq new q ≡ cond (nat_eq id q) (Some now) (get nat_eq old q)) → (q : ℕ) → list_in new q ≡ list_in old q
+list-renewed old new id was now found same updates q = list-updates old new id (Some now) updates q ∙ by_test (nat_eq id q) refl
+  where
+    by_test : (b : Bool) → nat_eq id q ≡ b → cond b (Some now.keys) (list_in old q) ≡ list_in old q
+    by_test false is = refl
+    by_test true is = ap Some same ∙ sym (ap (option_map (λ (l : Lease). l.keys)) (ap (get nat_eq old) (sym (eqb-true id q is)) ∙ found))
 
 module _ {A S R : Type 0} (leases : IndexMap ℕ Lease S) (attached : IndexMap (String A) Attachment R) (spare : ℕ) (now : Leases) (seen : view_of leases attached spare ≡ now) where
   pub live-now : (id : ℕ) → finmap.get now.live id ≡ option_map term_in (get nat_eq leases id)
@@ -72,6 +82,12 @@ module _ {A S R : Type 0} (leases : IndexMap ℕ Lease S) (attached : IndexMap (
   detached-view new key updates =
       ap (λ keys. record (view_of leases attached spare) { attached = keys }) (attached-remove leases attached spare new key updates)
       ∙ ap (λ (s : Leases). record s { attached = finmap.remove s.attached key }) seen
+
+  -- a detached key hangs on no lease
+  pub detached-loose : (new : IndexMap (String A) Attachment R) (key : List ℕ) → ((q : List ℕ) → get_by_text new q ≡ cond (bytes_eq key q) None (get_by_text attached q)) → lease_of (view_of leases new spare) key ≡ None
+  detached-loose new key updates =
+      ap (λ (s : Leases). finmap.get s.attached key) (detached-view new key updates) ∙ finmap.get-remove nat_list_cmp_total now.attached key key
+      ∙ ap (λ b. cond b None (finmap.get now.attached key)) ((eq_by_cmp_equiv nat_list_cmp_total).refl key)
 
   -- what the leases stand for after a change
   pub granted-log : (new : IndexMap ℕ Lease S) (id : ℕ) (l : Lease) → ((q : ℕ) → get nat_eq new q ≡ cond (nat_eq id q) (Some l) (get nat_eq leases q)) → (log : List LogItem) → StandsFor now log → (q : ℕ) → finmap.get (view_of new attached spare).live q ≡ cond (nat_eq id q) (Some (term_in l)) (term_of log q)
@@ -123,9 +139,10 @@ module _ {A S R : Type 0} (leases : IndexMap ℕ Lease S) (attached : IndexMap (
         first = λ other term is_term is_due. by_lease top other term is_due (get nat_eq leases other) refl (sym (live-now other) ∙ is_term) lease when;
       }
     where
-      entry_found : (None ≡ Some (overdue, id)) ⊎ ((lease : Lease) × IsEntry (id, lease) leases.entries × (overdue_at at lease ≡ Some overdue)) → (lease : Lease) × IsEntry (id, lease) leases.entries × (overdue_at at lease ≡ Some overdue)
+      entry_found : (◌≡◌ {A = Option (ℕ × ℕ)} None (Some (overdue, id))) ⊎ ((lease : Lease) × IsEntry (id, lease) leases.entries × (overdue_at at lease ≡ Some overdue)) → (lease : Lease) × IsEntry (id, lease) leases.entries × (overdue_at at lease ≡ Some overdue)
       entry_found (inl none) = absurd (cc)
       entry_found (inr found) = found
+
       by_lease : IsBest at None leases.entries (overdue, id) → (other : ℕ) (term : Term) → due term ≤ at → (o : Option Lease) → get nat_eq leases other ≡ o → option_map term_in o ≡ Some term → (lease : Lease) → lease.renewed + lease.ttl + overdue ≡ at → ComesNoLater (due (term_in lease)) id (due term) other
       by_lease top other term is_due None at_other same lease when = absurd (cc)
       by_lease top other term is_due (Some l) at_other same lease when =

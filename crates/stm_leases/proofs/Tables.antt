@@ -83,8 +83,8 @@ module _ {A S R : Type 0} (leases : IndexMap ℕ Lease S) (attached : IndexMap (
   pub live-insert : (new : IndexMap ℕ Lease S) (id : ℕ) (l : Lease) → ((q : ℕ) → get nat_eq new q ≡ cond (nat_eq id q) (Some l) (get nat_eq leases q)) → (view_of new attached spare).live ≡ finmap.insert (view_of leases attached spare).live id (term_in l)
   live-insert new id l updates =
       is_insert nat_cmp_total finmap.nat_cmp-IsAntisymmetric _ (view_of new attached spare).live id (term_in l) (λ q.
-        new_live q ∙ ap (option_map term_in) (updates q) ∙ through term_in (nat_eq id q) (Some l) (get nat_eq leases q)
-        ∙ ap (λ b. cond b (Some (term_in l)) (option_map term_in (get nat_eq leases q))) (flipped id q) ∙ ap (cond (eq_by_cmp nat_cmp q id) (Some (term_in l))) (sym (get-live q)))
+      new_live q ∙ ap (option_map term_in) (updates q) ∙ through term_in (nat_eq id q) (Some l) (get nat_eq leases q)
+      ∙ ap (λ b. cond b (Some (term_in l)) (option_map term_in (get nat_eq leases q))) (flipped id q) ∙ ap (cond (eq_by_cmp nat_cmp q id) (Some (term_in l))) (sym (get-live q)))
     where
       new_live : (q : ℕ) → finmap.get (view_of new attached spare).live q ≡ option_map term_in (get nat_eq new q)
       new_live q = finmap.get-from_entries nat_cmp_total (map (λ (e : ℕ × Lease). (e.0, term_in e.1)) new.entries) q ∙ find-numbers term_in new.entries q
@@ -92,8 +92,8 @@ module _ {A S R : Type 0} (leases : IndexMap ℕ Lease S) (attached : IndexMap (
   pub live-remove : (new : IndexMap ℕ Lease S) (id : ℕ) → ((q : ℕ) → get nat_eq new q ≡ cond (nat_eq id q) None (get nat_eq leases q)) → (view_of new attached spare).live ≡ finmap.remove (view_of leases attached spare).live id
   live-remove new id updates =
       is_remove nat_cmp_total finmap.nat_cmp-IsAntisymmetric _ (view_of new attached spare).live id (λ q.
-        new_live q ∙ ap (option_map term_in) (updates q) ∙ through term_in (nat_eq id q) None (get nat_eq leases q)
-        ∙ ap (λ b. cond b None (option_map term_in (get nat_eq leases q))) (flipped id q) ∙ ap (cond (eq_by_cmp nat_cmp q id) None) (sym (get-live q)))
+      new_live q ∙ ap (option_map term_in) (updates q) ∙ through term_in (nat_eq id q) None (get nat_eq leases q)
+      ∙ ap (λ b. cond b None (option_map term_in (get nat_eq leases q))) (flipped id q) ∙ ap (cond (eq_by_cmp nat_cmp q id) None) (sym (get-live q)))
     where
       new_live : (q : ℕ) → finmap.get (view_of new attached spare).live q ≡ option_map term_in (get nat_eq new q)
       new_live q = finmap.get-from_entries nat_cmp_total (map (λ (e : ℕ × Lease). (e.0, term_in e.1)) new.entries) q ∙ find-numbers term_in new.entries q
@@ -101,8 +101,8 @@ module _ {A S R : Type 0} (leases : IndexMap ℕ Lease S) (attached : IndexMap (
   pub attached-insert : (new : IndexMap (String A) Attachment R) (key : List ℕ) (p : Attachment) → ((q : List ℕ) → get_by_text new q ≡ cond (bytes_eq key q) (Some p) (get_by_text attached q)) → (view_of leases new spare).attached ≡ finmap.insert (view_of leases attached spare).attached key p.lease
   attached-insert new key p updates =
       is_insert nat_list_cmp_total (finmap.slice_cmp-IsAntisymmetric finmap.nat_cmp-IsAntisymmetric) _ (view_of leases new spare).attached key p.lease (λ q.
-        new_attached q ∙ ap (option_map (λ (x : Attachment). x.lease)) (updates q) ∙ through (λ (x : Attachment). x.lease) (bytes_eq key q) (Some p) (get_by_text attached q)
-        ∙ ap (λ b. cond b (Some p.lease) (option_map (λ (x : Attachment). x.lease) (get_by_text attached q))) (bytes_flipped key q) ∙ ap (cond (eq_by_cmp (slice_cmp nat_cmp) q key) (Some p.lease)) (sym (get-attached q)))
+      new_attached q ∙ ap (option_map (λ (x : Attachment). x.lease)) (updates q) ∙ through (λ (x : Attachment). x.lease) (bytes_eq key q) (Some p) (get_by_text attached q)
+      ∙ ap (λ b. cond b (Some p.lease) (option_map (λ (x : Attachment). x.lease) (get_by_text attached q))) (bytes_flipped key q) ∙ ap (cond (eq_by_cmp (slice_cmp nat_cmp) q key) (Some p.lease)) (sym (get-attached q)))
     where
       new_attached : (q : List ℕ) → finmap.get (view_of leases new spare).attached q ≡ option_map (λ (x : Attachment). x.lease) (get_by_text new q)
       new_attached q = finmap.get-from_entries nat_list_cmp_total (map (λ (e : String A × Attachment). (string_bytes e.0, e.1.lease)) new.entries) q ∙ find-texts (λ (x : Attachment). x.lease) new.entries q
@@ -110,8 +110,8 @@ module _ {A S R : Type 0} (leases : IndexMap ℕ Lease S) (attached : IndexMap (
   pub attached-remove : (new : IndexMap (String A) Attachment R) (key : List ℕ) → ((q : List ℕ) → get_by_text new q ≡ cond (bytes_eq key q) None (get_by_text attached q)) → (view_of leases new spare).attached ≡ finmap.remove (view_of leases attached spare).attached key
   attached-remove new key updates =
       is_remove nat_list_cmp_total (finmap.slice_cmp-IsAntisymmetric finmap.nat_cmp-IsAntisymmetric) _ (view_of leases new spare).attached key (λ q.
-        new_attached q ∙ ap (option_map (λ (x : Attachment). x.lease)) (updates q) ∙ through (λ (x : Attachment). x.lease) (bytes_eq key q) None (get_by_text attached q)
-        ∙ ap (λ b. cond b None (option_map (λ (x : Attachment). x.lease) (get_by_text attached q))) (bytes_flipped key q) ∙ ap (cond (eq_by_cmp (slice_cmp nat_cmp) q key) None) (sym (get-attached q)))
+      new_attached q ∙ ap (option_map (λ (x : Attachment). x.lease)) (updates q) ∙ through (λ (x : Attachment). x.lease) (bytes_eq key q) None (get_by_text attached q)
+      ∙ ap (λ b. cond b None (option_map (λ (x : Attachment). x.lease) (get_by_text attached q))) (bytes_flipped key q) ∙ ap (cond (eq_by_cmp (slice_cmp nat_cmp) q key) None) (sym (get-attached q)))
     where
       new_attached : (q : List ℕ) → finmap.get (view_of leases new spare).attached q ≡ option_map (λ (x : Attachment). x.lease) (get_by_text new q)
       new_attached q = finmap.get-from_entries nat_list_cmp_total (map (λ (e : String A × Attachment). (string_bytes e.0, e.1.lease)) new.entries) q ∙ find-texts (λ (x : Attachment). x.lease) new.entries q

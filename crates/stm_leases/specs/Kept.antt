@@ -2,7 +2,6 @@
 use Rattle.std.specs.Prelude.{◌≡◌, ◌≢◌, ◌⊎◌, ℕ, ◌≤◌, List, [], ◌∷◌, map, Option, Some, None, option_map, nat_eq, String, string_bytes}
 use Rattle.std.specs.Ordering.{nat_cmp}
 use Rattle.std.specs.Cmp.Lexicographic.{slice_cmp}
-
 use Rattle.std.specs.FinMap as finmap
 use Rattle.indexmap.specs.IndexMap.{IndexMap, get, get_by_text, spare}
 use Rattle.stm_lists.specs.Lists.{Lists, entries_at, HasList}

@@ -146,8 +146,8 @@ impl Leases {
         requires loose { lease_of self.old (string_bytes key) ≡ None }
         requires room { 0 < self.old.spare }
         ensures { self.new ≡ record self.old {
-            attached = finmap.insert self.old.attached (string_bytes key) id;
-            spare = self.old.spare - 1;
+          attached = finmap.insert self.old.attached (string_bytes key) id;
+          spare = self.old.spare - 1;
         } }
     {
         let list = self.leases[&id].keys;
@@ -165,6 +165,7 @@ impl Leases {
     pub fn detach(&mut self, key: &str) -> Option<u64>
         ensures id { result ≡ lease_of self.old key.now }
         ensures detached { self.new ≡ record self.old { attached = finmap.remove self.old.attached key.now } }
+        ensures loose { lease_of self.new key.now ≡ None }
     {
         let place = self.attached.swap_remove(key)?;
         self.keys.unlink(place.node);
@@ -216,3 +217,6 @@ impl Leases {
         self.leases.len()
     }
 }
+
+#[cfg(test)]
+mod tests;

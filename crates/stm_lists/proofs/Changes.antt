@@ -1,15 +1,14 @@
 -- How the change of one list keeps every other, and what each kind of change makes of the list.
-use Rattle.std.proofs.Common.{◌≡◌, ◌≢◌, ◌⊎◌, ℕ, zero, suc, ◌+◌, ◌-◌, ◌<◌, ◌≤◌, List, [], ◌∷◌, ◌++◌, length, Option, Some, None, option_map, refl, sym, ap, subst, ◌∙◌, inl, inr, arith, length-append}
+use Rattle.std.proofs.Common.{◌≡◌, ◌≢◌, ◌⊎◌, ℕ, List, [], ◌∷◌, ◌++◌, Option, Some, None, option_map, refl, sym, ap, subst, ◌∙◌, inl, inr}
 use Rattle.std.proofs.lemmas.Bool.{cases_eq}
-use Rattle.std.proofs.lemmas.List.{append-nil, append_assoc}
 use Rattle.std.proofs.lemmas.Option.{same_Some}
 use Rattle.slab.specs.Slab.{Slab, get}
 use Rattle.stm_lists.specs.Lists.{IsOff, IsApart}
 use Rattle.stm_lists.specs.declared.links.Node.{Node}
 use Rattle.stm_lists.specs.declared.links.Head.{Head}
-use Rattle.stm_lists.specs.Links.{changed, next_set, previous_set, first_set, last_set}
-use Rattle.stm_lists.specs.Chain.{first_or, last_or, walk, IsSegment, IsList, IsOn, owner_at, entries_of, shown, IsSound, Shows}
-use Rattle.stm_lists.proofs.Segments.{get-changed_same, get-changed_other, off-on, first_or-append, last_or-append, last_or-some, last_is_on, first_is_on, segment-append, append-segment, walk-list, segment_owner, apart, IsParted, parted, segment_off}
+use Rattle.stm_lists.specs.Links.{changed, next_set, previous_set}
+use Rattle.stm_lists.specs.Chain.{first_or, last_or, IsSegment, IsList, IsOn, owner_at, entries_of, IsSound, Shows}
+use Rattle.stm_lists.proofs.Segments.{get-changed_same, get-changed_other, first_or-append, last_or-append, walk-list, parted, segment_off}
 
 module _ {T : Type 0} where
   -- one list is made anew: its head, its entries, and which nodes stand on it; whatever names another list stays

@@ -1,5 +1,5 @@
 -- How many nodes there are: a change of a node's links keeps the number, and no list is longer.
-use Rattle.std.proofs.Common.{◌≡◌, ◌≢◌, ◌⊎◌, ℕ, zero, suc, ◌+◌, ◌<◌, ◌≤◌, List, [], ◌∷◌, length, Option, Some, None, option_map, is_some, get_or, set, cond, count_by, refl, sym, ap, ◌∙◌, inl, inr, arith}
+use Rattle.std.proofs.Common.{◌≡◌, ℕ, ◌≤◌, List, [], ◌∷◌, length, Option, Some, None, option_map, is_some, get_or, set, cond, count_by, refl, ap, ◌∙◌, inl, inr, arith}
 use Rattle.std.proofs.lemmas.Bool.{cases_lt}
 use Rattle.std.proofs.lemmas.List.{get_or-set_other, get_or_past, set_past}
 use Rattle.std.proofs.lemmas.List.Sums.{sum_by-set}
@@ -7,7 +7,7 @@ use Rattle.slab.specs.Slab.{Slab, get, slab_len}
 use Rattle.stm_lists.specs.Lists.{IsOff, IsApart}
 use Rattle.stm_lists.specs.declared.links.Node.{Node}
 use Rattle.stm_lists.specs.Links.{changed, next_set, previous_set}
-use Rattle.stm_lists.specs.Chain.{first_or, IsSegment}
+use Rattle.stm_lists.specs.Chain.{IsSegment}
 use Rattle.stm_lists.proofs.Segments.{apart}
 
 -- one for a value

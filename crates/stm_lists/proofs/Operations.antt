@@ -1,5 +1,5 @@
 -- What `unlink` and `push` need on their way, and what they leave.
-use Rattle.std.proofs.Common.{◌≡◌, ◌≢◌, ◌⊎◌, ℕ, zero, suc, ◌+◌, ◌-◌, ◌<◌, ◌≤◌, List, [], ◌∷◌, ◌++◌, length, Option, Some, None, IsSome, option_map, refl, sym, ap, subst, ◌∙◌, inl, inr, arith, length-append}
+use Rattle.std.proofs.Common.{◌≡◌, ◌≢◌, ℕ, ◌+◌, ◌-◌, ◌<◌, ◌≤◌, List, [], ◌∷◌, ◌++◌, Option, Some, None, IsSome, option_map, refl, sym, ap, subst, ◌∙◌, inl, inr, arith, length-append}
 use Rattle.std.proofs.lemmas.Option.{same_Some}
 use Rattle.slab.specs.Slab.{Slab, get, ContainsKey, Updates, slab_len}
 use Rattle.stm_lists.specs.Lists.{Place}
@@ -10,7 +10,7 @@ use Rattle.stm_lists.specs.Chain.{first_or, last_or, IsSegment, IsList, IsOn, ow
 use Rattle.stm_lists.proofs.Segments.{last_is_on, first_is_on, segment-append, segment_owner, apart, parted, off-on}
 use Rattle.stm_lists.proofs.Changes.{Rebuilds, rebuilt-sound, rebuilt-shows, owner-next_set, owner-previous_set}
 use Rattle.stm_lists.proofs.Counts.{length-segment}
-use Rattle.stm_lists.proofs.Steps.{some_is, pick, get-first_set, get-last_set, place_of, head_of, record_at, place-names, unlinked-rebuilds, pushed-rebuilds}
+use Rattle.stm_lists.proofs.Steps.{some_is, get-first_set, get-last_set, place_of, head_of, record_at, place-names, unlinked-rebuilds, pushed-rebuilds}
 
 -- the head of a list that is there
 pub head_there : (heads : Slab Head) (list : ℕ) → ContainsKey heads list → (h : Head) × (get heads list ≡ Some h)
@@ -80,8 +80,8 @@ module _ {T : Type 0} where
           next = link_there (next_set bare (last_or None place.before) (first_or place.after None)) (first_set heads place.list (last_or None place.before) (first_or place.after None)) place.list _ (first_or place.after None) once (λ key is. owner-next_set bare (last_or None place.before) (first_or place.after None) key ∙ after_named key is);
           head = some_is _ _ twice;
           filled = λ k found.
-            let lengths = ap (λ (k : Head). k.len) (same_Some _ _ (sym found ∙ twice)) in
-            omega (arith, was.len, length-append place.before ((node, place.value) ∷ place.after));
+              let lengths = ap (λ (k : Head). k.len) (same_Some _ _ (sym found ∙ twice)) in
+              omega (arith, was.len, length-append place.before ((node, place.value) ∷ place.after));
         }
 
     module _ (x : Node T) (found : get nodes node ≡ Some x) where
@@ -123,9 +123,9 @@ module _ {T : Type 0} where
       push_there =
           let was = sound.linked list h found in
           link_there full heads list h h.last found (λ key is.
-            let owned = segment_owner nodes list None (entries_of nodes h) None key was.linked (last_on (entries_of nodes h) key (sym was.last ∙ is)) in
-            let differs : key ≢ node = λ same. let none = ap (owner_at nodes) same ∙ ap (option_map (λ (x : Node T). x.list)) vacant in absurd (cc) in
-            ap (option_map (λ (x : Node T). x.list)) (added.others key differs) ∙ owned)
+          let owned = segment_owner nodes list None (entries_of nodes h) None key was.linked (last_on (entries_of nodes h) key (sym was.last ∙ is)) in
+          let differs : key ≢ node = λ same. let none = ap (owner_at nodes) same ∙ ap (option_map (λ (x : Node T). x.list)) vacant in absurd (cc) in
+          ap (option_map (λ (x : Node T). x.list)) (added.others key differs) ∙ owned)
 
       abbrev pub heads_pushed : Slab Head
       heads_pushed = changed (first_set heads list h.last (Some node)) list (λ k. record k { last = Some node; len = k.len + 1 })

@@ -1,13 +1,13 @@
 -- Lemmas on the parts of a list: how they join and divide, that no node stands twice, and which changes they survive.
-use Rattle.std.proofs.Common.{◌≡◌, ◌≢◌, ◌⊎◌, ℕ, zero, suc, ◌+◌, ◌<◌, ◌≤◌, List, [], ◌∷◌, ◌++◌, length, Option, Some, None, option_map, get_or, set, refl, sym, ap, subst, ◌∙◌, inl, inr, arith}
-use Rattle.std.proofs.lemmas.Bool.{cases_eq, cases_lt}
-use Rattle.std.proofs.lemmas.List.{get_or-set_same, get_or-set_other, get_or_past, length-set, append-nil}
+use Rattle.std.proofs.Common.{◌≡◌, ◌≢◌, ◌⊎◌, ℕ, suc, ◌≤◌, List, [], ◌∷◌, ◌++◌, length, Option, Some, None, option_map, set, refl, sym, ap, subst, ◌∙◌, inl, inr, arith}
+use Rattle.std.proofs.lemmas.Bool.{cases_lt}
+use Rattle.std.proofs.lemmas.List.{get_or-set_same, get_or-set_other, get_or_past, length-set}
 use Rattle.std.proofs.lemmas.Option.{same_Some}
 use Rattle.slab.specs.Slab.{Slab, get}
 use Rattle.stm_lists.specs.Lists.{IsOff, IsApart}
 use Rattle.stm_lists.specs.declared.links.Node.{Node}
 use Rattle.stm_lists.specs.declared.links.Head.{Head}
-use Rattle.stm_lists.specs.Links.{changed, next_set, previous_set}
+use Rattle.stm_lists.specs.Links.{changed}
 use Rattle.stm_lists.specs.Chain.{first_or, last_or, walk, IsSegment, IsList, IsOn, owner_at}
 
 -- what a changed key has

@@ -1,15 +1,15 @@
 -- What a push and an unlinking make of their list.
-use Rattle.std.proofs.Common.{◌≡◌, ◌≢◌, ◌⊎◌, ℕ, zero, suc, ◌+◌, ◌-◌, ◌<◌, ◌≤◌, List, [], ◌∷◌, ◌++◌, length, Option, Some, None, IsSome, option_map, refl, sym, ap, subst, ◌∙◌, inl, inr, arith, length-append}
+use Rattle.std.proofs.Common.{◌≡◌, ◌≢◌, ℕ, ◌+◌, ◌-◌, List, [], ◌∷◌, ◌++◌, length, Option, Some, None, IsSome, option_map, refl, sym, ap, subst, ◌∙◌, inl, inr, arith, length-append}
 use Rattle.std.proofs.lemmas.Bool.{cases_eq}
-use Rattle.std.proofs.lemmas.List.{append-nil, append_assoc}
+use Rattle.std.proofs.lemmas.List.{append-nil}
 use Rattle.std.proofs.lemmas.Option.{same_Some}
 use Rattle.slab.specs.Slab.{Slab, get, Updates}
 use Rattle.stm_lists.specs.declared.links.Node.{Node}
 use Rattle.stm_lists.specs.declared.links.Head.{Head}
-use Rattle.stm_lists.specs.Lists.{Place, IsOff, IsApart}
+use Rattle.stm_lists.specs.Lists.{Place, IsOff}
 use Rattle.stm_lists.specs.Links.{changed, next_set, previous_set, first_set, last_set}
-use Rattle.stm_lists.specs.Chain.{first_or, last_or, walk, IsSegment, IsList, IsOn, owner_at, entries_of, shown, IsSound, IsPlaceOf, Shows}
-use Rattle.stm_lists.proofs.Segments.{get-changed_same, get-changed_other, off-on, first_or-append, last_or-append, last_or-some, last_is_on, first_is_on, segment-append, append-segment, walk-list, segment_owner, apart, IsParted, parted, segment_off}
+use Rattle.stm_lists.specs.Chain.{first_or, last_or, IsSegment, IsList, IsOn, owner_at, entries_of, shown, IsSound, IsPlaceOf}
+use Rattle.stm_lists.proofs.Segments.{get-changed_same, get-changed_other, off-on, last_or-append, last_or-some, last_is_on, first_is_on, segment-append, append-segment, segment_owner, apart, parted, segment_off}
 use Rattle.stm_lists.proofs.Changes.{Rebuilds, owner-next_set, owner-previous_set, get-next_set, get-previous_set, segment-next_set, segment-previous_set, segment-relast, segment-refirst}
 
 pub some_is : {X : Type 0} (o : Option X) (x : X) → o ≡ Some x → IsSome o
@@ -126,24 +126,27 @@ module _ {T : Type 0} where
             other_heads = λ other differs. get-changed_other (last_set (first_set heads list (last_or None before) (first_or after None)) list (first_or after None) (last_or None before)) list other _ differs ∙ other-last_set (first_set heads list (last_or None before) (first_or after None)) list (first_or after None) (last_or None before) other differs ∙ other-first_set heads list (last_or None before) (first_or after None) other differs;
             made = record { first = refl; last = refl; len = lengths; linked = unlinked_segment gone was.linked };
             kept = λ m other differs owned.
-              get-previous_set (next_set bare (last_or None before) (first_or after None)) (first_or after None) (last_or None before) m (λ key is. owner_differs nodes m key list other (first_named key is) owned differs)
-              ∙ get-next_set bare (last_or None before) (first_or after None) m (λ key is. owner_differs nodes m key list other (last_named key is) owned differs)
-              ∙ gone.others m (owner_differs nodes m node list other owns owned differs);
+                get-previous_set (next_set bare (last_or None before) (first_or after None)) (first_or after None) (last_or None before) m (λ key is. owner_differs nodes m key list other (first_named key is) owned differs)
+                ∙ get-next_set bare (last_or None before) (first_or after None) m (λ key is. owner_differs nodes m key list other (last_named key is) owned differs)
+                ∙ gone.others m (owner_differs nodes m node list other owns owned differs);
             back = λ m other differs owned. owner_before m other (sym (unlinked_owner m) ∙ owned);
             here = λ m owned.
-              let bare_owned = sym (unlinked_owner m) ∙ owned in
-              let place = sound.owned m list (owner_before m list bare_owned) in
-              let same : place.0 ≡ h = same_Some place.0 h (sym place.1 ∙ found) in
-              let on : IsOn m (before ++ (node, value) ∷ after) = subst (IsOn m) (ap (entries_of nodes) same ∙ walked) place.2 in
-              on_left m node value before after (not_gone m list bare_owned) on;
+                let bare_owned = sym (unlinked_owner m) ∙ owned in
+                let place = sound.owned m list (owner_before m list bare_owned) in
+                let same : place.0 ≡ h = same_Some place.0 h (sym place.1 ∙ found) in
+                let on : IsOn m (before ++ (node, value) ∷ after) = subst (IsOn m) (ap (entries_of nodes) same ∙ walked) place.2 in
+                on_left m node value before after (not_gone m list bare_owned) on;
           }
         where
           last_on_of : (xs : List (ℕ × T)) (key : ℕ) → last_or None xs ≡ Some key → IsOn key xs
           last_on_of xs key is = elim (last_is_on None xs key is) [ inl none ↦ absurd (cc) | inr on ↦ on ]
+
           not_gone : (m other : ℕ) → owner_at bare m ≡ Some other → m ≢ node
           not_gone m other owned same = let none = ap (owner_at bare) same ∙ ap (option_map (λ (x : Node T). x.list)) gone.changed in absurd (cc)
+
           owner_before : (m other : ℕ) → owner_at bare m ≡ Some other → owner_at nodes m ≡ Some other
           owner_before m other owned = ap (option_map (λ (x : Node T). x.list)) (sym (gone.others m (not_gone m other owned))) ∙ owned
+
           same_head : first_or (before ++ (node, value) ∷ after) None ≡ h.first → last_or None (before ++ (node, value) ∷ after) ≡ h.last → record { first = pick (last_or None before) (first_or after None) h.first; last = pick (first_or after None) (last_or None before) h.last; len = h.len - 1 } ≡ unlinked_head
           same_head first last = rw (← first, ← last, first_left before (node, value) after, last_left before (node, value) after) refl
 
@@ -178,31 +181,34 @@ module _ {T : Type 0} where
               linked = append-segment pushed_nodes list None entries ((node, value) ∷ []) None front (here, tt);
             };
             kept = λ m other differs owned.
-              get-next_set full h.last (Some node) m (λ key is. owner_differs nodes m key list other (segment_owner nodes list None entries None key was.linked (named key is)) owned differs)
-              ∙ added.others m (not_vacant m other owned);
+                get-next_set full h.last (Some node) m (λ key is. owner_differs nodes m key list other (segment_owner nodes list None entries None key was.linked (named key is)) owned differs)
+                ∙ added.others m (not_vacant m other owned);
             back = λ m other differs owned.
-              let full_owned = sym (owner-next_set full h.last (Some node) m) ∙ owned in
-              elim (cases_eq m node) [
-                | inl same ↦ absurd (differs (sym (same_Some list other (sym full_owner ∙ ap (owner_at full) (sym same) ∙ full_owned))))
-                | inr other_node ↦ ap (option_map (λ (x : Node T). x.list)) (sym (added.others m other_node)) ∙ full_owned
-              ];
+                let full_owned = sym (owner-next_set full h.last (Some node) m) ∙ owned in
+                elim (cases_eq m node) [
+                  | inl same ↦ absurd (differs (sym (same_Some list other (sym full_owner ∙ ap (owner_at full) (sym same) ∙ full_owned))))
+                  | inr other_node ↦ ap (option_map (λ (x : Node T). x.list)) (sym (added.others m other_node)) ∙ full_owned
+                ];
             here = λ m owned.
-              let full_owned = sym (owner-next_set full h.last (Some node) m) ∙ owned in
-              elim (cases_eq m node) [
-                | inl same ↦ on-append_right m entries ((node, value) ∷ []) (inl (sym same))
-                | inr other_node ↦
-                    let place = sound.owned m list (ap (option_map (λ (x : Node T). x.list)) (sym (added.others m other_node)) ∙ full_owned) in
-                    let same : place.0 ≡ h = same_Some place.0 h (sym place.1 ∙ found) in
-                    on-append_left m entries ((node, value) ∷ []) (subst (IsOn m) (ap (entries_of nodes) same ∙ walked) place.2)
-              ];
+                let full_owned = sym (owner-next_set full h.last (Some node) m) ∙ owned in
+                elim (cases_eq m node) [
+                  | inl same ↦ on-append_right m entries ((node, value) ∷ []) (inl (sym same))
+                  | inr other_node ↦
+                      let place = sound.owned m list (ap (option_map (λ (x : Node T). x.list)) (sym (added.others m other_node)) ∙ full_owned) in
+                      let same : place.0 ≡ h = same_Some place.0 h (sym place.1 ∙ found) in
+                      on-append_left m entries ((node, value) ∷ []) (subst (IsOn m) (ap (entries_of nodes) same ∙ walked) place.2)
+                ];
           }
         where
           last_on_of : (xs : List (ℕ × T)) (key : ℕ) → last_or None xs ≡ Some key → IsOn key xs
           last_on_of xs key is = elim (last_is_on None xs key is) [ inl none ↦ absurd (cc) | inr on ↦ on ]
+
           full_owner : owner_at full node ≡ Some list
           full_owner = ap (option_map (λ (x : Node T). x.list)) added.changed
+
           not_vacant : (m other : ℕ) → owner_at nodes m ≡ Some other → m ≢ node
           not_vacant m other owned same = let none = ap (owner_at nodes) same ∙ ap (option_map (λ (x : Node T). x.list)) vacant in absurd (cc)
+
           same_head : h.first ≡ first_or entries None → h.last ≡ last_or None entries → record { first = pick h.last (Some node) h.first; last = Some node; len = h.len + 1 } ≡ pushed_head
           same_head first last = rw (first, last, first_pushed entries node value) refl
 

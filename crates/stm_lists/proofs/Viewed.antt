@@ -1,13 +1,13 @@
 -- From heads and nodes to what contracts see.
-use Rattle.std.proofs.Common.{◌≡◌, ◌≢◌, ◌⊎◌, ℕ, zero, suc, ◌+◌, ◌<◌, ◌≤◌, List, [], ◌∷◌, ◌++◌, length, map, get_or, Option, Some, None, IsSome, option_map, unwrap_or, refl, sym, ap, subst, ◌∙◌, inl, inr, arith}
+use Rattle.std.proofs.Common.{◌≡◌, ◌⊎◌, ℕ, zero, suc, ◌<◌, ◌≤◌, List, [], ◌∷◌, ◌++◌, length, map, get_or, Option, Some, None, IsSome, option_map, unwrap_or, refl, sym, ap, subst, ◌∙◌, inl, inr}
 use Rattle.std.proofs.lemmas.Bool.{cases_eq, cases_lt}
 use Rattle.std.proofs.lemmas.List.{get_or-set_same, get_or-set_other, get_or_past}
 use Rattle.std.proofs.lemmas.Option.{same_Some}
 use Rattle.slab.specs.Slab.{Slab, get, ContainsKey, Updates as Changes}
-use Rattle.stm_lists.specs.Lists.{Lists, Place, list_at, entries_at, HasList, HasNode, StandsAt, first_node, last_node, with_entries, Updates, MovesToBack, IsOff, IsApart}
+use Rattle.stm_lists.specs.Lists.{Lists, Place, list_at, entries_at, HasList, HasNode, StandsAt, first_node, last_node, with_entries, Updates, MovesToBack, IsApart}
 use Rattle.stm_lists.specs.declared.links.Node.{Node}
 use Rattle.stm_lists.specs.declared.links.Head.{Head}
-use Rattle.stm_lists.specs.Chain.{first_or, last_or, walk, IsSegment, IsList, IsOn, owner_at, entries_of, shown, IsSound, IsPlaceOf, Shows, view_of}
+use Rattle.stm_lists.specs.Chain.{first_or, last_or, walk, IsSegment, IsOn, entries_of, shown, IsSound, IsPlaceOf, Shows, view_of}
 use Rattle.stm_lists.proofs.Segments.{off-on, apart}
 use Rattle.stm_lists.proofs.Changes.{Rebuilds, list_kept}
 use Rattle.stm_lists.proofs.Steps.{some_is, place_of, head_of, record_at, place-names}
@@ -95,7 +95,6 @@ module _ {T : Type 0} where
 
     -- a node that leaves its place and comes to the back of a list
     module _ (node : ℕ) (place : Place T) (at : StandsAt now node place) (left_nodes : Slab (Node T)) (left_heads : Slab Head) (left : Shows nodes heads left_nodes left_heads place.list (place.before ++ place.after)) where
-
       list_at-left : (list : ℕ) → list_at (with_entries now place.list (place.before ++ place.after)) list ≡ shown left_nodes left_heads list
       list_at-left list =
           elim (cases_eq list place.list) [
@@ -169,8 +168,8 @@ module _ {T : Type 0} where
         record {
           linked = λ list h found. rw (walk-same h.len h.first) (list_kept nodes new_nodes list h (entries_of nodes h) (λ node owned. same node) (sound.linked list h found));
           owned = λ node list owns.
-            let found = sound.owned node list (ap (option_map (λ (x : Node T). x.list)) (sym (same node)) ∙ owns) in
-            (found.0, found.1, subst (IsOn node) (sym (walk-same found.0.len found.0.first)) found.2);
+              let found = sound.owned node list (ap (option_map (λ (x : Node T). x.list)) (sym (same node)) ∙ owns) in
+              (found.0, found.1, subst (IsOn node) (sym (walk-same found.0.len found.0.first)) found.2);
         }
 
   -- no node stands twice on one list, so an entry has one place
@@ -237,13 +236,13 @@ module _ {T : Type 0} where
           | inr differs ↦ sound.linked other h (sym (gone.others other differs) ∙ found)
         ];
         owned = λ node other owns.
-          let found = sound.owned node other owns in
-          elim (cases_eq other list) [
-            | inl same ↦
-                let nothing : entries_of nodes found.0 ≡ [] = same_Some _ _ (sym (ap (option_map (entries_of nodes)) (ap (get heads) (sym same) ∙ found.1)) ∙ empty) in
-                absurd (subst (IsOn node) nothing found.2)
-            | inr differs ↦ (found.0, gone.others other differs ∙ found.1, found.2)
-          ];
+            let found = sound.owned node other owns in
+            elim (cases_eq other list) [
+              | inl same ↦
+                  let nothing : entries_of nodes found.0 ≡ [] = same_Some _ _ (sym (ap (option_map (entries_of nodes)) (ap (get heads) (sym same) ∙ found.1)) ∙ empty) in
+                  absurd (subst (IsOn node) nothing found.2)
+              | inr differs ↦ (found.0, gone.others other differs ∙ found.1, found.2)
+            ];
       }
 
   pub dropped-updates : (nodes : Slab (Node T)) (heads new_heads : Slab Head) (spare list : ℕ) (now : Lists T) → view_of nodes heads spare ≡ now → Changes heads new_heads list None → Updates now (view_of nodes new_heads spare) list None

@@ -28,7 +28,7 @@ module _ {T : Type 0} where
   IsSegment nodes list before [] after = Unit {0}
   IsSegment nodes list before (entry ∷ rest) after =
       (get nodes entry.0
-          ≡ Some (record { list = list; previous = before; next = first_or rest after; value = entry.1 }))
+      ≡ Some (record { list = list; previous = before; next = first_or rest after; value = entry.1 }))
       × IsSegment nodes list (Some entry.0) rest after
 
   -- the head names the ends and the number of these nodes, which are linked

@@ -83,11 +83,7 @@ fn lengthen(heads: &mut Slab<Head>, list: ListId, last: NodeId)
 }
 
 /// Takes a node off its list and out of the slab, which gives its index out next.
-pub(crate) fn unlink<T>(
-    nodes: &mut Slab<Node<T>>,
-    heads: &mut Slab<Head>,
-    node: NodeId,
-) -> T
+pub(crate) fn unlink<T>(nodes: &mut Slab<Node<T>>, heads: &mut Slab<Head>, node: NodeId) -> T
     requires sound { IsSound nodes.old heads.old }
     requires there { ContainsKey nodes.old node }
 

@@ -1,4 +1,4 @@
-pub mod Rows
+pub mod WorkedExamples
 pub mod IntegerRange
 pub mod WrittenNumber
 pub mod Entries

@@ -13,13 +13,12 @@ use Rattle.stm_meaning.specs.declared.session.Session.{Session}
 use Rattle.stm_meaning.specs.declared.trace_item.TraceItem.{TraceItem}
 use Rattle.stm_meaning.specs.declared.trace_item.TraceItem.TheVariants.{Get as GetItem, Rev as RevItem}
 use Rattle.stm_meaning.specs.declared.run.Run.{Run}
-use Rattle.stm_meaning.specs.declared.run.Answered.{Answered}
 use Rattle.stm_meaning.specs.declared.run.Answered.TheVariants.{Ended, Wants as WantsKey}
 use Rattle.stm_meaning.specs.Answer.{Answer, Lookup}
 use Rattle.stm_meaning.specs.Values.{text_in, key_in, arithmetic, concatenated, text_of, num_of, equal, less, put_of, del_of, turns_of}
 use Rattle.stm_meaning.specs.Writes.{last_write, value_of}
-use Rattle.stm_meaning.specs.Outcome.{Outcome, Gives, Stops, and_then, given, fresh, variable_in, with_variable, with_output, with_write, with_item, with_read, with_turn, turn_limit, begin_turn}
-use Rattle.stm_meaning.specs.Meaning.{get_answered, rev_answered, get_of, get_key, rev_key, evaluate, unless_false, unless_true, holds, branch, repeat, aborts, run_statement, run_block, run_of, answered, run_over}
+use Rattle.stm_meaning.specs.Outcome.{Outcome, Gives, Stops, and_then, given, fresh, with_variable, with_output, with_write, with_turn, turn_limit, begin_turn}
+use Rattle.stm_meaning.specs.Meaning.{get_answered, rev_answered, get_of, get_key, rev_key, evaluate, unless_false, unless_true, holds, branch, repeat, aborts, run_statement, run_block, answered, run_over}
 use Rattle.stm_meaning.specs.Laws.{AgreesWith, KnowsEachKey, IsPrefix, trace_of, IsContinuedBy, AnswersGiveTheRun, WholeLookupsEnd, WantedKeysAreUnknown}
 
 -- ---- prefixes ----
@@ -111,10 +110,10 @@ follows-given look (Err fault) = record { sees = λ s. IsPrefix-refl s.trace; en
 
 follows-then : (look : Lookup) {X Y : Type 0} (f g : Session → Outcome X) (h k : X → Session → Outcome Y) → Follows look f g → ((x : X) → Follows look (h x) (k x)) → Follows look (λ s. and_then (f s) h) (λ s. and_then (g s) k)
 follows-then look f g h k first second = record {
-    sees = λ s. then-sees s.trace (g s) k (first.sees s) (λ x t. (second x).sees t);
-    ends = λ s. then-ends look (f s) h (first.ends s) (λ x t. (second x).ends t);
-    goes = λ s. then-goes (f s) (g s) h k (first.goes s) (λ x t. (second x).goes t) (λ x t. (second x).sees t)
-  }
+  sees = λ s. then-sees s.trace (g s) k (first.sees s) (λ x t. (second x).sees t);
+  ends = λ s. then-ends look (f s) h (first.ends s) (λ x t. (second x).ends t);
+  goes = λ s. then-goes (f s) (g s) h k (first.goes s) (λ x t. (second x).goes t) (λ x t. (second x).sees t);
+}
 
 -- a key that is no text or is empty is a fault
 follows-keyed : (look : Lookup) (h k : List ℕ → Session → Outcome Value) → ((key : List ℕ) → 0 < length key → Follows look (h key) (k key)) → (x : Value) → Follows look (λ t. and_then (given (key_in x) t) h) (λ t. and_then (given (key_in x) t) k)
@@ -179,18 +178,18 @@ module _ (answers whole : Lookup) (agree : AgreesWith answers whole) where
   follows-get : (key : List ℕ) → 0 < length key → Follows answers (get_key answers key) (get_key whole key)
   unfolding get_key
   follows-get key h = record {
-      sees = λ s. get_of-sees whole key (last_write key s.writes) s;
-      ends = λ s. get_of-ends answers key (last_write key s.writes) s h;
-      goes = λ s. get_of-goes key (last_write key s.writes) s
-    }
+    sees = λ s. get_of-sees whole key (last_write key s.writes) s;
+    ends = λ s. get_of-ends answers key (last_write key s.writes) s h;
+    goes = λ s. get_of-goes key (last_write key s.writes) s;
+  }
 
   follows-rev : (key : List ℕ) → 0 < length key → Follows answers (rev_key answers key) (rev_key whole key)
   unfolding rev_key
   follows-rev key h = record {
-      sees = λ s. rev_answered-sees key (whole key) s;
-      ends = λ s. rev_answered-ends answers key (answers key) s refl h;
-      goes = λ s. rev_answered-goes key (answers key) (whole key) s (agree key)
-    }
+    sees = λ s. rev_answered-sees key (whole key) s;
+    ends = λ s. rev_answered-ends answers key (answers key) s refl h;
+    goes = λ s. rev_answered-goes key (answers key) (whole key) s (agree key);
+  }
 
   follows-evaluate : (e : Expression) → Follows answers (evaluate answers e) (evaluate whole e)
   unfolding evaluate
@@ -235,27 +234,28 @@ module _ (answers whole : Lookup) (agree : AgreesWith answers whole) where
   follows-repeat v f g body zero i = record { sees = λ s. IsPrefix-refl s.trace; ends = λ s. tt; goes = λ s. refl }
   follows-repeat v f g body (suc left) i =
       follows-then answers (begin_turn v i) (begin_turn v i) (λ _ t. and_then (f t) (λ _. repeat v f left (suc i))) (λ _ t. and_then (g t) (λ _. repeat v g left (suc i))) (follows-begin v i)
-        (λ _. follows-then answers f g (λ _. repeat v f left (suc i)) (λ _. repeat v g left (suc i)) body (λ _. follows-repeat v f g body left (suc i)))
+      (λ _. follows-then answers f g (λ _. repeat v f left (suc i)) (λ _. repeat v g left (suc i)) body (λ _. follows-repeat v f g body left (suc i)))
 
   mutual
     unfolding run_statement
+
     follows-statement : (p : Statement) → Follows answers (run_statement answers p) (run_statement whole p)
     follows-statement (Set v e) = follows-then answers (evaluate answers e) (evaluate whole e) (λ x t. Gives tt (with_variable v x t)) (λ x t. Gives tt (with_variable v x t)) (follows-evaluate e) (λ x. record { sees = λ s. IsPrefix-refl s.trace; ends = λ s. tt; goes = λ s. refl })
     follows-statement (Put e f lease) =
         follows-then answers (evaluate answers e) (evaluate whole e) (λ x t. and_then (evaluate answers f t) (λ y u. and_then (given (put_of x y lease) u) writing)) (λ x t. and_then (evaluate whole f t) (λ y u. and_then (given (put_of x y lease) u) writing)) (follows-evaluate e)
-          (λ x. follows-then answers (evaluate answers f) (evaluate whole f) (λ y u. and_then (given (put_of x y lease) u) writing) (λ y u. and_then (given (put_of x y lease) u) writing) (follows-evaluate f) (λ y. follows-write answers (put_of x y lease)))
+        (λ x. follows-then answers (evaluate answers f) (evaluate whole f) (λ y u. and_then (given (put_of x y lease) u) writing) (λ y u. and_then (given (put_of x y lease) u) writing) (follows-evaluate f) (λ y. follows-write answers (put_of x y lease)))
     follows-statement (Del e) =
         follows-then answers (evaluate answers e) (evaluate whole e) (λ x t. and_then (given (del_of x) t) writing) (λ x t. and_then (given (del_of x) t) writing) (follows-evaluate e) (λ x. follows-write answers (del_of x))
     follows-statement (If c then_block else_block) =
         follows-then answers (holds answers c) (holds whole c) (branch (run_block answers then_block) (run_block answers else_block)) (branch (run_block whole then_block) (run_block whole else_block)) (follows-holds c)
-          (follows-branch (run_block answers then_block) (run_block whole then_block) (run_block answers else_block) (run_block whole else_block) (follows-block then_block) (follows-block else_block))
+        (follows-branch (run_block answers then_block) (run_block whole then_block) (run_block answers else_block) (run_block whole else_block) (follows-block then_block) (follows-block else_block))
     follows-statement (For v e limit body) =
         follows-then answers (evaluate answers e) (evaluate whole e) (λ x t. and_then (given (turns_of x limit) t) (λ n. repeat v (run_block answers body) n 0)) (λ x t. and_then (given (turns_of x limit) t) (λ n. repeat v (run_block whole body) n 0)) (follows-evaluate e)
-          (λ x. follows-then answers (given (turns_of x limit)) (given (turns_of x limit)) (λ n. repeat v (run_block answers body) n 0) (λ n. repeat v (run_block whole body) n 0) (follows-given answers (turns_of x limit)) (λ n. follows-repeat v (run_block answers body) (run_block whole body) (follows-block body) n 0))
+        (λ x. follows-then answers (given (turns_of x limit)) (given (turns_of x limit)) (λ n. repeat v (run_block answers body) n 0) (λ n. repeat v (run_block whole body) n 0) (follows-given answers (turns_of x limit)) (λ n. follows-repeat v (run_block answers body) (run_block whole body) (follows-block body) n 0))
     follows-statement (Emit e) = follows-then answers (evaluate answers e) (evaluate whole e) (λ x t. Gives tt (with_output x t)) (λ x t. Gives tt (with_output x t)) (follows-evaluate e) (λ x. record { sees = λ s. IsPrefix-refl s.trace; ends = λ s. tt; goes = λ s. refl })
     follows-statement (Abort e) =
         follows-then answers (evaluate answers e) (evaluate whole e) (λ x t. and_then (given (text_in x) t) aborts) (λ x t. and_then (given (text_in x) t) aborts) (follows-evaluate e)
-          (λ x. follows-then answers (given (text_in x)) (given (text_in x)) aborts aborts (follows-given answers (text_in x)) (λ t. record { sees = λ s. IsPrefix-refl s.trace; ends = λ s. tt; goes = λ s. refl }))
+        (λ x. follows-then answers (given (text_in x)) (given (text_in x)) aborts aborts (follows-given answers (text_in x)) (λ t. record { sees = λ s. IsPrefix-refl s.trace; ends = λ s. tt; goes = λ s. refl }))
 
     follows-block : (b : Block) → Follows answers (run_block answers b) (run_block whole b)
     follows-block End = record { sees = λ s. IsPrefix-refl s.trace; ends = λ s. tt; goes = λ s. refl }

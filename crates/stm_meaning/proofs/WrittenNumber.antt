@@ -1,6 +1,6 @@
 -- What `parse` reads is the number that the definition reads, where no `+` stands first.
-use Rattle.std.proofs.Common.{◌≡◌, refl, ℕ, ◌<◌, ◌≤◌, ◌^◌, true, false, Bool, arith, rules, List, [], ◌∷◌, length, get_or, drop, sym, ◌∙◌, ap}
-use Rattle.std.specs.Prelude.{ℤ, pos, negsuc, neg_ℤ, Result, Ok, Err, MatchResult, OkIff, ◌==◌, if◌then◌else◌}
+use Rattle.std.proofs.Common.{◌≡◌, refl, ℕ, ◌<◌, ◌≤◌, ◌^◌, true, false, Bool, arith, List, [], ◌∷◌, length, get_or}
+use Rattle.std.specs.Prelude.{ℤ, pos, neg_ℤ, Result, Ok, Err, MatchResult, OkIff, ◌==◌, if◌then◌else◌}
 use Rattle.std.proofs.lemmas.Bool.Decides.{nat_tests}
 use mir.Syntax.{w64}
 use Rattle.std.specs.Str.{all_ascii_digits}
@@ -9,7 +9,7 @@ use Rattle.std.proofs.lemmas.Str.Parse.{IsNumeralModel, numerals_by_value, tells
 use Rattle.std.proofs.lemmas.Grind.{common_steps}
 use Rattle.stm_meaning.specs.declared.fault.Fault.{Fault}
 use Rattle.stm_meaning.specs.declared.fault.Fault.TheVariants.{NotANumber}
-use Rattle.stm_meaning.specs.Values.{is_in_range, number_or, is_numeral, signed_number, written_number}
+use Rattle.stm_meaning.specs.Values.{signed_number, written_number}
 
 AreDigits : List ℕ → Type 0
 AreDigits ds = all_ascii_digits ds ≡ true

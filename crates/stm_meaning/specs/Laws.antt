@@ -1,5 +1,5 @@
 -- What runs over two look-ups have in common, where one knows more than the other.
-use Rattle.std.specs.Prelude.{◌≡◌, ℕ, ◌<◌, List, ◌++◌, length, Option, None, Some, IsSome}
+use Rattle.std.specs.Prelude.{◌≡◌, ℕ, ◌<◌, List, ◌++◌, length, None, Some, IsSome}
 use Rattle.stm_program.specs.Syntax.{Block}
 use Rattle.stm_meaning.specs.Answer.{Answer, Lookup}
 use Rattle.stm_meaning.specs.Meaning.{run_over}

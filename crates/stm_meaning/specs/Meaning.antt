@@ -1,14 +1,12 @@
 -- The meaning of a program over a look-up. Elements are evaluated from left to right, and the first stop ends the run.
-use Rattle.std.specs.Prelude.{ℕ, suc, zero, Bool, true, false, not, List, [], ◌∷◌, ◌++◌, pos, Option, None, Some, Result, Ok, Err}
+use Rattle.std.specs.Prelude.{ℕ, suc, zero, Bool, true, false, not, List, pos, Option, None, Some}
 use Rattle.stm_program.specs.Syntax.{Expression, Condition, Statement, Block}
 use Rattle.stm_program.specs.Syntax.{Text, Number, Variable, Get, Rev, Arithmetic, Cat, TextOf, NumOf, Equal, Less, Not, And, Or, Set, Put, Del, If, For, Emit, Abort, End, Then}
 use Rattle.stm_program.specs.declared.write.Write.{Write}
 use Rattle.stm_meaning.specs.declared.value.Value.{Value}
 use Rattle.stm_meaning.specs.declared.value.Value.TheVariants.{Text as TextValue, Number as NumberValue}
-use Rattle.stm_meaning.specs.declared.stop.Stop.{Stop}
 use Rattle.stm_meaning.specs.declared.stop.Stop.TheVariants.{Aborted, Faulted, Wants}
 use Rattle.stm_meaning.specs.declared.session.Session.{Session}
-use Rattle.stm_meaning.specs.declared.trace_item.TraceItem.{TraceItem}
 use Rattle.stm_meaning.specs.declared.trace_item.TraceItem.TheVariants.{Get as GetItem, Rev as RevItem}
 use Rattle.stm_meaning.specs.declared.run.End.{End as RunEnd}
 use Rattle.stm_meaning.specs.declared.run.End.TheVariants.{Done, Aborted as EndAborted, Faulted as EndFaulted}
@@ -87,11 +85,11 @@ unfoldable mutual
   pub run_statement : Lookup → Statement → Session → Outcome (Unit {0})
   run_statement look (Set v e) s = and_then (evaluate look e s) (λ x t. Gives tt (with_variable v x t))
   run_statement look (Put e f lease) s =
-    and_then (evaluate look e s) (λ x t. and_then (evaluate look f t) (λ y u. and_then (given (put_of x y lease) u) (λ w r. Gives tt (with_write w r))))
+      and_then (evaluate look e s) (λ x t. and_then (evaluate look f t) (λ y u. and_then (given (put_of x y lease) u) (λ w r. Gives tt (with_write w r))))
   run_statement look (Del e) s = and_then (evaluate look e s) (λ x t. and_then (given (del_of x) t) (λ w u. Gives tt (with_write w u)))
   run_statement look (If c yes_block no_block) s = and_then (holds look c s) (branch (run_block look yes_block) (run_block look no_block))
   run_statement look (For v e limit body) s =
-    and_then (evaluate look e s) (λ x t. and_then (given (turns_of x limit) t) (λ n. repeat v (run_block look body) n 0))
+      and_then (evaluate look e s) (λ x t. and_then (given (turns_of x limit) t) (λ n. repeat v (run_block look body) n 0))
   run_statement look (Emit e) s = and_then (evaluate look e s) (λ x t. Gives tt (with_output x t))
   run_statement look (Abort e) s = and_then (evaluate look e s) (λ x t. and_then (given (text_in x) t) aborts)
 

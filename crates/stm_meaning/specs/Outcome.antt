@@ -1,16 +1,15 @@
 -- What a part of a program comes to, and what a run keeps on its way.
-use Rattle.std.specs.Prelude.{ℕ, ◌+◌, Bool, bytes_eq, nat_lt, if◌then◌else◌, List, [], ◌∷◌, ◌++◌, replicate, slice_set, slice_index_or, pos, Result, Ok, Err, Option, None, Some}
+use Rattle.std.specs.Prelude.{ℕ, ◌+◌, bytes_eq, nat_lt, if◌then◌else◌, List, [], ◌∷◌, ◌++◌, replicate, slice_set, slice_index_or, pos, Result, Ok, Err}
 use Rattle.std.specs.List.{list_any}
 use Rattle.stm_program.specs.declared.write.Write.{Write}
 use Rattle.stm_meaning.specs.declared.value.Value.{Value}
-use Rattle.stm_meaning.specs.declared.value.Value.TheVariants.{Text, Number}
+use Rattle.stm_meaning.specs.declared.value.Value.TheVariants.{Number}
 use Rattle.stm_meaning.specs.declared.fault.Fault.{Fault}
 use Rattle.stm_meaning.specs.declared.fault.Fault.TheVariants.{TurnLimit}
 use Rattle.stm_meaning.specs.declared.stop.Stop.{Stop}
-use Rattle.stm_meaning.specs.declared.stop.Stop.TheVariants.{Aborted, Faulted, Wants}
+use Rattle.stm_meaning.specs.declared.stop.Stop.TheVariants.{Faulted}
 use Rattle.stm_meaning.specs.declared.session.Session.{Session}
 use Rattle.stm_meaning.specs.declared.trace_item.TraceItem.{TraceItem}
-use Rattle.stm_meaning.specs.declared.trace_item.TraceItem.TheVariants.{Get, Rev}
 
 -- A part of a program gives something and goes on, or stops the run. Either way there is what the run has come to.
 pub data Outcome (X : Type 0) : Type 0 where

@@ -32,16 +32,29 @@ fn ended(end: End, session: Session) -> Run
 ///
 /// It is evaluated from its start. The one refusal is want of memory.
 #[tactic(auto, unfolding(crate::specs::Meaning::run_over))]
-pub fn run_answered<L: Lookup>(alloc: Global, program: &Program, lookup: &L) -> Result<Answered, AllocError>
+pub fn run_answered<L: Lookup>(
+    alloc: Global,
+    program: &Program,
+    lookup: &L,
+) -> Result<Answered, AllocError>
     ensures { IfOk result (λ answer. answer ≡ run_over (L.answers lookup.now) program.now) }
 {
     let mut session = Session::new(alloc)?;
     match run_all(alloc, lookup, &mut session, program.statements()) {
         Ok(()) => Ok(Answered::Ended(ended(End::Done, session))),
         Err(Halt::OutOfMemory) => Err(AllocError),
-        Err(Halt::Stopped(Stop::Aborted(text))) => Ok(Answered::Ended(ended(End::Aborted(text), session))),
-        Err(Halt::Stopped(Stop::Faulted(fault))) => Ok(Answered::Ended(ended(End::Faulted(fault), session))),
-        Err(Halt::Stopped(Stop::Wants(key))) => Ok(Answered::Wants { key, trace: session.trace }),
+        Err(Halt::Stopped(Stop::Aborted(text))) => Ok(Answered::Ended(ended(
+            End::Aborted(text),
+            session,
+        ))),
+        Err(Halt::Stopped(Stop::Faulted(fault))) => Ok(Answered::Ended(ended(
+            End::Faulted(fault),
+            session,
+        ))),
+        Err(Halt::Stopped(Stop::Wants(key))) => Ok(Answered::Wants {
+            key,
+            trace: session.trace,
+        }),
     }
 }
 

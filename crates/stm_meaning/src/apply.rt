@@ -31,10 +31,8 @@ fn is_among(key: &str, writes: &[Write]) -> bool
 /// an earlier write is of that key.
 fn standing(writes: &[Write], i: usize) -> Option<&Write>
     requires { i < length writes.now }
-    ensures {
-        latest_after (take i writes.now) (drop i writes.now)
-        ≡ option_to_list (option_copied result) ++ latest_after (take (i + 1) writes.now) (drop (i + 1) writes.now)
-    }
+    ensures { latest_after (take i writes.now) (drop i writes.now)
+        ≡ option_to_list (option_copied result) ++ latest_after (take (i + 1) writes.now) (drop (i + 1) writes.now) }
 {
     let write = &writes[i];
     let key = written_key(write);

@@ -12,7 +12,12 @@ use stm_program::{Cond, CondNode};
 
 /// Whether a condition holds. `and` and `or` look at the right side only where the left one does not decide.
 #[tactic(auto, unfolding(crate::specs::Meaning::holds))]
-pub(crate) fn is_met<L: Lookup>(alloc: Global, lookup: &L, session: &mut Session, condition: &Cond) -> Result<bool, Halt>
+pub(crate) fn is_met<L: Lookup>(
+    alloc: Global,
+    lookup: &L,
+    session: &mut Session,
+    condition: &Cond,
+) -> Result<bool, Halt>
     ensures { Tells result session.new (holds (L.answers lookup.now) condition.now session.old) }
 {
     match &condition.node {

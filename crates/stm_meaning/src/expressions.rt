@@ -14,7 +14,12 @@ use stm_program::{Expr, ExprNode};
 /// The value of an expression. Elements are evaluated from left to right, and kinds are looked at when all
 /// elements of a node have values.
 #[tactic(auto, unfolding(crate::specs::Meaning::evaluate))]
-pub(crate) fn value_of<L: Lookup>(alloc: Global, lookup: &L, session: &mut Session, expression: &Expr) -> Result<Value, Halt>
+pub(crate) fn value_of<L: Lookup>(
+    alloc: Global,
+    lookup: &L,
+    session: &mut Session,
+    expression: &Expr,
+) -> Result<Value, Halt>
     ensures { Tells result session.new (evaluate (L.answers lookup.now) expression.now session.old) }
 {
     match &expression.node {

@@ -8,17 +8,14 @@ ghost use Rattle.stm_meaning.specs.Laws.{AnswersGiveTheRun, WholeLookupsEnd, Wan
 /// wants a key, what it saw until then is the beginning of what the other run sees.
 pub fn answers_give_the_run()
     ensures { AnswersGiveTheRun }
-{
-}
+{}
 
 /// A run over a look-up that knows every key, such as a state, comes to its end.
 pub fn whole_lookups_end()
     ensures { WholeLookupsEnd }
-{
-}
+{}
 
 /// A key that a run wants is not empty, and its look-up knows nothing of it.
 pub fn wanted_keys_are_unknown()
     ensures { WantedKeysAreUnknown }
-{
-}
+{}

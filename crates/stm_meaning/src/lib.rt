@@ -31,3 +31,6 @@ pub use stm_history::{Sequence, Text};
 pub use stm_program::{Operator, Program, Variable, Write};
 pub use trace_item::TraceItem;
 pub use value::Value;
+
+#[cfg(test)]
+mod tests;

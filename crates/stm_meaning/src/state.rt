@@ -45,7 +45,9 @@ impl State {
     pub fn new(alloc: Global) -> State
         ensures { result ≡ [] }
     {
-        State { entries: Vec::new(alloc) }
+        State {
+            entries: Vec::new(alloc),
+        }
     }
 
     /// The number of keys.
@@ -83,7 +85,11 @@ impl State {
         ensures err { OnErr result (self.new ≡ self.old) }
     {
         let place = self.search(key.as_str());
-        let entry = StateEntry { key, value, mod_rev };
+        let entry = StateEntry {
+            key,
+            value,
+            mod_rev,
+        };
         match place {
             Ok(at) => {
                 self.entries[at] = entry;
@@ -98,7 +104,8 @@ impl State {
         ensures found { IfOk result (IsAt self.now key.now) }
         ensures absent { IfErr result (IsGapFor self.now key.now) }
     {
-        self.entries.binary_search_by(|entry| entry.key.as_str().cmp(key))
+        self.entries
+            .binary_search_by(|entry| entry.key.as_str().cmp(key))
     }
 }
 

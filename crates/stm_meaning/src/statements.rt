@@ -16,7 +16,12 @@ use stm_program::{Block, Expr, Stmt, StmtNode, Variable};
 /// Runs a statement.
 #[cycle(statements)]
 #[tactic(auto, unfolding(crate::specs::Meaning::run_statement))]
-fn run_one<L: Lookup>(alloc: Global, lookup: &L, session: &mut Session, statement: &Stmt) -> Result<(), Halt>
+fn run_one<L: Lookup>(
+    alloc: Global,
+    lookup: &L,
+    session: &mut Session,
+    statement: &Stmt,
+) -> Result<(), Halt>
     ensures { Tells result session.new (run_statement (L.answers lookup.now) statement.now session.old) }
 {
     match &statement.node {
@@ -80,7 +85,12 @@ fn run_turns<L: Lookup>(
 /// Runs the statements of an inner block.
 #[cycle(statements)]
 #[tactic(auto, unfolding(crate::specs::Meaning::run_block))]
-fn run_inner<L: Lookup>(alloc: Global, lookup: &L, session: &mut Session, block: &Block) -> Result<(), Halt>
+fn run_inner<L: Lookup>(
+    alloc: Global,
+    lookup: &L,
+    session: &mut Session,
+    block: &Block,
+) -> Result<(), Halt>
     ensures { Tells result session.new (run_block (L.answers lookup.now) block.now session.old) }
 {
     for statement in block.statements.iter() {
@@ -91,7 +101,12 @@ fn run_inner<L: Lookup>(alloc: Global, lookup: &L, session: &mut Session, block:
 
 /// Runs the statements of a program.
 #[tactic(auto, unfolding(crate::specs::Meaning::run_block))]
-pub(crate) fn run_all<L: Lookup>(alloc: Global, lookup: &L, session: &mut Session, statements: &[Stmt]) -> Result<(), Halt>
+pub(crate) fn run_all<L: Lookup>(
+    alloc: Global,
+    lookup: &L,
+    session: &mut Session,
+    statements: &[Stmt],
+) -> Result<(), Halt>
     ensures { Tells result session.new (run_block (L.answers lookup.now) (block_of statements.now) session.old) }
 {
     for statement in statements {

@@ -28,3 +28,6 @@ pub use statement::{Block, Stmt, StmtNode};
 pub use stm_history::Text;
 pub use variable::Variable;
 pub use write::Write;
+
+#[cfg(test)]
+mod tests;

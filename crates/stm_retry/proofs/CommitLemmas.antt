@@ -15,7 +15,7 @@ pub commit_is : (id : ℕ) (r : Runner) (run : Run) (w : World) (latest : List W
 unfolding commit effect
 commit_is id r run w latest cs refusal latest_is cs_is refusal_is =
     let cs_told : map as_change (filter (changes (is_present w.history)) (latest_writes run.writes)) ≡ cs =
-        ap (λ (l : List Write). map as_change (filter (changes (is_present w.history)) l)) (sym latest_is) ∙ sym cs_is in
+    ap (λ (l : List Write). map as_change (filter (changes (is_present w.history)) l)) (sym latest_is) ∙ sym cs_is in
     ap (λ (ds : List Change). judged id r run ds (refusal_at (latest_writes run.writes) ds (now w.history)) w) cs_told
     ∙ ap (λ (l : List Write). judged id r run cs (refusal_at l cs (now w.history)) w) (sym latest_is)
     ∙ ap (λ (o : Option Refusal). judged id r run cs o w) (sym refusal_is)

@@ -86,12 +86,13 @@ other_in_front p x key ws other absent =
 not_of : (key : List ℕ) (w x : Write) (earlier : List Write) → is_written key earlier ≡ true → is_written (key_of w) earlier ≡ false →
     bytes_eq (key_of x) (key_of w) ≡ true → bytes_eq (key_of x) key ≡ false
 not_of key w x earlier here there same = elim (bytes_eq (key_of x) key) as (λ b. bytes_eq (key_of x) key ≡ b → b ≡ false) [
-      true ↦ λ e.
-        let x_is : key_of x ≡ key = (bytes_eq-Decides (key_of x) key).0 e in
-        let x_is_w : key_of x ≡ key_of w = (bytes_eq-Decides (key_of x) (key_of w)).0 same in
-        let one : is_written (key_of w) earlier ≡ is_written key earlier = ap (λ k. is_written k earlier) (sym x_is_w ∙ x_is) in
-        absurd (cc)
-    | false ↦ λ e. refl ] refl
+  | true ↦ λ e.
+      let x_is : key_of x ≡ key = (bytes_eq-Decides (key_of x) key).0 e in
+      let x_is_w : key_of x ≡ key_of w = (bytes_eq-Decides (key_of x) (key_of w)).0 same in
+      let one : is_written (key_of w) earlier ≡ is_written key earlier = ap (λ k. is_written k earlier) (sym x_is_w ∙ x_is) in
+      absurd (cc)
+  | false ↦ λ e. refl
+] refl
 
 -- the last write of a key among the later ones, or its first
 abbrev last_among : Write → Option Write → Write
@@ -135,7 +136,7 @@ absent_if_written : (p : Write → Bool) (key : List ℕ) (earlier ws : List Wri
 absent_if_written p key earlier [] here = refl
 absent_if_written p key earlier (w ∷ later) here =
     absent_with_head p key w earlier later (latest_after (earlier ++ w ∷ []) later) (is_written (key_of w) earlier) refl here
-        (absent_if_written p key (earlier ++ w ∷ []) later (stays_written key earlier w here))
+    (absent_if_written p key (earlier ++ w ∷ []) later (stays_written key earlier w here))
 
 distinct_chosen : (b : Bool) (x : Change) (rest : List Change) → change_of (changed_key x) rest ≡ None → HasDistinctKeys rest → HasDistinctKeys (cond b (x ∷ rest) rest)
 distinct_chosen true x rest absent distinct = (absent, distinct)
@@ -148,17 +149,17 @@ distinct_with_head p w earlier later rest true b_is absent distinct =
 distinct_with_head p w earlier later rest false b_is absent distinct =
     let x = last_in w later in
     let one : changed_key (as_change x) ≡ key_of w =
-        key_of-as_change x ∙ (bytes_eq-Decides (key_of x) (key_of w)).0 (last_in_is_of w later) in
+    key_of-as_change x ∙ (bytes_eq-Decides (key_of x) (key_of w)).0 (last_in_is_of w later) in
     subst (λ (l : List Write). HasDistinctKeys (changes_among p (l ++ rest))) (sym (latest_of_first w earlier later b_is))
-        (subst HasDistinctKeys (sym (map-cond (p x) x (filter p rest)))
-            (distinct_chosen (p x) (as_change x) (changes_among p rest) (ap (λ k. change_of k (changes_among p rest)) one ∙ absent) distinct))
+    (subst HasDistinctKeys (sym (map-cond (p x) x (filter p rest)))
+    (distinct_chosen (p x) (as_change x) (changes_among p rest) (ap (λ k. change_of k (changes_among p rest)) one ∙ absent) distinct))
 
 distinct_after : (p : Write → Bool) (earlier ws : List Write) → HasDistinctKeys (changes_among p (latest_after earlier ws))
 distinct_after p earlier [] = tt
 distinct_after p earlier (w ∷ later) =
     distinct_with_head p w earlier later (latest_after (earlier ++ w ∷ []) later) (is_written (key_of w) earlier) refl
-        (absent_if_written p (key_of w) (earlier ++ w ∷ []) later (now_written earlier w))
-        (distinct_after p (earlier ++ w ∷ []) later)
+    (absent_if_written p (key_of w) (earlier ++ w ∷ []) later (now_written earlier w))
+    (distinct_after p (earlier ++ w ∷ []) later)
 
 -- the effect of writes changes no key twice
 pub effect_is_distinct : (p : Write → Bool) (ws : List Write) → HasDistinctKeys (map as_change (filter p (latest_writes ws)))

@@ -20,7 +20,11 @@ use Rattle.stm_retry.specs.declared.reply.Reply.{Reply}
 use Rattle.stm_retry.specs.declared.reply.Reply.TheVariants.{Started, Fetched, Committed, Aborted, Faulted, Ended}
 use Rattle.stm_retry.specs.declared.refusal.Denied.{Denied}
 use Rattle.stm_retry.specs.declared.refusal.Refusal.{Refusal}
-use Rattle.stm_retry.specs.declared.refusal.Refusal.TheVariants.{BadLimit, NoRunner}
+use Rattle.stm_retry.specs.declared.refusal.Refusal.TheVariants.{BadLimit, TooManyOps, LeaseNotFound, RevisionsUsedUp}
+use Rattle.std.specs.Prelude.{nat_lt, not, ◌&&◌}
+use Rattle.std.specs.List.{list_any}
+use Rattle.stm_retry.specs.World.{refusal_at, most_writes, highest_revision, is_empty, names_lease}
+use Rattle.stm_meaning.specs.declared.trace_item.TraceItem.{TraceItem}
 use Rattle.stm_retry.specs.declared.entry.Entry.{Entry}
 use Rattle.stm_retry.specs.declared.entry.Entry.TheVariants.{Program}
 use Rattle.stm_retry.specs.declared.runner.Runner.{Runner}
@@ -85,6 +89,35 @@ found_is_true h slots i false r t found = live_is_true h slots i r t found
 runner_is_true : (h : History) (slots : List Slot) (id : ℕ) (r : Runner) → SlotsAreTrue h slots → runner_at id slots ≡ Some r → AreTrue h r.answers
 runner_is_true h slots id r t found = found_is_true h slots (id - 1) (id == 0) r t found
 
+over_stays : (slots : List Slot) (i : ℕ) → live_in (slice_get (slice_set slots i Over) i) ≡ None
+over_stays [] zero = refl
+over_stays [] (suc i) = refl
+over_stays (s ∷ slots) zero = refl
+over_stays (s ∷ slots) (suc i) = over_stays slots i
+
+none_either_way : (b : Bool) (found : Option Runner) → found ≡ None → cond b None found ≡ None
+none_either_way true found h = refl
+none_either_way false found h = h
+
+-- a runner whose place is over is there no more
+is_over : (id : ℕ) (slots : List Slot) → runner_at id (with_slot id Over slots) ≡ None
+is_over id slots = none_either_way (id == 0) (live_in (slice_get (slice_set slots (id - 1) Over) (id - 1))) (over_stays slots (id - 1))
+
+-- ---- refusals of a commit ----
+
+none_of_three : (a b c : Bool) (x y z : Refusal) → cond a (Some x) (cond b (Some y) (cond c (Some z) None)) ≡ None → (b ≡ false) × (c ≡ false)
+none_of_three true b c x y z h = absurd (cc)
+none_of_three false true c x y z h = absurd (cc)
+none_of_three false false true x y z h = absurd (cc)
+none_of_three false false false x y z h = (refl, refl)
+
+-- a commit that is not refused names no lease, and finds a revision where it changes something
+pub unrefused : (latest : List Write) (changes : List Change) (revision : ℕ) → refusal_at latest changes revision ≡ None →
+    (list_any names_lease latest ≡ false) × ((not (is_empty changes) && (revision == highest_revision)) ≡ false)
+unrefused latest changes revision h =
+    none_of_three (nat_lt most_writes (length latest)) (list_any names_lease latest) (not (is_empty changes) && (revision == highest_revision))
+    TooManyOps LeaseNotFound RevisionsUsedUp h
+
 -- ---- replay ----
 
 replay_append : (es : List Entry) (e : Entry) (h : History) → replay (es ++ e ∷ []) h ≡ replay_entry e (replay es h)
@@ -116,105 +149,140 @@ keeps_started : (w : World) (program : Block) (level : Level) (limit : ℕ) (b :
       next = record {
         history = w.history;
         runners = w.runners ++ Live (record { program = program; level = level; limit = limit; answers = [] }) ∷ [];
-        entries = w.entries
-      }
+        entries = w.entries;
+      };
     }))
 keeps_started w program level limit true some sound = keeps_refused w program level limit BadLimit sound
 keeps_started w program level limit false some sound = record {
-    sound = record {
-      answers = slots_append w.history w.runners (Live (record { program = program; level = level; limit = limit; answers = [] })) sound.answers tt;
-      replays = sound.replays;
-      legal = sound.legal
-    };
-    opening = refl;
-    means = (record { history = refl; entries = refl }, refl, some refl)
-  }
+  sound = record {
+    answers = slots_append w.history w.runners (Live (record { program = program; level = level; limit = limit; answers = [] })) sound.answers tt;
+    replays = sound.replays;
+    legal = sound.legal;
+  };
+  opening = refl;
+  means = (record { history = refl; entries = refl }, refl, some refl);
+}
 
 keeps_replied : (w : World) (reply : Reply) (id : ℕ) (slot : Slot) → IsSound w → SlotIsTrue w.history slot →
     StepMeans w id reply (replied reply id slot w).next → Keeps w (Step id) (replied reply id slot w)
 keeps_replied w reply id slot sound new means = record {
-    sound = record {
-      answers = slots_set w.history w.runners (id - 1) slot new sound.answers;
-      replays = sound.replays;
-      legal = sound.legal
-    };
-    opening = refl;
-    means = means
-  }
+  sound = record {
+    answers = slots_set w.history w.runners (id - 1) slot new sound.answers;
+    replays = sound.replays;
+    legal = sound.legal;
+  };
+  opening = refl;
+  means = means;
+}
 
-keeps_fetch : (w : World) (id : ℕ) (r : Runner) (key : List ℕ) → IsSound w → AreTrue w.history r.answers → Keeps w (Step id) (fetch id r key w)
+keeps_fetch : (w : World) (id : ℕ) (r : Runner) (key : List ℕ) (trace : List TraceItem) → IsSound w → runner_at id w.runners ≡ Some r → AreTrue w.history r.answers →
+    evaluated r ≡ Wants key trace → Keeps w (Step id) (fetch id r key w)
 unfolding fetch
-keeps_fetch w id r key sound recorded =
+keeps_fetch w id r key trace sound live recorded wants =
     let answer : ReadAnswer = answer_now w.history key in
     let true_now : IsTrueAnswer w.history answer = record { reached = omega arith; shown = last_revision_is_now w.history key (now w.history) (omega arith) } in
     keeps_replied w (Fetched id key (mod_of (key_now w.history key)) (now w.history) (now w.history)) id (Live (with_answer answer r)) sound
-        (answers_append w.history r.answers answer recorded true_now)
-        (record { history = refl; entries = refl }, refl, refl, refl, refl)
+    (answers_append w.history r.answers answer recorded true_now) (
+      refl,
+      record {
+        runner = r;
+        is_live = live;
+        trace = trace;
+        wants = wants;
+        modified = refl;
+        shows = refl;
+        carries = refl;
+        store = record { history = refl; entries = refl };
+      },
+    )
 
 -- the entry of a commit is legal at the point where it is made, and replays to the history after it
 commit_commits : (w : World) (r : Runner) (run : Run) → AreTrue w.history r.answers → evaluated r ≡ EndedRun run → run.end ≡ Done →
+    commit_refusal (latest_writes run.writes) (changes_of_writes w.history run.writes) w.history ≡ None →
     CommitsAnswers r.program r.answers run.output run.trace w.history (with_changes w.history (changes_of_writes w.history run.writes))
-commit_commits w r run recorded is_run done = record {
-    run = run; is_run = is_run; is_done = done; emits = refl; sees = refl; reads_truth = recorded; writes_effect = refl
-  }
+commit_commits w r run recorded is_run done taken =
+    let free = unrefused (latest_writes run.writes) (changes_of_writes w.history run.writes) (now w.history) taken in
+    record {
+      run = run;
+      is_run = is_run;
+      is_done = done;
+      emits = refl;
+      sees = refl;
+      reads_truth = recorded;
+      writes_effect = refl;
+      names_no_lease = free.0;
+      finds_a_revision = free.1;
+    }
 
 replays_to : (w : World) (r : Runner) (run : Run) (revision : ℕ) → evaluated r ≡ EndedRun run →
     replay_entry (entry_of r run revision) w.history ≡ with_changes w.history (changes_of_writes w.history run.writes)
 replays_to w r run revision is_run = ap (λ (x : Answered). with_changes w.history (changes_of_writes w.history (writes_of x))) is_run
 
 keeps_committed : (w : World) (id : ℕ) (r : Runner) (run : Run) → IsSound w → runner_at id w.runners ≡ Some r → AreTrue w.history r.answers →
-    evaluated r ≡ EndedRun run → run.end ≡ Done → Keeps w (Step id) (committed id r run (with_changes w.history (changes_of_writes w.history run.writes)) w)
-keeps_committed w id r run sound live recorded is_run done =
+    evaluated r ≡ EndedRun run → run.end ≡ Done →
+    commit_refusal (latest_writes run.writes) (changes_of_writes w.history run.writes) w.history ≡ None →
+    Keeps w (Step id) (committed id r run (with_changes w.history (changes_of_writes w.history run.writes)) w)
+keeps_committed w id r run sound live recorded is_run done taken =
     let changes : List Change = changes_of_writes w.history run.writes in
     let after : History = with_changes w.history changes in
     let entry : Entry = entry_of r run (now after) in
     let start : History = opened_at w.history.opening in
     let told : replay_entry entry w.history ≡ after = replays_to w r run (now after) is_run in
     let opening_is : after.opening ≡ w.history.opening = opening_stays w.history changes in
+    let commits : CommitsAnswers r.program r.answers run.output run.trace w.history after = commit_commits w r run recorded is_run done taken in
     let legal_here : IsLegal entry w.history =
-        ( subst (λ (x : History). CommitsAnswers r.program r.answers run.output run.trace w.history x) (sym told) (commit_commits w r run recorded is_run done)
-        , ap now (sym told) ) in
+    (subst (λ (x : History). CommitsAnswers r.program r.answers run.output run.trace w.history x) (sym told) commits, ap now (sym told)) in
     record {
       sound = record {
         answers = slots_set after w.runners (id - 1) Over tt (slots_after w.history changes w.runners sound.answers);
         replays = subst (λ (o : ℕ). replay (w.entries ++ entry ∷ []) (opened_at o) ≡ after) (sym opening_is)
             (replay_append w.entries entry start ∙ ap (replay_entry entry) sound.replays ∙ told);
         legal = subst (λ (o : ℕ). AreLegal (w.entries ++ entry ∷ []) (opened_at o)) (sym opening_is)
-            (legal_append w.entries entry start sound.legal (subst (IsLegal entry) (sym sound.replays) legal_here))
+            (legal_append w.entries entry start sound.legal (subst (IsLegal entry) (sym sound.replays) legal_here));
       };
       opening = opening_is;
       means = record {
-        runner = r; is_live = live; run = run; told = refl;
-        commits = commit_commits w r run recorded is_run done; reached = refl; entered = refl
-      }
+        runner = r;
+        is_live = live;
+        run = run;
+        told = refl;
+        commits = commits;
+        reached = refl;
+        over = is_over id w.runners;
+        entered = refl;
+      };
     }
 
-ends_as : (w : World) (id : ℕ) (r : Runner) (run : Run) → runner_at id w.runners ≡ Some r → evaluated r ≡ EndedRun run → EndsAs w id run
-ends_as w id r run live is_run = record { runner = r; is_live = live; is_run = is_run }
+ends_as : (w : World) (id : ℕ) (r : Runner) (run : Run) (reply : Reply) → runner_at id w.runners ≡ Some r → evaluated r ≡ EndedRun run →
+    EndsAs w id run (replied reply id Over w).next
+ends_as w id r run reply live is_run = record { runner = r; is_live = live; is_run = is_run; over = is_over id w.runners }
 
 keeps_judged : (w : World) (id : ℕ) (r : Runner) (run : Run) (refusal : Option Refusal) → IsSound w → runner_at id w.runners ≡ Some r → AreTrue w.history r.answers →
-    evaluated r ≡ EndedRun run → run.end ≡ Done → Keeps w (Step id) (judged id r run (changes_of_writes w.history run.writes) refusal w)
-keeps_judged w id r run None sound live recorded is_run done = keeps_committed w id r run sound live recorded is_run done
-keeps_judged w id r run (Some cause) sound live recorded is_run done =
-    keeps_replied w (Ended id cause) id Over sound tt (record { history = refl; entries = refl }, refl, (run, ends_as w id r run live is_run, done))
+    evaluated r ≡ EndedRun run → run.end ≡ Done →
+    commit_refusal (latest_writes run.writes) (changes_of_writes w.history run.writes) w.history ≡ refusal →
+    Keeps w (Step id) (judged id r run (changes_of_writes w.history run.writes) refusal w)
+keeps_judged w id r run None sound live recorded is_run done is = keeps_committed w id r run sound live recorded is_run done is
+keeps_judged w id r run (Some cause) sound live recorded is_run done is =
+    keeps_replied w (Ended id cause) id Over sound tt
+    (record { history = refl; entries = refl }, refl, (run, ends_as w id r run (Ended id cause) live is_run, done, is))
 
 keeps_commit : (w : World) (id : ℕ) (r : Runner) (run : Run) → IsSound w → runner_at id w.runners ≡ Some r → AreTrue w.history r.answers →
     evaluated r ≡ EndedRun run → run.end ≡ Done → Keeps w (Step id) (commit id r run w)
 unfolding commit
 keeps_commit w id r run sound live recorded is_run done =
-    keeps_judged w id r run (commit_refusal (latest_writes run.writes) (changes_of_writes w.history run.writes) w.history) sound live recorded is_run done
+    keeps_judged w id r run (commit_refusal (latest_writes run.writes) (changes_of_writes w.history run.writes) w.history) sound live recorded is_run done refl
 
 keeps_finish : (w : World) (id : ℕ) (r : Runner) (run : Run) (end : End) → IsSound w → runner_at id w.runners ≡ Some r → AreTrue w.history r.answers →
     evaluated r ≡ EndedRun run → run.end ≡ end → Keeps w (Step id) (finish id r run end w)
 keeps_finish w id r run Done sound live recorded is_run ended = keeps_commit w id r run sound live recorded is_run ended
 keeps_finish w id r run (AbortedEnd text) sound live recorded is_run ended =
-    keeps_replied w (Aborted id text) id Over sound tt (record { history = refl; entries = refl }, refl, (run, ends_as w id r run live is_run, ended))
+    keeps_replied w (Aborted id text) id Over sound tt (record { history = refl; entries = refl }, refl, (run, ends_as w id r run (Aborted id text) live is_run, ended))
 keeps_finish w id r run (FaultedEnd fault) sound live recorded is_run ended =
-    keeps_replied w (Faulted id fault) id Over sound tt (record { history = refl; entries = refl }, refl, (run, ends_as w id r run live is_run, ended))
+    keeps_replied w (Faulted id fault) id Over sound tt (record { history = refl; entries = refl }, refl, (run, ends_as w id r run (Faulted id fault) live is_run, ended))
 
 keeps_on : (w : World) (id : ℕ) (r : Runner) (answered : Answered) → IsSound w → runner_at id w.runners ≡ Some r → AreTrue w.history r.answers →
     evaluated r ≡ answered → Keeps w (Step id) (step_on id r answered w)
-keeps_on w id r (Wants key trace) sound live recorded is = keeps_fetch w id r key sound recorded
+keeps_on w id r (Wants key trace) sound live recorded is = keeps_fetch w id r key trace sound live recorded is
 keeps_on w id r (EndedRun run) sound live recorded is = keeps_finish w id r run run.end sound live recorded is refl
 
 keeps_live : (w : World) (id : ℕ) (r : Runner) → IsSound w → runner_at id w.runners ≡ Some r → Keeps w (Step id) (step_live id r w)
@@ -258,7 +326,8 @@ pub read_committed_headline : ReadCommittedHeadline
 read_committed_headline start events =
     let w : World = world_after events (opened start) in
     let sound : IsSound w = world_is_sound events (opened start) (opened_is_sound start) in
-    let opening_is : w.history.opening ≡ start = opening_after events (opened start) (opened_is_sound start) in
-    ( all_mean events (opened start) (opened_is_sound start)
-    , subst (λ (o : ℕ). replay w.entries (opened_at o) ≡ w.history) opening_is sound.replays
-    , subst (λ (o : ℕ). AreLegal w.entries (opened_at o)) opening_is sound.legal )
+    let opening_is : w.history.opening ≡ start = opening_after events (opened start) (opened_is_sound start) in (
+      all_mean events (opened start) (opened_is_sound start),
+      subst (λ (o : ℕ). replay w.entries (opened_at o) ≡ w.history) opening_is sound.replays,
+      subst (λ (o : ℕ). AreLegal w.entries (opened_at o)) opening_is sound.legal,
+    )

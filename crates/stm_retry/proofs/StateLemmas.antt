@@ -27,7 +27,7 @@ pub seen_absent : (h : History) (seen : List ℕ → Bool) (entries : List State
     IsStateOfSeen h seen entries → IsStateOfSeen h (λ q. seen q || bytes_eq key q) entries
 seen_absent h seen entries key absent so_far q =
     so_far q ∙ absent_either_way (seen q) (bytes_eq key q) (entry_now q (key_now h q))
-        (λ e. ap (entry_now q) (ap (key_now h) (sym ((bytes_eq-Decides key q).0 e)) ∙ absent))
+    (λ e. ap (entry_now q) (ap (key_now h) (sym ((bytes_eq-Decides key q).0 e)) ∙ absent))
 
 present_either_way : (s b : Bool) (target other found : Option StateEntry) → found ≡ cond b other (cond s target None) → (b ≡ true → other ≡ target) →
     found ≡ cond (s || b) target None
@@ -43,9 +43,9 @@ pub seen_present : (h : History) (seen : List ℕ → Bool) (entries new : List 
 seen_present h seen entries new key state present new_is so_far q =
     let entry : StateEntry = record { key = key; value = state.value; mod_rev = state.mod_rev } in
     let found : find_entry q new ≡ cond (bytes_eq key q) (Some entry) (cond (seen q) (entry_now q (key_now h q)) None) =
-        ap (find_entry q) new_is ∙ find_entry-with_entry q entry entries ∙ ap (cond (bytes_eq key q) (Some entry)) (so_far q) in
+    ap (find_entry q) new_is ∙ find_entry-with_entry q entry entries ∙ ap (cond (bytes_eq key q) (Some entry)) (so_far q) in
     present_either_way (seen q) (bytes_eq key q) (entry_now q (key_now h q)) (Some entry) (find_entry q new) found
-        (λ e. sym (ap (λ k. entry_now k (key_now h k)) (sym ((bytes_eq-Decides key q).0 e)) ∙ ap (entry_now key) present))
+    (λ e. sym (ap (λ k. entry_now k (key_now h k)) (sym ((bytes_eq-Decides key q).0 e)) ∙ ap (entry_now key) present))
 
 -- the same keys seen
 pub seen_alike : (h : History) (seen other : List ℕ → Bool) (entries : List StateEntry) → ((q : List ℕ) → seen q ≡ other q) →
@@ -121,11 +121,11 @@ unchanged_is_absent opening q xs (suc i) within unchanged =
     let older = reverse (take i xs) in
     let taken : take (suc i) xs ≡ take i xs ++ x ∷ [] = take-suc xs i [] (omega arith) in
     let both : (is_changed q (take i xs) || is_changed q (x ∷ [])) ≡ false =
-        sym (list_any-append (λ changes. is_some (change_of q changes)) (take i xs) (x ∷ [])) ∙ ap (is_changed q) (sym taken) ∙ unchanged in
+    sym (list_any-append (λ changes. is_some (change_of q changes)) (take i xs) (x ∷ [])) ∙ ap (is_changed q) (sym taken) ∙ unchanged in
     let here : change_of q x ≡ None =
-        none_of (change_of q x) (sym (or_false (is_some (change_of q x))) ∙ right_false (is_changed q (take i xs)) (is_changed q (x ∷ [])) both) in
+    none_of (change_of q x) (sym (or_false (is_some (change_of q x))) ∙ right_false (is_changed q (take i xs)) (is_changed q (x ∷ [])) both) in
     let before : key_after opening q older ≡ None =
-        unchanged_is_absent opening q xs i (omega arith) (left_false (is_changed q (take i xs)) (is_changed q (x ∷ [])) both) in
+    unchanged_is_absent opening q xs i (omega arith) (left_false (is_changed q (take i xs)) (is_changed q (x ∷ [])) both) in
     ap (λ (l : List (List Change)). key_after opening q l) (ap reverse taken ∙ reverse-append (take i xs) (x ∷ []))
     ∙ one_more opening q x older
     ∙ ap (λ (c : Option Change). after_change (number_of_last opening (x ∷ older)) c (key_after opening q older)) here
@@ -140,11 +140,11 @@ pub seen_all : (h : History) (xs : List (List Change)) (entries : List StateEntr
     IsStateOfSeen h (λ q. is_changed q xs) entries → IsStateOf h entries
 seen_all h xs entries is so_far q =
     so_far q ∙ all_seen (is_changed q xs) (entry_now q (key_now h q)) (λ unchanged.
-        let all : take (length xs) xs ≡ xs = take_all (length xs) xs (omega arith) in
-        let absent : key_after h.opening q (reverse xs) ≡ None =
-            ap (λ (l : List (List Change)). key_after h.opening q (reverse l)) (sym all)
-            ∙ unchanged_is_absent h.opening q xs (length xs) (omega arith) (ap (is_changed q) all ∙ unchanged) in
-        ap (entry_now q) (sym (ap (key_after h.opening q) is) ∙ absent))
+    let all : take (length xs) xs ≡ xs = take_all (length xs) xs (omega arith) in
+    let absent : key_after h.opening q (reverse xs) ≡ None =
+    ap (λ (l : List (List Change)). key_after h.opening q (reverse l)) (sym all)
+    ∙ unchanged_is_absent h.opening q xs (length xs) (omega arith) (ap (is_changed q) all ∙ unchanged) in
+    ap (entry_now q) (sym (ap (key_after h.opening q) is) ∙ absent))
 
 pub seen_none : (h : History) → IsStateOfSeen h (λ q. false) []
 seen_none h q = refl

@@ -103,7 +103,7 @@ pub made_means : (old new : World) (e : WorldEvent) (outcome : Result (Result Re
     Means old e (as_reply outcome) new
 made_means old new e (Ok reply) sound made =
     subst (λ (r : Result Reply Denied). Means old e r new) (sym made.0)
-        (subst (λ (w : World). Means old e (step e old).reply w) (sym made.1) (step_keeps old e sound).means)
+    (subst (λ (w : World). Means old e (step e old).reply w) (sym made.1) (step_keeps old e sound).means)
 made_means old new e (Err error) sound made = means_nothing old new e (record { cause = OutOfMemory; expired = [] }) made
 
 pub made_is_sound : (old new : World) (e : WorldEvent) (outcome : Result (Result Reply Denied) AllocError) → IsSound old → Made old new outcome (step e old) → IsSound new

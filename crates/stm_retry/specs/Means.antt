@@ -3,7 +3,9 @@ use Rattle.std.specs.Prelude.{◌≡◌, ◌≢◌, ℕ, ◌+◌, List, [], ◌�
 use Rattle.stm_history.specs.History.{now, opened_at, key_now, mod_of}
 use Rattle.stm_meaning.specs.declared.run.End.TheVariants.{Aborted as AbortedEnd, Faulted as FaultedEnd, Done}
 use Rattle.stm_meaning.specs.declared.run.Run.{Run}
-use Rattle.stm_meaning.specs.declared.run.Answered.TheVariants.{Ended as EndedRun}
+use Rattle.stm_meaning.specs.declared.run.Answered.TheVariants.{Ended as EndedRun, Wants}
+use Rattle.stm_meaning.specs.declared.trace_item.TraceItem.{TraceItem}
+use Rattle.stm_meaning.specs.Writes.{latest_writes}
 use Rattle.stm_retry.specs.declared.event.WorldEvent.{WorldEvent}
 use Rattle.stm_retry.specs.declared.event.WorldEvent.TheVariants.{Start, Step}
 use Rattle.stm_retry.specs.declared.reply.Reply.{Reply}
@@ -14,7 +16,7 @@ use Rattle.stm_retry.specs.declared.refusal.Refusal.TheVariants.{OutOfMemory}
 use Rattle.stm_retry.specs.declared.entry.Entry.{Entry}
 use Rattle.stm_retry.specs.declared.entry.Entry.TheVariants.{Program}
 use Rattle.stm_retry.specs.declared.runner.Runner.{Runner}
-use Rattle.stm_retry.specs.World.{World, Stepped, step, world_after, opened, runner_at, evaluated}
+use Rattle.stm_retry.specs.World.{World, Stepped, step, world_after, opened, runner_at, evaluated, commit_refusal, changes_of_writes}
 use Rattle.stm_retry.specs.Replay.{CommitsAnswers, replay, AreLegal, AreTrue}
 
 -- the store and its entries are as they were
@@ -30,27 +32,40 @@ pub record IsCommit (old : World) (id revision : ℕ) (reply : Reply) (new : Wor
   pub told : reply ≡ Committed id revision 1 run.output run.trace runner.answers
   pub commits : CommitsAnswers runner.program runner.answers run.output run.trace old.history new.history
   pub reached : revision ≡ now new.history
+  pub over : runner_at id new.runners ≡ None
   pub entered : new.entries ≡ old.entries ++ Program runner.program runner.level runner.answers run.output run.trace revision ∷ []
 
--- A runner whose program ended so on its answers.
-pub record EndsAs (old : World) (id : ℕ) (run : Run) : Type 0 where
+-- A runner whose program ended so on its answers, and whose run is over.
+pub record EndsAs (old : World) (id : ℕ) (run : Run) (new : World) : Type 0 where
   pub runner : Runner
   pub is_live : runner_at id old.runners ≡ Some runner
   pub is_run : evaluated runner ≡ EndedRun run
+  pub over : runner_at id new.runners ≡ None
+
+-- A fetch of the key that the runner's program wants, at the store's revision; nothing changes in the store.
+pub record IsFetch (old : World) (id : ℕ) (key : List ℕ) (mod_rev of_rev revision : ℕ) (new : World) : Type 0 where
+  pub runner : Runner
+  pub is_live : runner_at id old.runners ≡ Some runner
+  pub trace : List TraceItem
+  pub wants : evaluated runner ≡ Wants key trace
+  pub modified : mod_rev ≡ mod_of (key_now old.history key)
+  pub shows : of_rev ≡ now old.history
+  pub carries : revision ≡ now old.history
+  pub store : SameStore old new
 
 -- what a reply to a runner's step means
 abbrev pub StepMeans : World → ℕ → Reply → World → Type 0
 StepMeans old id (Started runner) new = ⊥
-StepMeans old id (Fetched runner key mod_rev of_rev revision) new =
-    SameStore old new × (runner ≡ id) × (mod_rev ≡ mod_of (key_now old.history key)) × (of_rev ≡ now old.history) × (revision ≡ now old.history)
+StepMeans old id (Fetched runner key mod_rev of_rev revision) new = (runner ≡ id) × IsFetch old id key mod_rev of_rev revision new
 StepMeans old id (Committed runner revision attempts output trace answers) new =
     IsCommit old id revision (Committed runner revision attempts output trace answers) new
 StepMeans old id (Aborted runner text) new =
-    SameStore old new × (runner ≡ id) × ((run : Run) × EndsAs old id run × (run.end ≡ AbortedEnd text))
+    SameStore old new × (runner ≡ id) × ((run : Run) × EndsAs old id run new × (run.end ≡ AbortedEnd text))
 StepMeans old id (Faulted runner fault) new =
-    SameStore old new × (runner ≡ id) × ((run : Run) × EndsAs old id run × (run.end ≡ FaultedEnd fault))
+    SameStore old new × (runner ≡ id) × ((run : Run) × EndsAs old id run new × (run.end ≡ FaultedEnd fault))
 StepMeans old id (Ended runner cause) new =
-    SameStore old new × (runner ≡ id) × ((run : Run) × EndsAs old id run × (run.end ≡ Done))
+    SameStore old new × (runner ≡ id) × ((run : Run) × EndsAs old id run new × (run.end ≡ Done)
+    × (commit_refusal (latest_writes run.writes) (changes_of_writes old.history run.writes) old.history ≡ Some cause))
 
 -- what a reply to the start of a runner means
 abbrev pub StartMeans : World → ℕ → Reply → World → Type 0
@@ -73,6 +88,6 @@ AllMean (e ∷ es) w = Means w e (step e w).reply (step e w).next × AllMean es 
 abbrev pub ReadCommittedHeadline : Type 0
 ReadCommittedHeadline =
     (start : ℕ) (events : List WorldEvent) →
-        AllMean events (opened start)
-        × (replay (world_after events (opened start)).entries (opened_at start) ≡ (world_after events (opened start)).history)
-        × AreLegal (world_after events (opened start)).entries (opened_at start)
+    AllMean events (opened start)
+    × (replay (world_after events (opened start)).entries (opened_at start) ≡ (world_after events (opened start)).history)
+    × AreLegal (world_after events (opened start)).entries (opened_at start)

@@ -1,5 +1,7 @@
 -- The replay of a world's entries, and what makes an entry legal at its point.
-use Rattle.std.specs.Prelude.{◌≡◌, ℕ, List, [], ◌∷◌}
+use Rattle.std.specs.Prelude.{◌≡◌, ◌==◌, ◌&&◌, not, false, ℕ, List, [], ◌∷◌}
+use Rattle.std.specs.List.{list_any}
+use Rattle.stm_meaning.specs.Writes.{latest_writes}
 use Rattle.stm_history.specs.declared.key_state.ReadAnswer.{ReadAnswer}
 use Rattle.stm_history.specs.History.{History, now, opened_at, IsTrueAnswer}
 use Rattle.stm_program.specs.Syntax.{Block}
@@ -14,7 +16,7 @@ use Rattle.stm_meaning.specs.Meaning.{run_over}
 use Rattle.stm_retry.specs.declared.entry.Entry.{Entry}
 use Rattle.stm_retry.specs.declared.entry.Entry.TheVariants.{Program}
 use Rattle.stm_retry.specs.Answers.{look_up}
-use Rattle.stm_retry.specs.World.{with_changes, changes_of_writes}
+use Rattle.stm_retry.specs.World.{with_changes, changes_of_writes, names_lease, is_empty, highest_revision}
 
 -- what a program writes on its answers
 abbrev pub writes_of : Answered → List Write
@@ -39,7 +41,7 @@ AreTrue h (a ∷ answers) = IsTrueAnswer h a × AreTrue h answers
 
 -- A commit at ReadCommitted: the program on its answers is done, with this output and trace; each answer is true
 -- at its own revision; and the effect of the program's writes on the state of the store is one revision, none if
--- there is none.
+-- there is none. No put names a lease, since none is live here, and nothing is changed at the highest revision.
 pub record CommitsAnswers (program : Block) (answers : List ReadAnswer) (output : List Value) (trace : List TraceItem) (before after : History) : Type 0 where
   pub run : Run
   pub is_run : run_over (look_up answers) program ≡ Ended run
@@ -48,6 +50,8 @@ pub record CommitsAnswers (program : Block) (answers : List ReadAnswer) (output 
   pub sees : run.trace ≡ trace
   pub reads_truth : AreTrue before answers
   pub writes_effect : after ≡ with_changes before (changes_of_writes before run.writes)
+  pub names_no_lease : list_any names_lease (latest_writes run.writes) ≡ false
+  pub finds_a_revision : (not (is_empty (changes_of_writes before run.writes)) && (now before == highest_revision)) ≡ false
 
 -- an entry at its point of the history
 abbrev pub IsLegal : Entry → History → Type 0

@@ -118,9 +118,9 @@ refused cause w = record { reply = Err (record { cause = cause; expired = [] });
 -- a reply after which a runner stands at its place so, and nothing else has changed
 abbrev pub replied : Reply → ℕ → Slot → World → Stepped
 replied reply id slot w = record {
-    reply = Ok reply;
-    next = record { history = w.history; runners = with_slot id slot w.runners; entries = w.entries }
-  }
+  reply = Ok reply;
+  next = record { history = w.history; runners = with_slot id slot w.runners; entries = w.entries };
+}
 
 -- a new runner, the next one; a run that may send no commit is refused
 unfoldable pub start_runner : Block → Level → ℕ → World → Stepped
@@ -131,8 +131,8 @@ start_runner program level limit w =
       next = record {
         history = w.history;
         runners = w.runners ++ Live (record { program = program; level = level; limit = limit; answers = [] }) ∷ [];
-        entries = w.entries
-      }
+        entries = w.entries;
+      };
     }
 
 -- the answer to the read of a key's current state
@@ -151,13 +151,13 @@ entry_of r run revision = Program r.program r.level r.answers run.output run.tra
 -- a commit that the store takes: its changes are one revision, and it is an entry
 abbrev pub committed : ℕ → Runner → Run → History → World → Stepped
 committed id r run after w = record {
-    reply = Ok (Committed id (now after) 1 run.output run.trace r.answers);
-    next = record {
-      history = after;
-      runners = with_slot id Over w.runners;
-      entries = w.entries ++ entry_of r run (now after) ∷ []
-    }
-  }
+  reply = Ok (Committed id (now after) 1 run.output run.trace r.answers);
+  next = record {
+    history = after;
+    runners = with_slot id Over w.runners;
+    entries = w.entries ++ entry_of r run (now after) ∷ [];
+  };
+}
 
 abbrev pub judged : ℕ → Runner → Run → List Change → Option Refusal → World → Stepped
 judged id r run changes None w = committed id r run (with_changes w.history changes) w

@@ -11,5 +11,7 @@ pub enum WorldEvent {
         limit: u32,
     },
     /// The runner makes one step.
-    Step { runner: u64 },
+    Step {
+        runner: u64,
+    },
 }

@@ -7,5 +7,4 @@ ghost use Rattle.stm_retry.specs.Means.{ReadCommittedHeadline};
 /// point.
 pub fn read_committed_headline()
     ensures { ReadCommittedHeadline }
-{
-}
+{}

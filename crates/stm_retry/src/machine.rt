@@ -174,7 +174,12 @@ impl Machine {
 
     /// Makes the commit of a run that is done.
     #[tactic(auto, unfolding(crate::specs::World::commit))]
-    fn commit(&mut self, alloc: Global, id: u64, run: Run) -> Result<Result<Reply, Denied>, AllocError>
+    fn commit(
+        &mut self,
+        alloc: Global,
+        id: u64,
+        run: Run,
+    ) -> Result<Result<Reply, Denied>, AllocError>
         requires { (0 < id) × (id ≤ length self.old.runners) }
         ensures { (r : LiveRunner) → runner_at id self.old.runners ≡ Some r → Made self.old self.new result (commit id r run self.old) }
     {
@@ -187,7 +192,12 @@ impl Machine {
     }
 
     /// Ends a run whose program has come to its end.
-    fn finish(&mut self, alloc: Global, id: u64, run: Run) -> Result<Result<Reply, Denied>, AllocError>
+    fn finish(
+        &mut self,
+        alloc: Global,
+        id: u64,
+        run: Run,
+    ) -> Result<Result<Reply, Denied>, AllocError>
         requires { (0 < id) × (id ≤ length self.old.runners) }
         ensures { (r : LiveRunner) → runner_at id self.old.runners ≡ Some r → Made self.old self.new result (finish id r run run.end self.old) }
     {
@@ -220,7 +230,11 @@ impl Machine {
     }
 
     /// Takes one event.
-    pub(crate) fn step(&mut self, alloc: Global, event: &WorldEvent) -> Result<Result<Reply, Denied>, AllocError>
+    pub(crate) fn step(
+        &mut self,
+        alloc: Global,
+        event: &WorldEvent,
+    ) -> Result<Result<Reply, Denied>, AllocError>
         ensures { Made self.old self.new result (step event.now self.old) }
     {
         match event {

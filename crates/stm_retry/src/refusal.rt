@@ -1,4 +1,7 @@
 //! Why an event or a commit is refused.
+ghost use Rattle.std.specs.Prelude.{◌≡◌};
+ghost use Rattle.stm_retry.specs.Names.{refusal_name};
+
 use std::fmt;
 use stm_history::Sequence;
 
@@ -22,8 +25,10 @@ pub enum Refusal {
 }
 
 impl Refusal {
-    /// The name of the refusal.
-    pub fn name(self) -> &'static str {
+    /// The name of the refusal, as the report spells it.
+    pub fn name(self) -> &'static str
+        ensures { result.now ≡ refusal_name self }
+    {
         match self {
             Refusal::OutOfMemory => "OutOfMemory",
             Refusal::TooManyOps => "TooManyOps",
@@ -36,8 +41,13 @@ impl Refusal {
 }
 
 impl fmt::Display for Refusal {
+    ghost use Rattle.std.specs.Prelude.{Some};
+    ghost use Rattle.stm_retry.specs.Names.{refusal_name};
+
+    ghost output = { λ refusal. Some (refusal_name refusal) };
+
     fn fmt<W: fmt::Write>(&self, f: &mut fmt::Formatter<W>) -> fmt::Result {
-        f.write_str(self.name())
+        fmt::Display::fmt(&self.name(), f)
     }
 }
 

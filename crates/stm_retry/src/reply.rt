@@ -8,7 +8,9 @@ use stm_meaning::{Fault, TraceItem, Value};
 #[derive(Debug, Drop)]
 pub enum Reply {
     /// A runner was started.
-    Started { runner: u64 },
+    Started {
+        runner: u64,
+    },
     /// A step fetched a key: its modification revision (0 where it is absent), the revision that the
     /// answer shows, and the one that it carries.
     Fetched {
@@ -29,9 +31,18 @@ pub enum Reply {
         answers: ReadAnswers,
     },
     /// The program aborted. Nothing is committed, and the run is over.
-    Aborted { runner: u64, text: Text },
+    Aborted {
+        runner: u64,
+        text: Text,
+    },
     /// The program was ended by a fault. Nothing is committed, and the run is over.
-    Faulted { runner: u64, fault: Fault },
+    Faulted {
+        runner: u64,
+        fault: Fault,
+    },
     /// The store refused the commit. Nothing is committed, and the run is over.
-    Ended { runner: u64, cause: Refusal },
+    Ended {
+        runner: u64,
+        cause: Refusal,
+    },
 }

@@ -39,7 +39,11 @@ fn record_in(slot: &mut Slot, answer: ReadAnswer) -> Result<(), AllocError>
 }
 
 /// Records one more answer of the runner with this number. Want of memory leaves all places as they were.
-pub(crate) fn record_answer(slots: &mut Vec<Slot>, id: u64, answer: ReadAnswer) -> Result<(), AllocError>
+pub(crate) fn record_answer(
+    slots: &mut Vec<Slot>,
+    id: u64,
+    answer: ReadAnswer,
+) -> Result<(), AllocError>
     requires in_range { IsInRange answer }
     requires there { (0 < id) × (id ≤ vec_len slots.old) }
     ensures ok { OnOk result ((r : LiveRunner) → runner_at id slots.old.items ≡ Some r

@@ -1,5 +1,5 @@
 //! The world.
-ghost use Rattle.std.specs.Prelude.{◌≡◌, ◌≢◌, ◌≤◌, Ok, Err, IfOk, IfErr, OnOk, OnErr, IsErr, take, length, []};
+ghost use Rattle.std.specs.Prelude.{◌≡◌, ◌≢◌, ◌≤◌, ◌-◌, Ok, Err, IfOk, IfErr, OnOk, OnErr, IsErr, take, length, []};
 ghost use Rattle.stm_history.specs.History.{now, key_now, opened_at};
 ghost use Rattle.stm_history.specs.declared.revisions.TheConstants.{HIGHEST_REVISION};
 ghost use Rattle.stm_retry.specs.declared.refusal.Refusal.TheVariants.{OutOfMemory, BadLimit};
@@ -59,7 +59,10 @@ pub struct RunStop {
 }
 
 /// The reply to the world's caller: want of memory is a refusal, too.
-fn to_reply(alloc: Global, outcome: Result<Result<Reply, Denied>, AllocError>) -> Result<Reply, Denied>
+fn to_reply(
+    alloc: Global,
+    outcome: Result<Result<Reply, Denied>, AllocError>,
+) -> Result<Reply, Denied>
     ensures { result ≡ as_reply outcome }
 {
     match outcome {
@@ -153,7 +156,7 @@ impl World {
     pub fn run(&mut self, events: &[WorldEvent]) -> Result<Sequence<Result<Reply, Denied>>, RunStop>
         ensures replies { IfOk result (λ replies. replies ≡ replies_to events.now self.old) }
         ensures ok { OnOk result (self.new ≡ world_after events.now self.old) }
-        ensures stopped { IfErr result (λ stop. (stop.done ≤ length events.now) × (stop.expired ≡ [])
+        ensures stopped { IfErr result (λ stop. (stop.done ≤ length events.now - 1) × (stop.expired ≡ [])
             × (self.new ≡ world_after (take stop.done events.now) self.old)) }
     {
         let Ok(mut replies) = Vec::with_capacity(self.alloc, events.len()) else {

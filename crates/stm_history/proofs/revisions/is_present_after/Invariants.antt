@@ -6,9 +6,9 @@ use Rattle.stm_history.proofs.revisions.is_present_after.Given as goal
 -- the key is present after all revisions where it is after those that are left
 abbrev pub invariant-loop-left : goal.invariant-loop-left
 invariant-loop-left l = record {
-    within : l.left ≤ length l.revisions;
-    told : is_some (key_after l.opening l.key (reverse (take l.left l.revisions))) ≡ is_some (key_after l.opening l.key (reverse l.revisions))
-  }
+  within : l.left ≤ length l.revisions;
+  told : is_some (key_after l.opening l.key (reverse (take l.left l.revisions))) ≡ is_some (key_after l.opening l.key (reverse l.revisions));
+}
 
 abbrev pub decreases-loop-left : goal.decreases-loop-left
 decreases-loop-left l = l.left

@@ -7,10 +7,10 @@ use Rattle.stm_history.proofs.revisions.key_after_all.Given as goal
 -- walking on over the revisions that are left tells the answer
 abbrev pub invariant-loop-left : goal.invariant-loop-left
 invariant-loop-left l = record {
-    within : l.left ≤ length l.revisions;
-    few : version_of l.found + l.left ≤ length l.revisions;
-    told : walked l.opening l.key l.found (reverse (take l.left l.revisions)) ≡ key_after l.opening l.key (reverse l.revisions)
-  }
+  within : l.left ≤ length l.revisions;
+  few : version_of l.found + l.left ≤ length l.revisions;
+  told : walked l.opening l.key l.found (reverse (take l.left l.revisions)) ≡ key_after l.opening l.key (reverse l.revisions);
+}
 
 abbrev pub decreases-loop-left : goal.decreases-loop-left
 decreases-loop-left l = l.left

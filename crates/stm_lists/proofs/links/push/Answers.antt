@@ -1,6 +1,5 @@
-use Rattle.std.proofs.Common.{arith, sym, ◌∙◌}
-use Rattle.stm_lists.proofs.Counts.{slab_len-next_set}
-use Rattle.stm_lists.proofs.Operations.{head_there, len-le, push_there, push-head, push-head_there, push-sound, push-shows}
+use Rattle.std.proofs.Common.{arith}
+use Rattle.stm_lists.proofs.Operations.{len-le, push_there, push-sound, push-shows}
 use Rattle.stm_lists.proofs.links.push.Goals as goal
 
 pub prove-unreachable-requires : goal.prove-unreachable-requires

@@ -1,4 +1,3 @@
-use Rattle.std.proofs.Common.{arith, sym, ◌∙◌}
 use Rattle.stm_lists.proofs.Counts.{slab_len-next_set, slab_len-previous_set}
 use Rattle.stm_lists.proofs.Operations.{can_unlink, unlink-sound, unlink-value, unlink-shows, unlink-gone}
 use Rattle.stm_lists.proofs.links.unlink.Goals as goal

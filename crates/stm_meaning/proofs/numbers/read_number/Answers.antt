@@ -1,5 +1,5 @@
-use Rattle.std.proofs.Common.{rules, ◌≡◌, ℕ, sym, ◌∙◌, ap, subst, true, false, Ok, Err}
-use Rattle.std.specs.Prelude.{FitsSigned, slice_index, IsTrue}
+use Rattle.std.proofs.Common.{rules, ◌≡◌, ℕ, sym, ◌∙◌, ap, subst, Ok, Err}
+use Rattle.std.specs.Prelude.{FitsSigned, slice_index}
 use Rattle.std.proofs.lemmas.Int.{to_z-of_z}
 use mir.Syntax.{w64}
 use Rattle.stm_meaning.proofs.WrittenNumber.{written_number-plus, written_number-parse}

@@ -1,4 +1,4 @@
-use Rattle.std.proofs.Common.{◌≡◌, ◌-◌, ◌≤◌, drop}
+use Rattle.std.proofs.Common.{◌≡◌, ◌-◌, drop}
 use Rattle.stm_program.specs.BlockView.{block_of}
 use Rattle.stm_meaning.specs.Meaning.{run_block, repeat}
 use Rattle.stm_meaning.proofs.statements.+statements.Given as goal
@@ -7,7 +7,7 @@ use Rattle.stm_meaning.proofs.statements.+statements.Given as goal
 abbrev pub invariant-run_inner-loop-statement : goal.invariant-run_inner-loop-statement
 invariant-run_inner-loop-statement g l =
     (run_block (g.L.Lookup.answers l.lookup) (block_of (drop l.statement-index l.statement-items)) l.session
-      ≡ run_block (g.L.Lookup.answers l.lookup) l.block l.fn.session)
+    ≡ run_block (g.L.Lookup.answers l.lookup) l.block l.fn.session)
 
 -- the turns that are left do from here what all of them do from the start
 abbrev pub invariant-run_turns-loop-turn : goal.invariant-run_turns-loop-turn

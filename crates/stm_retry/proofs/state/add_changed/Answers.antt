@@ -12,5 +12,5 @@ loop-change-preserved c = λ seen so_far.
     let before : List ℕ → Bool = λ q. seen q || is_some (change_of q (take i changes)) in
     let within : i < length changes = omega arith in
     seen_alike c.args.store.now (λ q. before q || bytes_eq c.key.result.now q) (λ q. seen q || is_some (change_of q (take (i + 1) changes))) c.add_key.new.state
-        (λ q. ap (λ (k : List ℕ). before q || bytes_eq k q) c.key.ensures ∙ more_changed q changes i c.change-item.result (seen q) within c.change-item.is)
-        (c.in_ok-add_key.ensures before (c.loop-change.invariant seen so_far))
+    (λ q. ap (λ (k : List ℕ). before q || bytes_eq k q) c.key.ensures ∙ more_changed q changes i c.change-item.result (seen q) within c.change-item.is)
+    (c.in_ok-add_key.ensures before (c.loop-change.invariant seen so_far))

@@ -13,6 +13,6 @@ returns-in_ok-copy-in-Some c =
     let present : key_now c.args.store.now c.args.key.now ≡ Some found = ap (key_now c.args.store.now) (sym c.as_str.ensures) ∙ sym c.in_ok-key_now.ensures.value ∙ c.in-Some.is in
     let copied : c.in_ok-copy-in-Some.copy ≡ c.args.key.now = c.in_ok-copy-in-Some.ensures.cases in
     on_ok_weaker c.insert.result
-        (λ e seen so_far. seen_present c.args.store.now seen c.args.state.now c.insert.new.self c.args.key.now found present
-            (e ∙ ap (λ (k : List ℕ). with_entry (let x : StateEntry = record { key = k; value = found.value; mod_rev = found.mod_rev } in x) c.args.state.now) copied) so_far)
-        c.insert.ensures.ok
+    (λ e seen so_far. seen_present c.args.store.now seen c.args.state.now c.insert.new.self c.args.key.now found present
+    (e ∙ ap (λ (k : List ℕ). with_entry (let x : StateEntry = record { key = k; value = found.value; mod_rev = found.mod_rev } in x) c.args.state.now) copied) so_far)
+    c.insert.ensures.ok

@@ -12,7 +12,7 @@ returns c =
     let xs : List (List Change) = c.self.inside.revisions.items in
     let count : c.min-count.result ≡ min (c.args.revision - opening) (length xs) = cc in
     let first : reverse (take c.min-count.result c.deref.result.now) ≡ revisions_up_to opening c.args.revision (reverse xs) =
-        ap (λ l. reverse (take c.min-count.result l)) c.deref.ensures.value ∙ all_up_to_count opening c.args.revision xs c.min-count.result count in
+    ap (λ l. reverse (take c.min-count.result l)) c.deref.ensures.value ∙ all_up_to_count opening c.args.revision xs c.min-count.result count in
     IfOk-weaker c.key_after_all.result _ _
-        (λ s e. e ∙ ap (key_after opening c.args.key.now) first ∙ ap (λ (h : History). key_at h c.args.key.now c.args.revision) c.self.view_is)
-        c.key_after_all.ensures
+    (λ s e. e ∙ ap (key_after opening c.args.key.now) first ∙ ap (λ (h : History). key_at h c.args.key.now c.args.revision) c.self.view_is)
+    c.key_after_all.ensures

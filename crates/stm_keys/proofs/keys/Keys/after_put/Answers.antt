@@ -8,4 +8,4 @@ use Rattle.stm_keys.proofs.keys.Keys.after_put.Goals as goal
 pub state_put-requires : goal.state_put-requires
 state_put-requires c =
     subst (λ (o : Option KeyState). version_of o + 1 < 18446744073709551616) (sym c.get.ensures.value)
-        (versions_fit c.self.inside.opening (reverse c.self.inside.revisions.items) (get_by_text c.self.inside.table) c.args.key.now c.self.invariant)
+    (versions_fit c.self.inside.opening (reverse c.self.inside.revisions.items) (get_by_text c.self.inside.table) c.args.key.now c.self.invariant)

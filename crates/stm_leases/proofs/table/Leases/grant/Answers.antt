@@ -1,39 +1,53 @@
-use Rattle.std.proofs.Common.{◌≡◌, Some, None, true, false, cond, is_some, nat_eq, option_map, rules, arith, refl, ap, sym, ◌∙◌}
+use Rattle.std.proofs.Common.{◌≡◌, Option, Some, None, true, false, cond, is_some, nat_eq, option_map, rules, arith, refl, ap, sym, ◌∙◌}
 use Rattle.std.proofs.lemmas.Grind.{common_steps}
 use Rattle.std.specs.FinMap as finmap
 use Rattle.std.specs.Map.{lookup}
+use Rattle.indexmap.specs.IndexMap.{get, get_by_text}
+use Rattle.stm_leases.specs.declared.lease.Lease.{Lease}
+use Rattle.stm_leases.specs.Kept.{list_in}
 use Rattle.stm_leases.proofs.InStep.{granted}
 use Rattle.stm_leases.proofs.Seen.{contains-now, inserted-view, granted-log, list-updates}
 use Rattle.stm_leases.proofs.table.Leases.grant.Goals as goal
 
+-- an id that the table lacks has no list
+no_list : (o : Option Lease) → is_some o ≡ false → option_map (λ (l : Lease). l.keys) o ≡ None
+no_list None none = refl
+no_list (Some l) none = absurd (cc)
+
 pub returns-then-contains_key-clause-refusal : goal.returns-then-contains_key-clause-refusal
 returns-then-contains_key-clause-refusal c =
-    let known : finmap.contains_key c.args.self.now.live c.args.id ≡ true = contains-now _ _ _ _ c.self.view_is c.args.id ∙ sym c.contains_key.ensures ∙ c.if-contains_key.true in
+    let known : finmap.contains_key c.args.self.now.live c.args.id ≡ true = contains-now c.self.inside.leases c.self.inside.attached _ _ c.self.view_is c.args.id ∙ sym c.contains_key.ensures ∙ c.if-contains_key.true in
     first_of (search rules, grind (arith, common_steps))
 
 pub returns-then-is_err-clause-refusal : goal.returns-then-is_err-clause-refusal
 returns-then-is_err-clause-refusal c =
-    let known : finmap.contains_key c.args.self.now.live c.args.id ≡ false = contains-now _ _ _ _ c.self.view_is c.args.id ∙ sym c.contains_key.ensures ∙ c.if-contains_key.false in
+    let known : finmap.contains_key c.args.self.now.live c.args.id ≡ false = contains-now c.self.inside.leases c.self.inside.attached _ _ c.self.view_is c.args.id ∙ sym c.contains_key.ensures ∙ c.if-contains_key.false in
     first_of (search rules, grind (arith, common_steps))
 
 pub returns-in_default-clause-refusal : goal.returns-in_default-clause-refusal
 returns-in_default-clause-refusal c =
-    let known : finmap.contains_key c.args.self.now.live c.args.id ≡ false = contains-now _ _ _ _ c.self.view_is c.args.id ∙ sym c.contains_key.ensures ∙ c.if-contains_key.false in
+    let known : finmap.contains_key c.args.self.now.live c.args.id ≡ false = contains-now c.self.inside.leases c.self.inside.attached _ _ c.self.view_is c.args.id ∙ sym c.contains_key.ensures ∙ c.if-contains_key.false in
     first_of (search rules, grind (arith, common_steps))
 
 pub invariant_of-self-2 : goal.invariant_of-self-2
-invariant_of-self-2 c = ?
+invariant_of-self-2 c =
+    let unknown : is_some (get nat_eq c.self.inside.leases c.args.id) ≡ false = sym c.contains_key.ensures ∙ c.if-contains_key.false in
+    record {
+      in_step = granted (list_in c.self.inside.leases) (list_in c.insert.new.self) (get_by_text c.self.inside.attached) (get_by_text c.self.inside.attached) c.self.inside.keys c.new_list.new.self c.self.invariant.in_step c.args.id c.in-Ok.keys (no_list (get nat_eq c.self.inside.leases c.args.id) unknown) c.in-Ok.ensures.fresh c.in-Ok.ensures.ok (list-updates c.self.inside.leases c.insert.new.self c.args.id (Some (record { ttl = c.args.ttl; renewed = c.args.now; keys = c.in-Ok.keys })) (λ q. c.in-Ok-insert.ensures.updates.0 q ∙ ap (λ es. cond (nat_eq c.args.id q) (Some (record { ttl = c.args.ttl; renewed = c.args.now; keys = c.in-Ok.keys })) (lookup (nat_eq q) es)) c.reserve.ensures.entries));
+      table_room = c.self.invariant.table_room;
+      list_room = omega (arith, c.self.invariant.list_room, c.in-Ok.ensures.spare);
+    }
 
 pub returns-clause-refusal : goal.returns-clause-refusal
 returns-clause-refusal c =
-    let known : finmap.contains_key c.args.self.now.live c.args.id ≡ false = contains-now _ _ _ _ c.self.view_is c.args.id ∙ sym c.contains_key.ensures ∙ c.if-contains_key.false in
+    let known : finmap.contains_key c.args.self.now.live c.args.id ≡ false = contains-now c.self.inside.leases c.self.inside.attached _ _ c.self.view_is c.args.id ∙ sym c.contains_key.ensures ∙ c.if-contains_key.false in
     first_of (search rules, grind (arith, common_steps))
 
 pub returns-clause-ok : goal.returns-clause-ok
 returns-clause-ok c =
-    inserted-view _ _ _ _ c.self.view_is _ c.args.id _ (λ q. c.in-Ok-insert.ensures.updates.0 q ∙ ap (λ es. cond (nat_eq c.args.id q) _ (lookup (nat_eq q) es)) c.reserve.ensures.entries)
+    inserted-view c.self.inside.leases c.self.inside.attached _ _ c.self.view_is c.insert.new.self c.args.id (record { ttl = c.args.ttl; renewed = c.args.now; keys = c.in-Ok.keys }) (λ q. c.in-Ok-insert.ensures.updates.0 q ∙ ap (λ es. cond (nat_eq c.args.id q) (Some (record { ttl = c.args.ttl; renewed = c.args.now; keys = c.in-Ok.keys })) (lookup (nat_eq q) es)) c.reserve.ensures.entries)
 
 pub returns-clause-log : goal.returns-clause-log
 returns-clause-log c =
     λ log stands.
-      granted-log _ _ _ _ c.self.view_is _ c.args.id _ (λ q. c.in-Ok-insert.ensures.updates.0 q ∙ ap (λ es. cond (nat_eq c.args.id q) _ (lookup (nat_eq q) es)) c.reserve.ensures.entries) log stands
+    granted-log c.self.inside.leases c.self.inside.attached _ _ c.self.view_is c.insert.new.self c.args.id (record { ttl = c.args.ttl; renewed = c.args.now; keys = c.in-Ok.keys }) (λ q. c.in-Ok-insert.ensures.updates.0 q ∙ ap (λ es. cond (nat_eq c.args.id q) (Some (record { ttl = c.args.ttl; renewed = c.args.now; keys = c.in-Ok.keys })) (lookup (nat_eq q) es)) c.reserve.ensures.entries) log stands

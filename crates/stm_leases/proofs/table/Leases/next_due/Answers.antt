@@ -4,8 +4,8 @@ use Rattle.stm_leases.proofs.table.Leases.next_due.Goals as goal
 
 pub returns-in_err-id : goal.returns-in_err-id
 returns-in_err-id c =
-    rw c.from_residual.ensures (none-due _ _ _ _ c.self.view_is c.args.now (sym c.longest_due.ensures.best ∙ c.in_err-id.was))
+    rw c.from_residual.ensures (none-due c.self.inside.leases c.self.inside.attached _ _ c.self.view_is c.args.now (sym c.longest_due.ensures.best ∙ c.in_err-id.was))
 
 pub returns : goal.returns
 returns c =
-    next-due _ _ _ _ c.self.view_is c.args.now c.in_ok-id.field-0-0 c.in_ok-id.id c.longest_due.ensures.unique (sym c.longest_due.ensures.best ∙ c.in_ok-id.was)
+    next-due c.self.inside.leases c.self.inside.attached _ _ c.self.view_is c.args.now c.in_ok-id.field-0-0 c.in_ok-id.id c.longest_due.ensures.unique (sym c.longest_due.ensures.best ∙ c.in_ok-id.was)

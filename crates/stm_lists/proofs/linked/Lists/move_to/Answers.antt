@@ -13,4 +13,4 @@ push-requires-clause-there g c =
 pub returns-clause-moved : goal.returns-clause-moved
 returns-clause-moved g c =
     λ place at.
-      moves-now c.self.inside.nodes c.self.inside.heads c.self.inside.spare _ c.self.view_is c.args.node place at c.unlink-value.new.nodes c.unlink-value.new.heads (c.unlink-value.ensures.shows place (place-now _ c.self.inside.heads _ _ c.self.view_is c.args.node place at)) c.push.new.nodes c.push.new.heads _ c.args.list c.push.result c.unlink-value.result c.requires.list (c.push.ensures.node ∙ c.unlink-value.ensures.next_key) (c.unlink-value.ensures.value place (place-now _ c.self.inside.heads _ _ c.self.view_is c.args.node place at)) c.push.ensures.shows
+    moves-now c.self.inside.nodes c.self.inside.heads c.self.inside.spare _ c.self.view_is c.args.node place at c.unlink-value.new.nodes c.unlink-value.new.heads (c.unlink-value.ensures.shows place (place-now _ c.self.inside.heads _ _ c.self.view_is c.args.node place at)) c.push.new.nodes c.push.new.heads _ c.args.list c.push.result c.unlink-value.result c.requires.list (c.push.ensures.node ∙ c.unlink-value.ensures.next_key) (c.unlink-value.ensures.value place (place-now _ c.self.inside.heads _ _ c.self.view_is c.args.node place at)) c.push.ensures.shows

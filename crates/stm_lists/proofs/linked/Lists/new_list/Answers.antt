@@ -1,5 +1,3 @@
-use Rattle.std.proofs.Common.{◌≡◌, None, refl, sym, ◌∙◌}
-use Rattle.slab.specs.Slab.{get}
 use Rattle.stm_lists.proofs.Viewed.{new_list-rebuilds, updates-now}
 use Rattle.stm_lists.proofs.Changes.{rebuilt-sound, rebuilt-shows}
 use Rattle.stm_lists.proofs.linked.Lists.new_list.Goals as goal

@@ -1,4 +1,4 @@
-use Rattle.std.proofs.Common.{◌≡◌, ap, ◌∙◌, arith, sym}
+use Rattle.std.proofs.Common.{◌≡◌, ap, ◌∙◌, arith}
 use Rattle.slab.specs.Slab.{get, slab_len}
 use Rattle.stm_lists.specs.Chain.{view_of}
 use Rattle.stm_lists.proofs.Viewed.{sound-same, view_of-same, fresh-now, shown-now, updates-now}

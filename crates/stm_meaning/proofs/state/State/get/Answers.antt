@@ -1,5 +1,5 @@
-use Rattle.std.proofs.Common.{rules, ◌≡◌, subst, sym, ap, ◌∙◌, Some}
-use Rattle.stm_meaning.specs.Places.{IsAt, IsGapFor}
+use Rattle.std.proofs.Common.{subst, sym, ap, ◌∙◌, Some}
+use Rattle.stm_meaning.specs.Places.{IsAt}
 use Rattle.stm_meaning.proofs.Entries.{find_entry-at, find_entry-gap, in_range_at}
 use Rattle.stm_meaning.proofs.state.State.get.Goals as goal
 

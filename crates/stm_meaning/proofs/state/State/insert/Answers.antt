@@ -1,5 +1,4 @@
-use Rattle.std.proofs.Common.{rules, ◌≡◌, subst, sym, ap, ◌∙◌, set}
-use Rattle.std.specs.Prelude.{insert}
+use Rattle.std.proofs.Common.{◌≡◌, subst, sym, ap, ◌∙◌, set}
 use Rattle.stm_meaning.specs.States.{with_entry, IsAscending, AreInRange}
 use Rattle.stm_meaning.specs.Places.{IsAt, IsGapFor}
 use Rattle.stm_meaning.specs.declared.state.StateEntry.{StateEntry}

@@ -1,8 +1,6 @@
-use Rattle.std.proofs.Common.{rules, ◌≡◌, subst, sym}
+use Rattle.std.proofs.Common.{rules}
 use Rattle.std.proofs.lemmas.Fn.{always_returns_same}
-use Rattle.std.specs.Prelude.{IfOk, IfErr}
 use Rattle.stm_meaning.specs.States.{key_order}
-use Rattle.stm_meaning.specs.Places.{IsAt, IsGapFor}
 use Rattle.stm_meaning.proofs.Entries.{searched}
 use Rattle.stm_meaning.proofs.state.State.search.Goals as goal
 

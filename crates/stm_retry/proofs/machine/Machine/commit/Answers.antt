@@ -24,16 +24,16 @@ returns-in-Some c r e =
     let history_is : c.self.inside.store ≡ w.history = ap (λ (v : World). v.history) c.self.view_is in
     let latest_is : latest ≡ latest_writes c.args.run.writes = c.in_ok-latest.ensures ∙ ap latest_writes c.as_slice.ensures in
     let cs_is : cs ≡ map as_change (filter (changes (is_present w.history)) latest) =
-        c.in_ok-changes.ensures ∙ ap (λ (l : List Write). map as_change (filter (changes (is_present c.self.inside.store)) l)) c.as_slice-2.ensures
-        ∙ ap (λ (h : History). map as_change (filter (changes (is_present h)) latest)) history_is in
+    c.in_ok-changes.ensures ∙ ap (λ (l : List Write). map as_change (filter (changes (is_present c.self.inside.store)) l)) c.as_slice-2.ensures
+    ∙ ap (λ (h : History). map as_change (filter (changes (is_present h)) latest)) history_is in
     let revision_is : c.now.result ≡ now w.history = c.now.ensures.value ∙ ap now history_is in
     let refusal_is : c.refusal_of.result ≡ refusal_at latest cs (now w.history) =
-        c.refusal_of.ensures
-        ∙ ap (λ (l : List Write). refusal_at l c.as_slice-4.result.now c.now.result) c.as_slice-3.ensures
-        ∙ ap (λ (l : List Change). refusal_at latest l c.now.result) c.as_slice-4.ensures.value
-        ∙ ap (refusal_at latest cs) revision_is in
+    c.refusal_of.ensures
+    ∙ ap (λ (l : List Write). refusal_at l c.as_slice-4.result.now c.now.result) c.as_slice-3.ensures
+    ∙ ap (λ (l : List Change). refusal_at latest l c.now.result) c.as_slice-4.ensures.value
+    ∙ ap (refusal_at latest cs) revision_is in
     let told = commit_is c.args.id r c.args.run w latest cs c.refusal_of.result latest_is cs_is refusal_is
-        ∙ ap (λ (o : Option Refusal). judged c.args.id r c.args.run cs o w) c.in-Some.is in
+    ∙ ap (λ (o : Option Refusal). judged c.args.id r c.args.run cs o w) c.in-Some.is in
     subst (λ (s : Stepped). Made w c.end.new.self c.end.result s) (sym told) c.end.ensures
 
 pub returns-in-None : goal.returns-in-None
@@ -44,14 +44,14 @@ returns-in-None c r e =
     let history_is : c.self.inside.store ≡ w.history = ap (λ (v : World). v.history) c.self.view_is in
     let latest_is : latest ≡ latest_writes c.args.run.writes = c.in_ok-latest.ensures ∙ ap latest_writes c.as_slice.ensures in
     let cs_is : cs ≡ map as_change (filter (changes (is_present w.history)) latest) =
-        c.in_ok-changes.ensures ∙ ap (λ (l : List Write). map as_change (filter (changes (is_present c.self.inside.store)) l)) c.as_slice-2.ensures
-        ∙ ap (λ (h : History). map as_change (filter (changes (is_present h)) latest)) history_is in
+    c.in_ok-changes.ensures ∙ ap (λ (l : List Write). map as_change (filter (changes (is_present c.self.inside.store)) l)) c.as_slice-2.ensures
+    ∙ ap (λ (h : History). map as_change (filter (changes (is_present h)) latest)) history_is in
     let revision_is : c.now.result ≡ now w.history = c.now.ensures.value ∙ ap now history_is in
     let refusal_is : c.refusal_of.result ≡ refusal_at latest cs (now w.history) =
-        c.refusal_of.ensures
-        ∙ ap (λ (l : List Write). refusal_at l c.as_slice-4.result.now c.now.result) c.as_slice-3.ensures
-        ∙ ap (λ (l : List Change). refusal_at latest l c.now.result) c.as_slice-4.ensures.value
-        ∙ ap (refusal_at latest cs) revision_is in
+    c.refusal_of.ensures
+    ∙ ap (λ (l : List Write). refusal_at l c.as_slice-4.result.now c.now.result) c.as_slice-3.ensures
+    ∙ ap (λ (l : List Change). refusal_at latest l c.now.result) c.as_slice-4.ensures.value
+    ∙ ap (refusal_at latest cs) revision_is in
     let told = commit_is c.args.id r c.args.run w latest cs c.refusal_of.result latest_is cs_is refusal_is
-        ∙ ap (λ (o : Option Refusal). judged c.args.id r c.args.run cs o w) c.in-None.is in
+    ∙ ap (λ (o : Option Refusal). judged c.args.id r c.args.run cs o w) c.in-None.is in
     subst (λ (s : Stepped). Made w c.take_commit.new.self c.take_commit.result s) (sym told) (c.take_commit.ensures r e)

@@ -23,7 +23,7 @@ loop-event-preserved c =
       counted = omega arith;
       room = omega (arith, length-drop i events, length-drop (i + 1) events);
       told = ap (λ (l : List (Result Reply Denied)). l ++ replies_to (drop (i + 1) events) next) c.push_reserved.ensures.items
-        ∙ replies_step events i e w next reply c.loop-event.replies.items within c.event-item.is s ∙ c.loop-event.invariant.told;
+          ∙ replies_step events i e w next reply c.loop-event.replies.items within c.event-item.is s ∙ c.loop-event.invariant.told;
       rest = rest_step events i e w next reply within c.event-item.is s ∙ c.loop-event.invariant.rest;
-      reached = reached_step events i e w next c.args.self.now reply within c.event-item.is s c.loop-event.invariant.reached
+      reached = reached_step events i e w next c.args.self.now reply within c.event-item.is s c.loop-event.invariant.reached;
     }

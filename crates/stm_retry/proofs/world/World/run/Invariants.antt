@@ -5,9 +5,9 @@ use Rattle.stm_retry.proofs.world.World.run.Given as goal
 -- the replies so far and those to the rest, and the world after the events so far
 abbrev pub invariant-loop-event : goal.invariant-loop-event
 invariant-loop-event l = record {
-    counted : l.done ≡ l.event-index;
-    room : vec_len l.replies + length (drop l.event-index l.events) ≤ vec_capacity l.replies;
-    told : l.replies.items ++ replies_to (drop l.event-index l.events) l.self ≡ replies_to l.events l.fn.self;
-    rest : world_after (drop l.event-index l.events) l.self ≡ world_after l.events l.fn.self;
-    reached : l.self ≡ world_after (take l.event-index l.events) l.fn.self
-  }
+  counted : l.done ≡ l.event-index;
+  room : vec_len l.replies + length (drop l.event-index l.events) ≤ vec_capacity l.replies;
+  told : l.replies.items ++ replies_to (drop l.event-index l.events) l.self ≡ replies_to l.events l.fn.self;
+  rest : world_after (drop l.event-index l.events) l.self ≡ world_after l.events l.fn.self;
+  reached : l.self ≡ world_after (take l.event-index l.events) l.fn.self;
+}

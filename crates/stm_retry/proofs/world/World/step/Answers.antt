@@ -17,7 +17,7 @@ returns-clause-told c =
     let new : World = c.step-outcome.new.self in
     let told = made_tells old new c.args.event.now c.step-outcome.result c.step-outcome.ensures in
     subst (λ (w : World). Tells w c.args.event.now c.to_reply.result new) c.self.view_is
-        (subst (λ (r : Result Reply Denied). Tells old c.args.event.now r new) (sym c.to_reply.ensures) told)
+    (subst (λ (r : Result Reply Denied). Tells old c.args.event.now r new) (sym c.to_reply.ensures) told)
 
 pub returns-clause-means : goal.returns-clause-means
 returns-clause-means c =
@@ -25,4 +25,4 @@ returns-clause-means c =
     let new : World = c.step-outcome.new.self in
     let means = made_means old new c.args.event.now c.step-outcome.result c.self.invariant c.step-outcome.ensures in
     subst (λ (w : World). Means w c.args.event.now c.to_reply.result new) c.self.view_is
-        (subst (λ (r : Result Reply Denied). Means old c.args.event.now r new) (sym c.to_reply.ensures) means)
+    (subst (λ (r : Result Reply Denied). Means old c.args.event.now r new) (sym c.to_reply.ensures) means)

@@ -1,0 +1,101 @@
+//! From the bytes of a source to the report in a sink.
+ghost use Rattle.std.specs.Prelude.{◌≡◌, false, IfOk, string_bytes};
+ghost use Rattle.stm_report.specs.Script.{IsRunReport, Answers, Reports, Does};
+ghost use Rattle.stm_texts.specs.Reading.{IsOpening};
+
+use crate::devices::{Sink, Source};
+use crate::report_text::report;
+use crate::transfer::{ReadFault, read_all, write_all};
+use std::alloc::{AllocError, Global};
+use stm_retry::World;
+use stm_texts::{BadText, ReadError, Scenario, read_scenario};
+use thiserror::Error;
+
+/// Why a script failed.
+#[derive(Debug, Drop, Error)]
+pub enum ScriptFault {
+    /// A growth was refused.
+    #[error("out of memory")]
+    OutOfMemory,
+    /// The input is no scenario: its first fault.
+    #[error("bad scenario {0}")]
+    Bad(BadText),
+    /// The source failed.
+    #[error("device fault")]
+    Read,
+    /// The sink failed.
+    #[error("device fault")]
+    Write,
+}
+
+/// The report of a scenario's run.
+#[tactic(auto, unfolding(crate::specs::Script::IsRunReport))]
+fn run_report(alloc: Global, scenario: &Scenario) -> Result<String, AllocError>
+    requires { IsOpening scenario.now.opening }
+    ensures { IfOk result (λ text. IsRunReport scenario.now (string_bytes text)) }
+{
+    let opening = scenario.opening.unwrap_or(1);
+    let mut world = World::with_revision(alloc, opening)?;
+    match world.run(scenario.events.as_slice()) {
+        Ok(replies) => report(alloc, &world, replies.as_slice()),
+        Err(_) => Err(AllocError),
+    }
+}
+
+/// The report of the scenario that bytes spell.
+fn report_of(alloc: Global, bytes: &[u8]) -> Result<String, ScriptFault>
+    ensures { Answers string_bytes bytes.now result }
+{
+    let scenario = match read_scenario(alloc, bytes) {
+        Ok(scenario) => scenario,
+        Err(ReadError::OutOfMemory) => return Err(ScriptFault::OutOfMemory),
+        Err(ReadError::Bad(fault)) => return Err(ScriptFault::Bad(fault)),
+    };
+    match run_report(alloc, &scenario) {
+        Ok(text) => Ok(text),
+        Err(_) => Err(ScriptFault::OutOfMemory),
+    }
+}
+
+/// Writes the report of the scenario that bytes spell, once it is whole.
+fn write_report<W: Sink>(alloc: Global, bytes: &[u8], sink: &mut W) -> Result<(), ScriptFault>
+    requires { W.failed sink.old ≡ false }
+    ensures { Reports bytes.now (W.held sink.old) (W.held sink.new) (W.failed sink.new) result }
+{
+    let text = match report_of(alloc, bytes) {
+        Ok(text) => text,
+        Err(fault) => return Err(fault),
+    };
+    match write_all(sink, text.as_str().as_bytes()) {
+        Ok(()) => Ok(()),
+        Err(_) => Err(ScriptFault::Write),
+    }
+}
+
+/// Reads a scenario from a source to its end, runs it over an empty store, and writes the report of the run to a
+/// sink. Nothing is written before the report is whole.
+///
+/// Neither device has failed before. It fails as `Bad` with the scenario's first fault, as `OutOfMemory` where a
+/// growth was refused, and as `Read` where the source has failed: then nothing was written. It fails as `Write`
+/// where the sink has failed: then a front of the report was written. At most 16777217 bytes are read.
+pub fn script<S: Source, W: Sink>(
+    alloc: Global,
+    source: &mut S,
+    sink: &mut W,
+) -> Result<(), ScriptFault>
+    requires source_works { S.failed source.old ≡ false }
+    requires sink_works { W.failed sink.old ≡ false }
+    ensures { Does (record {
+      input = S.left source.old;
+      before = W.held sink.old;
+      after = W.held sink.new;
+      source_failed = S.failed source.new;
+      sink_failed = W.failed sink.new;
+    }) result }
+{
+    match read_all(alloc, source) {
+        Ok(bytes) => write_report(alloc, bytes.as_slice(), sink),
+        Err(ReadFault::OutOfMemory) => Err(ScriptFault::OutOfMemory),
+        Err(ReadFault::Device) => Err(ScriptFault::Read),
+    }
+}

@@ -1,0 +1,51 @@
+-- Reading events one after the other, as a loop does.
+use Rattle.std.proofs.Common.{◌≡◌, ℕ, suc, ◌+◌, ◌<◌, List, [], ◌∷◌, ◌++◌, length, drop, get_or, Result, Ok, Err, refl, sym, ap, ◌∙◌, append_assoc, arith, add-one}
+use Rattle.std.proofs.lemmas.List.{append-nil}
+use Rattle.std.proofs.Math.Seq.{drop-cons}
+use Rattle.serde_json.specs.View.{view, items_view}
+use Rattle.serde_json.specs.declared.value.Value.{Value}
+use Rattle.stm_retry.specs.declared.event.WorldEvent.{WorldEvent}
+use Rattle.stm_texts.specs.declared.fault.ReadError.{ReadError}
+use Rattle.stm_texts.specs.declared.fault.ReadError.TheVariants as error
+use Rattle.stm_texts.specs.Outcome.{Outcome, ◌>>=◌, within, Fails}
+use Rattle.stm_texts.specs.Reading.{event_after, events_from}
+
+-- the events read before, and what is still read
+abbrev pub with_front : List WorldEvent → Outcome (List WorldEvent) → Outcome (List WorldEvent)
+with_front front reading = reading >>= λ es. Ok (front ++ es)
+
+regroup : (front : List WorldEvent) (e : WorldEvent) (reading : Outcome (List WorldEvent)) → with_front front (reading >>= λ es. Ok (e ∷ es)) ≡ with_front (front ++ e ∷ []) reading
+regroup front e (Ok es) = ap (λ (x : List WorldEvent). Ok x) (simp append_assoc)
+regroup front e (Err f) = refl
+
+one_more : (vs : List Value) (i : ℕ) (v : Value) → i < length vs → v ≡ get_or vs i v → drop i vs ≡ v ∷ drop (i + 1) vs
+one_more vs i v h e = drop-cons vs i v h ∙ rw (sym e, add-one) refl
+
+pub goes_on : (first : ℕ) (front : List WorldEvent) (vs : List Value) (i : ℕ) (v : Value) (e : WorldEvent) (total : Outcome (List WorldEvent))
+    → i < length vs → v ≡ get_or vs i v → within (first + i) (event_after i (view v)) ≡ Ok e
+    → with_front front (events_from first i (items_view (drop i vs))) ≡ total
+    → with_front (front ++ e ∷ []) (events_from first (i + 1) (items_view (drop (i + 1) vs))) ≡ total
+unfolding events_from
+goes_on first front vs i v e total lt at is so_far =
+    let k : i + 1 ≡ suc i = omega arith in
+    let one : with_front front (events_from first i (items_view (drop i vs))) ≡ with_front (front ++ e ∷ []) (events_from first (i + 1) (items_view (drop (i + 1) vs))) =
+    ap (λ (ws : List Value). with_front front (events_from first i (items_view ws))) (one_more vs i v lt at) ∙ rw (is, k) (regroup front e (events_from first (suc i) (items_view (drop (suc i) vs)))) in
+    sym one ∙ so_far
+
+pub ends : (e : ReadError) (first : ℕ) (front : List WorldEvent) (vs : List Value) (i : ℕ) (v : Value) (total : Outcome (List WorldEvent))
+    → i < length vs → v ≡ get_or vs i v → Fails e (within (first + i) (event_after i (view v)))
+    → with_front front (events_from first i (items_view (drop i vs))) ≡ total → Fails e total
+unfolding events_from
+ends error.OutOfMemory first front vs i v total lt at is so_far = tt
+ends (error.Bad f) first front vs i v total lt at is so_far =
+    let one : with_front front (events_from first i (items_view (drop i vs))) ≡ Err f =
+    ap (λ (ws : List Value). with_front front (events_from first i (items_view ws))) (one_more vs i v lt at) ∙ rw is refl in
+    sym so_far ∙ one
+
+pub is_done : (first : ℕ) (front : List WorldEvent) (vs : List Value) (i : ℕ) (total : Outcome (List WorldEvent))
+    → drop i vs ≡ [] → with_front front (events_from first i (items_view (drop i vs))) ≡ total → total ≡ Ok front
+unfolding events_from
+is_done first front vs i total h so_far =
+    let one : with_front front (events_from first i (items_view (drop i vs))) ≡ Ok front =
+    rw h (ap (λ (x : List WorldEvent). Ok x) (append-nil front)) in
+    sym so_far ∙ one

@@ -1,0 +1,3 @@
+pub mod ElementLemmas
+pub mod EventLemmas
+pub mod ScenarioLemmas

@@ -1,0 +1,116 @@
+-- Reading a scenario: the value that a text spells, or the first fault. A value is looked at before its elements, and
+-- these from the first to the last.
+use Rattle.std.specs.Prelude.{ℕ, suc, ◌+◌, ◌≤◌, List, [], ◌∷◌, length, Bool, true, false, Option, Some, None, Ok, is_some, option_and_then, if◌then◌else◌, ◌&&◌, ◌||◌, nat_le, nat_lt, ◌==◌, nat_eq, codes}
+use Rattle.std.specs.Cmp.Lexicographic.{pointwise}
+use Rattle.std.specs.Str.{is_utf8}
+use Rattle.serde_json.specs.Data.{Data, Items, no_items, item}
+use Rattle.serde_json.specs.Find.{as_str, as_array, as_number, as_u64, as_i64}
+use Rattle.serde_json.specs.Read.{read}
+use Rattle.stm_program.specs.Elements.{worded, one_of, three_of}
+use Rattle.stm_program.specs.Reading.{program_of}
+use Rattle.stm_program.specs.declared.level.Level.{Level}
+use Rattle.stm_program.specs.declared.level.Level.TheVariants.{ReadCommitted}
+use Rattle.stm_retry.specs.declared.event.WorldEvent.{WorldEvent}
+use Rattle.stm_retry.specs.declared.event.WorldEvent.TheVariants.{Start, Step}
+use Rattle.stm_texts.specs.declared.fault.Cause.TheVariants.{NotJson, Shape, Range, TooLong, TooMany}
+use Rattle.stm_texts.specs.declared.scenario.Scenario.{Scenario}
+use Rattle.stm_texts.specs.Outcome.{Outcome, bad, ◌>>=◌, within, of_program}
+
+-- ---- numbers and words
+
+abbrev pub in_range : ℕ → ℕ → Option ℕ → Bool → Outcome ℕ
+in_range least most (Some n) is_whole = if nat_le least n && nat_le n most then Ok n else bad Range
+in_range least most None is_whole = if is_whole then bad Range else bad Shape
+
+-- a whole number of a range: any other whole number of 64 bits is out of range, and anything else is of no shape
+unfoldable pub number_in : ℕ → ℕ → Data → Outcome ℕ
+number_in least most d = in_range least most (option_and_then as_u64 (as_number d)) (is_some (option_and_then as_i64 (as_number d)))
+
+-- two texts are the same
+abbrev pub same : List ℕ → List ℕ → Bool
+same = pointwise nat_eq
+
+abbrev pub level_named : Option (List ℕ) → Outcome Level
+level_named None = bad Shape
+level_named (Some w) = if same w (codes "ReadCommitted") then Ok ReadCommitted else bad Shape
+
+unfoldable pub level_of : Data → Outcome Level
+level_of d = level_named (as_str d)
+
+-- ---- events
+
+abbrev pub start_of : Option (Data × Data × Data) → Outcome WorldEvent
+start_of None = bad Shape
+start_of (Some p) =
+    within 1 (level_of p.0) >>= λ level. within 2 (number_in 0 4294967295 p.1) >>= λ limit. within 3 (of_program (program_of p.2)) >>= λ program. Ok (Start program level limit)
+
+abbrev pub step_of : Option Data → Outcome WorldEvent
+step_of None = bad Shape
+step_of (Some d) = within 1 (number_in 0 9223372036854775807 d) >>= λ runner. Ok (Step runner)
+
+abbrev pub event_worded : Option (List ℕ × Items) → Outcome WorldEvent
+event_worded None = bad Shape
+event_worded (Some p) =
+    if same p.0 (codes "start") then start_of (three_of p.1)
+    else (if same p.0 (codes "step") then step_of (one_of p.1) else bad Shape)
+
+unfoldable pub event_of : Data → Outcome WorldEvent
+event_of d = event_worded (worded d)
+
+-- an event that so many others stand before: at most 100000 are read
+unfoldable pub event_after : ℕ → Data → Outcome WorldEvent
+event_after before d = if nat_lt before 100000 then event_of d else bad TooMany
+
+-- the events of a list: the first of them is the element at the index first + before, and so many stand before it
+unfoldable pub events_from : ℕ → ℕ → Items → Outcome (List WorldEvent)
+events_from first before no_items = Ok []
+events_from first before (item d ds) =
+    within (first + before) (event_after before d) >>= λ e. events_from first (suc before) ds >>= λ es. Ok (e ∷ es)
+
+-- ---- the opening revision
+
+-- an array that begins with the word begin
+abbrev pub begins : Option (List ℕ × Items) → Option Items
+begins None = None
+begins (Some p) = if same p.0 (codes "begin") then Some p.1 else None
+
+abbrev pub opening_of : Option Data → Outcome ℕ
+opening_of None = bad Shape
+opening_of (Some d) = within 1 (number_in 1 9223372036854775806 d)
+
+-- what an opening revision is, if there is one
+abbrev pub IsOpening : Option ℕ → Type 0
+IsOpening None = Unit {0}
+IsOpening (Some r) = (1 ≤ r) × (r ≤ 9223372036854775806)
+
+-- ---- scenarios
+
+-- with an opening revision as the first element, and without
+abbrev pub scenario_after : Option Items → Items → Items → Outcome Scenario
+scenario_after (Some ds) all rest =
+    within 0 (opening_of (one_of ds)) >>= λ opening. events_from 1 0 rest >>= λ es. Ok (record { opening = Some opening; events = es })
+scenario_after None all rest = events_from 0 0 all >>= λ es. Ok (record { opening = None; events = es })
+
+abbrev pub scenario_list : Option Items → Outcome Scenario
+scenario_list None = bad Shape
+scenario_list (Some no_items) = Ok (record { opening = None; events = [] })
+scenario_list (Some (item d ds)) = scenario_after (begins (worded d)) (item d ds) ds
+
+-- the scenario that data spell
+unfoldable pub scenario_of : Data → Outcome Scenario
+scenario_of d = scenario_list (as_array d)
+
+-- the data that bytes are the JSON of
+abbrev pub data_of : List ℕ → Option Data
+data_of bytes = if is_utf8 bytes then read bytes else None
+
+abbrev pub scenario_read : Option Data → Outcome Scenario
+scenario_read None = bad NotJson
+scenario_read (Some d) = scenario_of d
+
+abbrev pub most_bytes : ℕ
+most_bytes = 16777216
+
+-- the scenario that bytes spell: their number comes first, and then whether they are JSON
+unfoldable pub scenario_in : List ℕ → Outcome Scenario
+scenario_in bytes = if nat_lt most_bytes (length bytes) then bad TooLong else scenario_read (data_of bytes)

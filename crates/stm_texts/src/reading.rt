@@ -1,0 +1,106 @@
+//! Reading scenarios.
+ghost use Rattle.std.specs.Prelude.{◌≡◌, ◌≤◌, option_map, IfOk};
+ghost use Rattle.serde_json.specs.View.{view, items_view};
+ghost use Rattle.stm_program.specs.Elements.{worded, one_of};
+ghost use Rattle.stm_texts.specs.Outcome.{Gives};
+ghost use Rattle.stm_texts.specs.Reading.{begins, opening_of, scenario_of, scenario_in, IsOpening};
+
+use crate::elements::{number_within, one, worded_array};
+use crate::events::events;
+use crate::fault::{Cause, ReadError};
+use crate::place::{fault, within};
+use crate::scenario::Scenario;
+use serde_json::Value;
+use std::alloc::Global;
+use stm_history::Sequence;
+
+/// A scenario has at most so many bytes.
+pub const MOST_BYTES: usize = 16777216;
+
+/// A store's highest revision.
+const HIGHEST_REVISION: u64 = 9223372036854775806;
+
+/// What stands behind the word `begin`, where an array begins with it.
+fn beginning(value: &Value) -> Option<&[Value]>
+    ensures { option_map (λ vs. items_view vs.now) result ≡ begins (worded (view value.now)) }
+{
+    let (word, elements) = worded_array(value)?;
+    if word == "begin" {
+        Some(elements)
+    } else {
+        None
+    }
+}
+
+/// The opening revision.
+fn opening(alloc: Global, elements: &[Value]) -> Result<u64, ReadError>
+    ensures value { Gives (λ n. n) result (opening_of (one_of (items_view elements.now))) }
+    ensures range { IfOk result (λ n. (1 ≤ n) × (n ≤ 9223372036854775806)) }
+{
+    let Some(first) = one(elements) else {
+        return Err(fault(alloc, Cause::Shape));
+    };
+    let number = number_within(alloc, 1, HIGHEST_REVISION, first);
+    let number = within(alloc, 1, number)?;
+    Ok(number)
+}
+
+/// The scenario that a value spells.
+#[tactic(auto, unfolding(crate::specs::Reading::scenario_of))]
+fn scenario(alloc: Global, value: &Value) -> Result<Scenario, ReadError>
+    ensures value { Gives (λ s. s) result (scenario_of (view value.now)) }
+    ensures opening { IfOk result (λ s. IsOpening s.opening) }
+{
+    let Some(elements) = value.as_array() else {
+        return Err(fault(alloc, Cause::Shape));
+    };
+    let Some((first, rest)) = elements.split_first() else {
+        return Ok(Scenario {
+            opening: None,
+            events: Sequence::new(alloc),
+        });
+    };
+    match beginning(first) {
+        Some(named) => {
+            let opening = within(alloc, 0, opening(alloc, named))?;
+            let events = events(alloc, 1, rest)?;
+            Ok(Scenario {
+                opening: Some(opening),
+                events: Sequence::of(events),
+            })
+        }
+        None => {
+            let events = events(alloc, 0, elements)?;
+            Ok(Scenario {
+                opening: None,
+                events: Sequence::of(events),
+            })
+        }
+    }
+}
+
+/// The scenario that bytes spell, as JSON in UTF-8: an array of events, whose first element may be
+/// `["begin",R]` with the opening revision, from 1 to 9223372036854775806.
+///
+/// It fails by the first fault of the text, with its place and cause: more than 16777216 bytes are too
+/// long, whatever they are; then bytes that are not JSON; then the first fault in reading order, a value
+/// before its elements. Or it fails as `OutOfMemory`, where a growth was refused.
+#[tactic(auto, unfolding(crate::specs::Reading::scenario_in))]
+pub fn read_scenario(alloc: Global, bytes: &[u8]) -> Result<Scenario, ReadError>
+    ensures value { Gives (λ s. s) result (scenario_in bytes.now) }
+    ensures opening { IfOk result (λ s. IsOpening s.opening) }
+{
+    if bytes.len() > MOST_BYTES {
+        return Err(fault(alloc, Cause::TooLong));
+    }
+    match Value::from_slice(alloc, bytes) {
+        Ok(value) => scenario(alloc, &value),
+        Err(error) => {
+            if error.is_memory() {
+                Err(ReadError::OutOfMemory)
+            } else {
+                Err(fault(alloc, Cause::NotJson))
+            }
+        }
+    }
+}

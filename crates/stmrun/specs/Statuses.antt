@@ -1,0 +1,41 @@
+-- The statuses of the program, and what it says of a fault.
+use Rattle.std.specs.Prelude.{◌≡◌, ◌⊎◌, ℕ, List, ◌++◌, Bool, false, Option, Result, Ok, Err, codes}
+use Rattle.std.specs.Io.KnownBytes.{Appends, Keeps}
+use Rattle.stm_texts.specs.declared.fault.BadText.{BadText}
+use Rattle.stm_texts.specs.Outcome.{cause_name}
+use Rattle.stm_report.specs.declared.run_script.ScriptFault.{ScriptFault}
+use Rattle.stm_report.specs.declared.run_script.ScriptFault.TheVariants.{OutOfMemory, Bad, Read, Write}
+use Rattle.stm_report.specs.Transfers.{WritesFront}
+use Rattle.stm_report.specs.Script.{Devices, Does}
+
+-- 2 for bad input, 3 for want of memory and a failed device
+abbrev pub status_of : ScriptFault → ℕ
+status_of OutOfMemory = 3
+status_of (Bad fault) = 2
+status_of Read = 3
+status_of Write = 3
+
+abbrev pub message_of : ScriptFault → List ℕ
+message_of OutOfMemory = codes "stmrun: out of memory\n"
+message_of (Bad fault) = codes "stmrun: bad scenario at " ++ fault.place ++ codes ": " ++ cause_name fault.cause ++ codes "\n"
+message_of Read = codes "stmrun: device fault\n"
+message_of Write = codes "stmrun: device fault\n"
+
+-- the text was written, or a front of it where the sink then has failed: what it held before and holds, and whether it has
+abbrev pub Says : Option (List ℕ) → Option (List ℕ) → Bool → List ℕ → Type 0
+Says before after failed text = WritesFront before after text × (failed ≡ false → Appends before after text)
+
+-- What is said and answered of a fault: its own message and status, or those of want of memory.
+abbrev pub Tells : Option (List ℕ) → Option (List ℕ) → Bool → ScriptFault → ℕ → Type 0
+Tells before after failed fault status =
+    (told : ScriptFault) × ((told ≡ fault) ⊎ (told ≡ OutOfMemory)) × (status ≡ status_of told) × Says before after failed (message_of told)
+
+abbrev pub EndsBy : {A : Type 0} → Option (List ℕ) → Option (List ℕ) → Bool → Result A ScriptFault → ℕ → Type 0
+EndsBy before after failed (Ok u) status = (status ≡ 0) × (failed ≡ false) × Keeps before after
+EndsBy before after failed (Err fault) status = Tells before after failed fault status
+
+-- What the command does to its devices, and its status: a script's end, with status 0 and nothing said at a good one, and
+-- else what is said of its fault.
+abbrev pub Ends : Devices → Option (List ℕ) → Option (List ℕ) → Bool → ℕ → Type 0
+Ends devices before after failed status =
+    (ended : Result (Unit {0}) ScriptFault) × Does devices ended × EndsBy before after failed ended status

@@ -1,0 +1,284 @@
+//! The worked examples, run over memory, and devices that fail in mid-stream.
+
+use crate::script_to;
+use std::alloc::Global;
+use std::io;
+use std::io::{ErrorKind, Read, Write};
+use std::process::Abort;
+use std::test::Fail;
+use stm_report::Std;
+
+/// A reader over memory, which gives pieces of a length and fails after so many reads.
+#[derive(Drop)]
+struct Pieces<'a> {
+    rest: &'a [u8],
+    piece: usize,
+    reads: usize,
+}
+
+impl Read for Pieces<'_> {
+    fn read(&mut self, buffer: &mut [u8]) -> io::Result<usize> {
+        if self.reads == 0 {
+            return Err(io::Error::from(ErrorKind::Interrupted));
+        }
+        self.reads -= 1;
+        let count = self.piece.min(self.rest.len()).min(buffer.len());
+        let (front, rest) = self.rest.split_at(count);
+        buffer[..count].copy_from_slice(front);
+        self.rest = rest;
+        Ok(count)
+    }
+}
+
+/// A writer into memory, which takes pieces of a length and fails after so many writes.
+#[derive(Drop)]
+struct Taken {
+    bytes: Vec<u8>,
+    piece: usize,
+    writes: usize,
+}
+
+impl Write for Taken {
+    fn write(&mut self, bytes: &[u8]) -> io::Result<usize> {
+        if self.writes == 0 {
+            return Err(io::Error::from(ErrorKind::Interrupted));
+        }
+        self.writes -= 1;
+        let count = self.piece.min(bytes.len());
+        self.bytes.extend_from_slice(&bytes[..count])?;
+        Ok(count)
+    }
+
+    fn flush(&mut self) -> io::Result<()> {
+        Ok(())
+    }
+}
+
+/// What a run of the command left.
+#[derive(Drop)]
+struct Left {
+    status: u8,
+    out: Vec<u8>,
+    err: Vec<u8>,
+}
+
+/// Runs a scenario.
+fn run(alloc: Global, scenario: &[u8]) -> Left {
+    let mut input = Std::new(scenario);
+    let mut out = Std::new(Vec::new(alloc));
+    let mut err = Std::new(Vec::new(alloc));
+    let status = script_to(alloc, &mut input, &mut out, &mut err);
+    Left {
+        status,
+        out: out.device,
+        err: err.device,
+    }
+}
+
+/// A scenario that is run has this report.
+fn reports(rt: &impl Abort, alloc: Global, scenario: &str, report: &str) {
+    let left = run(alloc, scenario.as_bytes());
+    assert_eq!(rt; left.status, 0);
+    assert!(rt; left.out.as_slice() == report.as_bytes());
+    assert!(rt; left.err.is_empty());
+}
+
+/// A scenario that is refused has this first fault.
+fn refuses(rt: &impl Abort, alloc: Global, scenario: &str, said: &str) {
+    let left = run(alloc, scenario.as_bytes());
+    assert_eq!(rt; left.status, 2);
+    assert!(rt; left.out.is_empty());
+    assert!(rt; left.err.as_slice() == said.as_bytes());
+}
+
+const FIRST_PUT: &str = "[[\"start\",\"ReadCommitted\",1,[[\"put\",\"a\",\"1\",0]]],[\"step\",1]]";
+
+const FIRST_PUT_REPORT: &str = "[1,\"started\",1]
+[2,\"committed\",1,2,1,[],[],[]]
+[\"key\",\"a\",\"1\",2,2,1,0]
+[\"end\",2,1]
+";
+
+#[test]
+fn an_empty_scenario(rt: HostRuntime) {
+    reports(&rt, rt.alloc(), "[]", "[\"end\",1,0]\n");
+}
+
+#[test]
+fn the_first_put(rt: HostRuntime) {
+    reports(&rt, rt.alloc(), FIRST_PUT, FIRST_PUT_REPORT);
+}
+
+#[test]
+fn a_get_before_anothers_put(rt: HostRuntime) {
+    reports(
+        &rt,
+        rt.alloc(),
+        "[[\"start\",\"ReadCommitted\",1,[[\"emit\",[\"get\",\"a\"]]]],[\"start\",\"ReadCommitted\",1,[[\"put\",\"a\",\"1\",0]]],[\"step\",1],[\"step\",2],[\"step\",1]]",
+        "[1,\"started\",1]
+[2,\"started\",2]
+[3,\"fetched\",1,\"a\",0,1,1]
+[4,\"committed\",2,2,1,[],[],[]]
+[5,\"committed\",1,2,1,[\"\"],[[\"get\",\"a\",\"\"]],[[\"a\",null,0,1]]]
+[\"key\",\"a\",\"1\",2,2,1,0]
+[\"end\",2,2]
+",
+    );
+}
+
+#[test]
+fn a_get_answered_by_the_buffer(rt: HostRuntime) {
+    reports(
+        &rt,
+        rt.alloc(),
+        "[[\"start\",\"ReadCommitted\",1,[[\"put\",\"a\",\"1\",0],[\"emit\",[\"get\",\"a\"]],[\"put\",\"a\",\"2\",0]]],[\"step\",1]]",
+        "[1,\"started\",1]
+[2,\"committed\",1,2,1,[\"1\"],[[\"get\",\"a\",\"1\"]],[]]
+[\"key\",\"a\",\"2\",2,2,1,0]
+[\"end\",2,1]
+",
+    );
+}
+
+#[test]
+fn the_highest_revision(rt: HostRuntime) {
+    reports(
+        &rt,
+        rt.alloc(),
+        "[[\"begin\",9223372036854775806],[\"start\",\"ReadCommitted\",1,[[\"put\",\"a\",\"1\",0]]],[\"step\",1],[\"step\",1]]",
+        "[1,\"started\",1]
+[2,\"ended\",1,\"RevisionsUsedUp\"]
+[3,\"refused\",\"NoRunner\",[]]
+[\"end\",9223372036854775806,0]
+",
+    );
+}
+
+#[test]
+fn a_limit_of_no_attempts(rt: HostRuntime) {
+    reports(
+        &rt,
+        rt.alloc(),
+        "[[\"start\",\"ReadCommitted\",0,[]]]",
+        "[1,\"refused\",\"BadLimit\",[]]\n[\"end\",1,0]\n",
+    );
+}
+
+#[test]
+fn an_abort_and_a_fault(rt: HostRuntime) {
+    reports(
+        &rt,
+        rt.alloc(),
+        "[[\"start\",\"ReadCommitted\",1,[[\"put\",\"a\",\"1\",0],[\"abort\",\"no\"]]],[\"start\",\"ReadCommitted\",1,[[\"emit\",[\"num_of\",\"x\"]]]],[\"step\",1],[\"step\",2]]",
+        "[1,\"started\",1]
+[2,\"started\",2]
+[3,\"aborted\",1,\"no\"]
+[4,\"faulted\",2,\"NotANumber\"]
+[\"end\",1,0]
+",
+    );
+}
+
+#[test]
+fn bad_texts(rt: HostRuntime) {
+    let alloc = rt.alloc();
+    refuses(
+        &rt,
+        alloc,
+        "[[\"step\",1]",
+        "stmrun: bad scenario at : NotJson\n",
+    );
+    refuses(&rt, alloc, "{}", "stmrun: bad scenario at : Shape\n");
+    refuses(
+        &rt,
+        alloc,
+        "[[\"start\",\"ReadCommitted\",1,[[\"put\",\"a\",\"1\"]]]]",
+        "stmrun: bad scenario at /0/3/0: Shape\n",
+    );
+    refuses(
+        &rt,
+        alloc,
+        "[[\"start\",\"ReadCommitted\",1,[[\"emit\",[\"var\",16]]]]]",
+        "stmrun: bad scenario at /0/3/0/1/1: Range\n",
+    );
+    refuses(
+        &rt,
+        alloc,
+        "[[\"start\",\"ReadCommitted\",1,[[\"emit\",1.5]]]]",
+        "stmrun: bad scenario at /0/3/0/1: Shape\n",
+    );
+    refuses(
+        &rt,
+        alloc,
+        "[[\"step\",1],[\"begin\",2]]",
+        "stmrun: bad scenario at /1: Shape\n",
+    );
+}
+
+#[test]
+fn texts_at_the_limits(rt: HostRuntime) -> Result<(), Fail> {
+    let alloc = rt.alloc();
+    let mut events = String::from_str(alloc, "[")?;
+    for _ in 0..100000 {
+        events.push_str("[\"step\",1],")?;
+    }
+    events.push_str("[]]")?;
+    let said = "stmrun: bad scenario at /100000: TooMany\n";
+    refuses(&rt, alloc, events.as_str(), said);
+
+    let spaces = vec![in alloc; b' '; 16777217]?;
+    let long = run(alloc, spaces.as_slice());
+    assert_eq!(rt; long.status, 2);
+    assert!(rt; long.err.as_slice() == b"stmrun: bad scenario at : TooLong\n".as_slice());
+    let short = run(alloc, &spaces[1..]);
+    assert_eq!(rt; short.status, 2);
+    assert!(rt; short.err.as_slice() == b"stmrun: bad scenario at : NotJson\n".as_slice());
+    Ok(())
+}
+
+#[test]
+fn a_reader_that_fails(rt: HostRuntime) -> Result<(), Fail> {
+    let alloc = rt.alloc();
+    for piece in [1usize, 7] {
+        for reads in 0..4usize {
+            let mut input = Std::new(Pieces {
+                rest: FIRST_PUT.as_bytes(),
+                piece,
+                reads,
+            });
+            let mut out = Std::new(Vec::new(alloc));
+            let mut err = Std::new(Vec::new(alloc));
+            let status = script_to(alloc, &mut input, &mut out, &mut err);
+            assert_eq!(rt; status, 3);
+            assert!(rt; out.device.is_empty());
+            assert!(rt; err.device.as_slice() == b"stmrun: device fault\n".as_slice());
+        }
+    }
+    Ok(())
+}
+
+#[test]
+fn a_writer_that_fails(rt: HostRuntime) -> Result<(), Fail> {
+    let alloc = rt.alloc();
+    for piece in [1usize, 7] {
+        for writes in 0..4usize {
+            let mut input = Std::new(FIRST_PUT.as_bytes());
+            let mut out = Std::new(Taken {
+                bytes: Vec::new(alloc),
+                piece,
+                writes,
+            });
+            let mut err = Std::new(Vec::new(alloc));
+            let status = script_to(alloc, &mut input, &mut out, &mut err);
+            assert_eq!(rt; status, 3);
+            assert!(rt;
+                FIRST_PUT_REPORT
+                    .as_bytes()
+                    .starts_with(out.device.bytes.as_slice())
+            );
+            assert_eq!(rt; out.device.bytes.len(), piece.saturating_mul(writes));
+            assert!(rt; err.device.as_slice() == b"stmrun: device fault\n".as_slice());
+        }
+    }
+    Ok(())
+}

@@ -14,4 +14,3 @@ pub use event::Event;
 pub use keys::Keys;
 pub use refusal::{ApplyRefusal, ReadRefusal};
 pub use stm_history::{Change, HIGHEST_REVISION, KeyState, Sequence, Text};
-

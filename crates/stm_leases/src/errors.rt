@@ -1,4 +1,8 @@
 //! Why a call is refused.
+ghost use Rattle.std.specs.Prelude.{◌≡◌};
+ghost use Rattle.stm_leases.specs.GrantNames.{grant_error_name};
+ghost use Rattle.stm_leases.specs.KeysNames.{keys_error_name};
+
 use std::alloc::AllocError;
 use std::error::Error;
 use std::fmt;
@@ -16,14 +20,28 @@ pub enum GrantError {
     OutOfMemory,
 }
 
-impl fmt::Display for GrantError {
-    fn fmt<W: fmt::Write>(&self, f: &mut fmt::Formatter<W>) -> fmt::Result {
+impl GrantError {
+    /// The name of the refusal, as a report spells it.
+    pub fn name(self) -> &'static str
+        ensures { result.now ≡ grant_error_name self }
+    {
         match self {
-            GrantError::LeaseIdOutOfRange => f.write_str("lease id out of range"),
-            GrantError::TtlOutOfRange => f.write_str("time to live out of range"),
-            GrantError::LeaseExists => f.write_str("lease exists"),
-            GrantError::OutOfMemory => f.write_str("out of memory"),
+            GrantError::LeaseIdOutOfRange => "LeaseIdOutOfRange",
+            GrantError::TtlOutOfRange => "TtlOutOfRange",
+            GrantError::LeaseExists => "LeaseExists",
+            GrantError::OutOfMemory => "OutOfMemory",
         }
+    }
+}
+
+impl fmt::Display for GrantError {
+    ghost use Rattle.std.specs.Prelude.{Some};
+    ghost use Rattle.stm_leases.specs.GrantNames.{grant_error_name};
+
+    ghost output = { λ error. Some (grant_error_name error) };
+
+    fn fmt<W: fmt::Write>(&self, f: &mut fmt::Formatter<W>) -> fmt::Result {
+        fmt::Display::fmt(&self.name(), f)
     }
 }
 
@@ -34,8 +52,12 @@ impl Error for GrantError {}
 pub struct LeaseNotFound;
 
 impl fmt::Display for LeaseNotFound {
+    ghost use Rattle.std.specs.Prelude.{Some, codes};
+
+    ghost output = { λ _. Some (codes "LeaseNotFound") };
+
     fn fmt<W: fmt::Write>(&self, f: &mut fmt::Formatter<W>) -> fmt::Result {
-        f.write_str("lease not found")
+        fmt::Display::fmt(&"LeaseNotFound", f)
     }
 }
 
@@ -61,12 +83,26 @@ impl From<AllocError> for KeysError {
     }
 }
 
-impl fmt::Display for KeysError {
-    fn fmt<W: fmt::Write>(&self, f: &mut fmt::Formatter<W>) -> fmt::Result {
+impl KeysError {
+    /// The name of the cause, as a report spells it.
+    pub fn name(self) -> &'static str
+        ensures { result.now ≡ keys_error_name self }
+    {
         match self {
-            KeysError::LeaseNotFound => f.write_str("lease not found"),
-            KeysError::OutOfMemory => f.write_str("out of memory"),
+            KeysError::LeaseNotFound => "LeaseNotFound",
+            KeysError::OutOfMemory => "OutOfMemory",
         }
+    }
+}
+
+impl fmt::Display for KeysError {
+    ghost use Rattle.std.specs.Prelude.{Some};
+    ghost use Rattle.stm_leases.specs.KeysNames.{keys_error_name};
+
+    ghost output = { λ error. Some (keys_error_name error) };
+
+    fn fmt<W: fmt::Write>(&self, f: &mut fmt::Formatter<W>) -> fmt::Result {
+        fmt::Display::fmt(&self.name(), f)
     }
 }
 

@@ -15,3 +15,4 @@ pub mod Grammar
 pub mod WordTexts
 pub mod Writing
 pub mod FirstFault
+pub mod CauseNames

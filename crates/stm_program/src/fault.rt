@@ -1,5 +1,6 @@
 //! Why a program could not be read.
 ghost use Rattle.std.specs.Prelude.{◌≡◌};
+ghost use Rattle.stm_program.specs.CauseNames.{cause_name};
 ghost use Rattle.stm_program.specs.declared.fault.ReadError.TheVariants.{OutOfMemory};
 
 use std::alloc::{AllocError, AllocFailed};
@@ -22,15 +23,29 @@ pub enum Cause {
     TooLong,
 }
 
-impl fmt::Display for Cause {
-    fn fmt<W: fmt::Write>(&self, f: &mut fmt::Formatter<W>) -> fmt::Result {
-        f.write_str(match self {
+impl Cause {
+    /// The name of the cause in the formats.
+    pub fn name(self) -> &'static str
+        ensures { result.now ≡ cause_name self }
+    {
+        match self {
             Cause::Shape => "Shape",
             Cause::Range => "Range",
             Cause::TooDeep => "TooDeep",
             Cause::TooManyNodes => "TooManyNodes",
             Cause::TooLong => "TooLong",
-        })
+        }
+    }
+}
+
+impl fmt::Display for Cause {
+    ghost use Rattle.std.specs.Prelude.{Some};
+    ghost use Rattle.stm_program.specs.CauseNames.{cause_name};
+
+    ghost output = { λ cause. Some (cause_name cause) };
+
+    fn fmt<W: fmt::Write>(&self, f: &mut fmt::Formatter<W>) -> fmt::Result {
+        fmt::Display::fmt(&self.name(), f)
     }
 }
 

@@ -39,22 +39,28 @@ fn command<'a>(alloc: Global) -> Result<Command<'a>, AllocError> {
         .subcommand(script)
 }
 
-/// What to say of a command line that is refused, or that asks for help.
+/// The status of a command line that is refused, or that asks for help, once its text is printed.
 fn told<R: Print + Eprint>(rt: &R, error: &Error) -> u8 {
-    if error.print(rt).is_err() {
-        return 3;
-    }
-    match error.kind() {
+    let status = match error.kind() {
+        ErrorKind::OutOfMemory => return fail(rt, "stmrun: out of memory"),
         ErrorKind::DisplayHelp => 0,
-        ErrorKind::OutOfMemory => 3,
         _ => 2,
+    };
+    match error.print(rt) {
+        Ok(()) => status,
+        Err(_) => fail(rt, "stmrun: device fault"),
     }
+}
+
+/// The status of a command that ends for want of memory or at a failed device, once the line is printed.
+fn fail<R: Eprint>(rt: &R, line: &str) -> u8 {
+    let _ = rt.eprintln(line);
+    3
 }
 
 /// What is left to do where a growth was refused.
 fn out_of_memory<R: Eprint>(rt: &R) -> Asked {
-    let _ = rt.eprintln("stmrun: out of memory");
-    Asked::Nothing(3)
+    Asked::Nothing(fail(rt, "stmrun: out of memory"))
 }
 
 /// What this process's command line asks for.

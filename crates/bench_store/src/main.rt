@@ -1,0 +1,120 @@
+//! Times transactions of one put each over few and over many keys, and reads of the past of long histories.
+//!
+//! The figures go to standard error. They are of one machine at one moment: no proof is about time.
+#![tactic(auto)]
+
+ghost use Rattle.std.specs.Prelude.{◌<◌};
+
+use anyhow::Result;
+use std::alloc::{AllocError, Global};
+use std::io;
+use std::rt::Clock;
+use std::time::{Duration, Instant};
+use stm_txn::{Keys, Op, Sequence, Store, Text, Txn};
+
+/// How many transactions are timed.
+const PUTS: u32 = 20_000;
+
+/// How many reads are timed.
+const READS: u32 = 100;
+
+fn main(rt: HostRuntime) -> Result<()> {
+    time_puts(&rt, rt.alloc(), 8)?;
+    time_puts(&rt, rt.alloc(), 2_000)?;
+    time_reads(&rt, rt.alloc(), 1_000)?;
+    time_reads(&rt, rt.alloc(), 10_000)?;
+    time_reads(&rt, rt.alloc(), 100_000)
+}
+
+/// A transaction that puts one key.
+fn put_of(alloc: Global, number: u32) -> Result<Txn, AllocError> {
+    let key = Text::new(format!(in alloc; "key-{number}")?);
+    let value = Text::copy_of(alloc, "value")?;
+    let mut success = Sequence::new(alloc);
+    success.push(Op::Put {
+        key,
+        value,
+        lease: 0,
+    })?;
+    Ok(Txn {
+        compares: Sequence::new(alloc),
+        success,
+        failure: Sequence::new(alloc),
+    })
+}
+
+fn put(alloc: Global, store: &mut Store, number: u32) -> Result<()> {
+    let txn = put_of(alloc, number)?;
+    store.txn(&txn)?;
+    Ok(())
+}
+
+/// Puts so many keys in turn, so many times in all.
+fn put_in_turn(alloc: Global, store: &mut Store, keys: u32, count: u32) -> Result<()>
+    requires { 0 < keys }
+{
+    for number in 0..count {
+        put(alloc, store, number % keys)?;
+    }
+    Ok(())
+}
+
+/// A store in which so many keys are present.
+fn store_of(alloc: Global, keys: u32) -> Result<Store>
+    requires { 0 < keys }
+{
+    let mut store = Store::new(alloc)?;
+    put_in_turn(alloc, &mut store, keys, keys)?;
+    Ok(store)
+}
+
+/// Times transactions over so many keys.
+fn time_puts(rt: &(impl Clock + Eprint), alloc: Global, keys: u32) -> Result<()>
+    requires { 0 < keys }
+{
+    let mut store = store_of(alloc, keys)?;
+    let start = Instant::now(rt)?;
+    put_in_turn(alloc, &mut store, keys, PUTS)?;
+    let elapsed = start.elapsed(rt)?;
+    report(rt, "transactions of one put, keys:", keys, elapsed / PUTS)?;
+    Ok(())
+}
+
+/// Reads the first key at the last revision, so many times.
+fn read_often(keys: &Keys, count: u32) -> Result<()> {
+    for _ in 0..count {
+        keys.get_at("key-0", keys.revision())?;
+    }
+    Ok(())
+}
+
+/// A store whose first key was put once, and another one so many times.
+fn long_store(alloc: Global, count: u32) -> Result<Store> {
+    let mut store = Store::new(alloc)?;
+    put(alloc, &mut store, 0)?;
+    for _ in 0..count {
+        put(alloc, &mut store, 1)?;
+    }
+    Ok(store)
+}
+
+/// Times reads that walk back over so many revisions.
+fn time_reads(rt: &(impl Clock + Eprint), alloc: Global, revisions: u32) -> Result<()> {
+    let store = long_store(alloc, revisions)?;
+    let start = Instant::now(rt)?;
+    read_often(store.keys(), READS)?;
+    let elapsed = start.elapsed(rt)?;
+    report(
+        rt,
+        "reads of the past, revisions:",
+        revisions,
+        elapsed / READS,
+    )?;
+    Ok(())
+}
+
+/// Prints the time for each call.
+fn report(rt: &impl Eprint, what: &str, count: u32, each: Duration) -> io::Result<()> {
+    let nanos = each.as_nanos();
+    eprintln!(rt; "{what} {count}, each: {nanos} ns")
+}

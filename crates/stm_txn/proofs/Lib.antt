@@ -1,0 +1,4 @@
+pub mod Branching
+pub mod Moving
+pub mod Running
+pub mod Ending

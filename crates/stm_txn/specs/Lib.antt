@@ -1,0 +1,11 @@
+pub mod Operations
+pub mod Compares
+pub mod Checks
+pub mod Branches
+pub mod Outcome
+pub mod Effect
+pub mod Leasing
+pub mod Moves
+pub mod Store
+pub mod Grants
+pub mod Names

@@ -1,0 +1,30 @@
+-- How keys move between leases, one after another. No public clause cites this module.
+use Rattle.std.specs.Prelude.{◌≡◌, ℕ, true, false, bytes_eq, if◌then◌else◌, List, [], ◌∷◌, Option, Some, None}
+use Rattle.std.specs.FinMap as finmap
+use Rattle.stm_history.specs.declared.change.Change.{Change}
+use Rattle.stm_history.specs.History.{key_of}
+use Rattle.stm_txn.specs.Leasing.{Live}
+
+-- where a key hangs once the keys of changes are taken off, the first one first
+abbrev pub detached_all : List Change → List ℕ → Option ℕ → Option ℕ
+detached_all [] key before = before
+detached_all (c ∷ cs) key before = detached_all cs key (if bytes_eq (key_of c) key then None else before)
+
+-- where a key hangs once one key is hung on a lease
+abbrev pub attached_one : List ℕ × ℕ → List ℕ → Option ℕ → Option ℕ
+attached_one hang key before = if bytes_eq hang.0 key then Some hang.1 else before
+
+abbrev pub attached_all : List (List ℕ × ℕ) → List ℕ → Option ℕ → Option ℕ
+attached_all [] key before = before
+attached_all (hang ∷ rest) key before = attached_all rest key (attached_one hang key before)
+
+-- a key is not among those that are to hang
+abbrev pub IsLoose : List ℕ → List (List ℕ × ℕ) → Type 0
+IsLoose key [] = Unit {0}
+IsLoose key (hang ∷ rest) = (bytes_eq key hang.0 ≡ false) × IsLoose key rest
+
+-- the keys are distinct and hang on no lease, and their leases are live
+abbrev pub CanHang : (List ℕ → Option ℕ) → Live → List (List ℕ × ℕ) → Type 0
+CanHang lease_of live [] = Unit {0}
+CanHang lease_of live (hang ∷ rest) =
+    (lease_of hang.0 ≡ None) × (finmap.contains_key live hang.1 ≡ true) × IsLoose hang.0 rest × CanHang lease_of live rest

@@ -1,0 +1,164 @@
+//! One branch of a transaction.
+ghost use Rattle.std.specs.Prelude.{◌≡◌, ◌+◌, ◌<◌, ◌≤◌, IfOk, IsTrue, [], option_copied, is_some, Some, None};
+ghost use Rattle.stm_history.specs.History.{now, key_at, key_now};
+ghost use Rattle.stm_txn.specs.Branches.{copy, carried, read_answer, change_made, count_of, op_answer, changes_after, answers_after, is_readable, are_readable, has_changes};
+
+use crate::answer::OpAnswer;
+use crate::txn::Op;
+use std::alloc::{AllocError, Global};
+use stm_history::change::find_change;
+use stm_history::{Change, KeyState, ReadAnswer, Text};
+use stm_keys::{Keys, ReadRefusal};
+
+/// What a branch answers, and what it changes.
+#[derive(Drop)]
+pub(crate) struct Branch {
+    pub answers: Vec<OpAnswer>,
+    pub changes: Vec<Change>,
+}
+
+fn clone_state(state: Option<&KeyState>) -> Result<Option<KeyState>, AllocError>
+    ensures { IfOk result (λ s. s ≡ option_copied state.entry) }
+{
+    match state {
+        None => Ok(None),
+        Some(state) => Ok(Some(state.clone()?)),
+    }
+}
+
+/// What a key is in the branch's copy of the current state.
+fn copied(keys: &Keys, changes: &[Change], key: &str) -> Result<Option<KeyState>, AllocError>
+    ensures { IfOk result (λ s. s ≡ copy keys.now.history changes.now key.now) }
+{
+    match find_change(changes, key) {
+        None => clone_state(keys.get(key)),
+        Some(Change::Del { .. }) => Ok(None),
+        Some(Change::Put { value, lease, .. }) => Ok(Some(keys.after_put(key, value, *lease)?)),
+    }
+}
+
+/// Whether a key is present in the branch's copy of the current state.
+fn is_copied(keys: &Keys, changes: &[Change], key: &str) -> bool
+    ensures { result ≡ is_some (copy keys.now.history changes.now key.now) }
+{
+    match find_change(changes, key) {
+        None => keys.get(key).is_some(),
+        Some(Change::Del { .. }) => false,
+        Some(Change::Put { .. }) => true,
+    }
+}
+
+/// What a key was at a revision that the store has reached.
+fn read_past(keys: &Keys, key: &str, rev: u64) -> Result<Option<KeyState>, AllocError>
+    requires positive { 0 < rev }
+    requires reached { rev ≤ now keys.now.history }
+    ensures { IfOk result (λ s. s ≡ key_at keys.now.history key.now rev) }
+{
+    match keys.get_at(key, rev) {
+        Ok(state) => clone_state(state),
+        Err(ReadRefusal::FutureRevision) => unreachable!(),
+        Err(ReadRefusal::Compacted) => unreachable!(),
+    }
+}
+
+/// The revision that an answer carries.
+fn carried_revision(keys: &Keys, changes: &[Change]) -> u64
+    ensures { result ≡ carried keys.now.history changes.now }
+{
+    match changes {
+        [] => keys.revision(),
+        [_, ..] => keys.revision() + 1,
+    }
+}
+
+/// What a read answers.
+fn read(keys: &Keys, changes: &[Change], key: &Text, rev: u64) -> Result<ReadAnswer, AllocError>
+    requires { rev ≤ now keys.now.history }
+    ensures { IfOk result (λ a. a ≡ read_answer keys.now.history changes.now key.now rev) }
+{
+    let revision = carried_revision(keys, changes);
+    let (kv, of_rev) = if rev == 0 {
+        (copied(keys, changes, key.as_str())?, revision)
+    } else {
+        (read_past(keys, key.as_str(), rev)?, rev)
+    };
+    Ok(ReadAnswer {
+        key: key.clone()?,
+        kv,
+        of_rev,
+        revision,
+    })
+}
+
+/// What an operation answers.
+fn answer(keys: &Keys, changes: &[Change], op: &Op) -> Result<OpAnswer, AllocError>
+    requires { IsTrue (is_readable (now keys.now.history) op.now) }
+    ensures { IfOk result (λ a. a ≡ op_answer keys.now.history changes.now op.now) }
+{
+    match op {
+        Op::Get { key, rev } => Ok(OpAnswer::Get(read(keys, changes, key, *rev)?)),
+        Op::Put { .. } => Ok(OpAnswer::Put),
+        Op::Del { key } => Ok(OpAnswer::Del(u64::from(is_copied(keys, changes, key.as_str())))),
+    }
+}
+
+/// The change that an operation makes, if it makes one.
+fn change(keys: &Keys, changes: &[Change], op: &Op) -> Result<Option<Change>, AllocError>
+    ensures { IfOk result (λ c. c ≡ change_made keys.now.history changes.now op.now) }
+{
+    match op {
+        Op::Get { .. } => Ok(None),
+        Op::Put { key, value, lease } => Ok(Some(Change::Put {
+            key: key.clone()?,
+            value: value.clone()?,
+            lease: *lease,
+        })),
+        Op::Del { key } => {
+            if is_copied(keys, changes, key.as_str()) {
+                Ok(Some(Change::Del { key: key.clone()? }))
+            } else {
+                Ok(None)
+            }
+        }
+    }
+}
+
+/// Runs a branch over the current state, which it leaves as it is.
+pub(crate) fn run_branch(alloc: Global, keys: &Keys, ops: &[Op]) -> Result<Branch, AllocError>
+    requires { IsTrue (are_readable (now keys.now.history) ops.now) }
+    ensures answers { IfOk result (λ b. b.answers.items ≡ answers_after keys.now.history [] ops.now) }
+    ensures changes { IfOk result (λ b. b.changes.items ≡ changes_after keys.now.history [] ops.now) }
+{
+    let mut answers = Vec::new(alloc);
+    let mut changes = Vec::new(alloc);
+    for op in ops {
+        answers.push(answer(keys, changes.as_slice(), op)?)?;
+        if let Some(change) = change(keys, changes.as_slice(), op)? {
+            changes.push(change)?;
+        }
+    }
+    Ok(Branch { answers, changes })
+}
+
+/// Whether an operation would change something, were it the first.
+fn makes_change(keys: &Keys, op: &Op) -> bool
+    ensures { result ≡ is_some (change_made keys.now.history [] op.now) }
+{
+    match op {
+        Op::Get { .. } => false,
+        Op::Put { .. } => true,
+        Op::Del { key } => keys.get(key.as_str()).is_some(),
+    }
+}
+
+/// Whether a branch would change something.
+pub(crate) fn makes_changes(keys: &Keys, ops: &[Op]) -> bool
+    ensures { result ≡ has_changes (changes_after keys.now.history [] ops.now) }
+{
+    for op in ops {
+        if makes_change(keys, op) {
+            return true;
+        }
+    }
+    false
+}

@@ -1,0 +1,101 @@
+//! Keys that move between leases.
+ghost use Rattle.std.specs.Prelude.{◌≡◌, ◌+◌, ◌<◌, ◌≤◌, ℕ, List, IfOk, length, map, None, true};
+ghost use Rattle.stm_history.specs.History.{change_of, HasDistinctKeys};
+ghost use Rattle.stm_leases.specs.Leases.{lease_of};
+ghost use Rattle.stm_txn.specs.Leasing.{hangs_of, hung_after, HangOnLive};
+ghost use Rattle.stm_txn.specs.Moves.{detached_all, attached_one, attached_all, CanHang};
+ghost use Rattle.std.specs.FinMap as finmap;
+
+use std::alloc::{AllocError, Global};
+use std::marker::Model;
+use stm_history::{Change, Text};
+use stm_leases::Leases;
+
+/// A key that is to hang on a lease, with the two texts that this takes.
+#[derive(Drop)]
+pub(crate) struct Hang {
+    key: String,
+    copy: String,
+    lease: u64,
+}
+
+impl Model for Hang {
+    ghost use Rattle.std.specs.Prelude.{◌≡◌, List, ℕ, string_bytes};
+
+    ghost Value = { List ℕ × ℕ };
+
+    ghost view = { λ h. (string_bytes h.key, h.lease) };
+
+    ghost invariant = { λ h. string_bytes h.key ≡ string_bytes h.copy };
+}
+
+fn hang_of(alloc: Global, key: &Text, lease: u64) -> Result<Hang, AllocError>
+    ensures { IfOk result (λ h. h ≡ (key.now, lease)) }
+{
+    let copy = String::from_str(alloc, key.as_str())?;
+    let key = String::from_str(alloc, key.as_str())?;
+    Ok(Hang { key, copy, lease })
+}
+
+/// The keys that changes hang on a lease.
+pub(crate) fn prepare_hangs(alloc: Global, changes: &[Change]) -> Result<Vec<Hang>, AllocError>
+    ensures { IfOk result (λ hangs. hangs.items ≡ hangs_of changes.now) }
+{
+    let mut hangs = Vec::new(alloc);
+    for change in changes {
+        if let Change::Put { key, lease, .. } = change {
+            if *lease != 0 {
+                hangs.push(hang_of(alloc, key, *lease)?)?;
+            }
+        }
+    }
+    Ok(hangs)
+}
+
+/// Takes the keys of changes off their leases.
+fn detach_all(leases: &mut Leases, changes: &[Change])
+    ensures keys { (key : List ℕ) → lease_of leases.new key ≡ detached_all changes.now key (lease_of leases.old key) }
+    ensures live { leases.new.live ≡ leases.old.live }
+    ensures spare { leases.new.spare ≡ leases.old.spare }
+{
+    for change in changes {
+        leases.detach(change.key().as_str());
+    }
+}
+
+/// Hangs one key on its lease.
+fn attach_one(leases: &mut Leases, hang: Hang)
+    requires loose { lease_of leases.old hang.0 ≡ None }
+    requires live { finmap.contains_key leases.old.live hang.1 ≡ true }
+    requires room { 0 < leases.old.spare }
+    ensures keys { (key : List ℕ) → lease_of leases.new key ≡ attached_one hang key (lease_of leases.old key) }
+    ensures live { leases.new.live ≡ leases.old.live }
+    ensures spare { leases.new.spare + 1 ≡ leases.old.spare }
+{
+    leases.attach(hang.key, hang.copy, hang.lease);
+}
+
+/// Hangs keys on their leases.
+fn attach_all(leases: &mut Leases, hangs: Vec<Hang>)
+    requires can { CanHang (lease_of leases.old) leases.old.live hangs.items }
+    requires room { length hangs.items ≤ leases.old.spare }
+    ensures keys { (key : List ℕ) → lease_of leases.new key ≡ attached_all hangs.items key (lease_of leases.old key) }
+    ensures live { leases.new.live ≡ leases.old.live }
+{
+    for hang in hangs {
+        attach_one(leases, hang);
+    }
+}
+
+/// Moves the keys of changes to the leases that they are to hang on.
+pub(crate) fn move_keys(leases: &mut Leases, changes: &[Change], hangs: Vec<Hang>)
+    requires distinct { HasDistinctKeys changes.now }
+    requires hangs { hangs.items ≡ hangs_of changes.now }
+    requires live { HangOnLive leases.old.live hangs.items }
+    requires room { length hangs.items ≤ leases.old.spare }
+    ensures keys { (key : List ℕ) → lease_of leases.new key ≡ hung_after (change_of key changes.now) (lease_of leases.old key) }
+    ensures live { leases.new.live ≡ leases.old.live }
+{
+    detach_all(leases, changes);
+    attach_all(leases, hangs);
+}

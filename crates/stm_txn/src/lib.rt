@@ -1,0 +1,28 @@
+//! Transactions over a key store and its leases.
+//!
+//! `Store` has the behaviour of a single-member etcd v3: one call is one step, and a refused call changes
+//! nothing but where it says so.
+#![tactic(auto)]
+
+pub mod advance;
+pub mod answer;
+mod branch;
+mod check;
+mod compare;
+mod hang;
+pub mod laws;
+pub mod refusal;
+mod refuse;
+pub mod store;
+pub mod txn;
+
+pub use advance::{AdvanceRefused, Expired};
+pub use answer::{FailedCompare, OpAnswer, TxnAnswer};
+pub use refusal::Refusal;
+pub use stm_history::ReadAnswer;
+pub use stm_keys::{Change, Event, HIGHEST_REVISION, KeyState, Keys, Sequence, Text};
+pub use store::Store;
+pub use txn::{Compare, Op, Order, Target, Txn};
+
+#[cfg(test)]
+mod tests;

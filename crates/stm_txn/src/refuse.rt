@@ -1,0 +1,43 @@
+//! Why an operation of a branch is refused.
+ghost use Rattle.std.specs.Prelude.{◌≡◌};
+ghost use Rattle.stm_txn.specs.Branches.{op_refusal, branch_refusal};
+ghost use Rattle.stm_txn.specs.Leasing.{is_live_in};
+
+use crate::refusal::Refusal;
+use crate::txn::Op;
+use stm_leases::Leases;
+
+/// Why an operation is refused, `None` where it is not.
+fn find_op_refusal(op: &Op, counter: u64, leases: &Leases) -> Option<Refusal>
+    ensures { result ≡ op_refusal counter (is_live_in leases.now.live) op.now }
+{
+    match op {
+        Op::Get { rev, .. } => {
+            if *rev > counter {
+                Some(Refusal::FutureRevision)
+            } else {
+                None
+            }
+        }
+        Op::Put { lease, .. } => {
+            if *lease == 0 || leases.is_live(*lease) {
+                None
+            } else {
+                Some(Refusal::LeaseNotFound)
+            }
+        }
+        Op::Del { .. } => None,
+    }
+}
+
+/// The first refusal along a branch.
+pub(crate) fn find_refusal(ops: &[Op], counter: u64, leases: &Leases) -> Option<Refusal>
+    ensures { result ≡ branch_refusal counter (is_live_in leases.now.live) ops.now }
+{
+    for op in ops {
+        if let Some(refusal) = find_op_refusal(op, counter, leases) {
+            return Some(refusal);
+        }
+    }
+    None
+}

@@ -1,0 +1,392 @@
+//! The store.
+ghost use Rattle.std.specs.Prelude.{◌≡◌, ◌<◌, ◌≤◌, ℕ, List, [], ◌∷◌, ◌++◌, IfOk, IfErr, OnOk, OnErr, IsOk, IsOkUnless, MatchOption, map, string_bytes, IsSome, Ok, Err, None, true, false};
+ghost use Rattle.std.specs.FinMap as finmap;
+ghost use Rattle.stm_history.specs.declared.revisions.TheConstants.{HIGHEST_REVISION};
+ghost use Rattle.stm_history.specs.History.{now, opened_at, add_revision, IsRevision, HasDistinctKeys};
+ghost use Rattle.stm_leases.specs.LeaseLog.{Term};
+ghost use Rattle.stm_txn.specs.Branches.{changes_after, answers_after, branch_refusal};
+ghost use Rattle.stm_txn.specs.Outcome.{is_used_up};
+ghost use Rattle.stm_txn.specs.Grants.{grant_refusal_of, grant_told};
+
+use crate::advance::{AdvanceRefused, Expired};
+use crate::answer::{FailedCompare, TxnAnswer};
+use crate::branch::{makes_changes, run_branch};
+use crate::check::find_fault;
+use crate::compare::find_failed;
+use crate::hang::{move_keys, prepare_hangs};
+use crate::refusal::Refusal;
+use crate::refuse::find_refusal;
+use crate::txn::{Op, Txn};
+use std::alloc::{AllocError, Global};
+use std::marker::Model;
+use stm_history::{Change, Sequence, Text};
+use stm_keys::{ApplyRefusal, HIGHEST_REVISION, Keys};
+use stm_leases::{GrantError, KeysError, Leases};
+
+/// A store: its keys at every revision, its leases, and its moment in whole seconds.
+///
+/// Each key hangs on the lease that its state names: that is kept in every store.
+#[derive(Drop)]
+pub struct Store {
+    keys: Keys,
+    leases: Leases,
+    moment: u64,
+    alloc: Global,
+}
+
+impl Model for Store {
+    ghost use Rattle.stm_leases.specs.Leases.{lease_of};
+    ghost use Rattle.stm_txn.specs.Leasing.{HangAsStored};
+    ghost use Rattle.stm_txn.specs.Store.{StoreView, store_code};
+    ghost use Rattle.stm_keys.specs.contracts.keys.Keys as key_store;
+
+    ghost Value = { StoreView };
+
+    ghost coded = { store_code key_store.the_row.coded };
+
+    ghost view = { λ s. record { keys = s.keys; live = s.leases.live; moment = s.moment } };
+
+    ghost invariant = { λ s. HangAsStored (lease_of s.leases) s.keys.history };
+}
+
+/// Whether a branch is to change something at the highest revision.
+fn uses_up(keys: &Keys, ops: &[Op]) -> bool
+    ensures { result ≡ is_used_up keys.now.history (changes_after keys.now.history [] ops.now) }
+{
+    let is_highest = keys.revision() == HIGHEST_REVISION;
+    is_highest && makes_changes(keys, ops)
+}
+
+/// Whether these changes are too many at the highest revision, where none can be made.
+fn is_beyond(keys: &Keys, changes: &[Change]) -> bool
+    ensures { result ≡ is_used_up keys.now.history changes.now }
+{
+    match changes {
+        [] => false,
+        [_, ..] => keys.revision() == HIGHEST_REVISION,
+    }
+}
+
+/// Why a grant is refused.
+fn cause_of(error: GrantError) -> Refusal
+    ensures { result ≡ grant_refusal_of error }
+{
+    match error {
+        GrantError::LeaseIdOutOfRange => Refusal::LeaseIdOutOfRange,
+        GrantError::TtlOutOfRange => Refusal::TtlOutOfRange,
+        GrantError::LeaseExists => Refusal::LeaseExists,
+        GrantError::OutOfMemory => Refusal::OutOfMemory,
+    }
+}
+
+fn told_grant(granted: Result<(), GrantError>) -> Result<(), Refusal>
+    ensures { result ≡ grant_told granted }
+{
+    match granted {
+        Ok(()) => Ok(()),
+        Err(error) => Err(cause_of(error)),
+    }
+}
+
+/// The deletions of these keys.
+fn deletions(alloc: Global, keys: Vec<String>) -> Result<Vec<Change>, AllocError>
+    ensures { IfOk result (λ changes. changes.items ≡ map Change.Del (map string_bytes keys.items)) }
+{
+    let mut changes = Vec::new(alloc);
+    for key in keys {
+        changes.push(Change::Del {
+            key: Text::new(key),
+        })?;
+    }
+    Ok(changes)
+}
+
+impl Store {
+    ghost use Rattle.stm_txn.specs.Checks.{has_clash};
+    ghost use Rattle.stm_txn.specs.Leasing.{is_live_in, hangs_of, HangOnLive};
+    ghost use Rattle.stm_txn.specs.Outcome.{outcome, branch_outcome, with_changes, answer_of};
+    ghost use Rattle.stm_txn.specs.Store.{IsRefusalOf, IsEndRefusal, EndsLease, Expiries, IsFirstDue, NoneDue, IsAdvanceRefusal, grant_cause, with_lease, expired_in, at_moment};
+
+    /// An empty store at revision 1 and moment 0. Want of memory is its only refusal.
+    pub fn new(alloc: Global) -> Result<Store, AllocError>
+        ensures history { IfOk result (λ s. s.keys.history ≡ opened_at 1) }
+        ensures live { IfOk result (λ s. s.live ≡ finmap.empty) }
+        ensures moment { IfOk result (λ s. s.moment ≡ 0) }
+    {
+        Store::with_revision(alloc, 1)
+    }
+
+    /// An empty store whose counter is `start`, at moment 0: its keys are absent at every revision up to
+    /// `start`. Want of memory is its only refusal.
+    pub fn with_revision(alloc: Global, start: u64) -> Result<Store, AllocError>
+        requires positive { 1 ≤ start }
+        requires bounded { start ≤ HIGHEST_REVISION }
+        ensures history { IfOk result (λ s. s.keys.history ≡ opened_at start) }
+        ensures live { IfOk result (λ s. s.live ≡ finmap.empty) }
+        ensures moment { IfOk result (λ s. s.moment ≡ 0) }
+    {
+        Ok(Store {
+            keys: Keys::with_revision(alloc, start),
+            leases: Leases::new(alloc),
+            moment: 0,
+            alloc,
+        })
+    }
+
+    /// The keys.
+    pub fn keys(&self) -> &Keys
+        ensures { result.now ≡ self.now.keys }
+    {
+        &self.keys
+    }
+
+    /// The number of live leases.
+    pub fn lease_count(&self) -> usize
+        ensures { result ≡ finmap.len self.now.live }
+    {
+        self.leases.len()
+    }
+
+    /// Adds a revision with these changes, and moves their keys to their leases.
+    fn change(&mut self, changes: &[Change]) -> Result<(), Refusal>
+        requires revision { IsRevision changes.now }
+        requires room { now self.old.keys.history < HIGHEST_REVISION }
+        requires live { HangOnLive self.old.live (hangs_of changes.now) }
+        ensures ok { OnOk result (self.new.keys.history ≡ add_revision self.old.keys.history changes.now) }
+        ensures live { self.new.live ≡ self.old.live }
+        ensures moment { self.new.moment ≡ self.old.moment }
+        ensures memory { IsOkUnless result Refusal.OutOfMemory }
+        ensures err { OnErr result (self.new ≡ self.old) }
+    {
+        let hangs = prepare_hangs(self.alloc, changes)?;
+        self.leases.reserve_attach(hangs.len())?;
+        match self.keys.apply(changes) {
+            Ok(_) => {}
+            Err(ApplyRefusal::OutOfMemory) => return Err(Refusal::OutOfMemory),
+            Err(ApplyRefusal::RevisionsUsedUp) => unreachable!(),
+        }
+        move_keys(&mut self.leases, changes, hangs);
+        Ok(())
+    }
+
+    /// Adds a revision with these changes where there are any.
+    fn commit(&mut self, changes: &[Change]) -> Result<(), Refusal>
+        requires distinct { HasDistinctKeys changes.now }
+        requires room { is_used_up self.old.keys.history changes.now ≡ false }
+        requires live { HangOnLive self.old.live (hangs_of changes.now) }
+        ensures ok { OnOk result (self.new.keys.history ≡ with_changes self.old.keys.history changes.now) }
+        ensures live { self.new.live ≡ self.old.live }
+        ensures moment { self.new.moment ≡ self.old.moment }
+        ensures memory { IsOkUnless result Refusal.OutOfMemory }
+        ensures err { OnErr result (self.new ≡ self.old) }
+    {
+        match changes {
+            [] => Ok(()),
+            [_, ..] => {
+                let _highest = self.keys.revision();
+                self.change(changes)
+            }
+        }
+    }
+
+    /// Runs a branch that nothing but memory can refuse.
+    fn finish(&mut self, ops: &[Op], failed: Option<FailedCompare>) -> Result<TxnAnswer, Refusal>
+        requires apart { has_clash ops.now ≡ false }
+        requires allowed { branch_refusal (now self.old.keys.history) (is_live_in self.old.live) ops.now ≡ None }
+        requires room { is_used_up self.old.keys.history (changes_after self.old.keys.history [] ops.now) ≡ false }
+        ensures answer { IfOk result (λ answer. answer ≡ answer_of self.old.keys.history failed (changes_after self.old.keys.history [] ops.now) (answers_after self.old.keys.history [] ops.now)) }
+        ensures history { OnOk result (self.new.keys.history ≡ with_changes self.old.keys.history (changes_after self.old.keys.history [] ops.now)) }
+        ensures live { self.new.live ≡ self.old.live }
+        ensures moment { self.new.moment ≡ self.old.moment }
+        ensures memory { IsOkUnless result Refusal.OutOfMemory }
+        ensures err { OnErr result (self.new ≡ self.old) }
+    {
+        let branch = run_branch(self.alloc, &self.keys, ops)?;
+        self.commit(branch.changes.as_slice())?;
+        Ok(TxnAnswer {
+            succeeded: failed.is_none(),
+            revision: self.keys.revision(),
+            answers: Sequence::of(branch.answers),
+            failed,
+        })
+    }
+
+    /// Runs one branch, whose first failed compare is given.
+    fn run(&mut self, ops: &[Op], failed: Option<FailedCompare>) -> Result<TxnAnswer, Refusal>
+        requires { has_clash ops.now ≡ false }
+        ensures ok { IfOk result (λ answer. branch_outcome self.old.keys.history (is_live_in self.old.live) failed ops.now ≡ Ok (record { answer = answer; history = self.new.keys.history })) }
+        ensures live { self.new.live ≡ self.old.live }
+        ensures moment { self.new.moment ≡ self.old.moment }
+        ensures refused { IfErr result (IsRefusalOf (branch_outcome self.old.keys.history (is_live_in self.old.live) failed ops.now)) }
+        ensures err { OnErr result (self.new ≡ self.old) }
+    {
+        if let Some(refusal) = find_refusal(ops, self.keys.revision(), &self.leases) {
+            return Err(refusal);
+        }
+        if uses_up(&self.keys, ops) {
+            return Err(Refusal::RevisionsUsedUp);
+        }
+        self.finish(ops, failed)
+    }
+
+    /// Runs a transaction, as one step.
+    ///
+    /// The whole transaction is looked at first: `TooManyOps`, `EmptyKey`, `DuplicateKey`. Then the
+    /// compares pick the branch, and the first of its operations that is refused decides:
+    /// `FutureRevision` for a read above the counter, `LeaseNotFound` for a put on a lease that is not
+    /// live. Then comes `RevisionsUsedUp`, where something is to change at `HIGHEST_REVISION`, then
+    /// `OutOfMemory`. A refused transaction changes nothing. (etcd's API reference, "Transaction", has the
+    /// compares, the branches and the refused duplicates; the order of the refusals is this store's own.)
+    pub fn txn(&mut self, txn: &Txn) -> Result<TxnAnswer, Refusal>
+        ensures ok { IfOk result (λ answer. outcome self.old.keys.history (is_live_in self.old.live) txn.now ≡ Ok (record { answer = answer; history = self.new.keys.history })) }
+        ensures live { self.new.live ≡ self.old.live }
+        ensures moment { self.new.moment ≡ self.old.moment }
+        ensures refused { IfErr result (IsRefusalOf (outcome self.old.keys.history (is_live_in self.old.live) txn.now)) }
+        ensures err { OnErr result (self.new ≡ self.old) }
+    {
+        if let Some(refusal) = find_fault(txn) {
+            return Err(refusal);
+        }
+        let failed = find_failed(txn.compares.as_slice(), &self.keys);
+        match failed {
+            None => self.run(txn.success.as_slice(), failed),
+            Some(_) => self.run(txn.failure.as_slice(), failed),
+        }
+    }
+
+    /// Grants a lease of the caller's id, for `ttl` seconds from the store's moment on.
+    ///
+    /// It is refused for the first of `LeaseIdOutOfRange`, `TtlOutOfRange`, `LeaseExists` and
+    /// `OutOfMemory` that holds, and then changes nothing. (etcd's API reference, "Lease"; the order of the
+    /// refusals is this store's own.)
+    pub fn grant(&mut self, id: u64, ttl: u64) -> Result<(), Refusal>
+        ensures refusal { MatchOption (grant_cause self.old.live id ttl) (IsOkUnless result Refusal.OutOfMemory) (λ cause. result ≡ Err cause) }
+        ensures ok { OnOk result (self.new ≡ with_lease self.old id ttl) }
+        ensures err { OnErr result (self.new ≡ self.old) }
+    {
+        let granted = self.leases.grant(id, ttl, self.moment);
+        told_grant(granted)
+    }
+
+    /// Renews a live lease at the store's moment, also one that is due. `LeaseNotFound` changes nothing.
+    pub fn keep_alive(&mut self, id: u64) -> Result<(), Refusal>
+        ensures found { MatchOption (finmap.get self.old.live id) (result ≡ Err Refusal.LeaseNotFound) (λ term. IsOk result × (self.new ≡ with_lease self.old id term.ttl)) }
+        ensures err { OnErr result (self.new ≡ self.old) }
+    {
+        match self.leases.keep_alive(id, self.moment) {
+            Ok(()) => Ok(()),
+            Err(_) => Err(Refusal::LeaseNotFound),
+        }
+    }
+
+    /// Ends a live lease, with its keys.
+    fn end_lease(&mut self, id: u64) -> Result<(), Refusal>
+        requires { finmap.contains_key self.old.live id ≡ true }
+        ensures ok { OnOk result (EndsLease self.old self.new id) }
+        ensures refused { IfErr result (IsEndRefusal self.old id) }
+        ensures err { OnErr result (self.new ≡ self.old) }
+    {
+        let keys = match self.leases.keys_of(id) {
+            Ok(keys) => keys,
+            Err(KeysError::OutOfMemory) => return Err(Refusal::OutOfMemory),
+            Err(KeysError::LeaseNotFound) => unreachable!(),
+        };
+        let changes = deletions(self.alloc, keys)?;
+        let deleted = changes.as_slice();
+        if is_beyond(&self.keys, deleted) {
+            return Err(Refusal::RevisionsUsedUp);
+        }
+        self.commit(deleted)?;
+        self.leases.remove(id);
+        Ok(())
+    }
+
+    /// Ends a live lease and deletes its keys in one revision, and answers the revision after that.
+    ///
+    /// `LeaseNotFound`, `RevisionsUsedUp` where a key is to be deleted at `HIGHEST_REVISION`, and
+    /// `OutOfMemory` change nothing. (etcd's API reference, "Lease"; that the keys go in one revision,
+    /// ascending by bytes, is this store's own.)
+    pub fn revoke(&mut self, id: u64) -> Result<u64, Refusal>
+        ensures not_found { finmap.contains_key self.old.live id ≡ false → result ≡ Err Refusal.LeaseNotFound }
+        ensures found { finmap.contains_key self.old.live id ≡ true → IfErr result (IsEndRefusal self.old id) }
+        ensures ok { OnOk result (EndsLease self.old self.new id) }
+        ensures revision { IfOk result (λ revision. revision ≡ now self.new.keys.history) }
+        ensures err { OnErr result (self.new ≡ self.old) }
+    {
+        if !self.leases.is_live(id) {
+            return Err(Refusal::LeaseNotFound);
+        }
+        self.end_lease(id)?;
+        Ok(self.keys.revision())
+    }
+
+    /// The lease that is due and was due first.
+    fn next_due(&self) -> Option<u64>
+        ensures { MatchOption result (NoneDue self.now.live self.now.moment) (IsFirstDue self.now.live self.now.moment) }
+    {
+        self.leases.next_due(self.moment)
+    }
+
+    /// Ends a live lease, and notes that it expired.
+    fn expire(&mut self, id: u64, expired: &mut Vec<Expired>) -> Result<(), Refusal>
+        requires { finmap.contains_key self.old.live id ≡ true }
+        ensures ok { OnOk result (EndsLease self.old self.new id) }
+        ensures noted { OnOk result (expired.new.items ≡ expired.old.items ++ expired_in id self.new ∷ []) }
+        ensures refused { IfErr result (IsEndRefusal self.old id) }
+        ensures err { OnErr result (self.new ≡ self.old) }
+        ensures same { OnErr result (expired.new.items ≡ expired.old.items) }
+    {
+        expired.reserve(1)?;
+        self.end_lease(id)?;
+        let revision = self.keys.revision();
+        expired.push_reserved(Expired { id, revision });
+        Ok(())
+    }
+
+    /// Ends every lease that is due.
+    fn expire_all(&mut self) -> Result<Vec<Expired>, AdvanceRefused>
+        ensures ok { IfOk result (λ expired. Expiries self.old expired.items self.new) }
+        ensures none_due { OnOk result (NoneDue self.new.live self.new.moment) }
+        ensures refused { IfErr result (λ refused. Expiries self.old refused.expired self.new) }
+        ensures next { IfErr result (λ refused. (id : ℕ) × IsFirstDue self.new.live self.new.moment id × IsEndRefusal self.new id refused.cause) }
+        ensures moment { self.new.moment ≡ self.old.moment }
+    {
+        let mut expired = Vec::new(self.alloc);
+        while let Some(id) = self.next_due() {
+            match self.expire(id, &mut expired) {
+                Ok(()) => {}
+                Err(cause) => {
+                    return Err(AdvanceRefused {
+                        expired: Sequence::of(expired),
+                        cause,
+                    });
+                }
+            }
+        }
+        Ok(expired)
+    }
+
+    /// Sets the moment, and ends the leases that are due, each with its keys, in the order of
+    /// (moment when it was due, id). Answers them, each with the revision after it.
+    ///
+    /// A smaller moment is refused as `TimeGoesBack` and changes nothing. On `RevisionsUsedUp` or
+    /// `OutOfMemory` the leases that expired stay expired and are told, the rest stays due, and the
+    /// moment is set.
+    pub fn advance(&mut self, moment: u64) -> Result<Vec<Expired>, AdvanceRefused>
+        ensures forward { OnOk result (self.old.moment ≤ moment) }
+        ensures ok { IfOk result (λ expired. Expiries (at_moment self.old moment) expired.items self.new) }
+        ensures none_due { OnOk result (NoneDue self.new.live moment) }
+        ensures moment { OnOk result (self.new.moment ≡ moment) }
+        ensures refused { IfErr result (λ refused. IsAdvanceRefusal self.old moment refused self.new) }
+    {
+        if moment < self.moment {
+            return Err(AdvanceRefused {
+                expired: Sequence::new(self.alloc),
+                cause: Refusal::TimeGoesBack,
+            });
+        }
+        self.moment = moment;
+        let expired = self.expire_all()?;
+        Ok(expired)
+    }
+}

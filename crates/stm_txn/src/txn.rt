@@ -1,0 +1,73 @@
+//! A transaction: compares that pick one of two lists of operations.
+ghost use Rattle.std.specs.Prelude.{◌≡◌};
+ghost use Rattle.stm_txn.specs.Operations.{key_of_op};
+
+use stm_history::{Sequence, Text};
+
+/// A transaction: where all compares hold the success list runs, otherwise the failure list.
+///
+/// (etcd's API reference, "Transaction".)
+#[derive(Debug, Drop, Clone)]
+pub struct Txn {
+    pub compares: Sequence<Compare>,
+    pub success: Sequence<Op>,
+    pub failure: Sequence<Op>,
+}
+
+/// A test of what a key is now. The stored side stands on the left of the order.
+#[derive(Debug, Drop, Clone)]
+pub struct Compare {
+    pub key: Text,
+    pub target: Target,
+    pub order: Order,
+}
+
+/// What a compare looks at, with what it is compared with.
+///
+/// An absent key has 0 in the four number targets, and fails every compare of its value.
+#[derive(Debug, Drop, Clone)]
+pub enum Target {
+    /// The number of puts since the key was made.
+    Version(u64),
+    /// The revision that made the key.
+    Create(u64),
+    /// The revision of the key's last put.
+    Mod(u64),
+    /// The lease that the key hangs on, 0 for none.
+    Lease(u64),
+    /// The value. Texts compare by bytes.
+    Value(Text),
+}
+
+/// The order that a compare asks for.
+#[derive(Debug, Clone, Copy, PartialEq, Eq)]
+pub enum Order {
+    Equal,
+    NotEqual,
+    Greater,
+    Less,
+}
+
+/// One operation of a branch.
+#[derive(Debug, Drop, Clone)]
+pub enum Op {
+    /// Reads the key at a revision. 0 is the current state, with what the branch did before.
+    Get { key: Text, rev: u64 },
+    /// Puts the key, and hangs it on the lease (0 for none).
+    Put { key: Text, value: Text, lease: u64 },
+    /// Deletes the key.
+    Del { key: Text },
+}
+
+impl Op {
+    /// The key that the operation is about.
+    pub fn key(&self) -> &Text
+        ensures { result.now ≡ key_of_op self.now }
+    {
+        match self {
+            Op::Get { key, .. } => key,
+            Op::Put { key, .. } => key,
+            Op::Del { key } => key,
+        }
+    }
+}

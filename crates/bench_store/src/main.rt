@@ -76,7 +76,7 @@ fn time_puts(rt: &(impl Clock + Eprint), alloc: Global, keys: u32) -> Result<()>
     let start = Instant::now(rt)?;
     put_in_turn(alloc, &mut store, keys, PUTS)?;
     let elapsed = start.elapsed(rt)?;
-    report(rt, "transactions of one put, keys:", keys, elapsed / PUTS)?;
+    report_rate(rt, keys, elapsed / PUTS)?;
     Ok(())
 }
 
@@ -113,8 +113,14 @@ fn time_reads(rt: &(impl Clock + Eprint), alloc: Global, revisions: u32) -> Resu
     Ok(())
 }
 
-/// Prints the time for each call.
-fn report(rt: &impl Eprint, what: &str, count: u32, each: Duration) -> io::Result<()> {
+/// Prints how many transactions a second takes.
+fn report_rate(rt: &impl Eprint, keys: u32, each: Duration) -> io::Result<()> {
+    let rate = 1_000_000_000_u128.checked_div(each.as_nanos()).unwrap_or(0);
+    eprintln!(rt; "transactions of one put over {keys:>6} keys: {rate:>8} in a second")
+}
+
+/// Prints how long a read takes.
+fn report_read(rt: &impl Eprint, revisions: u32, each: Duration) -> io::Result<()> {
     let nanos = each.as_nanos();
-    eprintln!(rt; "{what} {count}, each: {nanos} ns")
+    eprintln!(rt; "reads of the past over {revisions:>6} revisions: {nanos:>8} ns each")
 }

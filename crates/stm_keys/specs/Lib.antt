@@ -1,3 +1,5 @@
+pub mod ApplyNames
 pub mod Events
 pub mod Keys
+pub mod ReadNames
 pub mod Table

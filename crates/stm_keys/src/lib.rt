@@ -9,6 +9,8 @@ pub mod keys;
 mod record;
 pub mod refusal;
 mod table;
+#[cfg(test)]
+mod tests;
 
 pub use event::Event;
 pub use keys::Keys;

@@ -1,4 +1,8 @@
 //! Why a call of the key store is refused.
+ghost use Rattle.std.specs.Prelude.{◌≡◌};
+ghost use Rattle.stm_keys.specs.ReadNames.{read_refusal_name};
+ghost use Rattle.stm_keys.specs.ApplyNames.{apply_refusal_name};
+
 use std::alloc::AllocError;
 use std::error::Error;
 use std::fmt;
@@ -12,12 +16,26 @@ pub enum ReadRefusal {
     Compacted,
 }
 
-impl fmt::Display for ReadRefusal {
-    fn fmt<W: fmt::Write>(&self, f: &mut fmt::Formatter<W>) -> fmt::Result {
-        f.write_str(match self {
+impl ReadRefusal {
+    /// The name of the refusal, as a report spells it.
+    pub fn name(self) -> &'static str
+        ensures { result.now ≡ read_refusal_name self }
+    {
+        match self {
             ReadRefusal::FutureRevision => "FutureRevision",
             ReadRefusal::Compacted => "Compacted",
-        })
+        }
+    }
+}
+
+impl fmt::Display for ReadRefusal {
+    ghost use Rattle.std.specs.Prelude.{Some};
+    ghost use Rattle.stm_keys.specs.ReadNames.{read_refusal_name};
+
+    ghost output = { λ refusal. Some (read_refusal_name refusal) };
+
+    fn fmt<W: fmt::Write>(&self, f: &mut fmt::Formatter<W>) -> fmt::Result {
+        fmt::Display::fmt(&self.name(), f)
     }
 }
 
@@ -32,12 +50,26 @@ pub enum ApplyRefusal {
     OutOfMemory,
 }
 
-impl fmt::Display for ApplyRefusal {
-    fn fmt<W: fmt::Write>(&self, f: &mut fmt::Formatter<W>) -> fmt::Result {
-        f.write_str(match self {
+impl ApplyRefusal {
+    /// The name of the refusal, as a report spells it.
+    pub fn name(self) -> &'static str
+        ensures { result.now ≡ apply_refusal_name self }
+    {
+        match self {
             ApplyRefusal::RevisionsUsedUp => "RevisionsUsedUp",
             ApplyRefusal::OutOfMemory => "OutOfMemory",
-        })
+        }
+    }
+}
+
+impl fmt::Display for ApplyRefusal {
+    ghost use Rattle.std.specs.Prelude.{Some};
+    ghost use Rattle.stm_keys.specs.ApplyNames.{apply_refusal_name};
+
+    ghost output = { λ refusal. Some (apply_refusal_name refusal) };
+
+    fn fmt<W: fmt::Write>(&self, f: &mut fmt::Formatter<W>) -> fmt::Result {
+        fmt::Display::fmt(&self.name(), f)
     }
 }
 

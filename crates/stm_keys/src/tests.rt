@@ -1,0 +1,275 @@
+//! Worked examples of the key store, with ample memory. What is expected comes from the rules of the store, and
+//! never from a run.
+//!
+//! Each example is one text: a test that holds a store in hand over many calls is slow to prove.
+ghost use Rattle.std.specs.Prelude.{◌≡◌, ◌≤◌, IfOk};
+ghost use Rattle.stm_history.specs.History.{key_of, now};
+
+use crate::{ApplyRefusal, Change, Event, HIGHEST_REVISION, KeyState, Keys, Text};
+use std::alloc::{AllocError, Global};
+use std::test::Fail;
+
+/// A put of a key with a value, or with "-" its deletion.
+fn change_of(alloc: Global, key: &str, value: &str) -> Result<Change, AllocError>
+    ensures { IfOk result (λ change. key_of change ≡ key.now) }
+{
+    let key = Text::copy_of(alloc, key)?;
+    if value == "-" {
+        return Ok(Change::Del { key });
+    }
+    let value = Text::copy_of(alloc, value)?;
+    Ok(Change::Put {
+        key,
+        value,
+        lease: 0,
+    })
+}
+
+fn change_one(alloc: Global, keys: &mut Keys, key: &str, value: &str) -> Result<u64, ApplyRefusal> {
+    let change = change_of(alloc, key, value)?;
+    keys.apply(&[change])
+}
+
+/// The number of a change's revision, or why it is refused.
+fn told_change(
+    alloc: Global,
+    keys: &mut Keys,
+    key: &str,
+    value: &str,
+) -> Result<String, AllocError> {
+    match change_one(alloc, keys, key, value) {
+        Ok(number) => number.to_string(alloc),
+        Err(refusal) => refusal.to_string(alloc),
+    }
+}
+
+/// What is told of changes, each in a revision of its own.
+fn told_changes(
+    alloc: Global,
+    keys: &mut Keys,
+    changes: &[(&str, &str)],
+) -> Result<String, AllocError> {
+    let mut told = String::new(alloc);
+    for (key, value) in changes {
+        told.push_str(told_change(alloc, keys, key, value)?.as_str())?;
+        told.push_str(" ")?;
+    }
+    Ok(told)
+}
+
+/// A state's value, create and modification revision, version and lease; `-` where the key is absent.
+fn told_state(alloc: Global, state: Option<&KeyState>) -> Result<String, AllocError> {
+    match state {
+        None => String::from_str(alloc, "-"),
+        Some(s) => {
+            format!(in alloc;
+                "{}/{}/{}/{}/{}",
+                s.value, s.create_rev, s.mod_rev, s.version, s.lease
+            )
+        }
+    }
+}
+
+/// What a key was at a revision, or why that can't be read.
+fn told_read(alloc: Global, keys: &Keys, key: &str, revision: u64) -> Result<String, AllocError> {
+    match keys.get_at(key, revision) {
+        Ok(state) => told_state(alloc, state),
+        Err(refusal) => refusal.to_string(alloc),
+    }
+}
+
+fn told_reads(
+    alloc: Global,
+    keys: &Keys,
+    key: &str,
+    revisions: &[u64],
+) -> Result<String, AllocError> {
+    let mut told = String::new(alloc);
+    for revision in revisions {
+        told.push_str(told_read(alloc, keys, key, *revision)?.as_str())?;
+        told.push_str(" ")?;
+    }
+    Ok(told)
+}
+
+/// What a key was at these revisions, after these changes of a store that opens at a revision.
+fn read_after(
+    alloc: Global,
+    opening: u64,
+    changes: &[(&str, &str)],
+    key: &str,
+    revisions: &[u64],
+) -> Result<String, AllocError>
+    requires positive { 1 ≤ opening }
+    requires bounded { opening ≤ HIGHEST_REVISION }
+{
+    let mut keys = Keys::with_revision(alloc, opening);
+    let mut told = told_changes(alloc, &mut keys, changes)?;
+    told.push_str(": ")?;
+    told.push_str(told_reads(alloc, &keys, key, revisions)?.as_str())?;
+    Ok(told)
+}
+
+#[test]
+fn a_key_is_put_and_deleted(rt: HostRuntime) -> Result<(), Fail> {
+    let told = read_after(
+        rt.alloc(),
+        1,
+        &[("a", "1"), ("a", "-")],
+        "a",
+        &[0, 1, 2, 3, 4],
+    )?;
+    assert_eq!(rt; told.as_str(), "2 3 : - - 1/2/2/1/0 - FutureRevision ");
+    Ok(())
+}
+
+// A put of the same value counts; after a deletion a key begins with version 1 and a new create revision.
+#[test]
+fn versions_begin_again_after_a_deletion(rt: HostRuntime) -> Result<(), Fail> {
+    let changes = [("a", "1"), ("a", "1"), ("b", "7"), ("a", "-"), ("a", "2")];
+    let told = read_after(rt.alloc(), 1, &changes, "a", &[0, 1, 2, 3, 4, 5, 6, 7])?;
+    assert_eq!(rt;
+        told.as_str(),
+        "2 3 4 5 6 : 2/6/6/1/0 - 1/2/2/1/0 1/2/3/2/0 1/2/3/2/0 - 2/6/6/1/0 FutureRevision "
+    );
+    Ok(())
+}
+
+// The last number is used, and then no further change is taken.
+#[test]
+fn nothing_changes_at_the_highest_revision(rt: HostRuntime) -> Result<(), Fail> {
+    let changes = [("a", "1"), ("a", "2"), ("b", "2"), ("a", "-")];
+    let revisions = [
+        0,
+        9223372036854775805,
+        9223372036854775806,
+        9223372036854775807,
+    ];
+    let told = read_after(rt.alloc(), 9223372036854775805, &changes, "a", &revisions)?;
+    assert_eq!(rt;
+        told.as_str(),
+        "9223372036854775806 RevisionsUsedUp RevisionsUsedUp RevisionsUsedUp : \
+         1/9223372036854775806/9223372036854775806/1/0 - \
+         1/9223372036854775806/9223372036854775806/1/0 FutureRevision "
+    );
+    Ok(())
+}
+
+/// One revision that puts three keys.
+fn put_three(alloc: Global, keys: &mut Keys) -> Result<u64, ApplyRefusal> {
+    let first = change_of(alloc, "c", "1")?;
+    let second = change_of(alloc, "a", "1")?;
+    let third = change_of(alloc, "b", "1")?;
+    keys.apply(&[first, second, third])
+}
+
+/// One revision that deletes a key and puts another.
+fn replace(alloc: Global, keys: &mut Keys) -> Result<u64, ApplyRefusal> {
+    let first = change_of(alloc, "a", "-")?;
+    let second = change_of(alloc, "c", "2")?;
+    keys.apply(&[first, second])
+}
+
+fn told_event(alloc: Global, event: &Event) -> Result<String, AllocError> {
+    match event {
+        Event::Put { key, state } => {
+            let state = told_state(alloc, Some(state))?;
+            format!(in alloc; "PUT {key} {state} ")
+        }
+        Event::Delete { key, revision } => format!(in alloc; "DELETE {key} {revision} "),
+    }
+}
+
+/// The events of a revision, in their order.
+fn told_events(alloc: Global, keys: &Keys, revision: u64) -> Result<String, AllocError>
+    requires { revision ≤ now keys.now.history }
+{
+    let mut told = String::new(alloc);
+    for event in keys.events_of(revision)? {
+        told.push_str(told_event(alloc, &event)?.as_str())?;
+    }
+    Ok(told)
+}
+
+/// The events of every revision from 0 on, each revision's ended by a bar.
+fn told_history(alloc: Global, keys: &Keys) -> Result<String, AllocError> {
+    let mut told = String::new(alloc);
+    for revision in 0..=keys.revision() {
+        told.push_str(told_events(alloc, keys, revision)?.as_str())?;
+        told.push_str("| ")?;
+    }
+    Ok(told)
+}
+
+fn told_put_and_deletion(alloc: Global) -> Result<String, AllocError> {
+    let mut keys = Keys::new(alloc);
+    told_changes(alloc, &mut keys, &[("a", "1"), ("a", "-")])?;
+    told_history(alloc, &keys)
+}
+
+#[test]
+fn a_deletion_is_an_event(rt: HostRuntime) -> Result<(), Fail> {
+    let told = told_put_and_deletion(rt.alloc())?;
+    assert_eq!(rt; told.as_str(), "| | PUT a 1/2/2/1/0 | DELETE a 3 | ");
+    Ok(())
+}
+
+fn told_larger_revisions(alloc: Global) -> Result<String, ApplyRefusal> {
+    let mut keys = Keys::new(alloc);
+    put_three(alloc, &mut keys)?;
+    replace(alloc, &mut keys)?;
+    Ok(told_history(alloc, &keys)?)
+}
+
+#[test]
+fn the_changes_of_a_revision_keep_their_order(rt: HostRuntime) -> Result<(), Fail> {
+    let told = told_larger_revisions(rt.alloc())?;
+    assert_eq!(rt;
+        told.as_str(),
+        "| | PUT c 1/2/2/1/0 PUT a 1/2/2/1/0 PUT b 1/2/2/1/0 | DELETE a 3 PUT c 2/2/3/2/0 | "
+    );
+    Ok(())
+}
+
+/// The present keys with their values, sorted.
+fn present(alloc: Global, keys: &Keys) -> Result<Vec<String>, AllocError> {
+    let mut lines = Vec::new(alloc);
+    for index in 0..keys.len() {
+        let (key, state) = keys.at(index);
+        lines.push(format!(in alloc; "{key}={} ", state.value)?)?;
+    }
+    lines.sort()?;
+    Ok(lines)
+}
+
+/// What a store tells of itself: counter, opening and floor, the present keys, what `a` is, and what
+/// the next put would make of it.
+fn told_store(alloc: Global, keys: &Keys) -> Result<String, AllocError> {
+    let mut told = format!(in alloc; "{} {} {} ", keys.revision(), keys.opening(), keys.floor())?;
+    for line in present(alloc, keys)? {
+        told.push_str(line.as_str())?;
+    }
+    told.push_str(told_state(alloc, keys.get("a"))?.as_str())?;
+    told.push_str(" ")?;
+    let value = Text::copy_of(alloc, "2")?;
+    let next = keys.after_put("a", &value, 7)?;
+    told.push_str(told_state(alloc, Some(&next))?.as_str())?;
+    Ok(told)
+}
+
+fn told_two_keys(alloc: Global) -> Result<String, AllocError> {
+    let mut keys = Keys::new(alloc);
+    told_changes(
+        alloc,
+        &mut keys,
+        &[("b", "7"), ("a", "1"), ("c", "1"), ("c", "-")],
+    )?;
+    told_store(alloc, &keys)
+}
+
+#[test]
+fn a_store_tells_its_present_keys(rt: HostRuntime) -> Result<(), Fail> {
+    let told = told_two_keys(rt.alloc())?;
+    assert_eq!(rt; told.as_str(), "5 1 0 a=1 b=7 1/3/3/1/0 2/3/6/2/7");
+    Ok(())
+}

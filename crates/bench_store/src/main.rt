@@ -104,12 +104,7 @@ fn time_reads(rt: &(impl Clock + Eprint), alloc: Global, revisions: u32) -> Resu
     let start = Instant::now(rt)?;
     read_often(store.keys(), READS)?;
     let elapsed = start.elapsed(rt)?;
-    report(
-        rt,
-        "reads of the past, revisions:",
-        revisions,
-        elapsed / READS,
-    )?;
+    report_read(rt, revisions, elapsed / READS)?;
     Ok(())
 }
 

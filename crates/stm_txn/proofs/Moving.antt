@@ -8,11 +8,8 @@ use Rattle.std.proofs.lemmas.Bool.Decides.{same_from_decides}
 use Rattle.std.proofs.lemmas.Slice.Eq.{bytes_eq-Decides}
 use Rattle.std.proofs.lemmas.Map.Text.{is_eq-slice_cmp}
 use Rattle.stm_history.specs.declared.change.Change.{Change}
-use Rattle.stm_history.specs.declared.change.Change.TheVariants.{Put, Del}
-use Rattle.stm_history.specs.declared.key_state.KeyState.{KeyState}
-use Rattle.stm_history.specs.History.{History, now, key_now, add_revision, key_of, change_of, after_change, state_after_put, HasDistinctKeys}
-use Rattle.stm_history.proofs.HistoryLaws.{one_more_revision}
-use Rattle.stm_txn.specs.Leasing.{Live, lease_named, hanging, HangAsStored, hung_by, hung_after, with_hang, hangs_of, HangOnLive}
+use Rattle.stm_history.specs.History.{key_of, change_of, HasDistinctKeys}
+use Rattle.stm_txn.specs.Leasing.{Live, hung_by, hung_after, with_hang, hangs_of, HangOnLive}
 use Rattle.stm_txn.specs.Moves.{detached_all, attached_one, attached_all, IsLoose, CanHang}
 use Rattle.stm_txn.proofs.Branching.{same_text, equal_text, apart_case, apart_back}
 
@@ -133,23 +130,6 @@ moved cs key before middle after distinct off on =
 -- a key with a change hangs nowhere in between
 pub free_between : (cs : List Change) (key : List ℕ) (before middle : Option ℕ) (d : Change) → middle ≡ detached_all cs key before → change_of key cs ≡ Some d → middle ≡ None
 free_between cs key before middle d off is = off ∙ detached_told cs key before ∙ ap (λ o. none_if o before) is
-
--- a change leaves its key hanging where its state says
-put_hangs : (n : ℕ) (value : List ℕ) (lease : ℕ) (s : Option KeyState) → lease_named lease ≡ hanging (Some (state_after_put n value lease s))
-put_hangs n value lease None = refl
-put_hangs n value lease (Some k) = refl
-
-change_hangs : (n : ℕ) (o : Option Change) (s : Option KeyState) → hung_after o (hanging s) ≡ hanging (after_change n o s)
-change_hangs n None s = refl
-change_hangs n (Some (Put key value lease)) s = put_hangs n value lease s
-change_hangs n (Some (Del key)) s = refl
-
-pub hang_kept : (h : History) (cs : List Change) (before after : List ℕ → Option ℕ) → HangAsStored before h →
-    ((key : List ℕ) → after key ≡ hung_after (change_of key cs) (before key)) → HangAsStored after (add_revision h cs)
-hang_kept h cs before after kept told key =
-    told key ∙ ap (hung_after (change_of key cs)) (kept key)
-    ∙ change_hangs (now (add_revision h cs)) (change_of key cs) (key_now h key)
-    ∙ ap hanging (sym (one_more_revision h cs key))
 
 -- the rest can be hung once the first one is
 pub can_after : (f g : List ℕ → Option ℕ) (live next : Live) (hang : List ℕ × ℕ) (rest : List (List ℕ × ℕ)) → IsLoose hang.0 rest → CanHang f live rest →

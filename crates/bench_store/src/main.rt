@@ -80,12 +80,16 @@ fn time_puts(rt: &(impl Clock + Eprint), alloc: Global, keys: u32) -> Result<()>
     Ok(())
 }
 
-/// Reads the first key at the last revision, so many times.
-fn read_often(keys: &Keys, count: u32) -> Result<()> {
-    for _ in 0..count {
-        keys.get_at("key-0", keys.revision())?;
+/// Reads the first key at so many of the last revisions, and counts where it was present.
+fn read_often(keys: &Keys, count: u32) -> Result<u32> {
+    let mut present = 0_u32;
+    for number in 0..count {
+        let revision = keys.revision().saturating_sub(u64::from(number));
+        if keys.get_at("key-0", revision)?.is_some() {
+            present = present.saturating_add(1);
+        }
     }
-    Ok(())
+    Ok(present)
 }
 
 /// A store whose first key was put once, and another one so many times.
@@ -102,9 +106,9 @@ fn long_store(alloc: Global, count: u32) -> Result<Store> {
 fn time_reads(rt: &(impl Clock + Eprint), alloc: Global, revisions: u32) -> Result<()> {
     let store = long_store(alloc, revisions)?;
     let start = Instant::now(rt)?;
-    read_often(store.keys(), READS)?;
+    let present = read_often(store.keys(), READS)?;
     let elapsed = start.elapsed(rt)?;
-    report_read(rt, revisions, elapsed / READS)?;
+    report_read(rt, revisions, elapsed / READS, present)?;
     Ok(())
 }
 
@@ -114,8 +118,10 @@ fn report_rate(rt: &impl Eprint, keys: u32, each: Duration) -> io::Result<()> {
     eprintln!(rt; "transactions of one put over {keys:>6} keys: {rate:>8} in a second")
 }
 
-/// Prints how long a read takes.
-fn report_read(rt: &impl Eprint, revisions: u32, each: Duration) -> io::Result<()> {
+/// Prints how long a read takes, and how many found the key.
+fn report_read(rt: &impl Eprint, revisions: u32, each: Duration, present: u32) -> io::Result<()> {
     let nanos = each.as_nanos();
-    eprintln!(rt; "reads of the past over {revisions:>6} revisions: {nanos:>8} ns each")
+    eprintln!(rt;
+        "reads of the past over {revisions:>6} revisions: {nanos:>8} ns each, {present} found the key"
+    )
 }

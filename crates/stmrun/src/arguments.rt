@@ -1,4 +1,6 @@
 //! The command line.
+ghost use Rattle.std.specs.Prelude.{◌≡◌};
+
 use clap::error::ErrorKind;
 use clap::{Command, Error};
 use std::alloc::{AllocError, Global};
@@ -53,13 +55,17 @@ fn told<R: Print + Eprint>(rt: &R, error: &Error) -> u8 {
 }
 
 /// The status of a command that ends for want of memory or at a failed device, once the line is printed.
-fn fail<R: Eprint>(rt: &R, line: &str) -> u8 {
+fn fail<R: Eprint>(rt: &R, line: &str) -> u8
+    ensures { result ≡ 3 }
+{
     let _ = rt.eprintln(line);
     3
 }
 
 /// What is left to do where a growth was refused.
-fn out_of_memory<R: Eprint>(rt: &R) -> Asked {
+fn out_of_memory<R: Eprint>(rt: &R) -> Asked
+    ensures { result ≡ Asked.Nothing 3 }
+{
     Asked::Nothing(fail(rt, "stmrun: out of memory"))
 }
 

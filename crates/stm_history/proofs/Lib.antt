@@ -1,2 +1,3 @@
 pub mod HistoryLaws
 pub mod Walking
+pub mod WorkedExamples

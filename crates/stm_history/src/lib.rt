@@ -15,6 +15,9 @@ pub mod text;
 pub use change::Change;
 pub use key_state::{KeyState, ReadAnswer};
 pub use revision::Revision;
-pub use revisions::{HIGHEST_REVISION, Revisions};
+pub use revisions::{HIGHEST_NUMBER, HIGHEST_REVISION, Revisions};
 pub use sequence::Sequence;
 pub use text::Text;
+
+#[cfg(test)]
+mod tests;

@@ -13,9 +13,14 @@ use std::marker::Model;
 /// The highest revision of a store. No change is made above it.
 pub const HIGHEST_REVISION: u64 = 9223372036854775806;
 
+/// The highest number of 64 bits with a sign. No number that a user gives or is told is above it: a
+/// revision, a version, a lease's id, a moment or a runner.
+pub const HIGHEST_NUMBER: u64 = 9223372036854775807;
+
 /// A history as it is: the opening number, and each revision since, the oldest first.
 ///
-/// Contracts see it as a history. A look-up walks from the newest revision back.
+/// Contracts see it as a history, in which each revision changes something and no key twice. A look-up
+/// walks from the newest revision back.
 #[derive(Debug, Drop)]
 pub struct Revisions {
     opening: u64,
@@ -31,7 +36,7 @@ impl Model for Revisions {
 
     ghost view = { λ a. record { opening = a.opening; revisions = reverse a.revisions.items } };
 
-    ghost invariant = { λ a. now (record { opening = a.opening; revisions = reverse a.revisions.items }) ≤ HIGHEST_REVISION };
+    ghost invariant = { λ a. (now (record { opening = a.opening; revisions = reverse a.revisions.items }) ≤ HIGHEST_REVISION) × AreRevisions (reverse a.revisions.items) };
 }
 
 /// The state that a walk back has found for a key, when it meets one more put.
@@ -133,9 +138,10 @@ impl Revisions {
         self.revisions.len() as u64 + self.opening
     }
 
-    /// The revisions, the oldest first. It takes no memory.
+    /// The revisions, the oldest first. Each changes something, and no key twice. It takes no memory.
     pub fn as_slice(&self) -> &[Revision]
-        ensures { reverse result.now ≡ self.now.revisions }
+        ensures same { reverse result.now ≡ self.now.revisions }
+        ensures are_revisions { AreRevisions self.now.revisions }
     {
         self.revisions.as_slice()
     }

@@ -1,4 +1,4 @@
-use Rattle.std.proofs.Common.{◌≡◌, ◌≤◌, ℕ, ◌∙◌, sym, ap, subst, arith, List, reverse, Option}
+use Rattle.std.proofs.Common.{◌≡◌, ◌≤◌, ◌∙◌, sym, ap, subst, arith, List, reverse, Option}
 use Rattle.std.proofs.lemmas.Result.{IfOk-weaker}
 use Rattle.stm_history.specs.declared.change.Change.{Change}
 use Rattle.stm_history.specs.declared.key_state.KeyState.{KeyState}
@@ -25,7 +25,7 @@ returns-clause-fits c =
     ap (λ (l : List (List Change)). key_after opening key (reverse l)) c.as_slice.ensures.value in
     let reached : mod_of (key_after opening key (reverse c.self.inside.revisions.items)) ≤ number_of_last opening (reverse c.self.inside.revisions.items) =
     mod_is_reached opening key (reverse c.self.inside.revisions.items) in
-    let bound : number_of_last opening (reverse c.self.inside.revisions.items) ≤ 9223372036854775806 = c.self.invariant in
+    let bound : number_of_last opening (reverse c.self.inside.revisions.items) ≤ 9223372036854775806 = c.self.invariant.0 in
     let fits : mod_of (key_after opening key (reverse c.self.inside.revisions.items)) ≤ 9223372036854775806 = omega arith in
     IfOk-weaker c.key_after_all.result _ _
     (λ s e. subst (λ (o : Option KeyState). mod_of o ≤ 9223372036854775806) (sym (e ∙ told)) fits)

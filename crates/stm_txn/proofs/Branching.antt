@@ -67,10 +67,12 @@ other_way a b t false is back apart = refl
 pub apart_back : (a b : List ℕ) → bytes_eq a b ≡ false → bytes_eq b a ≡ false
 apart_back a b apart = other_way a b (bytes_eq a b) (bytes_eq b a) refl refl apart
 
-pub HasDistinctKeys-push : (changes : List Change) (c : Change) → HasDistinctKeys changes → change_of (key_of c) changes ≡ None → HasDistinctKeys (changes ++ c ∷ [])
+pub HasDistinctKeys-push : (changes : List Change) (c : Change) → HasDistinctKeys changes → change_of (key_of c) changes ≡ None →
+    HasDistinctKeys (changes ++ c ∷ [])
 HasDistinctKeys-push [] c distinct absent = (refl, tt)
 HasDistinctKeys-push (d ∷ ds) c distinct absent =
-    let split : (bytes_eq (key_of d) (key_of c) ≡ false) × (change_of (key_of c) ds ≡ None) = apart_case (bytes_eq (key_of d) (key_of c)) d (change_of (key_of c) ds) absent in (
+    let split : (bytes_eq (key_of d) (key_of c) ≡ false) × (change_of (key_of c) ds ≡ None) =
+    apart_case (bytes_eq (key_of d) (key_of c)) d (change_of (key_of c) ds) absent in (
       change_of-push (key_of d) ds c
           ∙ ap (λ o. earlier o (alone (key_of d) c)) distinct.0
           ∙ ap (λ b. cond b (Some c) None) (apart_back (key_of d) (key_of c) split.0),
@@ -96,7 +98,8 @@ all_fit changes [] = Unit {0}
 all_fit changes (op ∷ ops) = fits changes op × all_fit changes ops
 
 -- another key's change leaves what fits
-fits_beside : (b : Bool) (changes : List Change) (key : List ℕ) (c : Change) → bytes_eq (key_of c) key ≡ false → change_of key (changes ++ c ∷ []) ≡ earlier (change_of key changes) None
+fits_beside : (b : Bool) (changes : List Change) (key : List ℕ) (c : Change) → bytes_eq (key_of c) key ≡ false →
+    change_of key (changes ++ c ∷ []) ≡ earlier (change_of key changes) None
 fits_beside b changes key c apart = change_of-push key changes c ∙ ap (λ t. earlier (change_of key changes) (cond t (Some c) None)) apart
 
 earlier-none : (o : Option Change) → earlier o None ≡ o
@@ -106,7 +109,8 @@ earlier-none (Some c) = refl
 beside : (changes : List Change) (key : List ℕ) (c : Change) → bytes_eq (key_of c) key ≡ false → change_of key (changes ++ c ∷ []) ≡ change_of key changes
 beside changes key c apart = fits_beside false changes key c apart ∙ earlier-none (change_of key changes)
 
-put_fits : (changes : List Change) (key value : List ℕ) (lease : ℕ) (later : Op) → fits changes later → clash (Put key value lease) later ≡ false → fits (changes ++ PutChange key value lease ∷ []) later
+put_fits : (changes : List Change) (key value : List ℕ) (lease : ℕ) (later : Op) → fits changes later → clash (Put key value lease) later ≡ false →
+    fits (changes ++ PutChange key value lease ∷ []) later
 put_fits changes key value lease (Get k r) before apart = tt
 put_fits changes key value lease (Put k v l) before apart = beside changes k (PutChange key value lease) apart ∙ before
 put_fits changes key value lease (Del k) before apart = subst deleted_only (sym (beside changes k (PutChange key value lease) apart)) before
@@ -126,13 +130,16 @@ pub neither : (a b : Bool) → (a || b) ≡ false → (a ≡ false) × (b ≡ fa
 neither true b h = cc
 neither false b h = (refl, h)
 
-puts_fit : (changes : List Change) (key value : List ℕ) (lease : ℕ) (ops : List Op) → all_fit changes ops → list_any (clash (Put key value lease)) ops ≡ false → all_fit (changes ++ PutChange key value lease ∷ []) ops
+puts_fit : (changes : List Change) (key value : List ℕ) (lease : ℕ) (ops : List Op) → all_fit changes ops → list_any (clash (Put key value lease)) ops ≡ false →
+    all_fit (changes ++ PutChange key value lease ∷ []) ops
 puts_fit changes key value lease [] before apart = tt
 puts_fit changes key value lease (op ∷ ops) before apart =
-    let split : (clash (Put key value lease) op ≡ false) × (list_any (clash (Put key value lease)) ops ≡ false) = neither (clash (Put key value lease) op) (list_any (clash (Put key value lease)) ops) apart in
+    let split : (clash (Put key value lease) op ≡ false) × (list_any (clash (Put key value lease)) ops ≡ false) =
+    neither (clash (Put key value lease) op) (list_any (clash (Put key value lease)) ops) apart in
     (put_fits changes key value lease op before.0 split.0, puts_fit changes key value lease ops before.1 split.1)
 
-dels_fit : (changes : List Change) (key : List ℕ) (ops : List Op) → all_fit changes ops → list_any (clash (Del key)) ops ≡ false → all_fit (changes ++ DelChange key ∷ []) ops
+dels_fit : (changes : List Change) (key : List ℕ) (ops : List Op) → all_fit changes ops → list_any (clash (Del key)) ops ≡ false →
+    all_fit (changes ++ DelChange key ∷ []) ops
 dels_fit changes key [] before apart = tt
 dels_fit changes key (op ∷ ops) before apart =
     let split : (clash (Del key) op ≡ false) × (list_any (clash (Del key)) ops ≡ false) = neither (clash (Del key) op) (list_any (clash (Del key)) ops) apart in
@@ -144,12 +151,14 @@ first_deletion n None before s k only is some = refl
 first_deletion n (Some (PutChange key value lease)) before s k only is some = absurd only
 first_deletion n (Some (DelChange key)) before s k only is some = cc
 
-distinct_on : (h : History) (changes : List Change) (ops : List Op) → HasDistinctKeys changes → all_fit changes ops → has_clash ops ≡ false → HasDistinctKeys (changes_after h changes ops)
+distinct_on : (h : History) (changes : List Change) (ops : List Op) → HasDistinctKeys changes → all_fit changes ops → has_clash ops ≡ false →
+    HasDistinctKeys (changes_after h changes ops)
 distinct_on h changes [] distinct fit apart = distinct
 distinct_on h changes (Get key rev ∷ ops) distinct fit apart =
     distinct_on h changes ops distinct fit.1 (neither (list_any (clash (Get key rev)) ops) (has_clash ops) apart).1
 distinct_on h changes (Put key value lease ∷ ops) distinct fit apart =
-    let split : (list_any (clash (Put key value lease)) ops ≡ false) × (has_clash ops ≡ false) = neither (list_any (clash (Put key value lease)) ops) (has_clash ops) apart in
+    let split : (list_any (clash (Put key value lease)) ops ≡ false)
+    × (has_clash ops ≡ false) = neither (list_any (clash (Put key value lease)) ops) (has_clash ops) apart in
     distinct_on h (changes ++ PutChange key value lease ∷ []) ops (HasDistinctKeys-push changes (PutChange key value lease) distinct fit.0)
     (puts_fit changes key value lease ops fit.1 split.0) split.1
 distinct_on h changes (Del key ∷ ops) distinct fit apart =
@@ -172,14 +181,15 @@ changes_are_distinct h ops apart = distinct_on h [] ops tt (nothing_before ops) 
     nothing_before (Del key ∷ ops) = (tt, nothing_before ops)
 
 -- none of these writes is about a key that was changed before
-abbrev all_absent : List Change → List Change → Type 0
+abbrev pub all_absent : List Change → List Change → Type 0
 all_absent done [] = Unit {0}
 all_absent done (w ∷ ws) = (change_of (key_of w) done ≡ None) × all_absent done ws
 
-absent_push : (done : List Change) (c : Change) (ws : List Change) → change_of (key_of c) ws ≡ None → all_absent done ws → all_absent (done ++ c ∷ []) ws
+pub absent_push : (done : List Change) (c : Change) (ws : List Change) → change_of (key_of c) ws ≡ None → all_absent done ws → all_absent (done ++ c ∷ []) ws
 absent_push done c [] apart before = tt
 absent_push done c (w ∷ ws) apart before =
-    let split : (bytes_eq (key_of w) (key_of c) ≡ false) × (change_of (key_of c) ws ≡ None) = apart_case (bytes_eq (key_of w) (key_of c)) w (change_of (key_of c) ws) apart in
+    let split : (bytes_eq (key_of w) (key_of c) ≡ false) × (change_of (key_of c) ws ≡ None) =
+    apart_case (bytes_eq (key_of w) (key_of c)) w (change_of (key_of c) ws) apart in
     (beside done (key_of w) c (apart_back (key_of w) (key_of c) split.0) ∙ before.0, absent_push done c ws split.1 before.1)
 
 effect_on : (h : History) (done ws : List Change) → HasDistinctKeys ws → all_absent done ws →

@@ -1,5 +1,6 @@
 -- Leases that end, with their keys.
-use Rattle.std.proofs.Common.{◌≡◌, ℕ, ◌-◌, ◌<◌, zero, suc, true, false, cond, List, [], ◌∷◌, length, map, get_or, Option, Some, None, refl, sym, ◌∙◌, ap, arith, eqb-true, inl, inr}
+use Rattle.std.proofs.Common.{◌≡◌, ℕ, ◌-◌, ◌<◌, zero, suc, true, false, cond, List, [], ◌∷◌, length, map, get_or, Option, Some, None, refl, sym, ◌∙◌, ap, arith}
+use Rattle.std.proofs.Common.{eqb-true, inl, inr}
 use Rattle.std.specs.Prelude.{bytes_eq, ◌↔◌, ◌⊎◌, Contains, Result, Ok, Err, IsOk, OnErr, is_some}
 use Rattle.std.specs.Ordering.{nat_cmp, is_eq}
 use Rattle.std.specs.Cmp.Lexicographic.{slice_cmp, nat_list_cmp_total}
@@ -21,7 +22,8 @@ use Rattle.stm_txn.proofs.Branching.{equal_text, apart_case, apart_back}
 
 -- a renewal leaves the keys where they hang
 renewed_case : (r : Result (Unit {0}) LeaseNotFound) (old new : Leases) (id at : ℕ) (o : Option Term) → finmap.get old.live id ≡ o →
-    (IsOk r ↔ IsLive old id) → ((term : Term) → finmap.get old.live id ≡ Some term → new ≡ record old { live = finmap.insert old.live id (record term { renewed = at }) }) →
+    (IsOk r ↔ IsLive old id) → ((term : Term) → finmap.get old.live id ≡ Some term →
+    new ≡ record old { live = finmap.insert old.live id (record term { renewed = at }) }) →
     OnErr r (new ≡ old) → new.attached ≡ old.attached
 renewed_case r old new id at (Some term) is found ok err = ap (λ (s : Leases). s.attached) (ok term is)
 renewed_case (Ok u) old new id at None is found ok err =
@@ -30,7 +32,8 @@ renewed_case (Ok u) old new id at None is found ok err =
 renewed_case (Err e) old new id at None is found ok err = ap (λ (s : Leases). s.attached) err
 
 pub renewed_attached : (r : Result (Unit {0}) LeaseNotFound) (old new : Leases) (id at : ℕ) →
-    (IsOk r ↔ IsLive old id) → ((term : Term) → finmap.get old.live id ≡ Some term → new ≡ record old { live = finmap.insert old.live id (record term { renewed = at }) }) →
+    (IsOk r ↔ IsLive old id) → ((term : Term) → finmap.get old.live id ≡ Some term →
+    new ≡ record old { live = finmap.insert old.live id (record term { renewed = at }) }) →
     OnErr r (new ≡ old) → new.attached ≡ old.attached
 renewed_attached r old new id at found ok err = renewed_case r old new id at (finmap.get old.live id) refl found ok err
 
@@ -82,7 +85,8 @@ deletion_case : (keys : List (List ℕ)) (key : List ℕ) (n : ℕ) (s : Option 
     (change_of key (map Del keys) ≡ None) ⊎ (after_change n (change_of key (map Del keys)) s ≡ None)
 deletion_case [] key n s = inl refl
 deletion_case (x ∷ xs) key n s =
-    elim (bytes_eq x key) as (λ b. (cond b (Some (Del x)) (change_of key (map Del xs)) ≡ None) ⊎ (after_change n (cond b (Some (Del x)) (change_of key (map Del xs))) s ≡ None)) [
+    elim (bytes_eq x key) as (λ b. (cond b (Some (Del x)) (change_of key (map Del xs)) ≡ None) ⊎
+    (after_change n (cond b (Some (Del x)) (change_of key (map Del xs))) s ≡ None)) [
       | true ↦ inr refl
       | false ↦ deletion_case xs key n s
     ]
@@ -98,7 +102,8 @@ gone_case h id keys key n are (inl none) is =
 gone_case h id keys key n are (inr none) is =
     let nothing : None ≡ Some id = sym (ap hanging none) ∙ is in absurd (cc)
 
-pub gone : (h : History) (id : ℕ) (keys : List (List ℕ)) (key : List ℕ) → AreKeysOn h id keys → hanging (key_now (with_changes h (map Del keys)) key) ≡ Some id → ⊥
+pub gone : (h : History) (id : ℕ) (keys : List (List ℕ)) (key : List ℕ) → AreKeysOn h id keys →
+    hanging (key_now (with_changes h (map Del keys)) key) ≡ Some id → ⊥
 gone h id [] key are is = let has : Contains [] key = (are.each key).1 is in absurd (omega (arith, has.1))
 gone h id (k ∷ ks) key are is =
     gone_case h id (k ∷ ks) key (now (add_revision h (map Del (k ∷ ks)))) are

@@ -2,3 +2,4 @@ pub mod Branching
 pub mod Moving
 pub mod Running
 pub mod Ending
+pub mod Applying

@@ -101,7 +101,8 @@ attached_with : (b : Bool) (c : Change) (k : List ℕ) (to : Option ℕ) (cs : L
 attached_with true c k None cs key x test is apart rest = rest x ∙ ap (λ o. told o x) (apart refl) ∙ ap (λ t. or_hung t x) (sym is)
 attached_with false c k None cs key x test is apart rest = rest x
 attached_with true c k (Some id) cs key x test is apart rest =
-    ap (λ b. attached_all (hangs_of cs) key (cond b (Some id) x)) test ∙ rest (Some id) ∙ ap (λ o. told o (Some id)) (apart refl) ∙ ap (λ t. or_hung t x) (sym is)
+    ap (λ b. attached_all (hangs_of cs) key (cond b (Some id) x)) test ∙ rest (Some id) ∙ ap (λ o. told o (Some id)) (apart refl)
+    ∙ ap (λ t. or_hung t x) (sym is)
 attached_with false c k (Some id) cs key x test is apart rest =
     ap (λ b. attached_all (hangs_of cs) key (cond b (Some id) x)) test ∙ rest x
 
@@ -128,7 +129,8 @@ moved cs key before middle after distinct off on =
     ∙ moved_case (change_of key cs) before
 
 -- a key with a change hangs nowhere in between
-pub free_between : (cs : List Change) (key : List ℕ) (before middle : Option ℕ) (d : Change) → middle ≡ detached_all cs key before → change_of key cs ≡ Some d → middle ≡ None
+pub free_between : (cs : List Change) (key : List ℕ) (before middle : Option ℕ) (d : Change) → middle ≡ detached_all cs key before → change_of key cs ≡ Some d →
+    middle ≡ None
 free_between cs key before middle d off is = off ∙ detached_told cs key before ∙ ap (λ o. none_if o before) is
 
 -- the rest can be hung once the first one is

@@ -13,7 +13,8 @@ use Rattle.stm_txn.specs.declared.answer.OpAnswer.{OpAnswer}
 use Rattle.stm_txn.specs.declared.answer.FailedCompare.{FailedCompare}
 use Rattle.stm_txn.specs.declared.refusal.Refusal.{Refusal}
 use Rattle.stm_txn.specs.declared.refusal.Refusal.TheVariants.{FutureRevision, LeaseNotFound, RevisionsUsedUp}
-use Rattle.stm_txn.specs.Branches.{copy, deletion_of, with_change_made, changes_after, answers_after, has_changes, is_readable, are_readable, op_refusal, first_refusal, branch_refusal}
+use Rattle.stm_txn.specs.Branches.{copy, deletion_of, with_change_made, changes_after, answers_after, has_changes, is_readable, are_readable, op_refusal}
+use Rattle.stm_txn.specs.Branches.{first_refusal, branch_refusal}
 use Rattle.stm_txn.specs.Leasing.{Live, is_live_in, hung_by, with_hang, hangs_of, HangOnLive}
 use Rattle.stm_txn.specs.Outcome.{is_used_up, with_changes, answer_of, finished, unless, branch_outcome}
 
@@ -34,7 +35,8 @@ one_readable counter is_live (Del key) none = refl
 pub all_readable : (counter : ℕ) (is_live : ℕ → Bool) (ops : List Op) → branch_refusal counter is_live ops ≡ None → are_readable counter ops ≡ true
 all_readable counter is_live [] none = refl
 all_readable counter is_live (op ∷ ops) none =
-    let parts : (op_refusal counter is_live op ≡ None) × (branch_refusal counter is_live ops ≡ None) = both_none (op_refusal counter is_live op) (branch_refusal counter is_live ops) none in
+    let parts : (op_refusal counter is_live op ≡ None) × (branch_refusal counter is_live ops ≡ None) =
+    both_none (op_refusal counter is_live op) (branch_refusal counter is_live ops) none in
     ap (λ b. b && are_readable counter ops) (one_readable counter is_live op parts.0) ∙ all_readable counter is_live ops parts.1
 
 -- one more change at the end hangs its key after the others
@@ -45,13 +47,15 @@ with_hang-append key (Some id) xs ys = refl
 hangs_of-push : (cs : List Change) (c : Change) → hangs_of (cs ++ c ∷ []) ≡ hangs_of cs ++ with_hang (key_of c) (hung_by c) []
 hangs_of-push [] c = refl
 hangs_of-push (d ∷ ds) c =
-    ap (with_hang (key_of d) (hung_by d)) (hangs_of-push ds c) ∙ sym (with_hang-append (key_of d) (hung_by d) (hangs_of ds) (with_hang (key_of c) (hung_by c) []))
+    ap (with_hang (key_of d) (hung_by d)) (hangs_of-push ds c)
+    ∙ sym (with_hang-append (key_of d) (hung_by d) (hangs_of ds) (with_hang (key_of c) (hung_by c) []))
 
 live-append : (live : Live) (xs ys : List (List ℕ × ℕ)) → HangOnLive live xs → HangOnLive live ys → HangOnLive live (xs ++ ys)
 live-append live [] ys on_xs on_ys = on_ys
 live-append live (x ∷ xs) ys on_xs on_ys = (on_xs.0, live-append live xs ys on_xs.1 on_ys)
 
-named_case : (live : Live) (key : List ℕ) (lease : ℕ) (zero_lease : Bool) → cond (zero_lease || finmap.contains_key live lease) None (Some LeaseNotFound) ≡ None →
+named_case : (live : Live) (key : List ℕ) (lease : ℕ) (zero_lease : Bool) →
+    cond (zero_lease || finmap.contains_key live lease) None (Some LeaseNotFound) ≡ None →
     HangOnLive live (with_hang key (cond zero_lease None (Some lease)) [])
 named_case live key lease true none = tt
 named_case live key lease false none = (found_case (finmap.contains_key live lease) none, tt)
@@ -60,7 +64,8 @@ named_case live key lease false none = (found_case (finmap.contains_key live lea
     found_case true none = refl
     found_case false none = cc
 
-live_push : (live : Live) (cs : List Change) (c : Change) → HangOnLive live (hangs_of cs) → HangOnLive live (with_hang (key_of c) (hung_by c) []) → HangOnLive live (hangs_of (cs ++ c ∷ []))
+live_push : (live : Live) (cs : List Change) (c : Change) → HangOnLive live (hangs_of cs) → HangOnLive live (with_hang (key_of c) (hung_by c) []) →
+    HangOnLive live (hangs_of (cs ++ c ∷ []))
 live_push live cs c before one =
     let P : List (List ℕ × ℕ) → Type 0 = HangOnLive live in
     subst P (sym (hangs_of-push cs c)) (live-append live (hangs_of cs) (with_hang (key_of c) (hung_by c) []) before one)
@@ -70,7 +75,8 @@ live_after : (h : History) (live : Live) (counter : ℕ) (done : List Change) (o
     HangOnLive live (hangs_of done) → HangOnLive live (hangs_of (changes_after h done ops))
 live_after h live counter done [] none before = before
 live_after h live counter done (Get key rev ∷ ops) none before =
-    live_after h live counter done ops (both_none (op_refusal counter (is_live_in live) (Get key rev)) (branch_refusal counter (is_live_in live) ops) none).1 before
+    live_after h live counter done ops (both_none (op_refusal counter (is_live_in live) (Get key rev))
+    (branch_refusal counter (is_live_in live) ops) none).1 before
 live_after h live counter done (Put key value lease ∷ ops) none before =
     let parts : (op_refusal counter (is_live_in live) (Put key value lease) ≡ None) × (branch_refusal counter (is_live_in live) ops ≡ None) =
     both_none (op_refusal counter (is_live_in live) (Put key value lease)) (branch_refusal counter (is_live_in live) ops) none in
@@ -82,7 +88,8 @@ live_after h live counter done (Del key ∷ ops) none before =
       | Some s ↦ live_after h live counter (done ++ DelChange key ∷ []) ops none (live_push live done (DelChange key) before tt)
     ]
 
-pub hangs_live : (h : History) (live : Live) (ops : List Op) → branch_refusal (now h) (is_live_in live) ops ≡ None → HangOnLive live (hangs_of (changes_after h [] ops))
+pub hangs_live : (h : History) (live : Live) (ops : List Op) → branch_refusal (now h) (is_live_in live) ops ≡ None →
+    HangOnLive live (hangs_of (changes_after h [] ops))
 hangs_live h live ops none = live_after h live (now h) [] ops none tt
 
 -- nothing is used up below the highest revision, or without changes

@@ -4,6 +4,8 @@ pub mod Checks
 pub mod Branches
 pub mod Outcome
 pub mod Effect
+pub mod Commits
+pub mod Laws
 pub mod Leasing
 pub mod Moves
 pub mod Store

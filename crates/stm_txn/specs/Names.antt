@@ -1,7 +1,8 @@
 -- The names of refusals, as they are printed.
 use Rattle.std.specs.Prelude.{ℕ, List, codes}
 use Rattle.stm_txn.specs.declared.refusal.Refusal.{Refusal}
-use Rattle.stm_txn.specs.declared.refusal.Refusal.TheVariants.{OutOfMemory, EmptyKey, FutureRevision, Compacted, RevisionsUsedUp, LeaseExists, TtlOutOfRange, LeaseIdOutOfRange, LeaseNotFound, TooManyOps, DuplicateKey, TimeGoesBack}
+use Rattle.stm_txn.specs.declared.refusal.Refusal.TheVariants.{OutOfMemory, EmptyKey, FutureRevision, Compacted, RevisionsUsedUp, LeaseExists, TtlOutOfRange}
+use Rattle.stm_txn.specs.declared.refusal.Refusal.TheVariants.{LeaseIdOutOfRange, LeaseNotFound, TooManyOps, DuplicateKey, TimeGoesBack}
 
 abbrev pub refusal_name : Refusal → List ℕ
 refusal_name OutOfMemory = codes "OutOfMemory"

@@ -11,5 +11,6 @@ returns-then-makes_change c =
     let ops = c.args.ops.now in
     let op = c.op-item.result in
     sym (
-    ap has_changes (sym c.loop-op.invariant ∙ ap (changes_after h []) (drop-cons ops i op c.loop-op-test.true ∙ ap (λ o. o ∷ drop (suc i) ops) (sym c.op-item.is)))
+    ap has_changes (sym c.loop-op.invariant ∙ ap (changes_after h [])
+    (drop-cons ops i op c.loop-op-test.true ∙ ap (λ o. o ∷ drop (suc i) ops) (sym c.op-item.is)))
     ∙ changed_at_first h op (drop (suc i) ops) (sym c.makes_change.ensures ∙ c.if-makes_change.true))

@@ -10,6 +10,7 @@ invariant-loop-hang l = record {
   ends : (goal.iterator-loop-hang).is_finite l.hang-iterator;
   can : CanHang (lease_of l.leases) l.leases.live (into_iter_items l.hang-iterator);
   room : length (into_iter_items l.hang-iterator) ≤ l.leases.spare;
-  told : (key : List ℕ) → attached_all (into_iter_items l.hang-iterator) key (lease_of l.leases key) ≡ attached_all l.fn.hangs.items key (lease_of l.fn.leases key);
+  told : (key : List ℕ) → attached_all (into_iter_items l.hang-iterator) key (lease_of l.leases key)
+      ≡ attached_all l.fn.hangs.items key (lease_of l.fn.leases key);
   live : l.leases.live ≡ l.fn.leases.live;
 }

@@ -22,7 +22,8 @@ loop-change-preserved c =
     ∙ get_taken now.attached c.as_str.result.now key
     ∙ ap (λ k. cond (bytes_eq k key) None (lease_of now key)) (c.as_str.ensures ∙ c.key.ensures) in
     record {
-      told = λ key. ap (detached_all (drop (i + 1) cs) key) (taken key) ∙ sym (ap (λ l. detached_all l key (lease_of now key)) rest) ∙ c.loop-change.invariant.told key;
+      told = λ key. ap (detached_all (drop (i + 1) cs) key) (taken key) ∙ sym (ap (λ l. detached_all l key (lease_of now key)) rest)
+          ∙ c.loop-change.invariant.told key;
       live = ap (λ (s : Leases). s.live) c.detach.ensures.detached ∙ c.loop-change.invariant.live;
       spare = ap (λ (s : Leases). s.spare) c.detach.ensures.detached ∙ c.loop-change.invariant.spare;
     }

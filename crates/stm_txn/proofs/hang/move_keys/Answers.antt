@@ -11,7 +11,8 @@ attach_all-requires-clause-can c =
     let cs : List Change = c.args.changes.now in
     subst (CanHang (lease_of c.detach_all.new.leases) c.detach_all.new.leases.live) (sym c.requires.hangs)
     (can_hang (lease_of c.detach_all.new.leases) c.detach_all.new.leases.live cs c.requires.distinct
-    (subst (λ (live : Live). HangOnLive live (hangs_of cs)) (sym c.detach_all.ensures.live) (subst (HangOnLive c.args.leases.now.live) c.requires.hangs c.requires.live))
+    (subst (λ (live : Live). HangOnLive live (hangs_of cs)) (sym c.detach_all.ensures.live)
+    (subst (HangOnLive c.args.leases.now.live) c.requires.hangs c.requires.live))
     (λ key d is. free_between cs key (lease_of c.args.leases.now key) (lease_of c.detach_all.new.leases key) d (c.detach_all.ensures.keys key) is))
 
 pub returns-clause-keys : goal.returns-clause-keys

@@ -1,0 +1,71 @@
+-- The laws of transactions, each carried by a function of `src/laws.rt`.
+use Rattle.std.specs.Prelude.{◌≡◌, ◌↔◌, ℕ, ◌<◌, Bool, true, false, if◌then◌else◌, List, [], length, map, Option, Some, None, Ok, slice_get}
+use Rattle.std.specs.List.{list_all}
+use Rattle.stm_history.specs.declared.change.Change.{Change}
+use Rattle.stm_history.specs.declared.key_state.KeyState.{KeyState}
+use Rattle.stm_history.specs.History.{History, key_now, key_of, mod_of, HasDistinctKeys}
+use Rattle.stm_txn.specs.declared.txn.Txn.{Txn}
+use Rattle.stm_txn.specs.declared.txn.Compare.{Compare}
+use Rattle.stm_txn.specs.declared.answer.FailedCompare.{FailedCompare}
+use Rattle.stm_txn.specs.declared.refusal.Refusal.TheVariants.{TooManyOps}
+use Rattle.stm_txn.specs.Compares.{holds, first_failed}
+use Rattle.stm_txn.specs.Checks.{has_too_many, fault_of}
+use Rattle.stm_txn.specs.Effect.{op_of}
+use Rattle.stm_txn.specs.Outcome.{Done, outcome, with_changes}
+use Rattle.stm_txn.specs.Commits.{mod_is, mod_is_below, applied, Read, read_op, read_now, AreReached, AreNamed, read_out, turned_down}
+
+-- Writes of distinct keys come to these writes, where nothing of the whole transaction is wrong and every compare holds.
+abbrev pub WritesApply : Type 0
+WritesApply =
+    (h : History) (is_live : ℕ → Bool) (txn : Txn) (writes : List Change) → txn.success ≡ map op_of writes → HasDistinctKeys writes
+    → fault_of txn ≡ None → first_failed (key_now h) 0 txn.compares ≡ None → outcome h is_live txn ≡ applied h is_live writes
+
+-- Where a compare fails and the failure list reads, the compare and the reads are told, and nothing changes.
+abbrev pub FailedCompareReads : Type 0
+FailedCompareReads =
+    (h : History) (is_live : ℕ → Bool) (txn : Txn) (keys : List (List ℕ)) (failed : FailedCompare) → txn.failure ≡ map read_now keys
+    → fault_of txn ≡ None → first_failed (key_now h) 0 txn.compares ≡ Some failed → outcome h is_live txn ≡ Ok (turned_down h failed keys)
+
+-- A transaction of reads alone, none above the counter, answers each key at its revision and changes nothing.
+abbrev pub ReadsChangeNothing : Type 0
+ReadsChangeNothing =
+    (h : History) (is_live : ℕ → Bool) (txn : Txn) (reads : List Read) → txn.compares ≡ [] → txn.success ≡ map read_op reads
+    → fault_of txn ≡ None → AreReached h reads → outcome h is_live txn ≡ Ok (read_out h None reads)
+
+-- Of writes of distinct keys and reads, whose keys are not empty, nothing can be wrong as a whole but their number.
+abbrev pub NumberAloneIsWrong : Type 0
+NumberAloneIsWrong =
+    (txn : Txn) (writes : List Change) (keys : List (List ℕ)) → txn.success ≡ map op_of writes → txn.failure ≡ map read_now keys
+    → HasDistinctKeys writes → AreNamed (map (λ (c : Compare). c.key) txn.compares) → AreNamed (map key_of writes) → AreNamed keys
+    → fault_of txn ≡ (if has_too_many txn then Some TooManyOps else None)
+
+-- A compare of a modification revision holds where the numbers are equal, and one of "below" where it is below.
+pub record ModCompares : Type 0 where
+  pub equal : (key : List ℕ) (number : ℕ) (s : Option KeyState) → (holds (mod_is key number) s ≡ true) ↔ (mod_of s ≡ number)
+  pub below : (key : List ℕ) (number : ℕ) (s : Option KeyState) → (holds (mod_is_below key number) s ≡ true) ↔ (mod_of s < number)
+
+-- No compare failed exactly where all hold.
+abbrev pub NoneFailed : Type 0
+NoneFailed =
+    (state : List ℕ → Option KeyState) (compares : List Compare) →
+    (first_failed state 0 compares ≡ None) ↔ (list_all (λ (c : Compare). holds c (state c.key)) compares ≡ true)
+
+-- The compare that failed stands at the place that is told, below their number, does not hold, and its key's modification
+-- revision is told.
+pub record FailsAt (state : List ℕ → Option KeyState) (compares : List Compare) (failed : FailedCompare) : Type 0 where
+  pub within : failed.index < length compares
+  pub compare : Compare
+  pub stands : slice_get compares failed.index ≡ Some compare
+  pub fails : holds compare (state compare.key) ≡ false
+  pub told : failed.mod_rev ≡ mod_of (state compare.key)
+
+abbrev pub FailedHasItsPlace : Type 0
+FailedHasItsPlace =
+    (state : List ℕ → Option KeyState) (compares : List Compare) (failed : FailedCompare) →
+    first_failed state 0 compares ≡ Some failed → FailsAt state compares failed
+
+-- Whatever a transaction comes to, its history is the old one with some changes of distinct keys, or as it was.
+abbrev pub HistoryGrows : Type 0
+HistoryGrows =
+    (h : History) (is_live : ℕ → Bool) (txn : Txn) (done : Done) → outcome h is_live txn ≡ Ok done
+    → (changes : List Change) × HasDistinctKeys changes × (done.history ≡ with_changes h changes)

@@ -4,3 +4,5 @@ pub mod InStep
 pub mod Ordered
 pub mod First
 pub mod Seen
+pub mod DueLaws
+pub mod KeyLaws

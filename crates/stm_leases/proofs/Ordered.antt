@@ -1,10 +1,10 @@
 -- The keys of a lease: no key twice on its list, and ascending once they are sorted.
-use Rattle.std.proofs.Common.{◌≡◌, ◌≢◌, ◌⊎◌, ◌↔◌, ℕ, zero, suc, ◌+◌, ◌<◌, Bool, true, false, List, [], ◌∷◌, map, length, get_or, Option, Some, None, option_map, Contains, String, string_bytes, refl, sym, ap, subst, ◌∙◌, inl, inr, arith, IsSorted}
+use Rattle.std.proofs.Common.{◌≡◌, ◌↔◌, ℕ, zero, suc, ◌+◌, ◌<◌, false, List, [], ◌∷◌, map, length, get_or, Option, Some, None, option_map, Contains, String, string_bytes, refl, sym, ap, subst, ◌∙◌, inl, inr, arith, IsSorted, IsTrue, is_some}
 use Rattle.std.proofs.lemmas.Bool.{cases_Bool}
 use Rattle.std.proofs.lemmas.Cmp.{nat_list_cmp_total}
 use Rattle.std.proofs.lemmas.List.{get_or-map, length-map}
 use Rattle.std.proofs.lemmas.List.Sorted.{IsPermutation-map, Contains-permutation, IsPermutation-sym}
-use Rattle.std.proofs.lemmas.Map.Keys.{IsDistinct-cons, IsDistinct-IsPermutation, apart_from_distinct}
+use Rattle.std.proofs.lemmas.Map.Keys.{IsDistinct-IsPermutation, apart_from_distinct}
 use Rattle.std.proofs.lemmas.Map.Text.{is_eq-slice_cmp}
 use Rattle.std.proofs.lemmas.Option.{same_Some}
 use Rattle.std.proofs.lemmas.Slice.Eq.{bytes_eq-Decides}
@@ -17,9 +17,10 @@ use Rattle.std.specs.List.Sorted.{IsPermutation}
 use Rattle.std.specs.Ordering.{nat_cmp, is_lt, is_eq, ordering_reverse}
 use Rattle.std.specs.Str.{bytes_eq}
 use Rattle.std.specs.String.{string_cmp}
-use Rattle.stm_lists.specs.Lists.{Lists, entries_at, IsOff, IsApart}
+use Rattle.stm_lists.specs.Lists.{Lists, entries_at, first_node, IsOff, IsApart}
 use Rattle.stm_leases.specs.declared.lease.Attachment.{Attachment}
-use Rattle.stm_leases.specs.Leases.{Leases, AreKeysOf, IsAscending, lease_of}
+use Rattle.stm_leases.specs.AttachedKeys.{AreKeysOf, IsAscending, HasKeys}
+use Rattle.stm_leases.specs.Leases.{Leases, lease_of}
 use Rattle.stm_leases.specs.Kept.{Holds, AreInStep}
 
 -- what is neither above nor equal is below
@@ -42,6 +43,11 @@ bytes_flip x y =
     both_ways (bytes_eq x y) (bytes_eq y x)
     (λ t. (bytes_eq-Decides y x).1 (sym ((bytes_eq-Decides x y).0 t)))
     (λ t. (bytes_eq-Decides x y).1 (sym ((bytes_eq-Decides y x).0 t)))
+
+-- the place of a key that hangs on a lease
+pub placed_at : (place_of : List ℕ → Option Attachment) (id : ℕ) (key : List ℕ) (o : Option Attachment) → place_of key ≡ o → option_map (λ (p : Attachment). p.lease) o ≡ Some id → (p : Attachment) × (place_of key ≡ Some p) × (p.lease ≡ id)
+placed_at place_of id key None found same = absurd (cc)
+placed_at place_of id key (Some p) found same = (p, found, same_Some p.lease id same)
 
 module _ {A : Type 0} where
   -- a key is among the texts exactly where a node holds it
@@ -107,8 +113,40 @@ module _ {A : Type 0} where
           let second = at (suc k) s d upper in
           rw (first, second) (below (slice_cmp nat_cmp (string_bytes (get_or sorted k s)) (string_bytes (get_or sorted (suc k) s))) (slice_cmp nat_cmp (string_bytes (get_or sorted (suc k) s)) (string_bytes (get_or sorted k s))) (nat_list_cmp_total.antisymm (string_bytes (get_or sorted k s)) (string_bytes (get_or sorted (suc k) s))) no_fall (is_eq-slice_cmp (string_bytes (get_or sorted k s)) (string_bytes (get_or sorted (suc k) s)) ∙ rw (← first, ← second) differ))
 
+  -- a key hangs on a lease exactly where the lease's list has a node
+  pub list-has_keys : (s : Leases) (list_of : ℕ → Option ℕ) (place_of : List ℕ → Option Attachment) (keys : Lists (String A)) (id list : ℕ) → AreInStep list_of place_of keys → ((key : List ℕ) → lease_of s key ≡ option_map (λ (p : Attachment). p.lease) (place_of key)) → list_of id ≡ Some list → IsTrue (is_some (first_node (entries_at keys list))) ↔ HasKeys (lease_of s) id
+  list-has_keys s list_of place_of keys id list in_step seen live = (
+    λ some. by_entries (entries_at keys list) refl some,
+    λ has. among (entries_at keys list) (holds-contains _ has.0 (entries_at keys list) (held_key has.0 has.1).1),
+  )
+    where
+      by_entries : (xs : List (ℕ × String A)) → entries_at keys list ≡ xs → IsTrue (is_some (first_node xs)) → HasKeys (lease_of s) id
+      by_entries [] is some = absurd (cc)
+      by_entries (e ∷ xs) is some =
+          let on : Holds (entries_at keys list) e.0 (string_bytes e.1) = subst (λ (ys : List (ℕ × String A)). Holds ys e.0 (string_bytes e.1)) (sym is) (inl (refl, refl)) in
+          (string_bytes e.1, seen (string_bytes e.1) ∙ ap (option_map (λ (p : Attachment). p.lease)) (in_step.held id list e.0 (string_bytes e.1) live on))
+
+      held_key : (key : List ℕ) → lease_of s key ≡ Some id → (node : ℕ) × Holds (entries_at keys list) node key
+      held_key key is =
+          let place = placed_at place_of id key (place_of key) refl (sym (seen key) ∙ is) in
+          let had = in_step.placed key place.0 place.1 in
+          let same : had.0 ≡ list = same_Some had.0 list (sym had.1 ∙ ap list_of place.2 ∙ live) in
+          (place.0.node, subst (λ (l : ℕ). Holds (entries_at keys l) place.0.node key) same had.2)
+
+      among : (xs : List (ℕ × String A)) → {key : List ℕ} → Contains (map (λ (e : ℕ × String A). string_bytes e.1) xs) key → IsTrue (is_some (first_node xs))
+      among [] c = absurd (omega (arith, c.1))
+      among (e ∷ xs) c = refl
+
+  -- no key hangs on a lease that has no list
+  pub none-hang : (s : Leases) (list_of : ℕ → Option ℕ) (place_of : List ℕ → Option Attachment) (keys : Lists (String A)) (id : ℕ) → AreInStep list_of place_of keys → ((key : List ℕ) → lease_of s key ≡ option_map (λ (p : Attachment). p.lease) (place_of key)) → list_of id ≡ None → ¬ HasKeys (lease_of s) id
+  none-hang s list_of place_of keys id in_step seen none has =
+      let place = placed_at place_of id has.0 (place_of has.0) refl (sym (seen has.0) ∙ has.1) in
+      let had = in_step.placed has.0 place.0 place.1 in
+      let never : Some had.0 ≡ None = sym had.1 ∙ ap list_of place.2 ∙ none in
+      absurd (cc)
+
   -- the sorted texts of a lease's list are the keys of the lease
-  pub sorted-keys : (s : Leases) (list_of : ℕ → Option ℕ) (place_of : List ℕ → Option Attachment) (keys : Lists (String A)) (id list : ℕ) (texts sorted : List (String A)) → AreInStep list_of place_of keys → ((key : List ℕ) → lease_of s key ≡ option_map (λ (p : Attachment). p.lease) (place_of key)) → list_of id ≡ Some list → IsApart (entries_at keys list) → map string_bytes texts ≡ map (λ (e : ℕ × String A). string_bytes e.1) (entries_at keys list) → IsPermutation texts sorted → IsSorted string_cmp sorted → AreKeysOf s id (map string_bytes sorted)
+  pub sorted-keys : (s : Leases) (list_of : ℕ → Option ℕ) (place_of : List ℕ → Option Attachment) (keys : Lists (String A)) (id list : ℕ) (texts sorted : List (String A)) → AreInStep list_of place_of keys → ((key : List ℕ) → lease_of s key ≡ option_map (λ (p : Attachment). p.lease) (place_of key)) → list_of id ≡ Some list → IsApart (entries_at keys list) → map string_bytes texts ≡ map (λ (e : ℕ × String A). string_bytes e.1) (entries_at keys list) → IsPermutation texts sorted → IsSorted string_cmp sorted → AreKeysOf (lease_of s) id (map string_bytes sorted)
   sorted-keys s list_of place_of keys id list texts sorted in_step seen live apart are moved up =
       let distinct = subst (IsDistinct bytes_eq) (sym are) (keys_differ place_of id (entries_at keys list) apart (λ n k h. in_step.held id list n k live h)) in
       let permuted = IsPermutation-map string_bytes texts sorted moved in
@@ -120,14 +158,10 @@ module _ {A : Type 0} where
               let node = contains-holds key (entries_at keys list) (subst (λ (ks : List (List ℕ)). Contains ks key) are unsorted) in
               seen key ∙ ap (option_map (λ (p : Attachment). p.lease)) (in_step.held id list node.0 key live node.1),
           λ hangs.
-              let place = by_place key (place_of key) refl (sym (seen key) ∙ hangs) in
+              let place = placed_at place_of id key (place_of key) refl (sym (seen key) ∙ hangs) in
               let had = in_step.placed key place.0 place.1 in
               let same : had.0 ≡ list = same_Some had.0 list (sym had.1 ∙ ap list_of place.2 ∙ live) in
               let holds = subst (λ (l : ℕ). Holds (entries_at keys l) place.0.node key) same had.2 in
               Contains-permutation (map string_bytes texts) (map string_bytes sorted) key permuted (subst (λ (ks : List (List ℕ)). Contains ks key) (sym are) (holds-contains place.0.node key (entries_at keys list) holds)),
         );
       }
-    where
-      by_place : (key : List ℕ) (o : Option Attachment) → place_of key ≡ o → option_map (λ (p : Attachment). p.lease) o ≡ Some id → (p : Attachment) × (place_of key ≡ Some p) × (p.lease ≡ id)
-      by_place key None found same = absurd (cc)
-      by_place key (Some p) found same = (p, found, same_Some p.lease id same)

@@ -1,6 +1,6 @@
 -- What callers see of the tables, and what each change of a table makes of it.
-use Rattle.std.proofs.Common.{◌≡◌, ◌≢◌, ◌⊎◌, ℕ, ◌+◌, ◌-◌, ◌<◌, ◌≤◌, Bool, true, false, cond, is_some, IsTrue, IsSome, List, [], ◌∷◌, map, length, Option, Some, None, option_map, String, string_bytes, nat_eq, refl, sym, ap, subst, ◌∙◌, inl, inr, arith}
-use Rattle.std.proofs.lemmas.Bool.{true≢false, cases_lt, eqb-true}
+use Rattle.std.proofs.Common.{◌≡◌, ◌≢◌, ◌⊎◌, ℕ, ◌+◌, ◌-◌, ◌<◌, ◌≤◌, Bool, true, false, cond, is_some, ◌&&◌, nat_le, IsTrue, List, length, Option, Some, None, option_map, String, nat_eq, refl, sym, ap, subst, ◌∙◌, inl, inr, arith}
+use Rattle.std.proofs.lemmas.Bool.{true≢false, cases_lt, eqb-true, leb-false}
 use Rattle.std.proofs.lemmas.Cmp.{nat_list_cmp_total}
 use Rattle.std.proofs.lemmas.Option.{same_Some}
 use Rattle.std.specs.Cmp.{eq_by_cmp_equiv}
@@ -11,13 +11,16 @@ use Rattle.std.specs.FinMap as finmap
 use Rattle.indexmap.specs.IndexMap.{IndexMap, get, get_by_text, ContainsKey}
 use Rattle.stm_lists.specs.Lists.{Lists, entries_at}
 use Rattle.stm_leases.specs.LeaseLog.{LogItem, Term, term_of, due}
-use Rattle.stm_leases.specs.Leases.{Leases, StandsFor, IsLive, lease_of, NoneIsDue, IsNextDue, ComesNoLater}
+use Rattle.stm_leases.specs.DueFirst.{NoneIsDue, IsNextDue, ComesNoLater}
+use Rattle.stm_leases.specs.Leases.{Leases, StandsFor, IsLive, HangOnLive, lease_of}
 use Rattle.stm_leases.specs.Due.{overdue_at, best_of}
 use Rattle.stm_leases.specs.declared.lease.Lease.{Lease}
 use Rattle.stm_leases.specs.declared.lease.Attachment.{Attachment}
-use Rattle.stm_leases.specs.Kept.{term_in, view_of, list_in, Holds, AreInStep}
+use Rattle.stm_leases.specs.Live.{is_id, is_ttl, AreInRange}
+use Rattle.stm_leases.specs.Kept.{term_in, view_of, list_in, AllInRange, AreInStep, Holds}
 use Rattle.stm_leases.proofs.Tables.{get-live, get-attached, live-insert, live-remove, attached-insert, attached-remove, log-insert, log-remove, log-renew, len-entries}
-use Rattle.stm_leases.proofs.First.{IsEntry, IsBest, NoneBest, best, none_best, lookup-entry, entry-lookup, due-for, due-some}
+use Rattle.stm_leases.proofs.Ordered.{placed_at}
+use Rattle.stm_leases.proofs.First.{IsEntry, IsBest, best, none_best, lookup-entry, entry-lookup, due-for, due-some}
 
 through_list : (b : Bool) (o p : Option Lease) → option_map (λ (l : Lease). l.keys) (cond b o p) ≡ cond b (option_map (λ (l : Lease). l.keys) o) (option_map (λ (l : Lease). l.keys) p)
 through_list true o p = refl
@@ -26,6 +29,46 @@ through_list false o p = refl
 -- a change of the table at one id changes the list of that id
 pub list-updates : {S : Type 0} (old new : IndexMap ℕ Lease S) (id : ℕ) (o : Option Lease) → ((q : ℕ) → get nat_eq new q ≡ cond (nat_eq id q) o (get nat_eq old q)) → (q : ℕ) → list_in new q ≡ cond (nat_eq id q) (option_map (λ (l : Lease). l.keys) o) (list_in old q)
 list-updates old new id o updates q = ap (option_map (λ (l : Lease). l.keys)) (updates q) ∙ through_list (nat_eq id q) o (get nat_eq old q)
+
+-- an id and a time to live that pass the tests of a grant are in range
+pub id-fits : (id : ℕ) → id ≢ 0 → id ≤ 9223372036854775807 → IsTrue (is_id id)
+id-fits id positive within = by_tests (nat_le 1 id) (nat_le id 9223372036854775807) refl refl
+  where
+    by_tests : (a b : Bool) → nat_le 1 id ≡ a → nat_le id 9223372036854775807 ≡ b → (a && b) ≡ true
+    by_tests true true x y = refl
+    by_tests true false x y = let above = leb-false id 9223372036854775807 y in absurd (omega arith)
+    by_tests false b x y = let below = leb-false 1 id x in absurd (positive (omega arith))
+
+pub ttl-fits : (ttl : ℕ) → ttl ≢ 0 → ttl ≤ 9000000000 → IsTrue (is_ttl ttl)
+ttl-fits ttl positive within = by_tests (nat_le 1 ttl) (nat_le ttl 9000000000) refl refl
+  where
+    by_tests : (a b : Bool) → nat_le 1 ttl ≡ a → nat_le ttl 9000000000 ≡ b → (a && b) ≡ true
+    by_tests true true x y = refl
+    by_tests true false x y = let above = leb-false ttl 9000000000 y in absurd (omega arith)
+    by_tests false b x y = let below = leb-false 1 ttl x in absurd (positive (omega arith))
+
+-- what holds of each lease of the table, and of one more, holds of each lease after it
+pub one-more : {S : Type 0} (old new : IndexMap ℕ Lease S) (id : ℕ) (now : Lease) → ((q : ℕ) → get nat_eq new q ≡ cond (nat_eq id q) (Some now) (get nat_eq old q))
+    → AllInRange old → IsTrue (is_id id) × IsTrue (is_ttl now.ttl) → AllInRange new
+one-more old new id now updates kept more q l is = by_test (nat_eq id q) refl (sym (updates q) ∙ is)
+  where
+    by_test : (b : Bool) → nat_eq id q ≡ b → cond b (Some now) (get nat_eq old q) ≡ Some l → IsTrue (is_id q) × IsTrue (is_ttl l.ttl)
+    by_test true same found =
+        let leases : now ≡ l = same_Some now l found in
+        (subst (λ (n : ℕ). IsTrue (is_id n)) (eqb-true id q same) more.0, subst (λ (x : Lease). IsTrue (is_ttl x.ttl)) leases more.1)
+    by_test false differs found = kept q l found
+
+-- a table with the same entries is in range too
+pub same-range : {S : Type 0} (old new : IndexMap ℕ Lease S) → new.entries ≡ old.entries → AllInRange old → AllInRange new
+same-range old new same all id lease is = all id lease (ap (lookup (nat_eq id)) (sym same) ∙ is)
+
+-- what is left after a removal was there before
+pub left-lease : {S : Type 0} (old new : IndexMap ℕ Lease S) (id q : ℕ) (l : Lease) → ((n : ℕ) → get nat_eq new n ≡ cond (nat_eq id n) None (get nat_eq old n)) → get nat_eq new q ≡ Some l → get nat_eq old q ≡ Some l
+left-lease old new id q l updates is = by_test (nat_eq id q) (sym (updates q) ∙ is)
+  where
+    by_test : (b : Bool) → cond b None (get nat_eq old q) ≡ Some l → get nat_eq old q ≡ Some l
+    by_test true found = absurd (cc)
+    by_test false found = found
 
 -- a renewal keeps the list of each id
 pub list-renewed : {S : Type 0} (old new : IndexMap ℕ Lease S) (id : ℕ) (was now : Lease) → get nat_eq old id ≡ Some was → now.keys ≡ was.keys → ((q : ℕ) → get nat_eq new q ≡ cond (nat_eq id q) (Some now) (get nat_eq old q)) → (q : ℕ) → list_in new q ≡ list_in old q
@@ -49,6 +92,14 @@ module _ {A S R : Type 0} (leases : IndexMap ℕ Lease S) (attached : IndexMap (
       by_lease None = refl
       by_lease (Some l) = refl
 
+  -- ids and times to live in range, as callers see them
+  pub range-now : AllInRange leases → AreInRange now.live
+  range-now all id term is = by_lease (get nat_eq leases id) refl (sym (live-now id) ∙ is)
+    where
+      by_lease : (o : Option Lease) → get nat_eq leases id ≡ o → option_map term_in o ≡ Some term → IsTrue (is_id id) × IsTrue (is_ttl term.ttl)
+      by_lease None found same = absurd (cc)
+      by_lease (Some l) found same = let fits = all id l found in (fits.0, subst (λ (t : Term). IsTrue (is_ttl t.ttl)) (same_Some (term_in l) term same) fits.1)
+
   pub live-found : (id : ℕ) (l : Lease) → get nat_eq leases id ≡ Some l → IsLive now id
   live-found id l found = contains-now id ∙ ap is_some found
 
@@ -60,6 +111,20 @@ module _ {A S R : Type 0} (leases : IndexMap ℕ Lease S) (attached : IndexMap (
 
   pub term-found : (id : ℕ) (l : Lease) (term : Term) → get nat_eq leases id ≡ Some l → finmap.get now.live id ≡ Some term → term_in l ≡ term
   term-found id l term found is = same_Some (term_in l) term (sym (live-now id ∙ ap (option_map term_in) found) ∙ is)
+
+  -- a key hangs on a live lease
+  pub hang-on-live : {B : Type 0} (keys : Lists (String B)) → AreInStep (list_in leases) (get_by_text attached) keys → HangOnLive now
+  hang-on-live keys in_step key id is = by_lease (get nat_eq leases place.0.lease) refl had.1
+    where
+      place : (p : Attachment) × (get_by_text attached key ≡ Some p) × (p.lease ≡ id)
+      place = placed_at (get_by_text attached) id key (get_by_text attached key) refl (sym (lease_of-now key) ∙ is)
+
+      had : (list : ℕ) × (list_in leases place.0.lease ≡ Some list) × Holds (entries_at keys list) place.0.node key
+      had = in_step.placed key place.0 place.1
+
+      by_lease : (o : Option Lease) → get nat_eq leases place.0.lease ≡ o → option_map (λ (l : Lease). l.keys) o ≡ Some had.0 → IsLive now id
+      by_lease None found same = absurd (cc)
+      by_lease (Some l) found same = subst (λ (n : ℕ). IsLive now n) place.2 (live-found place.0.lease l found)
 
   -- the leases after a change of their table
   pub inserted-view : (new : IndexMap ℕ Lease S) (id : ℕ) (l : Lease) → ((q : ℕ) → get nat_eq new q ≡ cond (nat_eq id q) (Some l) (get nat_eq leases q)) → view_of new attached spare ≡ record now { live = finmap.insert now.live id (term_in l) }
@@ -90,16 +155,16 @@ module _ {A S R : Type 0} (leases : IndexMap ℕ Lease S) (attached : IndexMap (
       ∙ ap (λ b. cond b None (finmap.get now.attached key)) ((eq_by_cmp_equiv nat_list_cmp_total).refl key)
 
   -- what the leases stand for after a change
-  pub granted-log : (new : IndexMap ℕ Lease S) (id : ℕ) (l : Lease) → ((q : ℕ) → get nat_eq new q ≡ cond (nat_eq id q) (Some l) (get nat_eq leases q)) → (log : List LogItem) → StandsFor now log → (q : ℕ) → finmap.get (view_of new attached spare).live q ≡ cond (nat_eq id q) (Some (term_in l)) (term_of log q)
+  pub granted-log : (new : IndexMap ℕ Lease S) (id : ℕ) (l : Lease) → ((q : ℕ) → get nat_eq new q ≡ cond (nat_eq id q) (Some l) (get nat_eq leases q)) → (log : List LogItem) → StandsFor now.live log → (q : ℕ) → finmap.get (view_of new attached spare).live q ≡ cond (nat_eq id q) (Some (term_in l)) (term_of log q)
   granted-log new id l updates log stands q =
       ap (λ (s : Leases). finmap.get s.live q) (inserted-view new id l updates) ∙ log-insert now log id (term_in l) stands q
 
-  pub renewed-log : (new : IndexMap ℕ Lease S) (id at : ℕ) (l old : Lease) → get nat_eq leases id ≡ Some old → term_in l ≡ record { ttl = old.ttl; renewed = at } → ((q : ℕ) → get nat_eq new q ≡ cond (nat_eq id q) (Some l) (get nat_eq leases q)) → (log : List LogItem) → StandsFor now log → (q : ℕ) → finmap.get (view_of new attached spare).live q ≡ cond (nat_eq id q) (option_map (λ (t : Term). record t { renewed = at }) (term_of log q)) (term_of log q)
+  pub renewed-log : (new : IndexMap ℕ Lease S) (id at : ℕ) (l old : Lease) → get nat_eq leases id ≡ Some old → term_in l ≡ record { ttl = old.ttl; renewed = at } → ((q : ℕ) → get nat_eq new q ≡ cond (nat_eq id q) (Some l) (get nat_eq leases q)) → (log : List LogItem) → StandsFor now.live log → (q : ℕ) → finmap.get (view_of new attached spare).live q ≡ cond (nat_eq id q) (option_map (λ (t : Term). record t { renewed = at }) (term_of log q)) (term_of log q)
   renewed-log new id at l old found is updates log stands q =
       ap (λ (s : Leases). finmap.get s.live q) (inserted-view new id l updates) ∙ ap (λ (t : Term). finmap.get (finmap.insert now.live id t) q) is
       ∙ log-renew now log id at (term_in old) (live-now id ∙ ap (option_map term_in) found) stands q
 
-  pub removed-log : (new : IndexMap ℕ Lease S) (id : ℕ) → ((q : ℕ) → get nat_eq new q ≡ cond (nat_eq id q) None (get nat_eq leases q)) → (log : List LogItem) → StandsFor now log → (q : ℕ) → finmap.get (view_of new attached spare).live q ≡ cond (nat_eq id q) None (term_of log q)
+  pub removed-log : (new : IndexMap ℕ Lease S) (id : ℕ) → ((q : ℕ) → get nat_eq new q ≡ cond (nat_eq id q) None (get nat_eq leases q)) → (log : List LogItem) → StandsFor now.live log → (q : ℕ) → finmap.get (view_of new attached spare).live q ≡ cond (nat_eq id q) None (term_of log q)
   removed-log new id updates log stands q =
       ap (λ (s : Leases). finmap.get s.live q) (removed-view new id updates) ∙ log-remove now log id stands q
 
@@ -112,7 +177,7 @@ module _ {A S R : Type 0} (leases : IndexMap ℕ Lease S) (attached : IndexMap (
   len-now distinct = sym (len-entries term_in leases.entries distinct) ∙ ap (λ (s : Leases). finmap.len s.live) seen
 
   -- the longest due lease is the next
-  pub none-due : (at : ℕ) → best_of at None leases.entries ≡ None → NoneIsDue now at
+  pub none-due : (at : ℕ) → best_of at None leases.entries ≡ None → NoneIsDue now.live at
   none-due at none id term is =
       by_lease (get nat_eq leases id) refl (sym (live-now id) ∙ is)
     where
@@ -126,7 +191,7 @@ module _ {A S R : Type 0} (leases : IndexMap ℕ Lease S) (attached : IndexMap (
             | inr now_due ↦ let is_due = due-some at l now_due in absurd (cc)
           ]
 
-  pub next-due : (at overdue id : ℕ) → IsDistinct nat_eq (keys_of leases.entries) → best_of at None leases.entries ≡ Some (overdue, id) → IsNextDue now at id
+  pub next-due : (at overdue id : ℕ) → IsDistinct nat_eq (keys_of leases.entries) → best_of at None leases.entries ≡ Some (overdue, id) → IsNextDue now.live at id
   next-due at overdue id distinct is =
       let top = best at None leases.entries (overdue, id) is in
       let found = entry_found top.from in
@@ -134,7 +199,7 @@ module _ {A S R : Type 0} (leases : IndexMap ℕ Lease S) (attached : IndexMap (
       let when = due-for at overdue lease found.2 in
       record {
         term = term_in lease;
-        live = live-now id ∙ ap (option_map term_in) (entry-lookup id lease leases.entries distinct found.1);
+        live_now = live-now id ∙ ap (option_map term_in) (entry-lookup id lease leases.entries distinct found.1);
         is_due = omega arith;
         first = λ other term is_term is_due. by_lease top other term is_due (get nat_eq leases other) refl (sym (live-now other) ∙ is_term) lease when;
       }

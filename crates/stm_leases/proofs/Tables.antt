@@ -1,6 +1,6 @@
 -- From the tables to what contracts see of them.
-use Rattle.std.proofs.Common.{◌≡◌, ◌≢◌, ◌⊎◌, ℕ, ◌+◌, Bool, true, false, cond, is_some, List, [], ◌∷◌, map, length, Option, Some, None, option_map, String, string_bytes, nat_eq, refl, sym, ap, subst, ◌∙◌, inl, inr, arith}
-use Rattle.std.proofs.lemmas.Bool.{cases_Bool, cases_eq, eqb-true, eq-eqb, ne_eqb}
+use Rattle.std.proofs.Common.{◌≡◌, ℕ, ◌+◌, Bool, true, false, cond, is_some, List, [], ◌∷◌, map, length, Option, Some, None, option_map, String, string_bytes, nat_eq, refl, sym, ap, subst, ◌∙◌, arith}
+use Rattle.std.proofs.lemmas.Bool.{eqb-true, eq-eqb}
 use Rattle.std.proofs.lemmas.Cmp.{nat_cmp_total, nat_eq_equiv, nat_list_cmp_total}
 use Rattle.std.proofs.lemmas.Map.Text.{is_eq-slice_cmp}
 use Rattle.std.proofs.lemmas.Map.Keys.{IsDistinct-head, IsDistinct-tail}
@@ -117,15 +117,15 @@ module _ {A S R : Type 0} (leases : IndexMap ℕ Lease S) (attached : IndexMap (
       new_attached q = finmap.get-from_entries nat_list_cmp_total (map (λ (e : String A × Attachment). (string_bytes e.0, e.1.lease)) new.entries) q ∙ find-texts (λ (x : Attachment). x.lease) new.entries q
 
 -- what a log says after one more item
-pub log-insert : (s : Leases) (log : List LogItem) (id : ℕ) (term : Term) → StandsFor s log → (q : ℕ) → finmap.get (finmap.insert s.live id term) q ≡ cond (nat_eq id q) (Some term) (term_of log q)
+pub log-insert : (s : Leases) (log : List LogItem) (id : ℕ) (term : Term) → StandsFor s.live log → (q : ℕ) → finmap.get (finmap.insert s.live id term) q ≡ cond (nat_eq id q) (Some term) (term_of log q)
 log-insert s log id term stands q =
     finmap.get-insert nat_cmp_total s.live id term q ∙ ap (λ b. cond b (Some term) (finmap.get s.live q)) (sym (flipped id q)) ∙ ap (cond (nat_eq id q) (Some term)) (stands q)
 
-pub log-remove : (s : Leases) (log : List LogItem) (id : ℕ) → StandsFor s log → (q : ℕ) → finmap.get (finmap.remove s.live id) q ≡ cond (nat_eq id q) None (term_of log q)
+pub log-remove : (s : Leases) (log : List LogItem) (id : ℕ) → StandsFor s.live log → (q : ℕ) → finmap.get (finmap.remove s.live id) q ≡ cond (nat_eq id q) None (term_of log q)
 log-remove s log id stands q =
     finmap.get-remove nat_cmp_total s.live id q ∙ ap (λ b. cond b None (finmap.get s.live q)) (sym (flipped id q)) ∙ ap (cond (nat_eq id q) None) (stands q)
 
-pub log-renew : (s : Leases) (log : List LogItem) (id at : ℕ) (term : Term) → finmap.get s.live id ≡ Some term → StandsFor s log → (q : ℕ) → finmap.get (finmap.insert s.live id (record term { renewed = at })) q ≡ cond (nat_eq id q) (option_map (λ (t : Term). record t { renewed = at }) (term_of log q)) (term_of log q)
+pub log-renew : (s : Leases) (log : List LogItem) (id at : ℕ) (term : Term) → finmap.get s.live id ≡ Some term → StandsFor s.live log → (q : ℕ) → finmap.get (finmap.insert s.live id (record term { renewed = at })) q ≡ cond (nat_eq id q) (option_map (λ (t : Term). record t { renewed = at }) (term_of log q)) (term_of log q)
 log-renew s log id at term found stands q =
     log-insert s log id (record term { renewed = at }) stands q ∙ by_test (nat_eq id q) refl
   where

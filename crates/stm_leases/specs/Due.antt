@@ -1,5 +1,5 @@
 -- How the first due lease is found among the entries of the table. No public clause cites this module.
-use Rattle.std.specs.Prelude.{ℕ, ◌+◌, ◌-◌, Bool, nat_lt, nat_le, nat_eq, ◌&&◌, ◌||◌, List, [], ◌∷◌, Option, Some, None, if◌then◌else◌}
+use Rattle.std.specs.Prelude.{ℕ, ◌+◌, ◌-◌, nat_lt, nat_le, nat_eq, ◌&&◌, ◌||◌, List, [], ◌∷◌, Option, Some, None, if◌then◌else◌}
 use Rattle.stm_leases.specs.declared.lease.Lease.{Lease}
 
 -- for how long a lease has been due, nothing where it is not

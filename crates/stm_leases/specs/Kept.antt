@@ -1,11 +1,10 @@
 -- How the tables and the lists agree. No public clause cites this module.
-use Rattle.std.specs.Prelude.{◌≡◌, ◌≢◌, ◌⊎◌, ℕ, ◌≤◌, List, [], ◌∷◌, map, Option, Some, None, option_map, nat_eq, String, string_bytes}
-use Rattle.std.specs.Ordering.{nat_cmp}
-use Rattle.std.specs.Cmp.Lexicographic.{slice_cmp}
+use Rattle.std.specs.Prelude.{◌≡◌, ◌⊎◌, ℕ, ◌≤◌, List, [], ◌∷◌, map, Option, Some, IsTrue, option_map, nat_eq, String, string_bytes}
 use Rattle.std.specs.FinMap as finmap
 use Rattle.indexmap.specs.IndexMap.{IndexMap, get, get_by_text, spare}
 use Rattle.stm_lists.specs.Lists.{Lists, entries_at, HasList}
 use Rattle.stm_leases.specs.LeaseLog.{Term}
+use Rattle.stm_leases.specs.Live.{is_id, is_ttl}
 use Rattle.stm_leases.specs.Leases.{Leases}
 use Rattle.stm_leases.specs.declared.lease.Lease.{Lease}
 use Rattle.stm_leases.specs.declared.lease.Attachment.{Attachment}
@@ -40,8 +39,13 @@ pub record AreInStep {A : Type 0} (list_of : ℕ → Option ℕ) (place_of : Lis
   pub held : (id list node : ℕ) (key : List ℕ) → list_of id ≡ Some list → Holds (entries_at keys list) node key
       → place_of key ≡ Some (record { lease = id; node = node })
 
--- the tables and the lists agree, and the attaches that are certain have room in both
+-- each id of the table and its time to live are in range
+abbrev pub AllInRange : {S : Type 0} → IndexMap ℕ Lease S → Type 0
+AllInRange leases = (id : ℕ) (lease : Lease) → get nat_eq leases id ≡ Some lease → IsTrue (is_id id) × IsTrue (is_ttl lease.ttl)
+
+-- the tables and the lists agree, ids and times to live are in range, and the attaches that are certain have room in both
 pub record AreKept {A S R : Type 0} (leases : IndexMap ℕ Lease S) (attached : IndexMap (String A) Attachment R) (keys : Lists (String A)) (room : ℕ) : Type 0 where
   pub in_step : AreInStep (list_in leases) (get_by_text attached) keys
+  pub in_range : AllInRange leases
   pub table_room : room ≤ spare attached
   pub list_room : room ≤ keys.spare

@@ -1,5 +1,9 @@
 pub mod LeaseLog
+pub mod Live
+pub mod DueFirst
+pub mod AttachedKeys
 pub mod Leases
+pub mod Laws
 pub mod Due
 pub mod Kept
 pub mod GrantNames

@@ -4,10 +4,13 @@
 //! whole seconds; the caller hands the moment in.
 #![tactic(auto)]
 
+mod bounds;
 mod collect;
 mod errors;
+pub mod laws;
 mod lease;
 mod table;
 
+pub use bounds::{HIGHEST_ID, HIGHEST_TTL};
 pub use errors::{GrantError, KeysError, LeaseNotFound};
 pub use table::Leases;

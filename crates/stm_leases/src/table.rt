@@ -3,6 +3,7 @@ ghost use Rattle.std.specs.Prelude.{◌≡◌, ◌≢◌, ℕ, ◌-◌, ◌<◌,
 ghost use Rattle.std.specs.FinMap as finmap;
 ghost use Rattle.stm_leases.specs.LeaseLog.{LogItem, Grant, Renew, Revoke, Expire, Term};
 
+use crate::bounds::{HIGHEST_ID, HIGHEST_TTL};
 use crate::collect::{longest_due, texts};
 use crate::errors::{GrantError, KeysError, LeaseNotFound};
 use crate::lease::{Attachment, Lease};
@@ -10,10 +11,6 @@ use indexmap::IndexMap;
 use std::alloc::{AllocError, Global};
 use std::marker::Model;
 use stm_lists::Lists;
-
-const HIGHEST_ID: u64 = 9223372036854775807;
-
-const HIGHEST_TTL: u64 = 9000000000;
 
 /// The live leases, and the keys that hang on them.
 ///
@@ -44,7 +41,10 @@ impl Model for Leases {
 }
 
 impl Leases {
-    ghost use Rattle.stm_leases.specs.Leases.{IsLive, StandsFor, AreKeysOf, NoneIsDue, IsNextDue, lease_of, grant_refusal};
+    ghost use Rattle.stm_leases.specs.Live.{AreInRange, is_live_in, grant_refusal};
+    ghost use Rattle.stm_leases.specs.DueFirst.{first_due};
+    ghost use Rattle.stm_leases.specs.AttachedKeys.{HasKeys, keys_on};
+    ghost use Rattle.stm_leases.specs.Leases.{HangOnLive, IsLive, StandsFor, lease_of};
 
     /// No leases. It takes no memory.
     pub fn new(alloc: Global) -> Leases
@@ -65,9 +65,9 @@ impl Leases {
     ///
     /// It is refused for the first cause that `GrantError` lists; a refusal changes nothing.
     pub fn grant(&mut self, id: u64, ttl: u64, now: u64) -> Result<(), GrantError>
-        ensures refusal { MatchOption (grant_refusal self.old id ttl) (IsOkUnless result GrantError.OutOfMemory) (λ cause. result ≡ Err cause) }
+        ensures refusal { MatchOption (grant_refusal self.old.live id ttl) (IsOkUnless result GrantError.OutOfMemory) (λ cause. result ≡ Err cause) }
         ensures ok { OnOk result (self.new ≡ record self.old { live = finmap.insert self.old.live id (record { ttl = ttl; renewed = now }) }) }
-        ensures log { OnOk result ((log : List LogItem) → StandsFor self.old log → StandsFor self.new (Grant id ttl now ∷ log)) }
+        ensures log { OnOk result ((log : List LogItem) → StandsFor self.old.live log → StandsFor self.new.live (Grant id ttl now ∷ log)) }
         ensures err { OnErr result (self.new ≡ self.old) }
     {
         if id == 0 || id > HIGHEST_ID {
@@ -101,7 +101,7 @@ impl Leases {
         ensures found { IsOk result ↔ IsLive self.old id }
         ensures ok { (term : Term) → finmap.get self.old.live id ≡ Some term
             → self.new ≡ record self.old { live = finmap.insert self.old.live id (record term { renewed = now }) } }
-        ensures log { OnOk result ((log : List LogItem) → StandsFor self.old log → StandsFor self.new (Renew id now ∷ log)) }
+        ensures log { OnOk result ((log : List LogItem) → StandsFor self.old.live log → StandsFor self.new.live (Renew id now ∷ log)) }
         ensures err { OnErr result (self.new ≡ self.old) }
     {
         let Some(lease) = self.leases.get(&id) else {
@@ -119,8 +119,12 @@ impl Leases {
     }
 
     /// Whether the id is that of a live lease.
+    ///
+    /// Every live id and its time to live are in their ranges, and each attached key hangs on a live lease.
     pub fn is_live(&self, id: u64) -> bool
-        ensures { result ≡ finmap.contains_key self.now.live id }
+        ensures live { result ≡ is_live_in self.now.live id }
+        ensures in_range { AreInRange self.now.live }
+        ensures hang_on_live { HangOnLive self.now }
     {
         self.leases.contains_key(&id)
     }
@@ -176,7 +180,7 @@ impl Leases {
     pub fn keys_of(&self, id: u64) -> Result<Vec<String>, KeysError>
         ensures live { IsLive self.now id → IsOkUnless result KeysError.OutOfMemory }
         ensures not_live { ¬ IsLive self.now id → result ≡ Err KeysError.LeaseNotFound }
-        ensures ok { IfOk result (λ keys. AreKeysOf self.now id (map string_bytes keys.items)) }
+        ensures ok { IfOk result (λ keys. map string_bytes keys.items ≡ keys_on self.now.attached id) }
     {
         let Some(lease) = self.leases.get(&id) else {
             return Err(KeysError::LeaseNotFound);
@@ -188,21 +192,31 @@ impl Leases {
         Ok(keys)
     }
 
-    /// The lease that is due at `now` and was due first; of several at one moment the least id.
+    /// Whether a key hangs on the lease. It takes no memory.
+    pub fn has_keys(&self, id: u64) -> bool
+        ensures { IsTrue result ↔ HasKeys (lease_of self.now) id }
+    {
+        match self.leases.get(&id) {
+            None => false,
+            Some(lease) => self.keys.front(lease.keys).is_some(),
+        }
+    }
+
+    /// The lease that is due at `now` and was due first; of several at one moment the one with the least id.
     pub fn next_due(&self, now: u64) -> Option<u64>
-        ensures { MatchOption result (NoneIsDue self.now now) (IsNextDue self.now now) }
+        ensures { result ≡ first_due self.now.live now }
     {
         let (_, id) = longest_due(&self.leases, now)?;
         Some(id)
     }
 
-    /// Ends a live lease on which no key hangs, by a revocation or its expiry.
+    /// Ends a live lease on which no key hangs, as `has_keys` tests, by a revocation or its expiry.
     pub fn remove(&mut self, id: u64)
         requires live { IsLive self.old id }
-        requires no_keys { (key : List ℕ) → lease_of self.old key ≢ Some id }
+        requires no_keys { ¬ HasKeys (lease_of self.old) id }
         ensures ok { self.new ≡ record self.old { live = finmap.remove self.old.live id } }
-        ensures revoked { (log : List LogItem) → StandsFor self.old log → StandsFor self.new (Revoke id ∷ log) }
-        ensures expired { (log : List LogItem) → StandsFor self.old log → StandsFor self.new (Expire id ∷ log) }
+        ensures revoked { (log : List LogItem) → StandsFor self.old.live log → StandsFor self.new.live (Revoke id ∷ log) }
+        ensures expired { (log : List LogItem) → StandsFor self.old.live log → StandsFor self.new.live (Expire id ∷ log) }
     {
         let Some(lease) = self.leases.swap_remove(&id) else {
             unreachable!()

@@ -1,12 +1,13 @@
-use Rattle.std.proofs.Common.{◌≡◌, Option, Some, None, true, false, cond, is_some, nat_eq, option_map, rules, arith, refl, ap, sym, ◌∙◌}
+use Rattle.std.proofs.Common.{◌≡◌, Option, Some, None, true, false, cond, is_some, ℕ, List, String, Global, nat_eq, option_map, subst, rules, arith, refl, ap, sym, ◌∙◌}
 use Rattle.std.proofs.lemmas.Grind.{common_steps}
 use Rattle.std.specs.FinMap as finmap
 use Rattle.std.specs.Map.{lookup}
 use Rattle.indexmap.specs.IndexMap.{get, get_by_text}
 use Rattle.stm_leases.specs.declared.lease.Lease.{Lease}
-use Rattle.stm_leases.specs.Kept.{list_in}
+use Rattle.stm_lists.specs.Lists.{Lists}
+use Rattle.stm_leases.specs.Kept.{list_in, AreInStep}
 use Rattle.stm_leases.proofs.InStep.{granted}
-use Rattle.stm_leases.proofs.Seen.{contains-now, inserted-view, granted-log, list-updates}
+use Rattle.stm_leases.proofs.Seen.{id-fits, ttl-fits, same-range, one-more, contains-now, inserted-view, granted-log, list-updates}
 use Rattle.stm_leases.proofs.table.Leases.grant.Goals as goal
 
 -- an id that the table lacks has no list
@@ -29,11 +30,30 @@ returns-in_default-clause-refusal c =
     let known : finmap.contains_key c.args.self.now.live c.args.id ≡ false = contains-now c.self.inside.leases c.self.inside.attached _ _ c.self.view_is c.args.id ∙ sym c.contains_key.ensures ∙ c.if-contains_key.false in
     first_of (search rules, grind (arith, common_steps))
 
+pub invariant_of-self : goal.invariant_of-self
+invariant_of-self c = record {
+  in_step = subst (λ (es : List (ℕ × Lease)). AreInStep (λ q. option_map (λ (l : Lease). l.keys) (lookup (nat_eq q) es)) (get_by_text c.self.inside.attached) c.self.inside.keys) (sym c.reserve.ensures.entries) c.self.invariant.in_step;
+  in_range = same-range c.self.inside.leases c.reserve.new.self c.reserve.ensures.entries c.self.invariant.in_range;
+  table_room = c.self.invariant.table_room;
+  list_room = c.self.invariant.list_room;
+}
+
+pub invariant_of-self-in_default : goal.invariant_of-self-in_default
+invariant_of-self-in_default c =
+    let same = c.in_default.ensures.err in
+    record {
+      in_step = subst (λ (k : Lists (String Global)). AreInStep (list_in c.reserve.new.self) (get_by_text c.self.inside.attached) k) (sym same) (subst (λ (es : List (ℕ × Lease)). AreInStep (λ q. option_map (λ (l : Lease). l.keys) (lookup (nat_eq q) es)) (get_by_text c.self.inside.attached) c.self.inside.keys) (sym c.reserve.ensures.entries) c.self.invariant.in_step);
+      in_range = same-range c.self.inside.leases c.reserve.new.self c.reserve.ensures.entries c.self.invariant.in_range;
+      table_room = c.self.invariant.table_room;
+      list_room = omega (arith, c.self.invariant.list_room, ap (λ (k : Lists (String Global)). k.spare) same);
+    }
+
 pub invariant_of-self-2 : goal.invariant_of-self-2
 invariant_of-self-2 c =
     let unknown : is_some (get nat_eq c.self.inside.leases c.args.id) ≡ false = sym c.contains_key.ensures ∙ c.if-contains_key.false in
     record {
       in_step = granted (list_in c.self.inside.leases) (list_in c.insert.new.self) (get_by_text c.self.inside.attached) (get_by_text c.self.inside.attached) c.self.inside.keys c.new_list.new.self c.self.invariant.in_step c.args.id c.in-Ok.keys (no_list (get nat_eq c.self.inside.leases c.args.id) unknown) c.in-Ok.ensures.fresh c.in-Ok.ensures.ok (list-updates c.self.inside.leases c.insert.new.self c.args.id (Some (record { ttl = c.args.ttl; renewed = c.args.now; keys = c.in-Ok.keys })) (λ q. c.in-Ok-insert.ensures.updates.0 q ∙ ap (λ es. cond (nat_eq c.args.id q) (Some (record { ttl = c.args.ttl; renewed = c.args.now; keys = c.in-Ok.keys })) (lookup (nat_eq q) es)) c.reserve.ensures.entries));
+      in_range = λ q l is. one-more c.self.inside.leases c.insert.new.self c.args.id (record { ttl = c.args.ttl; renewed = c.args.now; keys = c.in-Ok.keys }) (λ n. c.in-Ok-insert.ensures.updates.0 n ∙ ap (λ es. cond (nat_eq c.args.id n) (Some (record { ttl = c.args.ttl; renewed = c.args.now; keys = c.in-Ok.keys })) (lookup (nat_eq n) es)) c.reserve.ensures.entries) c.self.invariant.in_range (id-fits c.args.id c.if-id-eq0.false c.if-id-gt-HIGHEST_ID.false, ttl-fits c.args.ttl c.if-ttl-eq0.false c.if-ttl-gt-HIGHEST_TTL.false) q l is;
       table_room = c.self.invariant.table_room;
       list_room = omega (arith, c.self.invariant.list_room, c.in-Ok.ensures.spare);
     }

@@ -1,11 +1,11 @@
-use Rattle.std.proofs.Common.{◌≡◌, None, refl, ap, sym, ◌∙◌}
+use Rattle.std.proofs.Common.{refl, ap, sym, ◌∙◌}
 use Rattle.std.specs.FinMap as finmap
 use Rattle.std.specs.Option.{option_copied}
 use Rattle.indexmap.specs.IndexMap.{get_by_text}
 use Rattle.stm_leases.specs.LeaseLog.{Term}
 use Rattle.stm_leases.specs.Kept.{list_in}
 use Rattle.stm_leases.proofs.InStep.{same_lists}
-use Rattle.stm_leases.proofs.Seen.{live-absent, live-found, live-now, term-found, inserted-view, renewed-log, list-renewed}
+use Rattle.stm_leases.proofs.Seen.{one-more, live-absent, live-found, term-found, inserted-view, renewed-log, list-renewed}
 use Rattle.stm_leases.proofs.table.Leases.keep_alive.Goals as goal
 
 pub returns-in_default-clause-found : goal.returns-in_default-clause-found
@@ -24,6 +24,7 @@ invariant_of-self c =
     let found = sym c.get.ensures.value ∙ ap option_copied c.in-Some.is in
     record {
       in_step = same_lists (list_in c.self.inside.leases) (list_in c.insert.new.self) (get_by_text c.self.inside.attached) (get_by_text c.self.inside.attached) c.self.inside.keys c.self.inside.keys c.self.invariant.in_step (list-renewed c.self.inside.leases c.insert.new.self c.args.id c.in-Some.lease.now (record { ttl = c.in-Some.lease.now.ttl; renewed = c.args.now; keys = c.in-Some.lease.now.keys }) found refl c.in-Ok.ensures.updates.0);
+      in_range = λ q l is. one-more c.self.inside.leases c.insert.new.self c.args.id (record { ttl = c.in-Some.lease.now.ttl; renewed = c.args.now; keys = c.in-Some.lease.now.keys }) c.in-Ok.ensures.updates.0 c.self.invariant.in_range (c.self.invariant.in_range c.args.id c.in-Some.lease.now found) q l is;
       table_room = c.self.invariant.table_room;
       list_room = c.self.invariant.list_room;
     }

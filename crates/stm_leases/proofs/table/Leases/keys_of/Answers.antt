@@ -2,6 +2,8 @@ use Rattle.std.proofs.Common.{ap, sym, ◌∙◌, option_map}
 use Rattle.std.specs.Option.{option_copied}
 use Rattle.indexmap.specs.IndexMap.{get_by_text}
 use Rattle.stm_leases.specs.Kept.{list_in}
+use Rattle.stm_leases.specs.Leases.{lease_of}
+use Rattle.stm_leases.proofs.KeyLaws.{keys_on_are_keys, one_list_of_keys}
 use Rattle.stm_leases.proofs.Ordered.{sorted-keys}
 use Rattle.stm_leases.proofs.Seen.{live-absent, live-found, lease_of-now}
 use Rattle.stm_leases.proofs.table.Leases.keys_of.Goals as goal
@@ -33,4 +35,6 @@ returns-clause-not_live c =
 pub returns-clause-ok : goal.returns-clause-ok
 returns-clause-ok c =
     let found = sym c.get.ensures.value ∙ ap option_copied c.in-Some.is in
-    sorted-keys c.args.self.now (list_in c.self.inside.leases) (get_by_text c.self.inside.attached) c.self.inside.keys c.args.id c.in-Some.lease.now.keys c.in_ok-keys.keys.items c.sort.new.self.items c.self.invariant.in_step (lease_of-now c.self.inside.leases c.self.inside.attached _ _ c.self.view_is) (ap (option_map (λ l. l.keys)) found) (c.stands_once.ensures.apart c.in-Some.lease.now.keys) c.in_ok-keys.ensures c.sort.ensures.permutation c.in_ok-sort.ensures.sorted
+    one_list_of_keys (lease_of c.args.self.now) c.args.id _ _
+    (sorted-keys c.args.self.now (list_in c.self.inside.leases) (get_by_text c.self.inside.attached) c.self.inside.keys c.args.id c.in-Some.lease.now.keys c.in_ok-keys.keys.items c.sort.new.self.items c.self.invariant.in_step (lease_of-now c.self.inside.leases c.self.inside.attached _ _ c.self.view_is) (ap (option_map (λ l. l.keys)) found) (c.stands_once.ensures.apart c.in-Some.lease.now.keys) c.in_ok-keys.ensures c.sort.ensures.permutation c.in_ok-sort.ensures.sorted)
+    (keys_on_are_keys c.args.self.now.attached c.args.id)

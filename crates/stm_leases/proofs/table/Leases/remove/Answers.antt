@@ -2,7 +2,7 @@ use Rattle.std.proofs.Common.{arith, ap, sym, ◌∙◌, option_map}
 use Rattle.indexmap.specs.IndexMap.{get_by_text}
 use Rattle.stm_leases.specs.Kept.{list_in}
 use Rattle.stm_leases.proofs.InStep.{removed, no_entries}
-use Rattle.stm_leases.proofs.Seen.{live-absent, removed-view, removed-log, none-placed, list-updates}
+use Rattle.stm_leases.proofs.Seen.{left-lease, live-absent, removed-view, removed-log, none-placed, list-updates}
 use Rattle.stm_leases.proofs.table.Leases.remove.Goals as goal
 
 pub unreachable-requires : goal.unreachable-requires
@@ -16,13 +16,14 @@ drop_list-requires-clause-there c =
 pub drop_list-requires-clause-empty : goal.drop_list-requires-clause-empty
 drop_list-requires-clause-empty c =
     let found = sym c.swap_remove.ensures.value ∙ c.in-Some.is in
-    no_entries (list_in c.self.inside.leases) (list_in c.self.inside.leases) (get_by_text c.self.inside.attached) (get_by_text c.self.inside.attached) c.self.inside.keys c.self.inside.keys c.self.invariant.in_step c.args.id c.in-Some.lease.keys (ap (option_map (λ l. l.keys)) found) (none-placed c.self.inside.leases c.self.inside.attached _ _ c.self.view_is c.args.id c.requires.no_keys)
+    no_entries (list_in c.self.inside.leases) (list_in c.self.inside.leases) (get_by_text c.self.inside.attached) (get_by_text c.self.inside.attached) c.self.inside.keys c.self.inside.keys c.self.invariant.in_step c.args.id c.in-Some.lease.keys (ap (option_map (λ l. l.keys)) found) (none-placed c.self.inside.leases c.self.inside.attached _ _ c.self.view_is c.args.id (λ key is. c.requires.no_keys (key, is)))
 
 pub invariant_of-self : goal.invariant_of-self
 invariant_of-self c =
     let found = sym c.swap_remove.ensures.value ∙ c.in-Some.is in
     record {
-      in_step = removed (list_in c.self.inside.leases) (list_in c.swap_remove.new.self) (get_by_text c.self.inside.attached) (get_by_text c.self.inside.attached) c.self.inside.keys c.drop_list.new.self c.self.invariant.in_step c.args.id c.in-Some.lease.keys (ap (option_map (λ l. l.keys)) found) (none-placed c.self.inside.leases c.self.inside.attached _ _ c.self.view_is c.args.id c.requires.no_keys) c.drop_list.ensures.dropped (list-updates c.self.inside.leases c.swap_remove.new.self c.args.id _ c.swap_remove.ensures.updates.0);
+      in_step = removed (list_in c.self.inside.leases) (list_in c.swap_remove.new.self) (get_by_text c.self.inside.attached) (get_by_text c.self.inside.attached) c.self.inside.keys c.drop_list.new.self c.self.invariant.in_step c.args.id c.in-Some.lease.keys (ap (option_map (λ l. l.keys)) found) (none-placed c.self.inside.leases c.self.inside.attached _ _ c.self.view_is c.args.id (λ key is. c.requires.no_keys (key, is))) c.drop_list.ensures.dropped (list-updates c.self.inside.leases c.swap_remove.new.self c.args.id _ c.swap_remove.ensures.updates.0);
+      in_range = λ q l is. c.self.invariant.in_range q l (left-lease c.self.inside.leases c.swap_remove.new.self c.args.id q l c.swap_remove.ensures.updates.0 is);
       table_room = c.self.invariant.table_room;
       list_room = omega (arith, c.self.invariant.list_room, c.drop_list.ensures.spare);
     }

@@ -4,7 +4,7 @@ use Rattle.std.specs.Prelude.{bytes_eq, is_some, ◌||◌}
 use Rattle.std.proofs.lemmas.List.{reverse-append}
 use Rattle.std.proofs.lemmas.Slice.Eq.{bytes_eq-Decides}
 use Rattle.stm_history.specs.declared.change.Change.{Change}
-use Rattle.stm_history.specs.History.{key_of as changed_key, change_of, HasDistinctKeys}
+use Rattle.stm_history.specs.History.{History, key_of as changed_key, change_of, HasDistinctKeys}
 use Rattle.stm_program.specs.declared.write.Write.{Write}
 use Rattle.stm_program.specs.declared.write.Write.TheVariants.{Put, Del}
 use Rattle.stm_meaning.specs.Writes.{key_of, last_write, is_written, latest_of, latest_after, latest_writes, effect, changes}
@@ -165,3 +165,8 @@ distinct_after p earlier (w ∷ later) =
 pub effect_is_distinct : (p : Write → Bool) (ws : List Write) → HasDistinctKeys (map as_change (filter p (latest_writes ws)))
 unfolding latest_writes
 effect_is_distinct p ws = distinct_after p [] ws
+
+-- the changes of a commit are of distinct keys
+pub changes_are_distinct : (h : History) (writes : List Write) → HasDistinctKeys (changes_of_writes h writes)
+unfolding effect
+changes_are_distinct h writes = effect_is_distinct (changes (is_present h)) writes

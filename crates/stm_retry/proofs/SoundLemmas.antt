@@ -3,7 +3,7 @@ use Rattle.std.proofs.Common.{◌≡◌, ◌≢◌, ℕ, ◌+◌, ◌-◌, ◌�
 use Rattle.std.specs.Prelude.{slice_get, slice_set, ◌==◌}
 use Rattle.stm_history.specs.declared.change.Change.{Change}
 use Rattle.stm_history.specs.declared.key_state.ReadAnswer.{ReadAnswer}
-use Rattle.stm_history.specs.History.{History, now, add_revision, opened_at, key_now, mod_of, IsTrueAnswer}
+use Rattle.stm_history.specs.History.{History, now, add_revision, opened_at, key_now, mod_of, IsTrueAnswer, HasDistinctKeys, AreRevisions}
 use Rattle.stm_history.proofs.HistoryLaws.{older_revisions_stay, last_revision_is_now}
 use Rattle.stm_program.specs.Syntax.{Block}
 use Rattle.stm_program.specs.declared.level.Level.{Level}
@@ -33,6 +33,7 @@ use Rattle.stm_retry.specs.declared.runner.Slot.TheVariants.{Over, Live}
 use Rattle.stm_retry.specs.World.{World, Stepped, opened, step, step_runner, step_live, step_on, start_runner, fetch, finish, commit, judged, committed, replied, refused, runner_at, live_in, with_slot, with_answer, answer_now, evaluated, with_changes, changes_of_writes, commit_refusal, entry_of, world_after}
 use Rattle.stm_retry.specs.Replay.{AreTrue, CommitsAnswers, replay, replay_entry, writes_of, IsLegal, AreLegal}
 use Rattle.stm_retry.specs.Sound.{SlotIsTrue, SlotsAreTrue, IsSound}
+use Rattle.stm_retry.proofs.EffectLemmas.{changes_are_distinct}
 use Rattle.stm_retry.specs.Means.{SameStore, IsCommit, EndsAs, StepMeans, StartMeans, Means, AllMean, ReadCommittedHeadline}
 
 -- ---- answers stay true ----
@@ -128,6 +129,12 @@ legal_append : (es : List Entry) (e : Entry) (h : History) → AreLegal es h →
 legal_append [] e h all new = (new, tt)
 legal_append (x ∷ es) e h all new = (all.0, legal_append es e (replay_entry x h) all.1 new)
 
+-- changes of distinct keys are a revision, or none
+revisions_after : (h : History) (changes : List Change) → AreRevisions h.revisions → HasDistinctKeys changes →
+    AreRevisions (with_changes h changes).revisions
+revisions_after h [] are distinct = are
+revisions_after h (c ∷ cs) are distinct = ((omega arith, distinct), are)
+
 opening_stays : (h : History) (changes : List Change) → (with_changes h changes).opening ≡ h.opening
 opening_stays h [] = refl
 opening_stays h (c ∷ cs) = refl
@@ -155,6 +162,7 @@ keeps_started : (w : World) (program : Block) (level : Level) (limit : ℕ) (b :
 keeps_started w program level limit true some sound = keeps_refused w program level limit BadLimit sound
 keeps_started w program level limit false some sound = record {
   sound = record {
+    revisions = sound.revisions;
     answers = slots_append w.history w.runners (Live (record { program = program; level = level; limit = limit; answers = [] })) sound.answers tt;
     replays = sound.replays;
     legal = sound.legal;
@@ -167,6 +175,7 @@ keeps_replied : (w : World) (reply : Reply) (id : ℕ) (slot : Slot) → IsSound
     StepMeans w id reply (replied reply id slot w).next → Keeps w (Step id) (replied reply id slot w)
 keeps_replied w reply id slot sound new means = record {
   sound = record {
+    revisions = sound.revisions;
     answers = slots_set w.history w.runners (id - 1) slot new sound.answers;
     replays = sound.replays;
     legal = sound.legal;
@@ -234,6 +243,7 @@ keeps_committed w id r run sound live recorded is_run done taken =
     (subst (λ (x : History). CommitsAnswers r.program r.answers run.output run.trace w.history x) (sym told) commits, ap now (sym told)) in
     record {
       sound = record {
+        revisions = revisions_after w.history changes sound.revisions (changes_are_distinct w.history run.writes);
         answers = slots_set after w.runners (id - 1) Over tt (slots_after w.history changes w.runners sound.answers);
         replays = subst (λ (o : ℕ). replay (w.entries ++ entry ∷ []) (opened_at o) ≡ after) (sym opening_is)
             (replay_append w.entries entry start ∙ ap (replay_entry entry) sound.replays ∙ told);
@@ -308,7 +318,7 @@ step_keeps w (Step id) sound = keeps_runner w id (runner_at id w.runners) sound 
 -- ---- whole runs ----
 
 pub opened_is_sound : (start : ℕ) → IsSound (opened start)
-opened_is_sound start = record { answers = tt; replays = refl; legal = tt }
+opened_is_sound start = record { revisions = tt; answers = tt; replays = refl; legal = tt }
 
 all_mean : (events : List WorldEvent) (w : World) → IsSound w → AllMean events w
 all_mean [] w sound = tt

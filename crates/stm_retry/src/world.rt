@@ -1,6 +1,6 @@
 //! The world.
 ghost use Rattle.std.specs.Prelude.{◌≡◌, ◌≢◌, ◌≤◌, ◌-◌, Ok, Err, IfOk, IfErr, OnOk, OnErr, IsErr, take, length, []};
-ghost use Rattle.stm_history.specs.History.{now, key_now, opened_at};
+ghost use Rattle.stm_history.specs.History.{now, key_now, opened_at, AreRevisions};
 ghost use Rattle.stm_history.specs.declared.revisions.TheConstants.{HIGHEST_REVISION};
 ghost use Rattle.stm_retry.specs.declared.refusal.Refusal.TheVariants.{OutOfMemory, BadLimit};
 ghost use Rattle.stm_retry.specs.declared.reply.Reply.TheVariants.{Started};
@@ -26,8 +26,8 @@ use stm_program::{Level, Program};
 /// Runners of programs over one store.
 ///
 /// Contracts see the history of the store, the places of the runners and the entries. In every world each
-/// recorded answer of a runner is true of the history, the entries replay from the opening state to the
-/// store, and each is legal at its point.
+/// revision of the history changes something and no key twice, each recorded answer of a runner is true of
+/// it, the entries replay from the opening state to the store, and each is legal at its point.
 #[derive(Debug, Drop)]
 pub struct World {
     alloc: Global,
@@ -175,10 +175,13 @@ impl World {
     }
 
     /// What changed the store, in the order of the steps.
+    ///
+    /// The entries replay to the store's history, of which each revision changes something and no key twice.
     pub fn history(&self) -> &[Entry]
         ensures entries { result.now ≡ self.now.entries }
         ensures replays { replay self.now.entries (opened_at self.now.history.opening) ≡ self.now.history }
         ensures legal { AreLegal self.now.entries (opened_at self.now.history.opening) }
+        ensures revisions { AreRevisions self.now.history.revisions }
     {
         self.machine.entries.as_slice()
     }

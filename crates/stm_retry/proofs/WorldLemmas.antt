@@ -27,56 +27,7 @@ use Rattle.stm_retry.specs.World.{world_after, replies_to}
 use Rattle.std.proofs.Common.{◌<◌, get_or, drop, take, append_assoc}
 use Rattle.std.proofs.lemmas.List.{drop_more, take_more}
 use Rattle.stm_retry.proofs.SoundLemmas.{step_keeps}
-
--- a step is refused for one of two causes
-abbrev IsRefusal : Refusal → Type 0
-IsRefusal cause = (cause ≡ BadLimit) ⊎ (cause ≡ NoRunner)
-
-abbrev RefusedOnly : Result Reply Denied → Type 0
-RefusedOnly (Ok reply) = Unit {0}
-RefusedOnly (Err denied) = IsRefusal denied.cause
-
-start_refused : (b : Bool) (w : World) (s : Stepped) → RefusedOnly s.reply → RefusedOnly (cond b (refused BadLimit w) s).reply
-start_refused true w s taken = inl refl
-start_refused false w s taken = taken
-
-start_only : (program : Block) (level : Level) (limit : ℕ) (w : World) → RefusedOnly (start_runner program level limit w).reply
-unfolding start_runner
-start_only program level limit w = start_refused (limit == 0) w _ tt
-
-judged_only : (id : ℕ) (r : Runner) (run : Run) (changes : List Change) (refusal : Option Refusal) (w : World) → RefusedOnly (judged id r run changes refusal w).reply
-judged_only id r run changes None w = tt
-judged_only id r run changes (Some cause) w = tt
-
-commit_only : (id : ℕ) (r : Runner) (run : Run) (w : World) → RefusedOnly (commit id r run w).reply
-unfolding commit
-commit_only id r run w =
-    judged_only id r run (changes_of_writes w.history run.writes) (commit_refusal (latest_writes run.writes) (changes_of_writes w.history run.writes) w.history) w
-
-finish_only : (id : ℕ) (r : Runner) (run : Run) (end : End) (w : World) → RefusedOnly (finish id r run end w).reply
-finish_only id r run Done w = commit_only id r run w
-finish_only id r run (AbortedEnd text) w = tt
-finish_only id r run (FaultedEnd fault) w = tt
-
-fetch_only : (id : ℕ) (r : Runner) (key : List ℕ) (w : World) → RefusedOnly (fetch id r key w).reply
-unfolding fetch
-fetch_only id r key w = tt
-
-on_only : (id : ℕ) (r : Runner) (answered : Answered) (w : World) → RefusedOnly (step_on id r answered w).reply
-on_only id r (Wants key trace) w = fetch_only id r key w
-on_only id r (EndedRun run) w = finish_only id r run run.end w
-
-live_only : (id : ℕ) (r : Runner) (w : World) → RefusedOnly (step_live id r w).reply
-unfolding step_live
-live_only id r w = on_only id r (evaluated r) w
-
-runner_only : (id : ℕ) (found : Option Runner) (w : World) → RefusedOnly (step_runner id found w).reply
-runner_only id None w = inr refl
-runner_only id (Some r) w = live_only id r w
-
-refused_only : (e : WorldEvent) (w : World) → RefusedOnly (step e w).reply
-refused_only (Start program level limit) w = start_only program level limit w
-refused_only (Step id) w = runner_only id (runner_at id w.runners) w
+use Rattle.stm_retry.proofs.TakenLemmas.{IsRefusal, RefusedOnly, refused_only}
 
 tells_denied : (old new : World) (s : Stepped) (denied : Denied) (cause : Refusal) → IsRefusal cause → IsStep s (Err denied) new → TellsDenied old s denied cause new
 tells_denied old new s denied OutOfMemory (inl h) is = absurd (cc)
@@ -93,7 +44,7 @@ pub made_tells : (old new : World) (e : WorldEvent) (outcome : Result (Result Re
 made_tells old new e (Ok (Ok reply)) made = record { reply_is = made.0; next_is = made.1 }
 made_tells old new e (Ok (Err denied)) made =
     tells_denied old new (step e old) denied denied.cause (subst RefusedOnly (sym made.0) (refused_only e old)) (record { reply_is = made.0; next_is = made.1 })
-made_tells old new e (Err error) made = (made, refl)
+made_tells old new e (Err error) made = (made.0, refl, made.1)
 
 means_nothing : (old new : World) (e : WorldEvent) (denied : Denied) → new ≡ old → Means old e (Err denied) new
 means_nothing old new (Start program level limit) denied same = same
@@ -104,11 +55,11 @@ pub made_means : (old new : World) (e : WorldEvent) (outcome : Result (Result Re
 made_means old new e (Ok reply) sound made =
     subst (λ (r : Result Reply Denied). Means old e r new) (sym made.0)
     (subst (λ (w : World). Means old e (step e old).reply w) (sym made.1) (step_keeps old e sound).means)
-made_means old new e (Err error) sound made = means_nothing old new e (record { cause = OutOfMemory; expired = [] }) made
+made_means old new e (Err error) sound made = means_nothing old new e (record { cause = OutOfMemory; expired = [] }) made.0
 
 pub made_is_sound : (old new : World) (e : WorldEvent) (outcome : Result (Result Reply Denied) AllocError) → IsSound old → Made old new outcome (step e old) → IsSound new
 made_is_sound old new e (Ok reply) sound made = subst IsSound (sym made.1) (step_keeps old e sound).sound
-made_is_sound old new e (Err error) sound made = subst IsSound (sym made) sound
+made_is_sound old new e (Err error) sound made = subst IsSound (sym made.0) sound
 
 pub started_is_sound : (old new : World) (program : Block) (level : Level) (limit : ℕ) (result : Result ℕ AllocError) → IsSound old →
     OnOk result (new ≡ (start_runner program level limit old).next) → OnErr result (new ≡ old) → IsSound new

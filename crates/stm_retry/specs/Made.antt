@@ -1,15 +1,16 @@
 -- What a call that makes a step of the world tells and leaves.
-use Rattle.std.specs.Prelude.{◌≡◌, [], Result, Ok, Err}
+use Rattle.std.specs.Prelude.{◌≡◌, [], Result, Ok, Err, IsOk}
 use Rattle.stm_retry.specs.declared.refusal.Refusal.TheVariants.{OutOfMemory}
 use Rattle.std.specs.declared.alloc.AllocError.{AllocError}
 use Rattle.stm_retry.specs.declared.reply.Reply.{Reply}
 use Rattle.stm_retry.specs.declared.refusal.Denied.{Denied}
 use Rattle.stm_retry.specs.World.{World, Stepped}
 
--- The reply and the next world are the step's; where a growth was refused the world is as it was.
+-- The reply and the next world are the step's. Where a growth was refused, the event is one that the step takes, and the
+-- world is as it was.
 abbrev pub Made : World → World → Result (Result Reply Denied) AllocError → Stepped → Type 0
 Made old new (Ok reply) s = (reply ≡ s.reply) × (new ≡ s.next)
-Made old new (Err e) s = new ≡ old
+Made old new (Err e) s = (new ≡ old) × IsOk s.reply
 
 -- the reply of such a call to the world's caller: want of memory is a refusal, too
 abbrev pub as_reply : Result (Result Reply Denied) AllocError → Result Reply Denied

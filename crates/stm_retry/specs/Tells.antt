@@ -1,5 +1,5 @@
 -- What a call that takes an event tells and leaves.
-use Rattle.std.specs.Prelude.{◌≡◌, [], Bool, true, false, Result, Ok, Err}
+use Rattle.std.specs.Prelude.{◌≡◌, [], Bool, true, false, Result, Ok, Err, IsOk}
 use Rattle.stm_retry.specs.declared.event.WorldEvent.{WorldEvent}
 use Rattle.stm_retry.specs.declared.reply.Reply.{Reply}
 use Rattle.stm_retry.specs.declared.refusal.Denied.{Denied}
@@ -12,8 +12,9 @@ pub record IsStep (s : Stepped) (reply : Result Reply Denied) (new : World) : Ty
   pub reply_is : reply ≡ s.reply
   pub next_is : new ≡ s.next
 
+-- Want of memory is told only of an event that the step takes, never in place of one of its refusals.
 abbrev pub TellsDenied : World → Stepped → Denied → Refusal → World → Type 0
-TellsDenied old s denied OutOfMemory new = (new ≡ old) × (denied.expired ≡ [])
+TellsDenied old s denied OutOfMemory new = (new ≡ old) × (denied.expired ≡ []) × IsOk s.reply
 TellsDenied old s denied other new = IsStep s (Err denied) new
 
 -- The reply and the next world are the step's, unless memory ran out: then the world is as it was.

@@ -89,20 +89,21 @@ impl Machine {
         Ok(self.runners.len() as u64)
     }
 
-    /// Starts a runner.
+    /// Starts a runner. A limit of 0 is refused before any memory is taken.
     #[tactic(auto, unfolding(crate::specs::World::start_runner))]
     fn start(
         &mut self,
         alloc: Global,
-        program: Program,
+        program: &Program,
         level: Level,
         limit: u32,
     ) -> Result<Result<Reply, Denied>, AllocError>
-        ensures { Made self.old self.new result (start_runner program level limit self.old) }
+        ensures { Made self.old self.new result (start_runner program.now level limit self.old) }
     {
         if limit == 0 {
             return Ok(Err(denied(alloc, Refusal::BadLimit)));
         }
+        let program = program.clone()?;
         let runner = self.add_runner(alloc, program, level, limit)?;
         Ok(Ok(Reply::Started { runner }))
     }
@@ -214,7 +215,7 @@ impl Machine {
         }
     }
 
-    /// Makes one step of a runner.
+    /// Makes one step of a runner. One that is not there is refused before any memory is taken.
     #[tactic(auto, unfolding(crate::specs::World::step_live))]
     fn step_runner(&mut self, alloc: Global, id: u64) -> Result<Result<Reply, Denied>, AllocError>
         ensures { Made self.old self.new result (step_runner id (runner_at id self.old.runners) self.old) }
@@ -242,10 +243,7 @@ impl Machine {
                 program,
                 level,
                 limit,
-            } => {
-                let program = program.clone()?;
-                self.start(alloc, program, *level, *limit)
-            }
+            } => self.start(alloc, program, *level, *limit),
             WorldEvent::Step { runner } => self.step_runner(alloc, *runner),
         }
     }

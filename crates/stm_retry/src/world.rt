@@ -139,8 +139,9 @@ impl World {
     /// at the highest revision), in that order; that ends the run too, with the reply `Ended`.
     ///
     /// An event is refused as `BadLimit` (a start with limit 0), `NoRunner` (a step of a runner that is not
-    /// there or has ended) or `OutOfMemory` (a growth was refused). A refused event leaves the world as it
-    /// was.
+    /// there or has ended) or `OutOfMemory` (a growth was refused). The first two are looked for before any
+    /// memory is taken, so want of memory is never told in their place. A refused event leaves the world as
+    /// it was.
     pub fn step(&mut self, event: &WorldEvent) -> Result<Reply, Denied>
         ensures told { Tells self.old event.now result self.new }
         ensures means { Means self.old event.now result self.new }
@@ -151,10 +152,11 @@ impl World {
 
     /// Takes these events in their order, and tells their replies.
     ///
-    /// It stops at the first event that is refused as `OutOfMemory`: the world is then as it was before that
-    /// event, and `done` events were taken.
-    pub fn run(&mut self, events: &[WorldEvent]) -> Result<Sequence<Result<Reply, Denied>>, RunStop>
-        ensures replies { IfOk result (λ replies. replies ≡ replies_to events.now self.old) }
+    /// Room for all replies is made first. The run stops at the first event that is refused as `OutOfMemory`,
+    /// before the first one where that room was refused: the world is then as it was before that event, and
+    /// `done` events were taken.
+    pub fn run(&mut self, events: &[WorldEvent]) -> Result<Vec<Result<Reply, Denied>>, RunStop>
+        ensures replies { IfOk result (λ replies. replies.items ≡ replies_to events.now self.old) }
         ensures ok { OnOk result (self.new ≡ world_after events.now self.old) }
         ensures stopped { IfErr result (λ stop. (stop.done ≤ length events.now - 1) × (stop.expired ≡ [])
             × (self.new ≡ world_after (take stop.done events.now) self.old)) }
@@ -171,7 +173,7 @@ impl World {
             replies.push_reserved(reply);
             done += 1;
         }
-        Ok(Sequence::of(replies))
+        Ok(replies)
     }
 
     /// What changed the store, in the order of the steps.

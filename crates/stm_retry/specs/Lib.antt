@@ -2,6 +2,7 @@ pub mod Answers
 pub mod Made
 pub mod Means
 pub mod Names
+pub mod Planned
 pub mod Replay
 pub mod Sound
 pub mod StateOf

@@ -4,7 +4,8 @@ ghost use Rattle.std.specs.List.{list_any};
 ghost use Rattle.stm_history.specs.History.{HasDistinctKeys, now, key_now};
 ghost use Rattle.stm_history.specs.declared.revisions.TheConstants.{HIGHEST_REVISION};
 ghost use Rattle.stm_meaning.specs.Writes.{changes};
-ghost use Rattle.stm_retry.specs.World.{as_change, is_present, names_lease, refusal_at, with_changes, is_empty};
+ghost use Rattle.stm_retry.specs.World.{as_change, is_present, names_lease, with_changes, is_empty};
+ghost use Rattle.stm_retry.specs.Planned.{IsPlanned};
 
 use crate::refusal::Refusal;
 use std::alloc::{AllocError, Global};
@@ -46,7 +47,7 @@ fn changes_store(store: &Revisions, write: &Write) -> bool
 }
 
 /// The changes that the last writes of the keys make in the store, in their order.
-pub(crate) fn changes_of(
+fn changes_of(
     alloc: Global,
     store: &Revisions,
     latest: &[Write],
@@ -86,20 +87,28 @@ fn finds_no_revision(changes: &[Change], now: u64) -> bool
     !changes.is_empty() && now == HIGHEST_REVISION
 }
 
-/// Why the store refuses a commit, if it does.
-pub(crate) fn refusal_of(latest: &[Write], changes: &[Change], now: u64) -> Option<Refusal>
-    ensures { result ≡ refusal_at latest.now changes.now now }
+/// What a commit of these last writes changes in the store, or why the store refuses it.
+///
+/// The writes are counted, and their leases looked at, before any change is made.
+pub(crate) fn planned_changes(
+    alloc: Global,
+    store: &Revisions,
+    latest: &[Write],
+) -> Result<Result<Vec<Change>, Refusal>, AllocError>
+    ensures planned { IfOk result (IsPlanned (λ v. v.items) latest.now (map as_change (filter (changes (is_present store.now)) latest.now)) (now store.now)) }
+    ensures room { IfOk result (λ planned. IfOk planned (λ v. (is_empty v.items ≡ false) → now store.now < HIGHEST_REVISION)) }
 {
     if latest.len() > MOST_WRITES {
-        return Some(Refusal::TooManyOps);
+        return Ok(Err(Refusal::TooManyOps));
     }
     if puts_any_on_lease(latest) {
-        return Some(Refusal::LeaseNotFound);
+        return Ok(Err(Refusal::LeaseNotFound));
     }
-    if finds_no_revision(changes, now) {
-        return Some(Refusal::RevisionsUsedUp);
+    let changes = changes_of(alloc, store, latest)?;
+    if finds_no_revision(changes.as_slice(), store.now()) {
+        return Ok(Err(Refusal::RevisionsUsedUp));
     }
-    None
+    Ok(Ok(changes))
 }
 
 /// Makes the changes of a commit one revision, none if there are none, and gives the revision after it.

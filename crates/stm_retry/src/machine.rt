@@ -10,7 +10,7 @@ ghost use Rattle.stm_retry.specs.declared.runner.Slot.TheVariants.{Over};
 ghost use Rattle.stm_retry.specs.Made.{Made};
 
 use crate::answers::{ReadAnswers, mod_rev_in};
-use crate::commit::{add_changes, changes_of, refusal_of};
+use crate::commit::{add_changes, planned_changes};
 use crate::entry::Entry;
 use crate::event::WorldEvent;
 use crate::refusal::{Denied, Refusal};
@@ -90,7 +90,7 @@ impl Machine {
     }
 
     /// Starts a runner. A limit of 0 is refused before any memory is taken.
-    #[tactic(auto, unfolding(crate::specs::World::start_runner))]
+    #[tactic(auto, unfolding(crate::specs::World::start_runner), using(crate::proofs::TakenLemmas::start_is_taken))]
     fn start(
         &mut self,
         alloc: Global,
@@ -174,7 +174,7 @@ impl Machine {
     }
 
     /// Makes the commit of a run that is done.
-    #[tactic(auto, unfolding(crate::specs::World::commit))]
+    #[tactic(auto, unfolding(crate::specs::World::commit), using(crate::proofs::TakenLemmas::commit_is_taken))]
     fn commit(
         &mut self,
         alloc: Global,
@@ -185,14 +185,14 @@ impl Machine {
         ensures { (r : LiveRunner) → runner_at id self.old.runners ≡ Some r → Made self.old self.new result (commit id r run self.old) }
     {
         let latest = latest_writes(alloc, run.writes.as_slice())?;
-        let changes = changes_of(alloc, &self.store, latest.as_slice())?;
-        match refusal_of(latest.as_slice(), changes.as_slice(), self.store.now()) {
-            Some(cause) => self.end(id, Reply::Ended { runner: id, cause }),
-            None => self.take_commit(alloc, id, run, changes),
+        match planned_changes(alloc, &self.store, latest.as_slice())? {
+            Err(cause) => self.end(id, Reply::Ended { runner: id, cause }),
+            Ok(changes) => self.take_commit(alloc, id, run, changes),
         }
     }
 
     /// Ends a run whose program has come to its end.
+    #[tactic(auto, using(crate::proofs::TakenLemmas::finish_is_taken))]
     fn finish(
         &mut self,
         alloc: Global,
@@ -216,7 +216,7 @@ impl Machine {
     }
 
     /// Makes one step of a runner. One that is not there is refused before any memory is taken.
-    #[tactic(auto, unfolding(crate::specs::World::step_live))]
+    #[tactic(auto, unfolding(crate::specs::World::step_live), using(crate::proofs::TakenLemmas::step_is_taken))]
     fn step_runner(&mut self, alloc: Global, id: u64) -> Result<Result<Reply, Denied>, AllocError>
         ensures { Made self.old self.new result (step_runner id (runner_at id self.old.runners) self.old) }
     {

@@ -47,11 +47,7 @@ fn changes_store(store: &Revisions, write: &Write) -> bool
 }
 
 /// The changes that the last writes of the keys make in the store, in their order.
-fn changes_of(
-    alloc: Global,
-    store: &Revisions,
-    latest: &[Write],
-) -> Result<Vec<Change>, AllocError>
+fn changes_of(alloc: Global, store: &Revisions, latest: &[Write]) -> Result<Vec<Change>, AllocError>
     ensures { IfOk result (λ v. v.items ≡ map as_change (filter (changes (is_present store.now)) latest.now)) }
 {
     let mut found = Vec::new(alloc);

@@ -20,7 +20,7 @@ pub returns : goal.returns
 returns c =
     let xs : List (List Change) = c.as_slice-revision-items.result.now in
     let i = c.loop-revision.revision-index in
-    seen_all c.args.store.now xs c.loop-revision.state c.as_slice-revision-items.ensures
+    seen_all c.args.store.now xs c.loop-revision.state c.as_slice-revision-items.ensures.same
     (seen_alike c.args.store.now (λ q. is_changed q (take i xs)) (λ q. is_changed q xs) c.loop-revision.state
     (λ q. ap (is_changed q) (take_all i xs c.loop-revision-test.false))
     c.loop-revision.invariant)

@@ -4,4 +4,3 @@ pub mod WrittenNumber
 pub mod Entries
 pub mod RunLaws
 pub mod Turns
-pub mod Latest

@@ -18,17 +18,16 @@ mod texts;
 mod trace_item;
 mod value;
 mod variables;
-mod writes;
 
 pub use alone::{run_alone, run_answered};
-pub use apply::{apply_alone, latest_writes};
+pub use apply::apply_alone;
 pub use fault::Fault;
 pub use laws::{answers_give_the_run, wanted_keys_are_unknown, whole_lookups_end};
 pub use lookup::Lookup;
 pub use run::{Answered, End, Run};
 pub use state::{State, StateEntry};
 pub use stm_history::{Sequence, Text};
-pub use stm_program::{Operator, Program, Variable, Write};
+pub use stm_program::{Operator, Program, Variable, Write, last_write, latest_writes};
 pub use trace_item::TraceItem;
 pub use value::Value;
 

@@ -12,10 +12,9 @@ use crate::stop::{Halt, Stop};
 use crate::trace_item::TraceItem;
 use crate::value::Value;
 use crate::variables::Variables;
-use crate::writes::{latest, written_value};
 use std::alloc::{AllocError, Global};
 use stm_history::{Sequence, Text};
-use stm_program::{Variable, Write};
+use stm_program::{Variable, Write, last_write};
 
 /// The turns of all loops of one run, at most.
 const TURN_LIMIT: u64 = 10_000;
@@ -122,8 +121,8 @@ impl Session {
     pub fn get<L: Lookup>(&mut self, alloc: Global, lookup: &L, key: Text) -> Result<Value, Halt>
         ensures { Tells result self.new (get_key (L.answers lookup.now) key self.old) }
     {
-        if let Some(write) = latest(self.writes.as_slice(), key.as_str()) {
-            let value = Text::copy_of(alloc, written_value(write))?;
+        if let Some(write) = last_write(self.writes.as_slice(), key.as_str()) {
+            let value = Text::copy_of(alloc, write.value())?;
             return Ok(self.gave(alloc, key, value.as_str())?);
         }
         match lookup.value(key.as_str()) {

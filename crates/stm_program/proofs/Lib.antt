@@ -18,3 +18,6 @@ pub mod ExpressionMarks
 pub mod ConditionMarks
 pub mod StatementMarks
 pub mod ProgramLemmas
+pub mod WriteLemmas
+pub mod LatestLemmas
+pub mod TableLemmas

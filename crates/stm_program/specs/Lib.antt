@@ -16,3 +16,4 @@ pub mod WordTexts
 pub mod Writing
 pub mod FirstFault
 pub mod CauseNames
+pub mod Writes

@@ -4,6 +4,8 @@
 mod condition;
 mod expression;
 mod fault;
+mod latest;
+pub mod laws;
 mod level;
 mod limits;
 mod operator;
@@ -18,6 +20,7 @@ mod write;
 pub use condition::{Cond, CondNode};
 pub use expression::{Expr, ExprNode};
 pub use fault::{BadProgram, Cause, ReadError};
+pub use latest::{last_write, latest_writes};
 pub use level::Level;
 pub use limits::fits;
 pub use operator::Operator;
@@ -25,7 +28,7 @@ pub use program::Program;
 pub use read::{place_within, read_program};
 pub use spell::write_program;
 pub use statement::{Block, Stmt, StmtNode};
-pub use stm_history::Text;
+pub use stm_history::{Sequence, Text};
 pub use variable::Variable;
 pub use write::Write;
 

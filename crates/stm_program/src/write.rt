@@ -1,4 +1,7 @@
 //! What a program writes.
+ghost use Rattle.std.specs.Prelude.{◌≡◌};
+ghost use Rattle.stm_program.specs.Writes.{key_of, value_of};
+
 use std::alloc::AllocError;
 use stm_history::Text;
 
@@ -19,6 +22,28 @@ pub enum Write {
         /// The key.
         key: Text,
     },
+}
+
+impl Write {
+    /// The key that is written.
+    pub fn key(&self) -> &str
+        ensures { result.now ≡ key_of self.now }
+    {
+        match self {
+            Write::Put { key, .. } => key.as_str(),
+            Write::Del { key } => key.as_str(),
+        }
+    }
+
+    /// What a `get` sees of the write: the value that is put, the empty text of a deletion.
+    pub fn value(&self) -> &str
+        ensures { result.now ≡ value_of self.now }
+    {
+        match self {
+            Write::Put { value, .. } => value.as_str(),
+            Write::Del { .. } => "",
+        }
+    }
 }
 
 impl Clone for Write {

@@ -64,5 +64,5 @@ has_more ws i w k v es fs below at shows is_key inserted so_far =
     subst (λ gs. HasLatest gs (take (i + 1) ws)) (sym inserted) (record {
       keyed = keyed-inserted es k v is_key so_far.keyed;
       latest =
-        writes-inserted es k v is_key so_far.keyed ∙ ap (with_write v.now) so_far.latest ∙ sym (latest_writes-more (take i ws) v.now) ∙ ap latest_writes (sym taken);
+          writes-inserted es k v is_key so_far.keyed ∙ ap (with_write v.now) so_far.latest ∙ sym (latest_writes-more (take i ws) v.now) ∙ ap latest_writes (sym taken);
     })

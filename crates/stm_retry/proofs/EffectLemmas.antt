@@ -8,6 +8,7 @@ use Rattle.stm_history.specs.History.{History, key_of as changed_key, change_of,
 use Rattle.stm_program.specs.declared.write.Write.{Write}
 use Rattle.stm_program.specs.declared.write.Write.TheVariants.{Put, Del}
 use Rattle.stm_program.specs.Writes.{key_of, last_write, is_written, latest_of, latest_after, latest_writes}
+use Rattle.stm_meaning.specs.Writes.{effect, changes}
 use Rattle.stm_retry.specs.World.{as_change, is_present, changes_of_writes}
 
 key_of-as_change : (w : Write) → changed_key (as_change w) ≡ key_of w

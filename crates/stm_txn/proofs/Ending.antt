@@ -1,29 +1,45 @@
 -- Leases that end, with their keys.
-use Rattle.std.proofs.Common.{◌≡◌, ℕ, ◌-◌, ◌<◌, zero, suc, true, false, cond, List, [], ◌∷◌, length, map, get_or, Option, Some, None, refl, sym, ◌∙◌, ap, arith}
-use Rattle.std.proofs.Common.{eqb-true, inl, inr}
-use Rattle.std.specs.Prelude.{bytes_eq, ◌↔◌, ◌⊎◌, Contains, Result, Ok, Err, IsOk, OnErr, is_some}
-use Rattle.std.specs.Ordering.{nat_cmp, is_eq}
-use Rattle.std.specs.Cmp.Lexicographic.{slice_cmp, nat_list_cmp_total}
+use Rattle.std.proofs.lemmas.List.{append-nil}
+use Rattle.std.specs.Prelude.{is_ok}
+use Rattle.std.proofs.Common.{◌≡◌, ℕ, ◌-◌, ◌<◌, zero, suc, Bool, true, false, cond, List, [], ◌∷◌, ◌++◌, length, map, get_or, Option, Some, None, refl, sym}
+use Rattle.std.proofs.Common.{◌∙◌, ap, arith, append_assoc, inl, inr}
+use Rattle.std.specs.Prelude.{bytes_eq, nat_eq, ◌↔◌, ◌⊎◌, ◌&&◌, Contains, Result, Ok, Err, IsOk, IsTrue, OnErr, is_some}
+use Rattle.std.specs.Ordering.{nat_cmp, is_eq, eq_by_cmp}
+use Rattle.std.specs.Cmp.Lexicographic.{slice_cmp}
 use Rattle.std.specs.Cmp.{nat_cmp_total}
 use Rattle.std.specs.FinMap as finmap
 use Rattle.std.specs.declared.cmp.Ordering.TheVariants.{Less}
 use Rattle.std.proofs.lemmas.Map.Text.{is_eq-slice_cmp}
+use Rattle.std.proofs.lemmas.Cmp.{nat_eq_equiv}
 use Rattle.stm_history.specs.declared.change.Change.TheVariants.{Del}
 use Rattle.stm_history.specs.declared.key_state.KeyState.{KeyState}
 use Rattle.stm_history.specs.declared.revisions.TheConstants.{HIGHEST_REVISION}
 use Rattle.stm_history.specs.History.{History, now, key_now, add_revision, change_of, after_change, HasDistinctKeys}
 use Rattle.stm_history.proofs.HistoryLaws.{one_more_revision}
-use Rattle.stm_leases.specs.LeaseLog.{Term}
-use Rattle.stm_leases.specs.Leases.{Leases, IsLive, lease_of, IsAscending, AreKeysOf}
+use Rattle.stm_leases.specs.LeaseLog.{LogItem, Expire, Term, term_of}
+use Rattle.stm_leases.specs.Live.{Live, is_live_in}
+use Rattle.stm_leases.specs.DueFirst.{first_due}
+use Rattle.stm_leases.specs.AttachedKeys.{IsAscending, AreKeysOf, HasKeys}
+use Rattle.stm_leases.specs.Leases.{Leases, IsLive, StandsFor}
 use Rattle.stm_leases.specs.declared.errors.LeaseNotFound.{LeaseNotFound}
-use Rattle.stm_txn.specs.Leasing.{Live, hanging, HangAsStored, hangs_of, AreKeysOn}
+use Rattle.stm_leases.proofs.DueLaws.{first_due_is_next}
+use Rattle.stm_leases.proofs.Tables.{test_number}
+use Rattle.stm_txn.specs.declared.advance.Expired.{Expired}
+use Rattle.stm_txn.specs.declared.refusal.Refusal.{Refusal}
+use Rattle.stm_txn.specs.declared.refusal.Refusal.TheVariants.{RevisionsUsedUp}
+use Rattle.stm_txn.specs.Leasing.{hanging, hangs_of, lease_now}
+use Rattle.stm_txn.specs.LeaseKeys.{keys_of_lease, deletions_of}
 use Rattle.stm_txn.specs.Outcome.{with_changes, is_used_up}
+use Rattle.stm_txn.specs.Standing.{Standing, IsRefusalOf, without_lease, ended, Advance, after, expired_in, expire_up_to, expire_all, IsCutShort}
+use Rattle.stm_txn.specs.Standing.{with_expiries}
 use Rattle.stm_txn.proofs.Branching.{equal_text, apart_case, apart_back}
+use Rattle.stm_txn.proofs.Running.{none_used, all_used}
+use Rattle.stm_txn.proofs.Naming.{skipped, rest_ascending, are_keys}
 
 -- a renewal leaves the keys where they hang
 renewed_case : (r : Result (Unit {0}) LeaseNotFound) (old new : Leases) (id at : ℕ) (o : Option Term) → finmap.get old.live id ≡ o →
-    (IsOk r ↔ IsLive old id) → ((term : Term) → finmap.get old.live id ≡ Some term →
-    new ≡ record old { live = finmap.insert old.live id (record term { renewed = at }) }) →
+    (IsOk r ↔ IsLive old id) →
+    ((term : Term) → finmap.get old.live id ≡ Some term → new ≡ record old { live = finmap.insert old.live id (record term { renewed = at }) }) →
     OnErr r (new ≡ old) → new.attached ≡ old.attached
 renewed_case r old new id at (Some term) is found ok err = ap (λ (s : Leases). s.attached) (ok term is)
 renewed_case (Ok u) old new id at None is found ok err =
@@ -31,44 +47,34 @@ renewed_case (Ok u) old new id at None is found ok err =
     absurd (cc (ap (λ (o : Option Term). is_some o) is))
 renewed_case (Err e) old new id at None is found ok err = ap (λ (s : Leases). s.attached) err
 
-pub renewed_attached : (r : Result (Unit {0}) LeaseNotFound) (old new : Leases) (id at : ℕ) →
-    (IsOk r ↔ IsLive old id) → ((term : Term) → finmap.get old.live id ≡ Some term →
-    new ≡ record old { live = finmap.insert old.live id (record term { renewed = at }) }) →
+pub renewed_attached : (r : Result (Unit {0}) LeaseNotFound) (old new : Leases) (id at : ℕ) → (IsOk r ↔ IsLive old id) →
+    ((term : Term) → finmap.get old.live id ≡ Some term → new ≡ record old { live = finmap.insert old.live id (record term { renewed = at }) }) →
     OnErr r (new ≡ old) → new.attached ≡ old.attached
 renewed_attached r old new id at found ok err = renewed_case r old new id at (finmap.get old.live id) refl found ok err
-
--- the keys on a lease's list are those of the state
-pub are_on : (s : Leases) (h : History) (id : ℕ) (keys : List (List ℕ)) → AreKeysOf s id keys → HangAsStored (lease_of s) h → AreKeysOn h id keys
-are_on s h id keys are kept = record {
-  ascending = are.ascending;
-  each = λ key. ((λ has. sym (kept key) ∙ (are.each key).0 has), (λ is. (are.each key).1 (kept key ∙ is)));
-}
 
 -- ascending texts are distinct
 less_apart : (a b : List ℕ) → slice_cmp nat_cmp a b ≡ Less → bytes_eq b a ≡ false
 less_apart a b less = apart_back a b (sym (is_eq-slice_cmp a b) ∙ ap is_eq less)
-
-skipped : (k x : List ℕ) (xs : List (List ℕ)) → IsAscending (k ∷ (x ∷ xs)) → IsAscending (k ∷ xs)
-skipped k x [] ascending = tt
-skipped k x (y ∷ ys) ascending = (nat_list_cmp_total.trans k x y ascending.0 ascending.1.0, ascending.1.1)
 
 below_all : (k : List ℕ) (xs : List (List ℕ)) → IsAscending (k ∷ xs) → change_of k (map Del xs) ≡ None
 below_all k [] ascending = refl
 below_all k (x ∷ xs) ascending =
     ap (λ b. cond b (Some (Del x)) (change_of k (map Del xs))) (less_apart k x ascending.0) ∙ below_all k xs (skipped k x xs ascending)
 
-rest_ascending : (k : List ℕ) (xs : List (List ℕ)) → IsAscending (k ∷ xs) → IsAscending xs
-rest_ascending k [] ascending = tt
-rest_ascending k (x ∷ xs) ascending = ascending.1
+distinct_deletions : (keys : List (List ℕ)) → IsAscending keys → HasDistinctKeys (map Del keys)
+distinct_deletions [] ascending = tt
+distinct_deletions (k ∷ ks) ascending = (below_all k ks ascending, distinct_deletions ks (rest_ascending k ks ascending))
 
-pub deletions_are_distinct : (keys : List (List ℕ)) → IsAscending keys → HasDistinctKeys (map Del keys)
-deletions_are_distinct [] ascending = tt
-deletions_are_distinct (k ∷ ks) ascending = (below_all k ks ascending, deletions_are_distinct ks (rest_ascending k ks ascending))
+pub deletions_are_distinct : (h : History) (id : ℕ) → HasDistinctKeys (deletions_of h id)
+deletions_are_distinct h id = distinct_deletions (keys_of_lease h id) (are_keys h id).ascending
 
 -- deletions hang nothing
-pub hangs_of-deletions : (keys : List (List ℕ)) → hangs_of (map Del keys) ≡ []
-hangs_of-deletions [] = refl
-hangs_of-deletions (k ∷ ks) = hangs_of-deletions ks
+no_hangs : (keys : List (List ℕ)) → hangs_of (map Del keys) ≡ []
+no_hangs [] = refl
+no_hangs (k ∷ ks) = no_hangs ks
+
+pub hangs_of-deletions : (h : History) (id : ℕ) → hangs_of (deletions_of h id) ≡ []
+hangs_of-deletions h id = no_hangs (keys_of_lease h id)
 
 -- a deleted key is among those of the deletions
 deleted_key : (keys : List (List ℕ)) (key : List ℕ) (k : ℕ) → change_of key (map Del keys) ≡ None → k < length keys → get_or keys k key ≡ key → ⊥
@@ -85,14 +91,14 @@ deletion_case : (keys : List (List ℕ)) (key : List ℕ) (n : ℕ) (s : Option 
     (change_of key (map Del keys) ≡ None) ⊎ (after_change n (change_of key (map Del keys)) s ≡ None)
 deletion_case [] key n s = inl refl
 deletion_case (x ∷ xs) key n s =
-    elim (bytes_eq x key) as (λ b. (cond b (Some (Del x)) (change_of key (map Del xs)) ≡ None) ⊎
-    (after_change n (cond b (Some (Del x)) (change_of key (map Del xs))) s ≡ None)) [
+    elim (bytes_eq x key) as (λ b. (cond b (Some (Del x)) (change_of key (map Del xs)) ≡ None)
+    ⊎ (after_change n (cond b (Some (Del x)) (change_of key (map Del xs))) s ≡ None)) [
       | true ↦ inr refl
       | false ↦ deletion_case xs key n s
     ]
 
 -- once its keys are deleted, no key hangs on a lease
-gone_case : (h : History) (id : ℕ) (keys : List (List ℕ)) (key : List ℕ) (n : ℕ) → AreKeysOn h id keys →
+gone_case : (h : History) (id : ℕ) (keys : List (List ℕ)) (key : List ℕ) (n : ℕ) → AreKeysOf (lease_now h) id keys →
     (change_of key (map Del keys) ≡ None) ⊎ (after_change n (change_of key (map Del keys)) (key_now h key) ≡ None) →
     hanging (after_change n (change_of key (map Del keys)) (key_now h key)) ≡ Some id → ⊥
 gone_case h id keys key n are (inl none) is =
@@ -102,25 +108,58 @@ gone_case h id keys key n are (inl none) is =
 gone_case h id keys key n are (inr none) is =
     let nothing : None ≡ Some id = sym (ap hanging none) ∙ is in absurd (cc)
 
-pub gone : (h : History) (id : ℕ) (keys : List (List ℕ)) (key : List ℕ) → AreKeysOn h id keys →
-    hanging (key_now (with_changes h (map Del keys)) key) ≡ Some id → ⊥
-gone h id [] key are is = let has : Contains [] key = (are.each key).1 is in absurd (omega (arith, has.1))
-gone h id (k ∷ ks) key are is =
+gone_from : (h : History) (id : ℕ) (keys : List (List ℕ)) (key : List ℕ) → AreKeysOf (lease_now h) id keys →
+    lease_now (with_changes h (map Del keys)) key ≡ Some id → ⊥
+gone_from h id [] key are is = let has : Contains [] key = (are.each key).1 is in absurd (omega (arith, has.1))
+gone_from h id (k ∷ ks) key are is =
     gone_case h id (k ∷ ks) key (now (add_revision h (map Del (k ∷ ks)))) are
     (deletion_case (k ∷ ks) key (now (add_revision h (map Del (k ∷ ks)))) (key_now h key))
     (sym (ap hanging (one_more_revision h (map Del (k ∷ ks)) key)) ∙ is)
 
--- what uses up the revisions is a key that hangs on the lease
-pub used_by_key : (h : History) (id : ℕ) (keys : List (List ℕ)) → AreKeysOn h id keys → is_used_up h (map Del keys) ≡ true →
-    (now h ≡ HIGHEST_REVISION) × ((key : List ℕ) × (hanging (key_now h key) ≡ Some id))
-used_by_key h id [] are used = absurd (cc)
-used_by_key h id (k ∷ ks) are used =
+pub gone : (h : History) (id : ℕ) (key : List ℕ) → lease_now (with_changes h (deletions_of h id)) key ≡ Some id → ⊥
+gone h id key is = gone_from h id (keys_of_lease h id) key (are_keys h id) is
+
+-- a key that hangs on the lease is what uses up the revisions
+not_true : (b : Bool) → (b ≡ true → ⊥) → b ≡ false
+not_true true never = absurd (never refl)
+not_true false never = refl
+
+stuck_case : (h : History) (id : ℕ) (has : Bool) (keys : List (List ℕ)) → AreKeysOf (lease_now h) id keys → IsTrue has ↔ HasKeys (lease_now h) id →
+    (nat_eq (now h) HIGHEST_REVISION && has) ≡ is_used_up h (map Del keys)
+stuck_case h id has [] are tells =
+    let none : has ≡ false = not_true has (λ is. let key : HasKeys (lease_now h) id = tells.0 is in
+    let found : Contains [] key.0 = (are.each key.0).1 key.1 in absurd (omega (arith, found.1))) in
+    ap (λ b. nat_eq (now h) HIGHEST_REVISION && b) none ∙ none_used (nat_eq (now h) HIGHEST_REVISION)
+stuck_case h id has (k ∷ ks) are tells =
     let first : Contains (k ∷ ks) k = (0, omega arith, refl) in
-    (eqb-true (now h) HIGHEST_REVISION used, (k, (are.each k).0 first))
+    let some : has ≡ true = tells.1 (k, (are.each k).0 first) in
+    ap (λ b. nat_eq (now h) HIGHEST_REVISION && b) some ∙ all_used (nat_eq (now h) HIGHEST_REVISION)
+
+pub stuck : (h : History) (id : ℕ) (has : Bool) → IsTrue has ↔ HasKeys (lease_now h) id →
+    (nat_eq (now h) HIGHEST_REVISION && has) ≡ is_used_up h (deletions_of h id)
+stuck h id has tells = stuck_case h id has (keys_of_lease h id) (are_keys h id) tells
+
+-- a lease that ends is refused, or taken away with its keys
+pub ended_stuck : (s : Standing) (id : ℕ) → is_used_up s.history (deletions_of s.history id) ≡ true → ended s id ≡ Err RevisionsUsedUp
+ended_stuck s id used = ap (λ b. cond b (Err RevisionsUsedUp) (Ok (without_lease s id))) used
+
+pub ended_free : (s : Standing) (id : ℕ) → is_used_up s.history (deletions_of s.history id) ≡ false → ended s id ≡ Ok (without_lease s id)
+ended_free s id used = ap (λ b. cond b (Err RevisionsUsedUp) (Ok (without_lease s id))) used
+
+pub is_without : (s next : Standing) (id : ℕ) → next.history ≡ with_changes s.history (deletions_of s.history id) →
+    next.live ≡ finmap.remove s.live id → next.moment ≡ s.moment → next ≡ without_lease s id
+is_without s next id history live moment = λ i. record { history = history i; live = live i; moment = moment i }
+
+ended_case : (used : Bool) (taken next : Standing) → cond used (Err RevisionsUsedUp) (Ok taken) ≡ Ok next → taken ≡ next
+ended_case true taken next is = cc
+ended_case false taken next is = cc
+
+pub ended_is : (s next : Standing) (id : ℕ) → ended s id ≡ Ok next → without_lease s id ≡ next
+ended_is s next id is = ended_case (is_used_up s.history (deletions_of s.history id)) (without_lease s id) next is
 
 -- a lease that is taken away leaves fewer
-pub fewer : (live : Live) (id : ℕ) → finmap.contains_key live id ≡ true → finmap.len (finmap.remove live id) < finmap.len live
-fewer live id has =
+one_fewer : (live : Live) (id : ℕ) → finmap.contains_key live id ≡ true → finmap.len live ≡ suc (finmap.len (finmap.remove live id))
+one_fewer live id has =
     let less : finmap.len (finmap.remove live id) ≡ finmap.len live - 1 =
     finmap.len-remove nat_cmp_total live id ∙ ap (λ b. cond b (finmap.len live - 1) (finmap.len live)) has in
     let some : 0 < finmap.len live = positive (finmap.len live) refl in
@@ -132,3 +171,123 @@ fewer live id has =
         ap (λ (m : Live). finmap.contains_key m id) (finmap.empty_of_len live is) ∙ ap (λ (o : Option Term). is_some o) (finmap.get-empty nat_cmp id) in
         absurd (cc)
     positive (suc n) is = omega arith
+
+-- the lease that is due first is live
+pub due_lives : (live : Live) (moment id : ℕ) → first_due live moment ≡ Some id → is_live_in live id ≡ true
+due_lives live moment id is = ap (λ (o : Option Term). is_some o) ((first_due_is_next.next live moment id).0 is).live_now
+
+pub ended_fewer : (s next : Standing) (id : ℕ) → first_due s.live s.moment ≡ Some id → ended s id ≡ Ok next → finmap.len s.live ≡ suc (finmap.len next.live)
+ended_fewer s next id due is =
+    one_fewer s.live id (due_lives s.live s.moment id due) ∙ ap (λ (x : Standing). suc (finmap.len x.live)) (ended_is s next id is)
+
+-- One step of an advance.
+none_due : (more : ℕ) (s : Standing) → first_due s.live s.moment ≡ None → expire_up_to more s ≡ record { expired = []; leaves = s; cause = None }
+none_due zero s none = refl
+none_due (suc more) s none =
+    ap (λ (o : Option ℕ). elim o as (λ x. Advance) [
+      | None ↦ record { expired = []; leaves = s; cause = None }
+      | Some id ↦ elim (ended s id) as (λ x. Advance) [
+        | Err cause ↦ record { expired = []; leaves = s; cause = Some cause }
+        | Ok next ↦ after (expired_in id next ∷ []) (expire_up_to more next)
+      ]
+    ]) none
+
+one_due : (more id : ℕ) (s : Standing) → first_due s.live s.moment ≡ Some id → expire_up_to (suc more) s
+    ≡ elim (ended s id) as (λ x. Advance) [
+      | Err cause ↦ record { expired = []; leaves = s; cause = Some cause }
+      | Ok next ↦ after (expired_in id next ∷ []) (expire_up_to more next)
+    ]
+one_due more id s due =
+    ap (λ (o : Option ℕ). elim o as (λ x. Advance) [
+      | None ↦ record { expired = []; leaves = s; cause = None }
+      | Some first ↦ elim (ended s first) as (λ x. Advance) [
+        | Err cause ↦ record { expired = []; leaves = s; cause = Some cause }
+        | Ok next ↦ after (expired_in first next ∷ []) (expire_up_to more next)
+      ]
+    ]) due
+
+one_ended : (more id : ℕ) (s : Standing) (outcome : Result Standing Refusal) → first_due s.live s.moment ≡ Some id → ended s id ≡ outcome →
+    expire_up_to (suc more) s
+    ≡ elim outcome as (λ x. Advance) [
+      | Err cause ↦ record { expired = []; leaves = s; cause = Some cause }
+      | Ok next ↦ after (expired_in id next ∷ []) (expire_up_to more next)
+    ]
+one_ended more id s outcome due is =
+    one_due more id s due
+    ∙ ap (λ (r : Result Standing Refusal). elim r as (λ x. Advance) [
+      | Err cause ↦ record { expired = []; leaves = s; cause = Some cause }
+      | Ok next ↦ after (expired_in id next ∷ []) (expire_up_to more next)
+    ]) is
+
+pub done : (s : Standing) → first_due s.live s.moment ≡ None → expire_all s ≡ record { expired = []; leaves = s; cause = None }
+done s none = none_due (finmap.len s.live) s none
+
+pub next_ended : (s next : Standing) (id : ℕ) → first_due s.live s.moment ≡ Some id → ended s id ≡ Ok next →
+    expire_all s ≡ after (expired_in id next ∷ []) (expire_all next)
+next_ended s next id due is =
+    ap (λ n. expire_up_to n s) (ended_fewer s next id due is) ∙ one_ended (finmap.len next.live) id s (Ok next) due is
+
+pub next_refused : (s : Standing) (id : ℕ) (cause : Refusal) → first_due s.live s.moment ≡ Some id → ended s id ≡ Err cause →
+    expire_all s ≡ record { expired = []; leaves = s; cause = Some cause }
+next_refused s id cause due is =
+    ap (λ n. expire_up_to n s) (one_fewer s.live id (due_lives s.live s.moment id due))
+    ∙ one_ended (finmap.len (finmap.remove s.live id)) id s (Err cause) due is
+
+-- What expired so far, followed by the rest.
+pub nothing_yet : (whole : Advance) → whole ≡ after [] whole
+nothing_yet whole = refl
+
+pub one_more_expired : (whole : Advance) (expired : List Expired) (s next : Standing) (id : ℕ) → whole ≡ after expired (expire_all s) →
+    first_due s.live s.moment ≡ Some id → ended s id ≡ Ok next → whole ≡ after (expired ++ expired_in id next ∷ []) (expire_all next)
+one_more_expired whole expired s next id so_far due is =
+    so_far ∙ ap (after expired) (next_ended s next id due is)
+    ∙ λ i. record {
+      expired = sym (append_assoc expired (expired_in id next ∷ []) (expire_all next).expired) i;
+      leaves = (expire_all next).leaves;
+      cause = (expire_all next).cause;
+    }
+
+ended_with : (expired : List Expired) (s : Standing) (cause : Option Refusal) →
+    after expired (record { expired = []; leaves = s; cause = cause }) ≡ record { expired = expired; leaves = s; cause = cause }
+ended_with expired s cause = λ i. record { expired = append-nil expired i; leaves = s; cause = cause }
+
+pub all_expired : (whole : Advance) (expired : List Expired) (s : Standing) → whole ≡ after expired (expire_all s) →
+    first_due s.live s.moment ≡ None → whole ≡ record { expired = expired; leaves = s; cause = None }
+all_expired whole expired s so_far none = so_far ∙ ap (after expired) (done s none) ∙ ended_with expired s None
+
+cut_case : (whole : Advance) (expired : List Expired) (s : Standing) (id : ℕ) (cause : Refusal) (outcome : Result Standing Refusal) → ended s id ≡ outcome →
+    whole ≡ after expired (expire_all s) → first_due s.live s.moment ≡ Some id → IsRefusalOf outcome cause → IsCutShort whole expired cause s
+cut_case whole expired s id cause (Ok next) is so_far due refused =
+    inr (refused, record { so_far = so_far; id = id; is_next = due; can_end = ap (λ (r : Result Standing Refusal). is_ok r) is })
+cut_case whole expired s id cause (Err refusal) is so_far due refused =
+    inl (so_far ∙ ap (after expired) (next_refused s id refusal due is) ∙ ended_with expired s (Some refusal)
+    ∙ ap (λ r. record { expired = expired; leaves = s; cause = Some r }) (sym refused))
+
+pub cut_short : (whole : Advance) (expired : List Expired) (s : Standing) (id : ℕ) (cause : Refusal) →
+    whole ≡ after expired (expire_all s) → first_due s.live s.moment ≡ Some id → IsRefusalOf (ended s id) cause → IsCutShort whole expired cause s
+cut_short whole expired s id cause so_far due refused = cut_case whole expired s id cause (ended s id) refl so_far due refused
+
+-- the lease log, one more expiry after it
+pub with_expiries-push : (expired : List Expired) (e : Expired) (log : List LogItem) →
+    with_expiries (expired ++ e ∷ []) log ≡ Expire e.id ∷ with_expiries expired log
+with_expiries-push [] e log = refl
+with_expiries-push (x ∷ xs) e log = with_expiries-push xs e (Expire x.id ∷ log)
+
+same_number : (a b : ℕ) → eq_by_cmp nat_cmp a b ≡ nat_eq b a
+same_number a b = test_number a b ∙ nat_eq_equiv.symm a b
+
+pub removed_log : (live next : Live) (id : ℕ) (log : List LogItem) → next ≡ finmap.remove live id → StandsFor live log →
+    (asked : ℕ) → finmap.get next asked ≡ cond (nat_eq id asked) None (term_of log asked)
+removed_log live next id log is stands asked =
+    ap (λ (m : Live). finmap.get m asked) is
+    ∙ finmap.get-remove nat_cmp_total live id asked
+    ∙ ap (λ b. cond b None (finmap.get live asked)) (same_number asked id)
+    ∙ ap (cond (nat_eq id asked) None) (stands asked)
+
+-- one more lease expired, and the log has it
+pub one_more_logged : (first s next : Standing) (id : ℕ) (expired : List Expired) → ended s id ≡ Ok next →
+    ((log : List LogItem) → StandsFor first.live log → StandsFor s.live (with_expiries expired log)) →
+    (log : List LogItem) → StandsFor first.live log → StandsFor next.live (with_expiries (expired ++ expired_in id next ∷ []) log)
+one_more_logged first s next id expired is logged log stands asked =
+    removed_log s.live next.live id (with_expiries expired log) (sym (ap (λ (x : Standing). x.live) (ended_is s next id is))) (logged log stands) asked
+    ∙ sym (ap (λ l. term_of l asked) (with_expiries-push expired (expired_in id next) log))

@@ -1,5 +1,6 @@
 pub mod Branching
 pub mod Moving
 pub mod Running
+pub mod Naming
 pub mod Ending
 pub mod Applying

@@ -9,7 +9,8 @@ use Rattle.std.proofs.lemmas.Slice.Eq.{bytes_eq-Decides}
 use Rattle.std.proofs.lemmas.Map.Text.{is_eq-slice_cmp}
 use Rattle.stm_history.specs.declared.change.Change.{Change}
 use Rattle.stm_history.specs.History.{key_of, change_of, HasDistinctKeys}
-use Rattle.stm_txn.specs.Leasing.{Live, hung_by, hung_after, with_hang, hangs_of, HangOnLive}
+use Rattle.stm_leases.specs.Live.{Live}
+use Rattle.stm_txn.specs.Leasing.{hung_by, hung_after, with_hang, hangs_of, HangOnLive}
 use Rattle.stm_txn.specs.Moves.{detached_all, attached_one, attached_all, IsLoose, CanHang}
 use Rattle.stm_txn.proofs.Branching.{same_text, equal_text, apart_case, apart_back}
 

@@ -15,7 +15,8 @@ use Rattle.stm_txn.specs.declared.refusal.Refusal.{Refusal}
 use Rattle.stm_txn.specs.declared.refusal.Refusal.TheVariants.{FutureRevision, LeaseNotFound, RevisionsUsedUp}
 use Rattle.stm_txn.specs.Branches.{copy, deletion_of, with_change_made, changes_after, answers_after, has_changes, is_readable, are_readable, op_refusal}
 use Rattle.stm_txn.specs.Branches.{first_refusal, branch_refusal}
-use Rattle.stm_txn.specs.Leasing.{Live, is_live_in, hung_by, with_hang, hangs_of, HangOnLive}
+use Rattle.stm_leases.specs.Live.{Live, is_live_in}
+use Rattle.stm_txn.specs.Leasing.{hung_by, with_hang, hangs_of, HangOnLive}
 use Rattle.stm_txn.specs.Outcome.{is_used_up, with_changes, answer_of, finished, unless, branch_outcome}
 
 -- where no refusal comes first, neither part has one
@@ -93,11 +94,11 @@ pub hangs_live : (h : History) (live : Live) (ops : List Op) → branch_refusal 
 hangs_live h live ops none = live_after h live (now h) [] ops none tt
 
 -- nothing is used up below the highest revision, or without changes
-none_used : (b : Bool) → (b && false) ≡ false
+pub none_used : (b : Bool) → (b && false) ≡ false
 none_used true = refl
 none_used false = refl
 
-all_used : (b : Bool) → (b && true) ≡ b
+pub all_used : (b : Bool) → (b && true) ≡ b
 all_used true = refl
 all_used false = refl
 

@@ -1,23 +1,13 @@
 -- The keys that hang on leases.
 --
 -- etcd's API reference, "Lease": a key hangs on at most one lease, the one of its last put.
-use Rattle.std.specs.Prelude.{◌≡◌, ◌↔◌, ℕ, Bool, true, nat_eq, if◌then◌else◌, List, [], ◌∷◌, Option, Some, None, Contains}
-use Rattle.std.specs.Ordering.{nat_cmp}
+use Rattle.std.specs.Prelude.{◌≡◌, ℕ, true, nat_eq, if◌then◌else◌, List, [], ◌∷◌, Option, Some, None}
 use Rattle.std.specs.FinMap as finmap
 use Rattle.stm_history.specs.declared.change.Change.{Change}
 use Rattle.stm_history.specs.declared.change.Change.TheVariants.{Put, Del}
 use Rattle.stm_history.specs.declared.key_state.KeyState.{KeyState}
 use Rattle.stm_history.specs.History.{History, key_now, key_of}
-use Rattle.stm_leases.specs.LeaseLog.{Term}
-use Rattle.stm_leases.specs.Leases.{IsAscending}
-
--- the live leases by id
-abbrev pub Live : Type 0
-Live = finmap.FinMap nat_cmp Term
-
--- whether an id is that of a live lease
-abbrev pub is_live_in : Live → ℕ → Bool
-is_live_in live id = finmap.contains_key live id
+use Rattle.stm_leases.specs.Live.{Live}
 
 -- the lease of a put, nothing for 0
 abbrev pub lease_named : ℕ → Option ℕ
@@ -32,10 +22,9 @@ hanging (Some s) = lease_named s.lease
 abbrev pub HangAsStored : (List ℕ → Option ℕ) → History → Type 0
 HangAsStored lease_of h = (key : List ℕ) → lease_of key ≡ hanging (key_now h key)
 
--- these are the keys of a state that hang on a lease, ascending by bytes
-pub record AreKeysOn (h : History) (id : ℕ) (keys : List (List ℕ)) : Type 0 where
-  pub ascending : IsAscending keys
-  pub each : (key : List ℕ) → Contains keys key ↔ (hanging (key_now h key) ≡ Some id)
+-- the lease that a key hangs on now
+abbrev pub lease_now : History → List ℕ → Option ℕ
+lease_now h key = hanging (key_now h key)
 
 -- where a change leaves its key hanging
 abbrev pub hung_by : Change → Option ℕ

@@ -7,7 +7,9 @@ pub mod Effect
 pub mod Commits
 pub mod Laws
 pub mod Leasing
+pub mod LeaseKeys
 pub mod Moves
-pub mod Store
 pub mod Grants
+pub mod Standing
+pub mod Store
 pub mod Names

@@ -3,7 +3,7 @@ use Rattle.std.specs.Prelude.{◌≡◌, ℕ, true, false, bytes_eq, if◌then�
 use Rattle.std.specs.FinMap as finmap
 use Rattle.stm_history.specs.declared.change.Change.{Change}
 use Rattle.stm_history.specs.History.{key_of}
-use Rattle.stm_txn.specs.Leasing.{Live}
+use Rattle.stm_leases.specs.Live.{Live}
 
 -- where a key hangs once the keys of changes are taken off, the first one first
 abbrev pub detached_all : List Change → List ℕ → Option ℕ → Option ℕ

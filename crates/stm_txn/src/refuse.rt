@@ -1,7 +1,7 @@
 //! Why an operation of a branch is refused.
 ghost use Rattle.std.specs.Prelude.{◌≡◌};
 ghost use Rattle.stm_txn.specs.Branches.{op_refusal, branch_refusal};
-ghost use Rattle.stm_txn.specs.Leasing.{is_live_in};
+ghost use Rattle.stm_leases.specs.Live.{is_live_in};
 
 use crate::refusal::Refusal;
 use crate::txn::Op;

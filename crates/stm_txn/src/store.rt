@@ -1,9 +1,12 @@
 //! The store.
-ghost use Rattle.std.specs.Prelude.{◌≡◌, ◌<◌, ◌≤◌, ℕ, List, [], ◌∷◌, ◌++◌, IfOk, IfErr, OnOk, OnErr, IsOk, IsOkUnless, MatchOption, map, string_bytes, IsSome, Ok, Err, None, true, false};
+ghost use Rattle.std.specs.Prelude.{◌≡◌, ◌<◌, ◌≤◌, ℕ, List, [], ◌∷◌, ◌++◌, IfOk, IfErr, OnOk, OnErr, IsOkUnless, map, string_bytes, Ok, Err, None, Some, true, false};
 ghost use Rattle.std.specs.FinMap as finmap;
 ghost use Rattle.stm_history.specs.declared.revisions.TheConstants.{HIGHEST_REVISION};
-ghost use Rattle.stm_history.specs.History.{now, opened_at, add_revision, IsRevision, HasDistinctKeys};
-ghost use Rattle.stm_leases.specs.LeaseLog.{Term};
+ghost use Rattle.stm_history.specs.History.{now, add_revision, IsRevision, HasDistinctKeys};
+ghost use Rattle.stm_leases.specs.LeaseLog.{LogItem, Grant, Renew, Revoke};
+ghost use Rattle.stm_leases.specs.Leases.{StandsFor};
+ghost use Rattle.stm_leases.specs.Live.{is_live_in};
+ghost use Rattle.stm_leases.specs.DueFirst.{first_due};
 ghost use Rattle.stm_txn.specs.Branches.{changes_after, answers_after, branch_refusal};
 ghost use Rattle.stm_txn.specs.Outcome.{is_used_up};
 ghost use Rattle.stm_txn.specs.Grants.{grant_refusal_of, grant_told};
@@ -44,7 +47,10 @@ impl Model for Store {
 
     ghost coded = { store_code key_store.the_row.coded };
 
-    ghost view = { λ s. record { keys = s.keys; live = s.leases.live; moment = s.moment } };
+    ghost view = { λ s. record {
+      standing = record { history = s.keys.history; live = s.leases.live; moment = s.moment };
+      present = s.keys.present;
+    } };
 
     ghost invariant = { λ s. HangAsStored (lease_of s.leases) s.keys.history };
 }
@@ -55,16 +61,6 @@ fn uses_up(keys: &Keys, ops: &[Op]) -> bool
 {
     let is_highest = keys.revision() == HIGHEST_REVISION;
     is_highest && makes_changes(keys, ops)
-}
-
-/// Whether these changes are too many at the highest revision, where none can be made.
-fn is_beyond(keys: &Keys, changes: &[Change]) -> bool
-    ensures { result ≡ is_used_up keys.now.history changes.now }
-{
-    match changes {
-        [] => false,
-        [_, ..] => keys.revision() == HIGHEST_REVISION,
-    }
 }
 
 /// Why a grant is refused.
@@ -103,15 +99,16 @@ fn deletions(alloc: Global, keys: Vec<String>) -> Result<Vec<Change>, AllocError
 
 impl Store {
     ghost use Rattle.stm_txn.specs.Checks.{has_clash};
-    ghost use Rattle.stm_txn.specs.Leasing.{is_live_in, hangs_of, HangOnLive};
+    ghost use Rattle.stm_txn.specs.Leasing.{hangs_of, HangOnLive};
+    ghost use Rattle.stm_txn.specs.LeaseKeys.{deletions_of};
     ghost use Rattle.stm_txn.specs.Outcome.{outcome, branch_outcome, with_changes, answer_of};
-    ghost use Rattle.stm_txn.specs.Store.{IsRefusalOf, IsEndRefusal, EndsLease, Expiries, IsFirstDue, NoneDue, IsAdvanceRefusal, grant_cause, with_lease, expired_in, at_moment};
+    ghost use Rattle.stm_txn.specs.Standing.{opening, IsRefusalOf, ComesTo, transacted, granted, kept_alive, told, ended, revoked, after, expired_in, expire_all, at_moment, advanced, IsStopped, IsCutShort, with_expiries};
 
     /// An empty store at revision 1 and moment 0. Want of memory is its only refusal.
     pub fn new(alloc: Global) -> Result<Store, AllocError>
-        ensures history { IfOk result (λ s. s.keys.history ≡ opened_at 1) }
-        ensures live { IfOk result (λ s. s.live ≡ finmap.empty) }
-        ensures moment { IfOk result (λ s. s.moment ≡ 0) }
+        ensures standing { IfOk result (λ s. s.standing ≡ opening 1) }
+        ensures present { IfOk result (λ s. s.present ≡ []) }
+        ensures log { IfOk result (λ s. StandsFor s.standing.live []) }
     {
         Store::with_revision(alloc, 1)
     }
@@ -121,9 +118,9 @@ impl Store {
     pub fn with_revision(alloc: Global, start: u64) -> Result<Store, AllocError>
         requires positive { 1 ≤ start }
         requires bounded { start ≤ HIGHEST_REVISION }
-        ensures history { IfOk result (λ s. s.keys.history ≡ opened_at start) }
-        ensures live { IfOk result (λ s. s.live ≡ finmap.empty) }
-        ensures moment { IfOk result (λ s. s.moment ≡ 0) }
+        ensures standing { IfOk result (λ s. s.standing ≡ opening start) }
+        ensures present { IfOk result (λ s. s.present ≡ []) }
+        ensures log { IfOk result (λ s. StandsFor s.standing.live []) }
     {
         Ok(Store {
             keys: Keys::with_revision(alloc, start),
@@ -135,14 +132,15 @@ impl Store {
 
     /// The keys.
     pub fn keys(&self) -> &Keys
-        ensures { result.now ≡ self.now.keys }
+        ensures history { result.now.history ≡ self.now.standing.history }
+        ensures present { result.now.present ≡ self.now.present }
     {
         &self.keys
     }
 
     /// The number of live leases.
     pub fn lease_count(&self) -> usize
-        ensures { result ≡ finmap.len self.now.live }
+        ensures { result ≡ finmap.len self.now.standing.live }
     {
         self.leases.len()
     }
@@ -150,11 +148,11 @@ impl Store {
     /// Adds a revision with these changes, and moves their keys to their leases.
     fn change(&mut self, changes: &[Change]) -> Result<(), Refusal>
         requires revision { IsRevision changes.now }
-        requires room { now self.old.keys.history < HIGHEST_REVISION }
-        requires live { HangOnLive self.old.live (hangs_of changes.now) }
-        ensures ok { OnOk result (self.new.keys.history ≡ add_revision self.old.keys.history changes.now) }
-        ensures live { self.new.live ≡ self.old.live }
-        ensures moment { self.new.moment ≡ self.old.moment }
+        requires room { now self.old.standing.history < HIGHEST_REVISION }
+        requires live { HangOnLive self.old.standing.live (hangs_of changes.now) }
+        ensures ok { OnOk result (self.new.standing.history ≡ add_revision self.old.standing.history changes.now) }
+        ensures live { self.new.standing.live ≡ self.old.standing.live }
+        ensures moment { self.new.standing.moment ≡ self.old.standing.moment }
         ensures memory { IsOkUnless result Refusal.OutOfMemory }
         ensures err { OnErr result (self.new ≡ self.old) }
     {
@@ -172,11 +170,11 @@ impl Store {
     /// Adds a revision with these changes where there are any.
     fn commit(&mut self, changes: &[Change]) -> Result<(), Refusal>
         requires distinct { HasDistinctKeys changes.now }
-        requires room { is_used_up self.old.keys.history changes.now ≡ false }
-        requires live { HangOnLive self.old.live (hangs_of changes.now) }
-        ensures ok { OnOk result (self.new.keys.history ≡ with_changes self.old.keys.history changes.now) }
-        ensures live { self.new.live ≡ self.old.live }
-        ensures moment { self.new.moment ≡ self.old.moment }
+        requires room { is_used_up self.old.standing.history changes.now ≡ false }
+        requires live { HangOnLive self.old.standing.live (hangs_of changes.now) }
+        ensures ok { OnOk result (self.new.standing.history ≡ with_changes self.old.standing.history changes.now) }
+        ensures live { self.new.standing.live ≡ self.old.standing.live }
+        ensures moment { self.new.standing.moment ≡ self.old.standing.moment }
         ensures memory { IsOkUnless result Refusal.OutOfMemory }
         ensures err { OnErr result (self.new ≡ self.old) }
     {
@@ -192,12 +190,12 @@ impl Store {
     /// Runs a branch that nothing but memory can refuse.
     fn finish(&mut self, ops: &[Op], failed: Option<FailedCompare>) -> Result<TxnAnswer, Refusal>
         requires apart { has_clash ops.now ≡ false }
-        requires allowed { branch_refusal (now self.old.keys.history) (is_live_in self.old.live) ops.now ≡ None }
-        requires room { is_used_up self.old.keys.history (changes_after self.old.keys.history [] ops.now) ≡ false }
-        ensures answer { IfOk result (λ answer. answer ≡ answer_of self.old.keys.history failed (changes_after self.old.keys.history [] ops.now) (answers_after self.old.keys.history [] ops.now)) }
-        ensures history { OnOk result (self.new.keys.history ≡ with_changes self.old.keys.history (changes_after self.old.keys.history [] ops.now)) }
-        ensures live { self.new.live ≡ self.old.live }
-        ensures moment { self.new.moment ≡ self.old.moment }
+        requires allowed { branch_refusal (now self.old.standing.history) (is_live_in self.old.standing.live) ops.now ≡ None }
+        requires room { is_used_up self.old.standing.history (changes_after self.old.standing.history [] ops.now) ≡ false }
+        ensures answer { IfOk result (λ answer. answer ≡ answer_of self.old.standing.history failed (changes_after self.old.standing.history [] ops.now) (answers_after self.old.standing.history [] ops.now)) }
+        ensures history { OnOk result (self.new.standing.history ≡ with_changes self.old.standing.history (changes_after self.old.standing.history [] ops.now)) }
+        ensures live { self.new.standing.live ≡ self.old.standing.live }
+        ensures moment { self.new.standing.moment ≡ self.old.standing.moment }
         ensures memory { IsOkUnless result Refusal.OutOfMemory }
         ensures err { OnErr result (self.new ≡ self.old) }
     {
@@ -214,10 +212,10 @@ impl Store {
     /// Runs one branch, whose first failed compare is given.
     fn run(&mut self, ops: &[Op], failed: Option<FailedCompare>) -> Result<TxnAnswer, Refusal>
         requires { has_clash ops.now ≡ false }
-        ensures ok { IfOk result (λ answer. branch_outcome self.old.keys.history (is_live_in self.old.live) failed ops.now ≡ Ok (record { answer = answer; history = self.new.keys.history })) }
-        ensures live { self.new.live ≡ self.old.live }
-        ensures moment { self.new.moment ≡ self.old.moment }
-        ensures refused { IfErr result (IsRefusalOf (branch_outcome self.old.keys.history (is_live_in self.old.live) failed ops.now)) }
+        ensures ok { IfOk result (λ answer. branch_outcome self.old.standing.history (is_live_in self.old.standing.live) failed ops.now ≡ Ok (record { answer = answer; history = self.new.standing.history })) }
+        ensures live { self.new.standing.live ≡ self.old.standing.live }
+        ensures moment { self.new.standing.moment ≡ self.old.standing.moment }
+        ensures refused { IfErr result (IsRefusalOf (branch_outcome self.old.standing.history (is_live_in self.old.standing.live) failed ops.now)) }
         ensures err { OnErr result (self.new ≡ self.old) }
     {
         if let Some(refusal) = find_refusal(ops, self.keys.revision(), &self.leases) {
@@ -238,10 +236,7 @@ impl Store {
     /// `OutOfMemory`. A refused transaction changes nothing. (etcd's API reference, "Transaction", has the
     /// compares, the branches and the refused duplicates; the order of the refusals is this store's own.)
     pub fn txn(&mut self, txn: &Txn) -> Result<TxnAnswer, Refusal>
-        ensures ok { IfOk result (λ answer. outcome self.old.keys.history (is_live_in self.old.live) txn.now ≡ Ok (record { answer = answer; history = self.new.keys.history })) }
-        ensures live { self.new.live ≡ self.old.live }
-        ensures moment { self.new.moment ≡ self.old.moment }
-        ensures refused { IfErr result (IsRefusalOf (outcome self.old.keys.history (is_live_in self.old.live) txn.now)) }
+        ensures step { ComesTo (transacted self.old.standing txn.now) result self.new.standing }
         ensures err { OnErr result (self.new ≡ self.old) }
     {
         if let Some(refusal) = find_fault(txn) {
@@ -260,8 +255,9 @@ impl Store {
     /// `OutOfMemory` that holds, and then changes nothing. (etcd's API reference, "Lease"; the order of the
     /// refusals is this store's own.)
     pub fn grant(&mut self, id: u64, ttl: u64) -> Result<(), Refusal>
-        ensures refusal { MatchOption (grant_cause self.old.live id ttl) (IsOkUnless result Refusal.OutOfMemory) (λ cause. result ≡ Err cause) }
-        ensures ok { OnOk result (self.new ≡ with_lease self.old id ttl) }
+        ensures step { ComesTo (granted self.old.standing id ttl) result self.new.standing }
+        ensures log { OnOk result ((log : List LogItem) → StandsFor self.old.standing.live log → StandsFor self.new.standing.live (Grant id ttl self.old.standing.moment ∷ log)) }
+        ensures present { self.new.present ≡ self.old.present }
         ensures err { OnErr result (self.new ≡ self.old) }
     {
         let granted = self.leases.grant(id, ttl, self.moment);
@@ -270,7 +266,9 @@ impl Store {
 
     /// Renews a live lease at the store's moment, also one that is due. `LeaseNotFound` changes nothing.
     pub fn keep_alive(&mut self, id: u64) -> Result<(), Refusal>
-        ensures found { MatchOption (finmap.get self.old.live id) (result ≡ Err Refusal.LeaseNotFound) (λ term. IsOk result × (self.new ≡ with_lease self.old id term.ttl)) }
+        ensures step { kept_alive self.old.standing id ≡ told result self.new.standing }
+        ensures log { OnOk result ((log : List LogItem) → StandsFor self.old.standing.live log → StandsFor self.new.standing.live (Renew id self.old.standing.moment ∷ log)) }
+        ensures present { self.new.present ≡ self.old.present }
         ensures err { OnErr result (self.new ≡ self.old) }
     {
         match self.leases.keep_alive(id, self.moment) {
@@ -279,38 +277,51 @@ impl Store {
         }
     }
 
+    /// Whether a key is to be deleted with a lease at the highest revision. It takes no memory.
+    fn is_stuck(&self, id: u64) -> bool
+        ensures { result ≡ is_used_up self.now.standing.history (deletions_of self.now.standing.history id) }
+    {
+        let is_highest = self.keys.revision() == HIGHEST_REVISION;
+        is_highest && self.leases.has_keys(id)
+    }
+
+    /// The deletions of the keys of a live lease.
+    fn lease_deletions(&self, id: u64) -> Result<Vec<Change>, Refusal>
+        requires { is_live_in self.now.standing.live id ≡ true }
+        ensures ok { IfOk result (λ changes. changes.items ≡ deletions_of self.now.standing.history id) }
+        ensures memory { IsOkUnless result Refusal.OutOfMemory }
+    {
+        match self.leases.keys_of(id) {
+            Ok(keys) => Ok(deletions(self.alloc, keys)?),
+            Err(KeysError::OutOfMemory) => Err(Refusal::OutOfMemory),
+            Err(KeysError::LeaseNotFound) => unreachable!(),
+        }
+    }
+
     /// Ends a live lease, with its keys.
     fn end_lease(&mut self, id: u64) -> Result<(), Refusal>
-        requires { finmap.contains_key self.old.live id ≡ true }
-        ensures ok { OnOk result (EndsLease self.old self.new id) }
-        ensures refused { IfErr result (IsEndRefusal self.old id) }
+        requires { is_live_in self.old.standing.live id ≡ true }
+        ensures ok { OnOk result (ended self.old.standing id ≡ Ok self.new.standing) }
+        ensures refused { IfErr result (IsRefusalOf (ended self.old.standing id)) }
         ensures err { OnErr result (self.new ≡ self.old) }
     {
-        let keys = match self.leases.keys_of(id) {
-            Ok(keys) => keys,
-            Err(KeysError::OutOfMemory) => return Err(Refusal::OutOfMemory),
-            Err(KeysError::LeaseNotFound) => unreachable!(),
-        };
-        let changes = deletions(self.alloc, keys)?;
-        let deleted = changes.as_slice();
-        if is_beyond(&self.keys, deleted) {
+        if self.is_stuck(id) {
             return Err(Refusal::RevisionsUsedUp);
         }
-        self.commit(deleted)?;
+        let changes = self.lease_deletions(id)?;
+        self.commit(changes.as_slice())?;
         self.leases.remove(id);
         Ok(())
     }
 
     /// Ends a live lease and deletes its keys in one revision, and answers the revision after that.
     ///
-    /// `LeaseNotFound`, `RevisionsUsedUp` where a key is to be deleted at `HIGHEST_REVISION`, and
-    /// `OutOfMemory` change nothing. (etcd's API reference, "Lease"; that the keys go in one revision,
-    /// ascending by bytes, is this store's own.)
+    /// It is refused for the first of `LeaseNotFound`, `RevisionsUsedUp` where a key is to be deleted at
+    /// `HIGHEST_REVISION`, and `OutOfMemory` that holds, and then changes nothing. (etcd's API reference,
+    /// "Lease"; that the keys go in one revision, ascending by bytes, is this store's own.)
     pub fn revoke(&mut self, id: u64) -> Result<u64, Refusal>
-        ensures not_found { finmap.contains_key self.old.live id ≡ false → result ≡ Err Refusal.LeaseNotFound }
-        ensures found { finmap.contains_key self.old.live id ≡ true → IfErr result (IsEndRefusal self.old id) }
-        ensures ok { OnOk result (EndsLease self.old self.new id) }
-        ensures revision { IfOk result (λ revision. revision ≡ now self.new.keys.history) }
+        ensures step { ComesTo (revoked self.old.standing id) result self.new.standing }
+        ensures log { OnOk result ((log : List LogItem) → StandsFor self.old.standing.live log → StandsFor self.new.standing.live (Revoke id ∷ log)) }
         ensures err { OnErr result (self.new ≡ self.old) }
     {
         if !self.leases.is_live(id) {
@@ -322,20 +333,23 @@ impl Store {
 
     /// The lease that is due and was due first.
     fn next_due(&self) -> Option<u64>
-        ensures { MatchOption result (NoneDue self.now.live self.now.moment) (IsFirstDue self.now.live self.now.moment) }
+        ensures { result ≡ first_due self.now.standing.live self.now.standing.moment }
     {
         self.leases.next_due(self.moment)
     }
 
     /// Ends a live lease, and notes that it expired.
     fn expire(&mut self, id: u64, expired: &mut Vec<Expired>) -> Result<(), Refusal>
-        requires { finmap.contains_key self.old.live id ≡ true }
-        ensures ok { OnOk result (EndsLease self.old self.new id) }
-        ensures noted { OnOk result (expired.new.items ≡ expired.old.items ++ expired_in id self.new ∷ []) }
-        ensures refused { IfErr result (IsEndRefusal self.old id) }
+        requires { is_live_in self.old.standing.live id ≡ true }
+        ensures ok { OnOk result (ended self.old.standing id ≡ Ok self.new.standing) }
+        ensures noted { OnOk result (expired.new.items ≡ expired.old.items ++ expired_in id self.new.standing ∷ []) }
+        ensures refused { IfErr result (IsRefusalOf (ended self.old.standing id)) }
         ensures err { OnErr result (self.new ≡ self.old) }
         ensures same { OnErr result (expired.new.items ≡ expired.old.items) }
     {
+        if self.is_stuck(id) {
+            return Err(Refusal::RevisionsUsedUp);
+        }
         expired.reserve(1)?;
         self.end_lease(id)?;
         let revision = self.keys.revision();
@@ -344,12 +358,11 @@ impl Store {
     }
 
     /// Ends every lease that is due.
-    fn expire_all(&mut self) -> Result<Vec<Expired>, AdvanceRefused>
-        ensures ok { IfOk result (λ expired. Expiries self.old expired.items self.new) }
-        ensures none_due { OnOk result (NoneDue self.new.live self.new.moment) }
-        ensures refused { IfErr result (λ refused. Expiries self.old refused.expired self.new) }
-        ensures next { IfErr result (λ refused. (id : ℕ) × IsFirstDue self.new.live self.new.moment id × IsEndRefusal self.new id refused.cause) }
-        ensures moment { self.new.moment ≡ self.old.moment }
+    fn expire_due(&mut self) -> Result<Vec<Expired>, AdvanceRefused>
+        ensures ok { IfOk result (λ expired. expire_all self.old.standing ≡ record { expired = expired.items; leaves = self.new.standing; cause = None }) }
+        ensures refused { IfErr result (λ refused. IsCutShort (expire_all self.old.standing) refused.expired refused.cause self.new.standing) }
+        ensures logged { IfOk result (λ expired. (log : List LogItem) → StandsFor self.old.standing.live log → StandsFor self.new.standing.live (with_expiries expired.items log)) }
+        ensures logged_so_far { IfErr result (λ refused. (log : List LogItem) → StandsFor self.old.standing.live log → StandsFor self.new.standing.live (with_expiries refused.expired log)) }
     {
         let mut expired = Vec::new(self.alloc);
         while let Some(id) = self.next_due() {
@@ -373,11 +386,10 @@ impl Store {
     /// `OutOfMemory` the leases that expired stay expired and are told, the rest stays due, and the
     /// moment is set.
     pub fn advance(&mut self, moment: u64) -> Result<Vec<Expired>, AdvanceRefused>
-        ensures forward { OnOk result (self.old.moment ≤ moment) }
-        ensures ok { IfOk result (λ expired. Expiries (at_moment self.old moment) expired.items self.new) }
-        ensures none_due { OnOk result (NoneDue self.new.live moment) }
-        ensures moment { OnOk result (self.new.moment ≡ moment) }
-        ensures refused { IfErr result (λ refused. IsAdvanceRefusal self.old moment refused self.new) }
+        ensures ok { IfOk result (λ expired. advanced self.old.standing moment ≡ record { expired = expired.items; leaves = self.new.standing; cause = None }) }
+        ensures refused { IfErr result (λ refused. IsCutShort (advanced self.old.standing moment) refused.expired refused.cause self.new.standing) }
+        ensures logged { IfOk result (λ expired. (log : List LogItem) → StandsFor self.old.standing.live log → StandsFor self.new.standing.live (with_expiries expired.items log)) }
+        ensures logged_so_far { IfErr result (λ refused. (log : List LogItem) → StandsFor self.old.standing.live log → StandsFor self.new.standing.live (with_expiries refused.expired log)) }
     {
         if moment < self.moment {
             return Err(AdvanceRefused {
@@ -386,7 +398,7 @@ impl Store {
             });
         }
         self.moment = moment;
-        let expired = self.expire_all()?;
+        let expired = self.expire_due()?;
         Ok(expired)
     }
 }

@@ -1,7 +1,8 @@
 use Rattle.std.proofs.Common.{◌∙◌, sym, ap, subst, List}
 use Rattle.stm_history.specs.declared.change.Change.{Change}
 use Rattle.stm_leases.specs.Leases.{lease_of}
-use Rattle.stm_txn.specs.Leasing.{Live, hangs_of, HangOnLive}
+use Rattle.stm_leases.specs.Live.{Live}
+use Rattle.stm_txn.specs.Leasing.{hangs_of, HangOnLive}
 use Rattle.stm_txn.specs.Moves.{attached_all, CanHang}
 use Rattle.stm_txn.proofs.Moving.{can_hang, moved, free_between}
 use Rattle.stm_txn.proofs.hang.move_keys.Goals as goal

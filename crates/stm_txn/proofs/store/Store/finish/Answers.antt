@@ -4,7 +4,8 @@ use Rattle.stm_history.specs.declared.change.Change.{Change}
 use Rattle.stm_history.specs.History.{History, now, HasDistinctKeys}
 use Rattle.stm_txn.specs.declared.txn.Op.{Op}
 use Rattle.stm_txn.specs.Branches.{changes_after, are_readable}
-use Rattle.stm_txn.specs.Leasing.{is_live_in, hangs_of, HangOnLive}
+use Rattle.stm_leases.specs.Live.{is_live_in}
+use Rattle.stm_txn.specs.Leasing.{hangs_of, HangOnLive}
 use Rattle.stm_txn.specs.Store.{StoreView}
 use Rattle.stm_txn.proofs.Branching.{changes_are_distinct}
 use Rattle.stm_txn.proofs.Running.{all_readable, hangs_live}
@@ -12,22 +13,22 @@ use Rattle.stm_txn.proofs.store.Store.finish.Goals as goal
 
 pub run_branch-requires : goal.run_branch-requires
 run_branch-requires c =
-    let h : History = c.args.self.now.keys.history in
+    let h : History = c.args.self.now.standing.history in
     let ops : List Op = c.args.ops.now in
-    subst (λ (s : StoreView). IsTrue (are_readable (now s.keys.history) ops)) (sym c.self.view_is)
-    (all_readable (now h) (is_live_in c.args.self.now.live) ops c.requires.allowed)
+    subst (λ (s : StoreView). IsTrue (are_readable (now s.standing.history) ops)) (sym c.self.view_is)
+    (all_readable (now h) (is_live_in c.args.self.now.standing.live) ops c.requires.allowed)
 
 -- the changes that the branch made
-made : (c : goal.After-as_slice) → c.as_slice.result.now ≡ changes_after c.args.self.now.keys.history [] c.args.ops.now
+made : (c : goal.After-as_slice) → c.as_slice.result.now ≡ changes_after c.args.self.now.standing.history [] c.args.ops.now
 made c =
     c.as_slice.ensures.value ∙ c.in_ok-branch.ensures.changes
-    ∙ ap (λ (s : StoreView). changes_after s.keys.history [] c.args.ops.now) c.self.view_is
+    ∙ ap (λ (s : StoreView). changes_after s.standing.history [] c.args.ops.now) c.self.view_is
 
 pub commit-requires-clause-distinct : goal.commit-requires-clause-distinct
 commit-requires-clause-distinct c =
-    subst (λ (cs : List Change). HasDistinctKeys cs) (sym (made c)) (changes_are_distinct c.args.self.now.keys.history c.args.ops.now c.requires.apart)
+    subst (λ (cs : List Change). HasDistinctKeys cs) (sym (made c)) (changes_are_distinct c.args.self.now.standing.history c.args.ops.now c.requires.apart)
 
 pub commit-requires-clause-live : goal.commit-requires-clause-live
 commit-requires-clause-live c =
-    subst (λ (cs : List Change). HangOnLive c.args.self.now.live (hangs_of cs)) (sym (made c))
-    (hangs_live c.args.self.now.keys.history c.args.self.now.live c.args.ops.now c.requires.allowed)
+    subst (λ (cs : List Change). HangOnLive c.args.self.now.standing.live (hangs_of cs)) (sym (made c))
+    (hangs_live c.args.self.now.standing.history c.args.self.now.standing.live c.args.ops.now c.requires.allowed)

@@ -3,6 +3,7 @@ use Rattle.std.specs.Cmp.Lexicographic.{slice_cmp}
 use Rattle.std.specs.Ordering.{nat_cmp}
 use Rattle.std.specs.FinMap as finmap
 use Rattle.stm_history.specs.History.{key_now}
+use Rattle.stm_leases.specs.Live.{Live}
 use Rattle.stm_txn.specs.Leasing.{hanging}
 use Rattle.stm_txn.proofs.store.Store.with_revision.Goals as goal
 
@@ -11,3 +12,6 @@ invariant_of-result c = λ key.
     ap (λ (m : finmap.FinMap (slice_cmp nat_cmp) ℕ). finmap.get m key) c.new.ensures.attached
     ∙ finmap.get-empty (slice_cmp nat_cmp) key
     ∙ ap (λ h. hanging (key_now h key)) (sym c.with_revision.ensures.history)
+
+pub returns-clause-log : goal.returns-clause-log
+returns-clause-log c = λ id. ap (λ (m : Live). finmap.get m id) c.new.ensures.live ∙ finmap.get-empty nat_cmp id

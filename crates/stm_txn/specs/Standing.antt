@@ -1,0 +1,155 @@
+-- What a store is, and what each of its calls makes of it.
+--
+-- etcd's API reference, "Transaction" and "Lease": a transaction is one step; a grant makes a lease live, a keep-alive
+-- renews it, and a revocation or its expiry ends it with its keys. This store's own choices are that the keys go in one
+-- revision, ascending by bytes, and that due leases end by the moment when they were due, then by id.
+use Rattle.std.specs.Prelude.{◌≡◌, ◌⊎◌, ℕ, zero, suc, nat_lt, if◌then◌else◌, List, [], ◌∷◌, ◌++◌, Option, Some, None, IsOk, Result, Ok, Err}
+use Rattle.std.specs.FinMap as finmap
+use Rattle.stm_history.specs.History.{History, now, opened_at}
+use Rattle.stm_leases.specs.LeaseLog.{LogItem, Expire}
+use Rattle.stm_leases.specs.Live.{Live, is_live_in, grant_refusal}
+use Rattle.stm_leases.specs.DueFirst.{first_due}
+use Rattle.stm_txn.specs.declared.txn.Txn.{Txn}
+use Rattle.stm_txn.specs.declared.answer.TxnAnswer.{TxnAnswer}
+use Rattle.stm_txn.specs.declared.advance.Expired.{Expired}
+use Rattle.stm_txn.specs.declared.refusal.Refusal.{Refusal}
+use Rattle.stm_txn.specs.declared.refusal.Refusal.TheVariants.{OutOfMemory, LeaseNotFound, RevisionsUsedUp, TimeGoesBack}
+use Rattle.stm_txn.specs.Outcome.{Done, outcome, with_changes, is_used_up}
+use Rattle.stm_txn.specs.Grants.{grant_refusal_of}
+use Rattle.stm_txn.specs.LeaseKeys.{deletions_of}
+
+-- a store: its history, its live leases with their terms, and its moment in seconds
+pub record Standing : Type 0 where
+  pub history : History
+  pub live : Live
+  pub moment : ℕ
+
+-- a store that opens at a revision
+abbrev pub opening : ℕ → Standing
+opening number = record { history = opened_at number; live = finmap.empty; moment = 0 }
+
+-- what a call that is not refused comes to: its answer, and the store after it
+pub record Step (A : Type 0) : Type 0 where
+  pub answer : A
+  pub next : Standing
+
+-- A call is refused for its definition's cause. Where the definition answers, only memory can be wanting.
+abbrev pub IsRefusalOf : {T : Type 0} → Result T Refusal → Refusal → Type 0
+IsRefusalOf (Ok done) refusal = refusal ≡ OutOfMemory
+IsRefusalOf (Err cause) refusal = refusal ≡ cause
+
+-- A call comes to what its definition says, its answer and the store after it, unless memory was wanting.
+abbrev pub ComesTo : {A : Type 0} → Result (Step A) Refusal → Result A Refusal → Standing → Type 0
+ComesTo defined (Ok answer) next = defined ≡ Ok record { answer = answer; next = next }
+ComesTo defined (Err refusal) next = IsRefusalOf defined refusal
+
+-- the store with another history
+abbrev pub with_history : Standing → History → Standing
+with_history s h = record { history = h; live = s.live; moment = s.moment }
+
+-- a call that takes no memory comes to exactly this
+abbrev pub told : {A : Type 0} → Result A Refusal → Standing → Result (Step A) Refusal
+told (Ok answer) next = Ok record { answer = answer; next = next }
+told (Err refusal) next = Err refusal
+
+-- a transaction, which leaves leases and moment
+abbrev pub step_of : Standing → Result Done Refusal → Result (Step TxnAnswer) Refusal
+step_of s (Ok done) = Ok record { answer = done.answer; next = with_history s done.history }
+step_of s (Err refusal) = Err refusal
+
+abbrev pub transacted : Standing → Txn → Result (Step TxnAnswer) Refusal
+transacted s txn = step_of s (outcome s.history (is_live_in s.live) txn)
+
+-- a lease that is renewed at the store's moment
+abbrev pub with_lease : Standing → ℕ → ℕ → Standing
+with_lease s id ttl = record { history = s.history; live = finmap.insert s.live id (record { ttl = ttl; renewed = s.moment }); moment = s.moment }
+
+-- a grant
+abbrev pub granted : Standing → ℕ → ℕ → Result (Step (Unit {0})) Refusal
+granted s id ttl =
+    elim (grant_refusal s.live id ttl) [
+      | Some cause ↦ Err (grant_refusal_of cause)
+      | None ↦ Ok record { answer = tt; next = with_lease s id ttl }
+    ]
+
+-- a renewal
+abbrev pub kept_alive : Standing → ℕ → Result (Step (Unit {0})) Refusal
+kept_alive s id =
+    elim (finmap.get s.live id) [
+      | None ↦ Err LeaseNotFound
+      | Some term ↦ Ok record { answer = tt; next = with_lease s id term.ttl }
+    ]
+
+-- a lease without its keys, which are deleted in one revision; with no revision where it has none
+abbrev pub without_lease : Standing → ℕ → Standing
+without_lease s id =
+    record { history = with_changes s.history (deletions_of s.history id); live = finmap.remove s.live id; moment = s.moment }
+
+-- a live lease ends
+abbrev pub ended : Standing → ℕ → Result Standing Refusal
+ended s id = if is_used_up s.history (deletions_of s.history id) then Err RevisionsUsedUp else Ok (without_lease s id)
+
+-- a revocation, which answers the revision after it
+abbrev pub with_revision : Result Standing Refusal → Result (Step ℕ) Refusal
+with_revision (Ok next) = Ok record { answer = now next.history; next = next }
+with_revision (Err refusal) = Err refusal
+
+abbrev pub revoked : Standing → ℕ → Result (Step ℕ) Refusal
+revoked s id = if is_live_in s.live id then with_revision (ended s id) else Err LeaseNotFound
+
+-- what an advance comes to: what expired, the store after it, and why it stopped, if it did
+pub record Advance : Type 0 where
+  pub expired : List Expired
+  pub leaves : Standing
+  pub cause : Option Refusal
+
+-- an advance that begins with these expiries
+abbrev pub after : List Expired → Advance → Advance
+after expired rest = record { expired = expired ++ rest.expired; leaves = rest.leaves; cause = rest.cause }
+
+-- a lease that expired, with the revision after it
+abbrev pub expired_in : ℕ → Standing → Expired
+expired_in id next = record { id = id; revision = now next.history }
+
+-- due leases end one after another, each the first that is due, and at most so many
+abbrev pub expire_up_to : ℕ → Standing → Advance
+expire_up_to zero s = record { expired = []; leaves = s; cause = None }
+expire_up_to (suc more) s =
+    elim (first_due s.live s.moment) [
+      | None ↦ record { expired = []; leaves = s; cause = None }
+      | Some id ↦ elim (ended s id) [
+        | Err cause ↦ record { expired = []; leaves = s; cause = Some cause }
+        | Ok next ↦ after (expired_in id next ∷ []) (expire_up_to more next)
+      ]
+    ]
+
+-- every due lease ends
+abbrev pub expire_all : Standing → Advance
+expire_all s = expire_up_to (finmap.len s.live) s
+
+-- the store at another moment
+abbrev pub at_moment : Standing → ℕ → Standing
+at_moment s moment = record { history = s.history; live = s.live; moment = moment }
+
+-- an advance to a moment
+abbrev pub advanced : Standing → ℕ → Advance
+advanced s moment =
+    if nat_lt moment s.moment then record { expired = []; leaves = s; cause = Some TimeGoesBack } else expire_all (at_moment s moment)
+
+-- An advance was stopped by want of memory: with what the rest would come to it is the whole one, and a due lease that
+-- can end is next.
+pub record IsStopped (whole : Advance) (expired : List Expired) (left : Standing) : Type 0 where
+  pub so_far : whole ≡ after expired (expire_all left)
+  pub id : ℕ
+  pub is_next : first_due left.live left.moment ≡ Some id
+  pub can_end : IsOk (ended left id)
+
+-- why an advance that is refused was: its definition's cause, or want of memory
+abbrev pub IsCutShort : Advance → List Expired → Refusal → Standing → Type 0
+IsCutShort whole expired cause left =
+    (whole ≡ record { expired = expired; leaves = left; cause = Some cause }) ⊎ ((cause ≡ OutOfMemory) × IsStopped whole expired left)
+
+-- the lease log after an advance
+abbrev pub with_expiries : List Expired → List LogItem → List LogItem
+with_expiries [] log = log
+with_expiries (e ∷ es) log = with_expiries es (Expire e.id ∷ log)

@@ -1,15 +1,15 @@
 -- Reading statements one after the other, as a loop does.
-use Rattle.std.proofs.Common.{◌≡◌, ℕ, suc, ◌+◌, ◌<◌, ◌≤◌, List, [], ◌∷◌, ◌++◌, length, drop, get_or, Result, Ok, Err, refl, sym, ap, ◌∙◌, append_assoc, arith, add-one}
-use Rattle.std.proofs.lemmas.List.{append-nil}
+use Rattle.std.proofs.Common.{◌≡◌, ℕ, suc, ◌+◌, ◌<◌, List, [], ◌∷◌, ◌++◌, length, drop, get_or, Ok, Err, refl, sym, ap, ◌∙◌, arith, add-one}
 use Rattle.std.proofs.Math.Seq.{drop-cons}
-use Rattle.serde_json.specs.Data.{Data, Items}
+use Rattle.serde_json.specs.Data.{Data}
 use Rattle.serde_json.specs.View.{view, items_view}
 use Rattle.serde_json.specs.declared.value.Value.{Value}
-use Rattle.stm_program.specs.declared.fault.ReadError.{ReadError}
-use Rattle.stm_program.specs.declared.fault.ReadError.TheVariants as error
+use Rattle.stm_json.specs.declared.read_error.ReadError.{ReadError}
+use Rattle.stm_json.specs.declared.read_error.ReadError.TheVariants as error
 use Rattle.stm_program.specs.Syntax.{Statement, Block, End, Then}
 use Rattle.stm_program.specs.BlockView.{block_of}
-use Rattle.stm_program.specs.Outcome.{Outcome, ◌>>=◌, within, Fails, Gives}
+use Rattle.stm_json.specs.Outcome.{◌>>=◌, within}
+use Rattle.stm_json.specs.Tells.{TellsFault}
 use Rattle.stm_program.specs.Reading.{Read, statements_from}
 
 -- a block behind statements
@@ -48,11 +48,11 @@ goes_on read front vs i room rest v s total lt at is so_far =
     sym one ∙ so_far
 
 pub ends : (e : ReadError) (read : ℕ → Data → Read Statement) (front : List Statement) (vs : List Value) (i room : ℕ) (v : Value) (total : Read Block)
-    → i < length vs → v ≡ get_or vs i v → Fails e (within i (read room (view v)))
-    → with_front front (statements_from read i room (items_view (drop i vs))) ≡ total → Fails e total
+    → i < length vs → v ≡ get_or vs i v → TellsFault e (within i (read room (view v)))
+    → with_front front (statements_from read i room (items_view (drop i vs))) ≡ total → TellsFault e total
 unfolding statements_from
 ends error.OutOfMemory read front vs i room v total lt at is so_far = tt
-ends (error.BadProgram f) read front vs i room v total lt at is so_far =
+ends (error.Bad f) read front vs i room v total lt at is so_far =
     let one : with_front front (statements_from read i room (items_view (drop i vs))) ≡ Err f =
     ap (λ (ws : List Value). with_front front (statements_from read i room (items_view ws))) (one_more vs i v lt at) ∙ rw is refl in
     sym so_far ∙ one

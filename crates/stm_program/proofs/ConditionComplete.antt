@@ -1,5 +1,5 @@
 -- What data spell of a condition is read, where it is within the limits.
-use Rattle.std.proofs.Common.{◌≡◌, ℕ, zero, suc, ◌+◌, ◌<◌, ◌≤◌, List, [], ◌∷◌, Option, Some, None, Ok, refl, ap, ◌∙◌, arith}
+use Rattle.std.proofs.Common.{◌≡◌, ℕ, zero, suc, ◌+◌, ◌≤◌, List, [], ◌∷◌, Option, Some, Ok, refl, ap, ◌∙◌, arith}
 use Rattle.serde_json.specs.Data.{Data}
 use Rattle.serde_json.specs.View.{items_of}
 use Rattle.stm_program.specs.declared.words.CondWord.{CondWord}
@@ -13,7 +13,7 @@ use Rattle.stm_program.specs.Size.{expression_nodes, condition_nodes}
 use Rattle.stm_program.specs.Limits.{expression_depth, condition_depth, ExpressionInRange, ConditionInRange}
 use Rattle.stm_program.specs.Words.{condition_word}
 use Rattle.stm_program.specs.WordTexts.{comparison_text, connective_text, condition_text}
-use Rattle.stm_program.specs.Elements.{worded}
+use Rattle.stm_json.specs.Elements.{worded}
 use Rattle.stm_program.specs.Reading.{Read, comparison_of, connective_of, condition_named, condition_array, expression_at, condition_at}
 use Rattle.stm_program.specs.Grammar.{spelled, SpellsExpression, SpellsCondition}
 use Rattle.stm_program.proofs.LimitLemmas.{condition_nodes-positive, condition_depth-positive}

@@ -1,12 +1,12 @@
 -- The marks of a condition beside what is read of it.
-use Rattle.std.proofs.Common.{◌≡◌, ℕ, zero, suc, ◌+◌, ◌≤◌, List, [], ◌∷◌, ◌++◌, Option, Some, None, refl, ◌∙◌, arith}
-use Rattle.serde_json.specs.Data.{Data, null, boolean, number, string, array, object, Items, no_items, item}
-use Rattle.stm_program.specs.declared.fault.Cause.TheVariants.{Shape}
+use Rattle.std.proofs.Common.{◌≡◌, ℕ, zero, suc, ◌+◌, List, ◌++◌, Option, Some, None, ◌∙◌, arith}
+use Rattle.serde_json.specs.Data.{Data, string, array, Items, no_items, item}
+use Rattle.stm_json.specs.declared.cause.Cause.TheVariants.{Shape}
 use Rattle.stm_program.specs.declared.words.CondWord.{CondWord}
 use Rattle.stm_program.specs.declared.words.CondWord.TheVariants as word
 use Rattle.stm_program.specs.Syntax.{Condition, Not}
 use Rattle.stm_program.specs.Words.{condition_word}
-use Rattle.stm_program.specs.Elements.{worded}
+use Rattle.stm_json.specs.Elements.{worded}
 use Rattle.stm_program.specs.Reading.{Read, comparison_of, connective_of, condition_named, condition_array, expression_at, condition_at}
 use Rattle.stm_program.specs.FirstFault.{Mark, wrong, at, first_of_marks, expression_marks, condition_of_one, condition_of_two, condition_inner, condition_marks}
 use Rattle.stm_program.proofs.MarkLemmas.{after, wrong_is, too_deep, too_many, one_node}

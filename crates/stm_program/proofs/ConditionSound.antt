@@ -1,5 +1,5 @@
 -- What is read of a condition is spelled by the data, and is within the limits.
-use Rattle.std.proofs.Common.{◌≡◌, ℕ, zero, suc, ◌+◌, ◌<◌, ◌≤◌, List, [], ◌∷◌, Option, Some, None, Ok, refl, sym, subst, arith, codes}
+use Rattle.std.proofs.Common.{◌≡◌, ℕ, zero, suc, ◌+◌, List, [], ◌∷◌, Option, Some, None, Ok, refl, sym, subst, arith, codes}
 use Rattle.serde_json.specs.Data.{Data, Items}
 use Rattle.stm_program.specs.declared.words.CondWord.{CondWord}
 use Rattle.stm_program.specs.declared.words.CondWord.TheVariants as word
@@ -12,13 +12,13 @@ use Rattle.stm_program.specs.Size.{expression_nodes, condition_nodes}
 use Rattle.stm_program.specs.Limits.{ExpressionFits, ConditionFits}
 use Rattle.stm_program.specs.Words.{condition_word}
 use Rattle.stm_program.specs.WordTexts.{comparison_text, connective_text}
-use Rattle.stm_program.specs.Elements.{worded, one_of, two_of}
+use Rattle.stm_json.specs.Elements.{worded, one_of, two_of}
 use Rattle.stm_program.specs.Reading.{Read, comparison_of, connective_of, condition_named, condition_array, expression_at, condition_at}
 use Rattle.stm_program.specs.Grammar.{spelled, SpellsExpression, SpellsCondition}
 use Rattle.stm_program.proofs.OutcomeLemmas.{one_part_ok, two_parts_ok}
 use Rattle.stm_program.proofs.WordLemmas.{condition_word-is}
-use Rattle.stm_program.proofs.ElementLemmas.{one_of-is, two_of-is}
-use Rattle.stm_program.proofs.ExpressionSound.{ExpressionRead, expression_sound, words_and}
+use Rattle.stm_json.proofs.ElementLemmas.{one_of-is, two_of-is}
+use Rattle.stm_program.proofs.ExpressionSound.{expression_sound, words_and}
 
 -- a condition that was read within so many levels and nodes
 pub record ConditionRead (levels room : ℕ) (d : Data) (x : Condition × ℕ) : Type 0 where

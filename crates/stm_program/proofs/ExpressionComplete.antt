@@ -1,8 +1,7 @@
 -- What data spell is read, where it is within the limits.
-use Rattle.std.proofs.Common.{◌≡◌, ℕ, zero, suc, ◌+◌, ◌<◌, ◌≤◌, List, [], ◌∷◌, length, Option, Some, None, Ok, refl, sym, ap, ◌∙◌, arith, leb, le-leb, codes, lit<}
-use Rattle.serde_json.specs.Data.{Data, number, string, array, Items, item}
+use Rattle.std.proofs.Common.{◌≡◌, ℕ, zero, suc, ◌+◌, ◌≤◌, List, [], ◌∷◌, length, Option, Some, Ok, refl, ap, ◌∙◌, arith, le-leb, codes, lit<}
+use Rattle.serde_json.specs.Data.{Data, number}
 use Rattle.serde_json.specs.View.{items_of}
-use Rattle.stm_program.specs.declared.operator.Operator.TheVariants.{Add, Sub, Mul, Div, Rem}
 use Rattle.stm_program.specs.declared.words.ExprWord.{ExprWord}
 use Rattle.stm_program.specs.declared.words.ExprWord.TheVariants as word
 use Rattle.stm_program.specs.declared.words.Unary.{Unary}
@@ -14,13 +13,11 @@ use Rattle.stm_program.specs.Size.{expression_nodes}
 use Rattle.stm_program.specs.Limits.{expression_depth, ExpressionInRange}
 use Rattle.stm_program.specs.Words.{expression_word}
 use Rattle.stm_program.specs.WordTexts.{unary_text, binary_text, expression_text}
-use Rattle.stm_program.specs.Outcome.{bad, ◌>>=◌, within}
-use Rattle.stm_program.specs.Elements.{worded, one_of, two_of, number_up_to, whole_number}
-use Rattle.stm_program.specs.Reading.{Read, one_part, two_parts, literal, variable, unary_of, binary_of, expression_named, expression_array, expression_body, expression_at}
-use Rattle.stm_program.specs.Grammar.{spelled, SpellsNumber, SpellsExpression}
+use Rattle.stm_program.specs.Reading.{Read, one_part, two_parts, unary_of, binary_of, expression_named, expression_body, expression_at}
+use Rattle.stm_program.specs.Grammar.{spelled, SpellsExpression}
 use Rattle.stm_program.proofs.LimitLemmas.{expression_nodes-positive, expression_depth-positive}
 use Rattle.stm_program.proofs.WordLemmas.{expression_word-text}
-use Rattle.stm_program.proofs.ElementLemmas.{number_up_to-reads, whole_number-reads}
+use Rattle.stm_json.proofs.ElementLemmas.{number_up_to-reads, whole_number-reads}
 
 pub one_part-reads : {A B : Type 0} (read : ℕ → Data → Read A) (make : A → B) (room m : ℕ) (d : Data) (x : A) → read room d ≡ Ok (x, m) → one_part read make room (Some d) ≡ Ok (make x, m)
 one_part-reads read make room m d x h = rw h refl

@@ -1,15 +1,14 @@
 -- The marks of an expression beside what is read of it.
-use Rattle.std.proofs.Common.{◌≡◌, ℕ, zero, suc, ◌+◌, ◌^◌, ◌<◌, ◌≤◌, ℤ, List, [], ◌∷◌, ◌++◌, length, Bool, true, false, cond, Option, Some, None, Ok, Err, refl, sym, ap, ◌∙◌, arith, leb, lit<}
-use Rattle.serde_json.specs.Data.{Num, Data, null, boolean, number, string, array, object, Items, no_items, item}
-use Rattle.stm_program.specs.declared.fault.Cause.TheVariants.{Shape, TooLong}
-use Rattle.stm_program.specs.declared.fault.BadProgram.{BadProgram}
+use Rattle.std.proofs.Common.{◌≡◌, ℕ, zero, suc, ◌+◌, ℤ, List, [], ◌++◌, length, Bool, true, false, cond, Option, Some, None, Ok, Err, refl, ◌∙◌, arith, leb, lit<}
+use Rattle.serde_json.specs.Data.{Data, number, string, array, Items, no_items, item}
+use Rattle.stm_json.specs.declared.cause.Cause.TheVariants.{Shape, TooLong}
 use Rattle.stm_program.specs.declared.words.ExprWord.{ExprWord}
 use Rattle.stm_program.specs.declared.words.ExprWord.TheVariants as word
-use Rattle.stm_program.specs.Syntax.{Expression, Text, Number, Variable}
+use Rattle.stm_program.specs.Syntax.{Expression, Text, Number}
 use Rattle.stm_program.specs.Words.{expression_word}
-use Rattle.stm_program.specs.Outcome.{Outcome, bad, ◌>>=◌, within}
-use Rattle.stm_program.specs.Elements.{whole_number, number_up_to}
-use Rattle.stm_program.specs.Reading.{Read, one_part, two_parts, literal, unary_of, binary_of, expression_named, expression_body, expression_at}
+use Rattle.stm_json.specs.Outcome.{Outcome, bad, ◌>>=◌}
+use Rattle.stm_json.specs.Elements.{whole_number, number_up_to}
+use Rattle.stm_program.specs.Reading.{Read, one_part, two_parts, unary_of, binary_of, expression_named, expression_body, expression_at}
 use Rattle.stm_program.specs.FirstFault.{Mark, wrong, at, first_of_marks, expression_of_one, expression_of_two, expression_inner, expression_marks}
 use Rattle.stm_program.proofs.MarkLemmas.{after, after_number, wrong_is, too_deep, too_many, one_node, whole_marked, number_marked, part_then, number_then, behind}
 

@@ -1,5 +1,5 @@
 -- What is read of an expression is spelled by the data, and is within the limits.
-use Rattle.std.proofs.Common.{◌≡◌, ℕ, zero, suc, ◌+◌, ◌<◌, ◌≤◌, List, [], ◌∷◌, length, Bool, true, false, Option, Some, None, Ok, refl, sym, ap, subst, ◌∙◌, arith, leb, leb-true, codes}
+use Rattle.std.proofs.Common.{◌≡◌, ℕ, zero, suc, ◌+◌, List, [], ◌∷◌, length, Option, Some, None, Ok, refl, sym, ap, subst, ◌∙◌, arith, leb, leb-true, codes}
 use Rattle.serde_json.specs.Data.{Data, null, boolean, number, string, array, object, Items, item}
 use Rattle.serde_json.specs.View.{items_of}
 use Rattle.stm_program.specs.declared.words.ExprWord.{ExprWord}
@@ -10,16 +10,17 @@ use Rattle.stm_program.specs.declared.words.Binary.{Binary}
 use Rattle.stm_program.specs.declared.words.Binary.TheVariants as binary
 use Rattle.stm_program.specs.Syntax.{Expression, Text, Number, Variable}
 use Rattle.stm_program.specs.Size.{expression_nodes}
-use Rattle.stm_program.specs.Limits.{expression_depth, ExpressionFits}
+use Rattle.stm_program.specs.Limits.{ExpressionFits}
 use Rattle.stm_program.specs.Words.{expression_word}
 use Rattle.stm_program.specs.WordTexts.{unary_text, binary_text}
-use Rattle.stm_program.specs.Outcome.{bad, ◌>>=◌, within}
-use Rattle.stm_program.specs.Elements.{worded, one_of, two_of, number_up_to, whole_number}
+use Rattle.stm_json.specs.Outcome.{within}
+use Rattle.stm_json.specs.Elements.{worded, one_of, two_of, number_up_to, whole_number}
 use Rattle.stm_program.specs.Reading.{Read, literal, variable, unary_of, binary_of, expression_named, expression_array, expression_body, expression_at}
-use Rattle.stm_program.specs.Grammar.{spelled, SpellsNumber, SpellsExpression}
-use Rattle.stm_program.proofs.OutcomeLemmas.{bind_ok, within_ok, guard_ok, one_part_ok, two_parts_ok}
+use Rattle.stm_program.specs.Grammar.{spelled, SpellsExpression}
+use Rattle.stm_json.proofs.OutcomeLemmas.{bind_ok, within_ok, guard_ok}
+use Rattle.stm_program.proofs.OutcomeLemmas.{one_part_ok, two_parts_ok}
 use Rattle.stm_program.proofs.WordLemmas.{expression_word-is}
-use Rattle.stm_program.proofs.ElementLemmas.{worded-is, one_of-is, two_of-is, number_up_to-is, whole_number-is, is_64_bit-fits}
+use Rattle.stm_json.proofs.ElementLemmas.{worded-is, one_of-is, two_of-is, number_up_to-is, whole_number-is, is_64_bit-fits}
 
 -- an expression that was read within so many levels and nodes
 pub record ExpressionRead (levels room : ℕ) (d : Data) (x : Expression × ℕ) : Type 0 where

@@ -4,7 +4,6 @@ pub mod ReadLemmas
 pub mod BlockLemmas
 pub mod OutcomeLemmas
 pub mod WordLemmas
-pub mod ElementLemmas
 pub mod ExpressionSound
 pub mod ConditionSound
 pub mod StatementSound

@@ -1,24 +1,24 @@
 -- The marks of data beside what is read of them: the first fault of the marks is the reader's, and without a fault the
 -- search goes on behind the marks in the room that the reader leaves.
-use Rattle.std.proofs.Common.{◌≡◌, ℕ, zero, suc, ◌+◌, ◌^◌, ◌<◌, ◌≤◌, ℤ, pos, negsuc, List, [], ◌∷◌, ◌++◌, Bool, true, false, cond, Option, Some, None, Ok, Err, refl, sym, ap, ◌∙◌, append_assoc, arith, leb, ltb, leb-true, le-leb, lt-ltb, option_and_then}
+use Rattle.std.proofs.Common.{◌≡◌, ℕ, zero, suc, ◌^◌, ◌<◌, ◌≤◌, ℤ, pos, negsuc, List, [], ◌∷◌, ◌++◌, Bool, true, false, cond, Option, Some, None, Ok, Err, refl, sym, ap, ◌∙◌, append_assoc, arith, leb, ltb, leb-true, le-leb, lt-ltb, option_and_then}
 use Rattle.std.proofs.lemmas.List.{append-nil}
 use Rattle.serde_json.specs.Data.{Num, unsigned, negative, float, Data, null, boolean, number, string, array, object}
 use Rattle.serde_json.specs.Find.{as_number, as_integer}
-use Rattle.stm_program.specs.declared.fault.Cause.{Cause}
-use Rattle.stm_program.specs.declared.fault.Cause.TheVariants.{Shape, Range, TooDeep, TooManyNodes}
-use Rattle.stm_program.specs.declared.fault.BadProgram.{BadProgram}
-use Rattle.stm_program.specs.Outcome.{Outcome, bad, ◌>>=◌, within, step}
-use Rattle.stm_program.specs.Elements.{is_64_bit, in_64_bits, in_range, whole_number, number_up_to}
+use Rattle.stm_json.specs.declared.cause.Cause.{Cause}
+use Rattle.stm_json.specs.declared.cause.Cause.TheVariants.{Shape, Range, TooDeep, TooManyNodes}
+use Rattle.stm_json.specs.declared.read_error.BadInput.{BadInput}
+use Rattle.stm_json.specs.Outcome.{Outcome, bad, ◌>>=◌, within, step}
+use Rattle.stm_json.specs.Elements.{is_64_bit, in_64_bits, in_range, whole_number, number_up_to}
 use Rattle.stm_program.specs.Reading.{Read}
-use Rattle.stm_program.specs.FirstFault.{Mark, Node, Wrong, wrong, at, fault_at, first_of_marks, range_marks, number_marks, whole_marks}
+use Rattle.stm_program.specs.FirstFault.{Mark, Node, wrong, at, fault_at, first_of_marks, range_marks, number_marks, whole_marks}
 
 -- the reader's fault, or the first one behind
-abbrev pub after : {A : Type 0} → List ℕ → Read A → List Mark → Option BadProgram
+abbrev pub after : {A : Type 0} → List ℕ → Read A → List Mark → Option BadInput
 after p (Ok x) rest = first_of_marks x.1 rest
 after p (Err f) rest = Some (record { place = p ++ f.place; cause = f.cause })
 
 -- the same for a number, which takes no room
-abbrev pub after_number : {A : Type 0} → List ℕ → ℕ → Outcome A → List Mark → Option BadProgram
+abbrev pub after_number : {A : Type 0} → List ℕ → ℕ → Outcome A → List Mark → Option BadInput
 after_number p room (Ok x) rest = first_of_marks room rest
 after_number p room (Err f) rest = Some (record { place = p ++ f.place; cause = f.cause })
 
@@ -105,17 +105,17 @@ number_marked p limit room d rest h =
 
 -- ---- one part after the other
 
-deeper : (p : List ℕ) (i : ℕ) (f : BadProgram) → fault_at ((p ++ step i) ++ f.place) f.cause ≡ fault_at (p ++ (step i ++ f.place)) f.cause
+deeper : (p : List ℕ) (i : ℕ) (f : BadInput) → fault_at ((p ++ step i) ++ f.place) f.cause ≡ fault_at (p ++ (step i ++ f.place)) f.cause
 deeper p i f = ap (λ (q : List ℕ). fault_at q f.cause) (append_assoc p (step i) f.place)
 
 -- a part that takes room, and then the rest
-pub part_then : {A B : Type 0} (p : List ℕ) (i : ℕ) (reading : Read A) (f : A × ℕ → Read B) (first : Option BadProgram) (next rest : List Mark)
+pub part_then : {A B : Type 0} (p : List ℕ) (i : ℕ) (reading : Read A) (f : A × ℕ → Read B) (first : Option BadInput) (next rest : List Mark)
     → first ≡ after (at p i) reading next → ((x : A × ℕ) → reading ≡ Ok x → first_of_marks x.1 next ≡ after p (f x) rest) → first ≡ after p (within i reading >>= f) rest
 part_then p i (Ok x) f first next rest h k = h ∙ k x refl
 part_then p i (Err g) f first next rest h k = h ∙ deeper p i g
 
 -- a number, and then the rest
-pub number_then : {A B : Type 0} (p : List ℕ) (i room : ℕ) (reading : Outcome A) (f : A → Read B) (first : Option BadProgram) (next rest : List Mark)
+pub number_then : {A B : Type 0} (p : List ℕ) (i room : ℕ) (reading : Outcome A) (f : A → Read B) (first : Option BadInput) (next rest : List Mark)
     → first ≡ after_number (at p i) room reading next → ((x : A) → reading ≡ Ok x → first_of_marks room next ≡ after p (f x) rest) → first ≡ after p (within i reading >>= f) rest
 number_then p i room (Ok x) f first next rest h k = h ∙ k x refl
 number_then p i room (Err g) f first next rest h k = h ∙ deeper p i g

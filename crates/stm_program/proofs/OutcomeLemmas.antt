@@ -1,21 +1,9 @@
 -- What is known where reading answers a value.
-use Rattle.std.proofs.Common.{◌≡◌, ℕ, Bool, true, false, cond, Option, Some, None, Result, Ok, Err, refl}
+use Rattle.std.proofs.Common.{◌≡◌, ℕ, Option, Some, None, Ok, refl}
 use Rattle.serde_json.specs.Data.{Data}
-use Rattle.stm_program.specs.declared.fault.Cause.{Cause}
-use Rattle.stm_program.specs.Outcome.{Outcome, bad, ◌>>=◌, within}
+use Rattle.stm_json.specs.Outcome.{within}
 use Rattle.stm_program.specs.Reading.{Read, one_part, two_parts}
-
-pub bind_ok : {A B : Type 0} (r : Outcome A) (f : A → Outcome B) (y : B) → (r >>= f) ≡ Ok y → (x : A) × (r ≡ Ok x) × (f x ≡ Ok y)
-bind_ok (Ok x) f y h = (x, refl, h)
-bind_ok (Err e) f y h = cc
-
-pub within_ok : {A : Type 0} (i : ℕ) (r : Outcome A) (x : A) → within i r ≡ Ok x → r ≡ Ok x
-within_ok i (Ok y) x h = h
-within_ok i (Err e) x h = cc
-
-pub guard_ok : {A : Type 0} (b : Bool) (x y : A) (cause : Cause) → cond b (Ok x) (bad cause) ≡ Ok y → (b ≡ true) × (x ≡ y)
-guard_ok true x y cause h = (refl, cc)
-guard_ok false x y cause h = cc
+use Rattle.stm_json.proofs.OutcomeLemmas.{bind_ok, within_ok}
 
 pub one_part_ok : {A B : Type 0} (read : ℕ → Data → Read A) (make : A → B) (room : ℕ) (o : Option Data) (y : B × ℕ) → one_part read make room o ≡ Ok y
     → (d : Data) × (x : A × ℕ) × (o ≡ Some d) × (read room d ≡ Ok x) × (y ≡ (make x.0, x.1))

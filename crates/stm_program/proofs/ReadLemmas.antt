@@ -1,36 +1,20 @@
 -- Steps of reading.
-use Rattle.std.proofs.Common.{◌≡◌, ◌≢◌, ◌⊎◌, inl, inr, ℕ, zero, suc, ◌-◌, ◌<◌, List, [], ◌∷◌, length, Option, Some, None, Result, Ok, Err, refl, sym, ap, subst, ◌∙◌, arith}
+use Rattle.std.proofs.Common.{◌≡◌, ℕ, zero, suc, ◌-◌, ◌<◌, [], refl, arith}
 use Rattle.serde_json.specs.Data.{Data}
-use Rattle.serde_json.specs.View.{view, items_view}
-use Rattle.serde_json.specs.declared.value.Value.{Value}
-use Rattle.stm_program.specs.declared.fault.Cause.TheVariants.{TooDeep, TooManyNodes}
-use Rattle.stm_program.specs.declared.fault.ReadError.{ReadError}
-use Rattle.stm_program.specs.declared.fault.ReadError.TheVariants as error
-use Rattle.stm_program.specs.Outcome.{Outcome, bad, within, inside, Fails, Gives, Wraps}
-use Rattle.stm_program.specs.Elements.{one_of, worded}
+use Rattle.stm_json.specs.declared.cause.Cause.TheVariants.{TooDeep, TooManyNodes}
+use Rattle.stm_json.specs.declared.read_error.ReadError.{ReadError}
+use Rattle.stm_json.specs.declared.read_error.ReadError.TheVariants as error
+use Rattle.stm_json.specs.Tells.{TellsFault}
+use Rattle.stm_json.specs.Elements.{worded}
 use Rattle.stm_program.specs.Reading.{expression_at, expression_body, condition_at, condition_array, statement_at, statement_array, block_by}
-
--- a list that has not one element
-pub one_of-not_one : (vs : List Value) → length vs ≢ 1 → None ≡ one_of (items_view vs)
-one_of-not_one [] h = refl
-one_of-not_one (v ∷ []) h = absurd (h refl)
-one_of-not_one (v ∷ w ∷ vs) h = refl
-
--- an outcome at an element, as the array's
-pub Gives-within : {X A : Type 0} (see : X → A) (index : ℕ) (outcome result : Result X ReadError) (reading : Outcome A)
-    → Gives see outcome reading → Wraps index outcome result → Gives see result (within index reading)
-Gives-within see index (Ok x) result reading given wrapped = rw (wrapped, given) refl
-Gives-within see index (Err error.OutOfMemory) result reading given wrapped = rw wrapped tt
-Gives-within see index (Err (error.BadProgram f)) result reading given (inl e) = rw e tt
-Gives-within see index (Err (error.BadProgram f)) result reading given (inr e) = rw (e, given) refl
 
 -- ---- one level of reading
 
-pub expression_at-deep : (levels room : ℕ) (d : Data) (e : ReadError) → levels ≡ 0 → e ≡ error.BadProgram (record { place = []; cause = TooDeep }) → Fails e (expression_at levels room d)
+pub expression_at-deep : (levels room : ℕ) (d : Data) (e : ReadError) → levels ≡ 0 → e ≡ error.Bad (record { place = []; cause = TooDeep }) → TellsFault e (expression_at levels room d)
 unfolding expression_at
 expression_at-deep levels room d e h is = rw (is, h) refl
 
-pub expression_at-full : (levels room : ℕ) (d : Data) (e : ReadError) → 0 < levels → room ≡ 0 → e ≡ error.BadProgram (record { place = []; cause = TooManyNodes }) → Fails e (expression_at levels room d)
+pub expression_at-full : (levels room : ℕ) (d : Data) (e : ReadError) → 0 < levels → room ≡ 0 → e ≡ error.Bad (record { place = []; cause = TooManyNodes }) → TellsFault e (expression_at levels room d)
 unfolding expression_at
 expression_at-full zero room d e h k is = absurd (omega arith)
 expression_at-full (suc l) room d e h k is = rw (is, k) refl
@@ -44,11 +28,11 @@ expression_at-step (suc l) (suc r) d h k =
     let f : suc r - 1 ≡ r = omega arith in
     rw (e, f) refl
 
-pub condition_at-deep : (levels room : ℕ) (d : Data) (e : ReadError) → levels ≡ 0 → e ≡ error.BadProgram (record { place = []; cause = TooDeep }) → Fails e (condition_at levels room d)
+pub condition_at-deep : (levels room : ℕ) (d : Data) (e : ReadError) → levels ≡ 0 → e ≡ error.Bad (record { place = []; cause = TooDeep }) → TellsFault e (condition_at levels room d)
 unfolding condition_at
 condition_at-deep levels room d e h is = rw (is, h) refl
 
-pub condition_at-full : (levels room : ℕ) (d : Data) (e : ReadError) → 0 < levels → room ≡ 0 → e ≡ error.BadProgram (record { place = []; cause = TooManyNodes }) → Fails e (condition_at levels room d)
+pub condition_at-full : (levels room : ℕ) (d : Data) (e : ReadError) → 0 < levels → room ≡ 0 → e ≡ error.Bad (record { place = []; cause = TooManyNodes }) → TellsFault e (condition_at levels room d)
 unfolding condition_at
 condition_at-full zero room d e h k is = absurd (omega arith)
 condition_at-full (suc l) room d e h k is = rw (is, k) refl
@@ -63,11 +47,11 @@ condition_at-step (suc l) (suc r) d h k =
     let f : suc r - 1 ≡ r = omega arith in
     rw (e, f) refl
 
-pub statement_at-deep : (levels room : ℕ) (d : Data) (e : ReadError) → levels ≡ 0 → e ≡ error.BadProgram (record { place = []; cause = TooDeep }) → Fails e (statement_at levels room d)
+pub statement_at-deep : (levels room : ℕ) (d : Data) (e : ReadError) → levels ≡ 0 → e ≡ error.Bad (record { place = []; cause = TooDeep }) → TellsFault e (statement_at levels room d)
 unfolding statement_at
 statement_at-deep levels room d e h is = rw (is, h) refl
 
-pub statement_at-full : (levels room : ℕ) (d : Data) (e : ReadError) → 0 < levels → room ≡ 0 → e ≡ error.BadProgram (record { place = []; cause = TooManyNodes }) → Fails e (statement_at levels room d)
+pub statement_at-full : (levels room : ℕ) (d : Data) (e : ReadError) → 0 < levels → room ≡ 0 → e ≡ error.Bad (record { place = []; cause = TooManyNodes }) → TellsFault e (statement_at levels room d)
 unfolding statement_at
 statement_at-full zero room d e h k is = absurd (omega arith)
 statement_at-full (suc l) room d e h k is = rw (is, k) refl

@@ -1,23 +1,22 @@
 -- What data spell of a statement is read, where it is within the limits.
-use Rattle.std.proofs.Common.{◌≡◌, ℕ, zero, suc, ◌+◌, ◌-◌, ◌<◌, ◌≤◌, List, [], ◌∷◌, Option, Some, None, Ok, refl, ap, ◌∙◌, arith, lit<}
-use Rattle.serde_json.specs.Data.{Data, array, Items, no_items, item}
+use Rattle.std.proofs.Common.{◌≡◌, ℕ, zero, suc, ◌+◌, ◌-◌, ◌≤◌, List, [], ◌∷◌, Option, Some, Ok, refl, ap, ◌∙◌, arith, lit<}
+use Rattle.serde_json.specs.Data.{Data, array, Items}
 use Rattle.serde_json.specs.View.{items_of}
 use Rattle.stm_program.specs.declared.words.StmtWord.{StmtWord}
 use Rattle.stm_program.specs.declared.words.StmtWord.TheVariants as word
 use Rattle.stm_program.specs.declared.words.Simple.{Simple}
 use Rattle.stm_program.specs.declared.words.Simple.TheVariants as simple
 use Rattle.stm_program.specs.Syntax.{Expression, Statement, Set, Put, Del, If, For, Emit, Abort, Block, End, Then}
-use Rattle.stm_program.specs.Size.{expression_nodes, condition_nodes, statement_nodes, block_nodes}
+use Rattle.stm_program.specs.Size.{expression_nodes, statement_nodes, block_nodes}
 use Rattle.stm_program.specs.Limits.{expression_depth, statement_depth, block_depth, ExpressionInRange, StatementInRange, BlockInRange, Fits}
 use Rattle.stm_program.specs.Words.{statement_word}
 use Rattle.stm_program.specs.WordTexts.{simple_text, statement_text}
-use Rattle.stm_program.specs.Outcome.{◌>>=◌, within}
-use Rattle.stm_program.specs.Elements.{worded, number_up_to}
+use Rattle.stm_json.specs.Elements.{worded}
 use Rattle.stm_program.specs.Reading.{Read, simple_of, statement_named, statement_array, statements_from, block_by, expression_at, condition_at, statement_at, program_of}
 use Rattle.stm_program.specs.Grammar.{spelled, SpellsExpression, SpellsStatement, SpellsStatements, SpellsProgram}
 use Rattle.stm_program.proofs.LimitLemmas.{statement_nodes-positive, statement_depth-positive}
 use Rattle.stm_program.proofs.WordLemmas.{statement_word-text}
-use Rattle.stm_program.proofs.ElementLemmas.{number_up_to-reads}
+use Rattle.stm_json.proofs.ElementLemmas.{number_up_to-reads}
 use Rattle.stm_program.proofs.ExpressionComplete.{one_part-reads, expression_reads}
 use Rattle.stm_program.proofs.ConditionComplete.{condition_reads}
 

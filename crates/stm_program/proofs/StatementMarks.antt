@@ -1,15 +1,15 @@
 -- The marks of a statement, of a block and of a program, beside what is read of them.
-use Rattle.std.proofs.Common.{◌≡◌, ℕ, zero, suc, ◌+◌, ◌≤◌, List, [], ◌∷◌, ◌++◌, Option, Some, None, Ok, Err, refl, sym, ap, ◌∙◌, arith, lit<}
+use Rattle.std.proofs.Common.{◌≡◌, ℕ, zero, suc, ◌+◌, List, [], ◌++◌, Option, Some, None, Ok, Err, refl, sym, ap, ◌∙◌, arith, lit<}
 use Rattle.std.proofs.lemmas.List.{append-nil}
-use Rattle.serde_json.specs.Data.{Data, null, boolean, number, string, array, object, Items, no_items, item}
-use Rattle.stm_program.specs.declared.fault.Cause.TheVariants.{Shape}
-use Rattle.stm_program.specs.declared.fault.BadProgram.{BadProgram}
+use Rattle.serde_json.specs.Data.{Data, string, array, Items, no_items, item}
+use Rattle.stm_json.specs.declared.cause.Cause.TheVariants.{Shape}
+use Rattle.stm_json.specs.declared.read_error.BadInput.{BadInput}
 use Rattle.stm_program.specs.declared.words.StmtWord.{StmtWord}
 use Rattle.stm_program.specs.declared.words.StmtWord.TheVariants as word
 use Rattle.stm_program.specs.Syntax.{Statement, Block, Then}
 use Rattle.stm_program.specs.Words.{statement_word}
-use Rattle.stm_program.specs.Outcome.{Outcome, ◌>>=◌, within}
-use Rattle.stm_program.specs.Elements.{worded, number_up_to}
+use Rattle.stm_json.specs.Outcome.{Outcome, ◌>>=◌}
+use Rattle.stm_json.specs.Elements.{worded, number_up_to}
 use Rattle.stm_program.specs.Reading.{Read, simple_of, statement_named, statement_array, statements_from, block_by, expression_at, condition_at, statement_at, program_of}
 use Rattle.stm_program.specs.FirstFault.{Mark, wrong, at, first_of_marks, number_marks, expression_marks, condition_marks, statement_of_one, statement_of_two, statement_of_three, statement_of_four, statement_inner, statement_marks, block_marks, statements_marks, first_fault}
 use Rattle.stm_program.proofs.MarkLemmas.{after, wrong_is, too_deep, too_many, one_node, number_marked, part_then, number_then, behind, made}
@@ -135,7 +135,7 @@ statement_marked (suc l) k h p (suc r) d rest =
     ∙ inner_marked l k (omega arith) (statement_at l) (λ q s e next. statement_marked l (suc k) (omega arith) q s e next) p r d rest
 
 -- the fault that reading answers, if it does
-abbrev pub fault_of : Outcome Block → Option BadProgram
+abbrev pub fault_of : Outcome Block → Option BadInput
 fault_of (Ok b) = None
 fault_of (Err f) = Some f
 

@@ -1,26 +1,25 @@
 -- What is read of a statement is spelled by the data, and is within the limits.
-use Rattle.std.proofs.Common.{◌≡◌, ℕ, zero, suc, ◌+◌, ◌<◌, ◌≤◌, List, [], ◌∷◌, Option, Some, None, Ok, refl, sym, ap, subst, ◌∙◌, arith, codes}
+use Rattle.std.proofs.Common.{◌≡◌, ℕ, zero, suc, ◌+◌, List, [], ◌∷◌, Option, Some, None, Ok, refl, sym, ap, subst, ◌∙◌, arith, codes}
 use Rattle.serde_json.specs.Data.{Data, null, boolean, number, string, array, object, Items, no_items, item}
-use Rattle.serde_json.specs.Find.{as_array}
-use Rattle.serde_json.specs.View.{items_of}
 use Rattle.stm_program.specs.declared.words.StmtWord.{StmtWord}
 use Rattle.stm_program.specs.declared.words.StmtWord.TheVariants as word
 use Rattle.stm_program.specs.declared.words.Simple.{Simple}
 use Rattle.stm_program.specs.declared.words.Simple.TheVariants as simple
 use Rattle.stm_program.specs.Syntax.{Expression, Statement, Set, Put, If, For, Block, End, Then}
-use Rattle.stm_program.specs.Size.{expression_nodes, condition_nodes, statement_nodes, block_nodes}
+use Rattle.stm_program.specs.Size.{expression_nodes, statement_nodes, block_nodes}
 use Rattle.stm_program.specs.Limits.{ExpressionFits, StatementFits, BlockFits, Fits}
 use Rattle.stm_program.specs.Words.{statement_word}
 use Rattle.stm_program.specs.WordTexts.{simple_text}
-use Rattle.stm_program.specs.Outcome.{bad, ◌>>=◌, within}
-use Rattle.stm_program.specs.Elements.{worded, one_of, two_of, three_of, four_of, number_up_to}
-use Rattle.stm_program.specs.Reading.{Read, simple_of, set_of, put_of, if_of, for_of, statement_named, statement_array, statements_from, block_list, block_by, expression_at, condition_at, statement_at, program_of}
+use Rattle.stm_json.specs.Outcome.{within}
+use Rattle.stm_json.specs.Elements.{worded, one_of, two_of, three_of, four_of, number_up_to}
+use Rattle.stm_program.specs.Reading.{Read, simple_of, set_of, put_of, if_of, for_of, statement_named, statement_array, statements_from, block_by, expression_at, condition_at, statement_at}
 use Rattle.stm_program.specs.Grammar.{spelled, SpellsExpression, SpellsStatement, SpellsStatements, SpellsProgram}
-use Rattle.stm_program.proofs.OutcomeLemmas.{bind_ok, within_ok, one_part_ok}
+use Rattle.stm_json.proofs.OutcomeLemmas.{bind_ok, within_ok}
+use Rattle.stm_program.proofs.OutcomeLemmas.{one_part_ok}
 use Rattle.stm_program.proofs.WordLemmas.{statement_word-is}
-use Rattle.stm_program.proofs.ElementLemmas.{one_of-is, two_of-is, three_of-is, four_of-is, number_up_to-is}
-use Rattle.stm_program.proofs.ExpressionSound.{ExpressionRead, expression_sound, words_and}
-use Rattle.stm_program.proofs.ConditionSound.{ConditionRead, condition_sound}
+use Rattle.stm_json.proofs.ElementLemmas.{one_of-is, two_of-is, three_of-is, four_of-is, number_up_to-is}
+use Rattle.stm_program.proofs.ExpressionSound.{expression_sound, words_and}
+use Rattle.stm_program.proofs.ConditionSound.{condition_sound}
 
 -- a statement that was read within so many levels and nodes
 pub record StatementRead (levels room : ℕ) (d : Data) (x : Statement × ℕ) : Type 0 where

@@ -3,9 +3,7 @@ use Rattle.std.proofs.Common.{◌≡◌, ℕ, List, Bool, true, false, cond, Opt
 use Rattle.std.proofs.lemmas.Slice.Eq.{bytes_eq-Decides}
 use Rattle.stm_program.specs.declared.words.ExprWord.{ExprWord}
 use Rattle.stm_program.specs.declared.words.ExprWord.TheVariants as expression
-use Rattle.stm_program.specs.declared.words.Unary.{Unary}
 use Rattle.stm_program.specs.declared.words.Unary.TheVariants as unary
-use Rattle.stm_program.specs.declared.words.Binary.{Binary}
 use Rattle.stm_program.specs.declared.words.Binary.TheVariants as binary
 use Rattle.stm_program.specs.declared.operator.Operator.TheVariants.{Add, Sub, Mul, Div, Rem}
 use Rattle.stm_program.specs.declared.words.CondWord.{CondWord}

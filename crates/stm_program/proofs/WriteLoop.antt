@@ -5,7 +5,7 @@ use Rattle.std.proofs.Math.Seq.{drop-cons}
 use Rattle.serde_json.specs.Data.{Data, Items, no_items, item}
 use Rattle.serde_json.specs.View.{view, items_of, items_view}
 use Rattle.serde_json.specs.declared.value.Value.{Value}
-use Rattle.stm_program.specs.Syntax.{Statement, Block, End, Then}
+use Rattle.stm_program.specs.Syntax.{Statement}
 use Rattle.stm_program.specs.BlockView.{block_of}
 use Rattle.stm_program.specs.Weight.{statement_weight, block_weight, block_weight-positive}
 use Rattle.stm_program.specs.Writing.{written_statement, written_statements}

@@ -1,10 +1,11 @@
 -- What is written of a program spells it, and so reads as it again.
-use Rattle.std.proofs.Common.{◌≡◌, ℤ, pos, negsuc, Ok, refl, sym, subst, codes}
+use Rattle.std.proofs.Common.{◌≡◌, ℤ, pos, negsuc, Ok, refl, sym, subst}
 use Rattle.serde_json.specs.Data.{Data, number, unsigned, negative}
 use Rattle.serde_json.specs.Find.{of_integer}
 use Rattle.stm_program.specs.Syntax.{Expression, Text, Number, Variable, Get, Rev, Arithmetic, Cat, TextOf, NumOf, Condition, Equal, Less, Not, And, Or, Statement, Set, Put, Del, If, For, Emit, Abort, Block, End, Then}
 use Rattle.stm_program.specs.Limits.{Fits}
-use Rattle.stm_program.specs.Grammar.{SpellsNumber, SpellsExpression, SpellsCondition, SpellsStatement, SpellsStatements, SpellsProgram}
+use Rattle.stm_program.specs.Grammar.{SpellsExpression, SpellsCondition, SpellsStatement, SpellsStatements, SpellsProgram}
+use Rattle.stm_json.specs.Elements.{SpellsNumber}
 use Rattle.stm_program.specs.Reading.{program_of}
 use Rattle.stm_program.specs.Writing.{written_number, written_expression, written_condition, written_statement, written_statements, written_program}
 use Rattle.stm_program.proofs.StatementComplete.{program_reads}

@@ -1,13 +1,13 @@
 -- The first fault of data in a program's place, apart from reading: the marks of all the data in the order of reading, none
 -- left out behind a fault, and then the first of them that is a fault.
-use Rattle.std.specs.Prelude.{◌≡◌, ℕ, zero, suc, ℤ, pos, negsuc, List, [], ◌∷◌, ◌++◌, length, Option, Some, None, nat_le, nat_lt, if◌then◌else◌, option_and_then}
+use Rattle.std.specs.Prelude.{◌≡◌, ℕ, zero, suc, ℤ, pos, negsuc, List, [], ◌∷◌, ◌++◌, length, Option, Some, None, nat_le, if◌then◌else◌, option_and_then}
 use Rattle.serde_json.specs.Data.{Data, number, string, array, Items, no_items, item}
 use Rattle.serde_json.specs.Find.{as_number, as_integer}
-use Rattle.stm_program.specs.declared.fault.Cause.{Cause}
-use Rattle.stm_program.specs.declared.fault.Cause.TheVariants.{Shape, Range, TooDeep, TooManyNodes, TooLong}
-use Rattle.stm_program.specs.declared.fault.BadProgram.{BadProgram}
-use Rattle.stm_program.specs.declared.fault.ReadError.{ReadError}
-use Rattle.stm_program.specs.declared.fault.ReadError.TheVariants as error
+use Rattle.stm_json.specs.declared.cause.Cause.{Cause}
+use Rattle.stm_json.specs.declared.cause.Cause.TheVariants.{Shape, Range, TooDeep, TooManyNodes, TooLong}
+use Rattle.stm_json.specs.declared.read_error.BadInput.{BadInput}
+use Rattle.stm_json.specs.declared.read_error.ReadError.{ReadError}
+use Rattle.stm_json.specs.declared.read_error.ReadError.TheVariants as error
 use Rattle.stm_program.specs.declared.words.ExprWord.{ExprWord}
 use Rattle.stm_program.specs.declared.words.ExprWord.TheVariants as expression
 use Rattle.stm_program.specs.declared.words.CondWord.{CondWord}
@@ -15,8 +15,8 @@ use Rattle.stm_program.specs.declared.words.CondWord.TheVariants as condition
 use Rattle.stm_program.specs.declared.words.StmtWord.{StmtWord}
 use Rattle.stm_program.specs.declared.words.StmtWord.TheVariants as statement
 use Rattle.stm_program.specs.Words.{expression_word, condition_word, statement_word}
-use Rattle.stm_program.specs.Outcome.{step}
-use Rattle.stm_program.specs.Elements.{is_64_bit}
+use Rattle.stm_json.specs.Outcome.{step}
+use Rattle.stm_json.specs.Elements.{is_64_bit}
 
 -- a node that stands at a place and so deep, or what is wrong at a place
 pub data Mark : Type 0 where
@@ -165,21 +165,21 @@ statement_marks k p d = Node k p ∷ statement_inner k p d
 
 -- ---- the first fault
 
-abbrev pub fault_at : List ℕ → Cause → Option BadProgram
+abbrev pub fault_at : List ℕ → Cause → Option BadInput
 fault_at p cause = Some (record { place = p; cause = cause })
 
 -- where so many nodes more are allowed: a node deeper than 32 is a fault, then one for which no room is left
-abbrev pub first_of_marks : ℕ → List Mark → Option BadProgram
+abbrev pub first_of_marks : ℕ → List Mark → Option BadInput
 first_of_marks room [] = None
 first_of_marks room (Wrong p cause ∷ ms) = fault_at p cause
 first_of_marks zero (Node k p ∷ ms) = if nat_le k 32 then fault_at p TooManyNodes else fault_at p TooDeep
 first_of_marks (suc room) (Node k p ∷ ms) = if nat_le k 32 then first_of_marks room ms else fault_at p TooDeep
 
 -- the first fault of data in a program's place, if there is one
-unfoldable pub first_fault : Data → Option BadProgram
+unfoldable pub first_fault : Data → Option BadInput
 first_fault d = first_of_marks 4096 (block_marks 1 [] d)
 
 -- the error is the first fault, or want of memory
 abbrev pub IsFirstFault : Data → ReadError → Type 0
 IsFirstFault d error.OutOfMemory = Unit {0}
-IsFirstFault d (error.BadProgram f) = first_fault d ≡ Some f
+IsFirstFault d (error.Bad f) = first_fault d ≡ Some f

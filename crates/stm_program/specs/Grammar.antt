@@ -1,8 +1,8 @@
 -- Which data spell which program: the grammar, apart from reading.
-use Rattle.std.specs.Prelude.{◌≡◌, ℕ, ℤ, pos, List, [], ◌∷◌, Some, codes}
-use Rattle.serde_json.specs.Data.{Num, Data, number, string, array, Items, no_items, item}
-use Rattle.serde_json.specs.Find.{as_integer}
+use Rattle.std.specs.Prelude.{◌≡◌, ℕ, pos, List, [], ◌∷◌, codes}
+use Rattle.serde_json.specs.Data.{Data, string, array, Items, no_items, item}
 use Rattle.serde_json.specs.View.{items_of}
+use Rattle.stm_json.specs.Elements.{SpellsNumber}
 use Rattle.stm_program.specs.declared.operator.Operator.{Operator}
 use Rattle.stm_program.specs.declared.operator.Operator.TheVariants.{Add, Sub, Mul, Div, Rem}
 use Rattle.stm_program.specs.Syntax.{Expression, Text, Number, Variable, Get, Rev, Arithmetic, Cat, TextOf, NumOf, Condition, Equal, Less, Not, And, Or, Statement, Set, Put, Del, If, For, Emit, Abort, Block, End, Then}
@@ -10,10 +10,6 @@ use Rattle.stm_program.specs.Syntax.{Expression, Text, Number, Variable, Get, Re
 -- an array of a word and the parts behind it
 abbrev pub spelled : List ℕ → List Data → Data
 spelled word parts = array (item (string word) (items_of parts))
-
--- a whole number of JSON
-abbrev pub SpellsNumber : Data → ℤ → Type 0
-SpellsNumber d z = (n : Num) × (d ≡ number n) × (as_integer n ≡ Some z)
 
 abbrev pub operator_text : Operator → List ℕ
 operator_text Add = codes "add"

@@ -8,12 +8,11 @@ pub mod BlockView
 pub mod Weight
 pub mod Limits
 pub mod Words
-pub mod Outcome
-pub mod Elements
 pub mod Reading
 pub mod Grammar
 pub mod WordTexts
 pub mod Writing
 pub mod FirstFault
-pub mod CauseNames
 pub mod Writes
+pub use Rattle.stm_json.specs.Outcome
+pub use Rattle.stm_json.specs.Tells

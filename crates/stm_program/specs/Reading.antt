@@ -4,7 +4,7 @@
 use Rattle.std.specs.Prelude.{ℕ, zero, suc, List, length, Bool, true, false, Option, Some, None, Ok, is_some, if◌then◌else◌, nat_le}
 use Rattle.serde_json.specs.Data.{Data, Items, no_items, item}
 use Rattle.serde_json.specs.Find.{as_str, as_array, as_number}
-use Rattle.stm_program.specs.declared.fault.Cause.TheVariants.{Shape, Range, TooDeep, TooManyNodes, TooLong}
+use Rattle.stm_json.specs.declared.cause.Cause.TheVariants.{Shape, TooDeep, TooManyNodes, TooLong}
 use Rattle.stm_program.specs.declared.words.ExprWord.{ExprWord}
 use Rattle.stm_program.specs.declared.words.ExprWord.TheVariants as word
 use Rattle.stm_program.specs.declared.words.Unary.{Unary}
@@ -23,8 +23,8 @@ use Rattle.stm_program.specs.declared.words.Simple.{Simple}
 use Rattle.stm_program.specs.declared.words.Simple.TheVariants as simple
 use Rattle.stm_program.specs.Syntax.{Expression, Text, Number, Variable, Get, Rev, Arithmetic, Cat, TextOf, NumOf, Condition, Equal, Less, Not, And, Or, Statement, Set, Put, Del, If, For, Emit, Abort, Block, End, Then}
 use Rattle.stm_program.specs.Words.{expression_word, condition_word, statement_word}
-use Rattle.stm_program.specs.Outcome.{Outcome, bad, ◌>>=◌, within}
-use Rattle.stm_program.specs.Elements.{worded, one_of, two_of, three_of, four_of, number_up_to, whole_number}
+use Rattle.stm_json.specs.Outcome.{Outcome, bad, ◌>>=◌, within}
+use Rattle.stm_json.specs.Elements.{worded, one_of, two_of, three_of, four_of, number_up_to, whole_number}
 
 -- a tree, and how many nodes are left after it
 abbrev pub Read : Type 0 → Type 0

@@ -3,7 +3,6 @@
 
 mod condition;
 mod expression;
-mod fault;
 mod latest;
 pub mod laws;
 mod level;
@@ -19,16 +18,16 @@ mod write;
 
 pub use condition::{Cond, CondNode};
 pub use expression::{Expr, ExprNode};
-pub use fault::{BadProgram, Cause, ReadError};
 pub use latest::{last_write, latest_writes};
 pub use level::Level;
 pub use limits::fits;
 pub use operator::Operator;
 pub use program::Program;
-pub use read::{place_within, read_program};
+pub use read::read_program;
 pub use spell::write_program;
 pub use statement::{Block, Stmt, StmtNode};
 pub use stm_history::{Sequence, Text};
+pub use stm_json::{BadInput, Cause, ReadError};
 pub use variable::Variable;
 pub use write::Write;
 

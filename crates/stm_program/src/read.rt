@@ -4,34 +4,31 @@ ghost use Rattle.serde_json.specs.View.{view};
 ghost use Rattle.stm_program.specs.FirstFault.{first_fault, IsFirstFault};
 ghost use Rattle.stm_program.specs.Grammar.{SpellsProgram};
 ghost use Rattle.stm_program.specs.Limits.{Fits};
-ghost use Rattle.stm_program.specs.Outcome.{Gives};
+ghost use Rattle.stm_json.specs.Tells.{Tells};
 ghost use Rattle.stm_program.specs.Reading.{program_of};
 
 mod conditions;
-mod elements;
 mod expressions;
-mod place;
 mod statements;
 
-use crate::fault::ReadError;
 use crate::limits::{MAX_DEPTH, MAX_NODES};
 use crate::program::Program;
-pub use place::place_within;
 use serde_json::Value;
 use std::alloc::Global;
+use stm_json::ReadError;
 
 /// The program that a JSON value spells, or the first fault.
 ///
 /// A program is an array of statements. The value is read in order, a value before its elements and
 /// these from the first to the last; at a node the depth is looked at first, then the number of nodes,
-/// then the shape, and then the elements. `BadProgram` is the first fault, with its place in the value.
+/// then the shape, and then the elements. `Bad` is the first fault, with its place in the value.
 /// `OutOfMemory` may come in place of any other answer, where a growth was refused.
 pub fn read_program(alloc: Global, value: &Value) -> Result<Program, ReadError>
-    ensures exact { Gives (λ p. p) result (program_of (view value.now)) }
+    ensures exact { Tells (λ p. p) result (program_of (view value.now)) }
     // What is read is spelled so.
     ensures spelled { IfOk result (SpellsProgram (view value.now)) }
     // A program within the limits that is spelled so is read.
-    ensures accepts { (p : _) → SpellsProgram (view value.now) p → Fits p → Gives (λ q. q) result (OkOf p) }
+    ensures accepts { (p : _) → SpellsProgram (view value.now) p → Fits p → Tells (λ q. q) result (OkOf p) }
     // Which fault it is.
     ensures faults { MatchResult result (λ p. first_fault (view value.now) ≡ None) (IsFirstFault (view value.now)) }
 {
@@ -40,7 +37,7 @@ pub fn read_program(alloc: Global, value: &Value) -> Result<Program, ReadError>
 
 #[tactic(auto, unfolding(crate::specs::Reading::program_of))]
 fn program(alloc: Global, value: &Value) -> Result<Program, ReadError>
-    ensures { Gives (λ p. p) result (program_of (view value.now)) }
+    ensures { Tells (λ p. p) result (program_of (view value.now)) }
 {
     let (statements, _left) = statements::statements(alloc, value, MAX_DEPTH, MAX_NODES)?;
     Ok(Program::of(statements))

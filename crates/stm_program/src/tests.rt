@@ -1,7 +1,7 @@
 //! Worked examples, and each public call once.
 use crate::{
-    BadProgram, Cause, Level, Program, ReadError, Stmt, Text, Variable, Write, fits, place_within,
-    read_program, write_program,
+    BadInput, Cause, Level, Program, ReadError, Stmt, Text, Variable, Write, fits, read_program,
+    write_program,
 };
 use serde_json::Value;
 use std::alloc::{AllocError, Global};
@@ -92,10 +92,10 @@ const FAULTS: [(&str, &str, Cause); 16] = [
     (r#"[["if",["less",1],[7],[8]],9]"#, "/0/1", Cause::Shape),
 ];
 
-fn fault_of(alloc: Global, text: &str) -> Result<BadProgram, Fail> {
+fn fault_of(alloc: Global, text: &str) -> Result<BadInput, Fail> {
     let value = Value::from_str(alloc, text)?;
     match read_program(alloc, &value) {
-        Err(ReadError::BadProgram(fault)) => Ok(fault),
+        Err(ReadError::Bad(fault)) => Ok(fault),
         Err(error) => Err(Fail::from(error)),
         Ok(_program) => Err(Fail::from("it was read")),
     }
@@ -231,9 +231,6 @@ fn small_parts(rt: HostRuntime) -> Result<(), Fail> {
     let alloc = rt.alloc();
     assert_eq!(rt; Variable::new(7).number(), 7);
     assert_eq!(rt; Level::ReadCommitted, Level::ReadCommitted);
-    let place = place_within(alloc, 3, &Text::copy_of(alloc, "/1")?)?;
-    let place = place_within(alloc, 0, &place)?;
-    assert_eq!(rt; place.as_str(), "/0/3/1");
     let key = Text::copy_of(alloc, "k")?;
     let write = Write::Put {
         key,
@@ -249,6 +246,6 @@ fn small_parts(rt: HostRuntime) -> Result<(), Fail> {
     );
     let fault = fault_of(alloc, "[5]")?;
     let shown = format!(in alloc; "{fault}")?;
-    assert_eq!(rt; shown.as_str(), "bad program at /0: Shape");
+    assert_eq!(rt; shown.as_str(), "at /0: Shape");
     Ok(())
 }

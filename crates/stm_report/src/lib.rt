@@ -14,5 +14,5 @@ pub use laws::one_report;
 pub use report_text::report;
 pub use run_script::{ScriptFault, script};
 pub use stm_retry::{Denied, Reply, World};
-pub use stm_texts::{BadText, Cause, ReadError, Scenario, WorldEvent, read_scenario};
+pub use stm_texts::{BadInput, Cause, ReadError, Scenario, WorldEvent, read_scenario};
 pub use transfer::write_all;

@@ -8,7 +8,7 @@ use crate::report_text::report;
 use crate::transfer::{ReadFault, read_all, write_all};
 use std::alloc::{AllocError, Global};
 use stm_retry::World;
-use stm_texts::{BadText, ReadError, Scenario, read_scenario};
+use stm_texts::{BadInput, ReadError, Scenario, read_scenario};
 use thiserror::Error;
 
 /// Why a script failed.
@@ -19,7 +19,7 @@ pub enum ScriptFault {
     OutOfMemory,
     /// The input is no scenario: its first fault.
     #[error("bad scenario {0}")]
-    Bad(BadText),
+    Bad(BadInput),
     /// The source failed.
     #[error("device fault")]
     Read,

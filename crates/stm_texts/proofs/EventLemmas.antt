@@ -5,9 +5,10 @@ use Rattle.std.proofs.Math.Seq.{drop-cons}
 use Rattle.serde_json.specs.View.{view, items_view}
 use Rattle.serde_json.specs.declared.value.Value.{Value}
 use Rattle.stm_retry.specs.declared.event.WorldEvent.{WorldEvent}
-use Rattle.stm_texts.specs.declared.fault.ReadError.{ReadError}
-use Rattle.stm_texts.specs.declared.fault.ReadError.TheVariants as error
-use Rattle.stm_texts.specs.Outcome.{Outcome, ◌>>=◌, within, Fails}
+use Rattle.stm_json.specs.declared.read_error.ReadError.{ReadError}
+use Rattle.stm_json.specs.declared.read_error.ReadError.TheVariants as error
+use Rattle.stm_json.specs.Outcome.{Outcome, ◌>>=◌, within}
+use Rattle.stm_json.specs.Tells.{TellsFault}
 use Rattle.stm_texts.specs.Reading.{event_after, events_from}
 
 -- the events read before, and what is still read
@@ -33,8 +34,8 @@ goes_on first front vs i v e total lt at is so_far =
     sym one ∙ so_far
 
 pub ends : (e : ReadError) (first : ℕ) (front : List WorldEvent) (vs : List Value) (i : ℕ) (v : Value) (total : Outcome (List WorldEvent))
-    → i < length vs → v ≡ get_or vs i v → Fails e (within (first + i) (event_after i (view v)))
-    → with_front front (events_from first i (items_view (drop i vs))) ≡ total → Fails e total
+    → i < length vs → v ≡ get_or vs i v → TellsFault e (within (first + i) (event_after i (view v)))
+    → with_front front (events_from first i (items_view (drop i vs))) ≡ total → TellsFault e total
 unfolding events_from
 ends error.OutOfMemory first front vs i v total lt at is so_far = tt
 ends (error.Bad f) first front vs i v total lt at is so_far =

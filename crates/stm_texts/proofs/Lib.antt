@@ -1,3 +1,2 @@
-pub mod ElementLemmas
 pub mod EventLemmas
 pub mod ScenarioLemmas

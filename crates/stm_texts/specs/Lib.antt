@@ -1,2 +1,4 @@
-pub mod Outcome
 pub mod Reading
+pub use Rattle.stm_json.specs.CauseNames
+pub use Rattle.stm_json.specs.Outcome
+pub use Rattle.stm_json.specs.Tells

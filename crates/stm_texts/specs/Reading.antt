@@ -6,25 +6,20 @@ use Rattle.std.specs.Str.{is_utf8}
 use Rattle.serde_json.specs.Data.{Data, Items, no_items, item}
 use Rattle.serde_json.specs.Find.{as_str, as_array, as_number, as_u64, as_i64}
 use Rattle.serde_json.specs.Read.{read}
-use Rattle.stm_program.specs.Elements.{worded, one_of, three_of}
+use Rattle.stm_json.specs.Elements.{worded, one_of, three_of, number_up_to, number_in}
+use Rattle.stm_history.specs.declared.revisions.TheConstants.{HIGHEST_NUMBER, HIGHEST_REVISION}
 use Rattle.stm_program.specs.Reading.{program_of}
 use Rattle.stm_program.specs.declared.level.Level.{Level}
 use Rattle.stm_program.specs.declared.level.Level.TheVariants.{ReadCommitted}
 use Rattle.stm_retry.specs.declared.event.WorldEvent.{WorldEvent}
 use Rattle.stm_retry.specs.declared.event.WorldEvent.TheVariants.{Start, Step}
-use Rattle.stm_texts.specs.declared.fault.Cause.TheVariants.{NotJson, Shape, Range, TooLong, TooMany}
+use Rattle.stm_json.specs.declared.cause.Cause.TheVariants.{NotJson, Shape, Range, TooLong, TooMany}
+use Rattle.stm_texts.specs.declared.events.TheConstants.{HIGHEST_LIMIT, MOST_EVENTS}
+use Rattle.stm_texts.specs.declared.reading.TheConstants.{MOST_BYTES}
 use Rattle.stm_texts.specs.declared.scenario.Scenario.{Scenario}
-use Rattle.stm_texts.specs.Outcome.{Outcome, bad, ◌>>=◌, within, of_program}
+use Rattle.stm_json.specs.Outcome.{Outcome, bad, ◌>>=◌, within}
 
--- ---- numbers and words
-
-abbrev pub in_range : ℕ → ℕ → Option ℕ → Bool → Outcome ℕ
-in_range least most (Some n) is_whole = if nat_le least n && nat_le n most then Ok n else bad Range
-in_range least most None is_whole = if is_whole then bad Range else bad Shape
-
--- a whole number of a range: any other whole number of 64 bits is out of range, and anything else is of no shape
-unfoldable pub number_in : ℕ → ℕ → Data → Outcome ℕ
-number_in least most d = in_range least most (option_and_then as_u64 (as_number d)) (is_some (option_and_then as_i64 (as_number d)))
+-- ---- words
 
 -- two texts are the same
 abbrev pub same : List ℕ → List ℕ → Bool
@@ -42,11 +37,11 @@ level_of d = level_named (as_str d)
 abbrev pub start_of : Option (Data × Data × Data) → Outcome WorldEvent
 start_of None = bad Shape
 start_of (Some p) =
-    within 1 (level_of p.0) >>= λ level. within 2 (number_in 0 4294967295 p.1) >>= λ limit. within 3 (of_program (program_of p.2)) >>= λ program. Ok (Start program level limit)
+    within 1 (level_of p.0) >>= λ level. within 2 (number_up_to HIGHEST_LIMIT p.1) >>= λ limit. within 3 (program_of p.2) >>= λ program. Ok (Start program level limit)
 
 abbrev pub step_of : Option Data → Outcome WorldEvent
 step_of None = bad Shape
-step_of (Some d) = within 1 (number_in 0 9223372036854775807 d) >>= λ runner. Ok (Step runner)
+step_of (Some d) = within 1 (number_up_to HIGHEST_NUMBER d) >>= λ runner. Ok (Step runner)
 
 abbrev pub event_worded : Option (List ℕ × Items) → Outcome WorldEvent
 event_worded None = bad Shape
@@ -57,9 +52,9 @@ event_worded (Some p) =
 unfoldable pub event_of : Data → Outcome WorldEvent
 event_of d = event_worded (worded d)
 
--- an event that so many others stand before: at most 100000 are read
+-- an event that so many others stand before: at most MOST_EVENTS are read
 unfoldable pub event_after : ℕ → Data → Outcome WorldEvent
-event_after before d = if nat_lt before 100000 then event_of d else bad TooMany
+event_after before d = if nat_lt before MOST_EVENTS then event_of d else bad TooMany
 
 -- the events of a list: the first of them is the element at the index first + before, and so many stand before it
 unfoldable pub events_from : ℕ → ℕ → Items → Outcome (List WorldEvent)
@@ -76,12 +71,12 @@ begins (Some p) = if same p.0 (codes "begin") then Some p.1 else None
 
 abbrev pub opening_of : Option Data → Outcome ℕ
 opening_of None = bad Shape
-opening_of (Some d) = within 1 (number_in 1 9223372036854775806 d)
+opening_of (Some d) = within 1 (number_in 1 HIGHEST_REVISION d)
 
 -- what an opening revision is, if there is one
 abbrev pub IsOpening : Option ℕ → Type 0
 IsOpening None = Unit {0}
-IsOpening (Some r) = (1 ≤ r) × (r ≤ 9223372036854775806)
+IsOpening (Some r) = (1 ≤ r) × (r ≤ HIGHEST_REVISION)
 
 -- ---- scenarios
 
@@ -108,9 +103,6 @@ abbrev pub scenario_read : Option Data → Outcome Scenario
 scenario_read None = bad NotJson
 scenario_read (Some d) = scenario_of d
 
-abbrev pub most_bytes : ℕ
-most_bytes = 16777216
-
 -- the scenario that bytes spell: their number comes first, and then whether they are JSON
 unfoldable pub scenario_in : List ℕ → Outcome Scenario
-scenario_in bytes = if nat_lt most_bytes (length bytes) then bad TooLong else scenario_read (data_of bytes)
+scenario_in bytes = if nat_lt MOST_BYTES (length bytes) then bad TooLong else scenario_read (data_of bytes)

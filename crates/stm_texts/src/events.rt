@@ -1,58 +1,58 @@
 //! Reading events.
 ghost use Rattle.std.specs.Prelude.{◌<◌, ◌+◌, ◌^◌, length};
 ghost use Rattle.serde_json.specs.View.{view, items_view};
-ghost use Rattle.stm_program.specs.Reading.{program_of};
-ghost use Rattle.stm_texts.specs.Reading.{number_in, start_of, step_of, event_of, event_after, events_from};
-ghost use Rattle.stm_program.specs.Elements.{one_of, three_of};
-ghost use Rattle.stm_texts.specs.Outcome.{Gives, of_program, within as within_list};
+ghost use Rattle.stm_texts.specs.Reading.{level_of, start_of, step_of, event_of, event_after, events_from};
+ghost use Rattle.stm_json.specs.Elements.{number_up_to, one_of, three_of};
+ghost use Rattle.stm_json.specs.Outcome.{within as within_list};
+ghost use Rattle.stm_json.specs.Tells.{Tells};
 
-use crate::elements::{level, number_within, one, three, worded_array};
-use crate::fault::{BadText, Cause, ReadError};
-use crate::place::{fault, within};
 use serde_json::Value;
 use std::alloc::Global;
-use stm_program::{BadProgram, Program, ReadError as ProgramError, read_program};
+use stm_history::HIGHEST_NUMBER;
+use stm_json::{Cause, ReadError, fault, number_within, one, three, within, worded_array};
+use stm_program::{Level, read_program};
 use stm_retry::WorldEvent;
 
 /// A scenario has at most so many events.
 pub const MOST_EVENTS: usize = 100000;
 
+/// The highest number of attempts that a start may name.
 const HIGHEST_LIMIT: u64 = 4294967295;
 
-const HIGHEST_RUNNER: u64 = 9223372036854775807;
-
-/// A program, its faults as faults of a text.
-fn program(alloc: Global, value: &Value) -> Result<Program, ReadError>
-    ensures { Gives (λ p. p) result (of_program (program_of (view value.now))) }
+/// The level of a word.
+#[tactic(auto, unfolding(crate::specs::Reading::level_of))]
+fn level(alloc: Global, value: &Value) -> Result<Level, ReadError>
+    ensures { Tells (λ l. l) result (level_of (view value.now)) }
 {
-    match read_program(alloc, value) {
-        Ok(program) => Ok(program),
-        Err(ProgramError::OutOfMemory) => Err(ReadError::OutOfMemory),
-        Err(ProgramError::BadProgram(bad)) => {
-            let BadProgram { place, cause } = bad;
-            let cause = Cause::from(cause);
-            Err(ReadError::Bad(BadText { place, cause }))
+    match value.as_str() {
+        Some(word) => {
+            if word == "ReadCommitted" {
+                Ok(Level::ReadCommitted)
+            } else {
+                Err(fault(alloc, Cause::Shape))
+            }
         }
+        None => Err(fault(alloc, Cause::Shape)),
     }
 }
 
 /// How many commits a run may send.
 fn limit(alloc: Global, value: &Value) -> Result<u32, ReadError>
-    ensures { Gives (λ n. n) result (number_in 0 4294967295 (view value.now)) }
+    ensures { Tells (λ n. n) result (number_up_to HIGHEST_LIMIT (view value.now)) }
 {
-    let limit = number_within(alloc, 0, HIGHEST_LIMIT, value)?;
+    let limit = number_within(alloc, HIGHEST_LIMIT, value)?;
     Ok(limit as u32)
 }
 
 fn start(alloc: Global, elements: &[Value]) -> Result<WorldEvent, ReadError>
-    ensures { Gives (λ e. e) result (start_of (three_of (items_view elements.now))) }
+    ensures { Tells (λ e. e) result (start_of (three_of (items_view elements.now))) }
 {
     let Some((first, second, third)) = three(elements) else {
         return Err(fault(alloc, Cause::Shape));
     };
     let level = within(alloc, 1, level(alloc, first))?;
     let limit = within(alloc, 2, limit(alloc, second))?;
-    let program = within(alloc, 3, program(alloc, third))?;
+    let program = within(alloc, 3, read_program(alloc, third))?;
     Ok(WorldEvent::Start {
         program,
         level,
@@ -61,19 +61,19 @@ fn start(alloc: Global, elements: &[Value]) -> Result<WorldEvent, ReadError>
 }
 
 fn step(alloc: Global, elements: &[Value]) -> Result<WorldEvent, ReadError>
-    ensures { Gives (λ e. e) result (step_of (one_of (items_view elements.now))) }
+    ensures { Tells (λ e. e) result (step_of (one_of (items_view elements.now))) }
 {
     let Some(first) = one(elements) else {
         return Err(fault(alloc, Cause::Shape));
     };
-    let runner = within(alloc, 1, number_within(alloc, 0, HIGHEST_RUNNER, first))?;
+    let runner = within(alloc, 1, number_within(alloc, HIGHEST_NUMBER, first))?;
     Ok(WorldEvent::Step { runner })
 }
 
 /// An event.
 #[tactic(auto, unfolding(crate::specs::Reading::event_of))]
 fn event(alloc: Global, value: &Value) -> Result<WorldEvent, ReadError>
-    ensures { Gives (λ e. e) result (event_of (view value.now)) }
+    ensures { Tells (λ e. e) result (event_of (view value.now)) }
 {
     let Some((word, elements)) = worded_array(value) else {
         return Err(fault(alloc, Cause::Shape));
@@ -90,7 +90,7 @@ fn event(alloc: Global, value: &Value) -> Result<WorldEvent, ReadError>
 /// An event that so many others stand before.
 #[tactic(auto, unfolding(crate::specs::Reading::event_after))]
 fn event_behind(alloc: Global, before: usize, value: &Value) -> Result<WorldEvent, ReadError>
-    ensures { Gives (λ e. e) result (event_after before (view value.now)) }
+    ensures { Tells (λ e. e) result (event_after before (view value.now)) }
 {
     if before < MOST_EVENTS {
         event(alloc, value)
@@ -107,7 +107,7 @@ fn event_at(
     value: &Value,
 ) -> Result<WorldEvent, ReadError>
     requires { first + before < 2 ^ 64 }
-    ensures { Gives (λ e. e) result (within_list (first + before) (event_after before (view value.now))) }
+    ensures { Tells (λ e. e) result (within_list (first + before) (event_after before (view value.now))) }
 {
     within(alloc, first + before, event_behind(alloc, before, value))
 }
@@ -119,7 +119,7 @@ pub(crate) fn events(
     values: &[Value],
 ) -> Result<Vec<WorldEvent>, ReadError>
     requires { first + length values.now < 2 ^ 64 }
-    ensures { Gives (λ v. v.items) result (events_from first 0 (items_view values.now)) }
+    ensures { Tells (λ v. v.items) result (events_from first 0 (items_view values.now)) }
 {
     let mut events = Vec::new(alloc);
     for (before, value) in values.iter().enumerate() {

@@ -1,24 +1,19 @@
 //! Reading scenarios.
 ghost use Rattle.std.specs.Prelude.{◌≡◌, ◌≤◌, option_map, IfOk};
 ghost use Rattle.serde_json.specs.View.{view, items_view};
-ghost use Rattle.stm_program.specs.Elements.{worded, one_of};
-ghost use Rattle.stm_texts.specs.Outcome.{Gives};
+ghost use Rattle.stm_json.specs.Elements.{worded, one_of};
+ghost use Rattle.stm_json.specs.Tells.{Tells};
 ghost use Rattle.stm_texts.specs.Reading.{begins, opening_of, scenario_of, scenario_in, IsOpening};
 
-use crate::elements::{number_within, one, worded_array};
 use crate::events::events;
-use crate::fault::{Cause, ReadError};
-use crate::place::{fault, within};
 use crate::scenario::Scenario;
 use serde_json::Value;
 use std::alloc::Global;
-use stm_history::Sequence;
+use stm_history::{HIGHEST_REVISION, Sequence};
+use stm_json::{Cause, ReadError, fault, number_between, one, within, worded_array};
 
 /// A scenario has at most so many bytes.
 pub const MOST_BYTES: usize = 16777216;
-
-/// A store's highest revision.
-const HIGHEST_REVISION: u64 = 9223372036854775806;
 
 /// What stands behind the word `begin`, where an array begins with it.
 fn beginning(value: &Value) -> Option<&[Value]>
@@ -34,13 +29,13 @@ fn beginning(value: &Value) -> Option<&[Value]>
 
 /// The opening revision.
 fn opening(alloc: Global, elements: &[Value]) -> Result<u64, ReadError>
-    ensures value { Gives (λ n. n) result (opening_of (one_of (items_view elements.now))) }
-    ensures range { IfOk result (λ n. (1 ≤ n) × (n ≤ 9223372036854775806)) }
+    ensures value { Tells (λ n. n) result (opening_of (one_of (items_view elements.now))) }
+    ensures range { IfOk result (λ n. (1 ≤ n) × (n ≤ HIGHEST_REVISION)) }
 {
     let Some(first) = one(elements) else {
         return Err(fault(alloc, Cause::Shape));
     };
-    let number = number_within(alloc, 1, HIGHEST_REVISION, first);
+    let number = number_between(alloc, 1, HIGHEST_REVISION, first);
     let number = within(alloc, 1, number)?;
     Ok(number)
 }
@@ -48,7 +43,7 @@ fn opening(alloc: Global, elements: &[Value]) -> Result<u64, ReadError>
 /// The scenario that a value spells.
 #[tactic(auto, unfolding(crate::specs::Reading::scenario_of))]
 fn scenario(alloc: Global, value: &Value) -> Result<Scenario, ReadError>
-    ensures value { Gives (λ s. s) result (scenario_of (view value.now)) }
+    ensures value { Tells (λ s. s) result (scenario_of (view value.now)) }
     ensures opening { IfOk result (λ s. IsOpening s.opening) }
 {
     let Some(elements) = value.as_array() else {
@@ -87,7 +82,7 @@ fn scenario(alloc: Global, value: &Value) -> Result<Scenario, ReadError>
 /// before its elements. Or it fails as `OutOfMemory`, where a growth was refused.
 #[tactic(auto, unfolding(crate::specs::Reading::scenario_in))]
 pub fn read_scenario(alloc: Global, bytes: &[u8]) -> Result<Scenario, ReadError>
-    ensures value { Gives (λ s. s) result (scenario_in bytes.now) }
+    ensures value { Tells (λ s. s) result (scenario_in bytes.now) }
     ensures opening { IfOk result (λ s. IsOpening s.opening) }
 {
     if bytes.len() > MOST_BYTES {

@@ -1,22 +1,21 @@
 //! Reading expressions.
 ghost use Rattle.std.specs.Prelude.{◌≡◌, ◌≤◌, IfOk};
 ghost use Rattle.serde_json.specs.View.{view, items_view};
-ghost use Rattle.stm_program.specs.Elements.{one_of, two_of, number_up_to};
-ghost use Rattle.stm_program.specs.Outcome.{Gives, within as within_lem};
+ghost use Rattle.stm_json.specs.Elements.{one_of, two_of, number_up_to};
+ghost use Rattle.stm_json.specs.Outcome.{within as within_lem};
+ghost use Rattle.stm_json.specs.Tells.{Tells};
 ghost use Rattle.stm_program.specs.Reading.{expression_at, expression_body as expression_body_lem, expression_named as expression_named_lem, literal as literal_lem, variable as variable_lem, one_part, two_parts, unary_of, binary_of};
 ghost use Rattle.stm_program.specs.Words.{expression_word};
 
 use crate::expression::{Expr, ExprNode};
-use crate::fault::{Cause, ReadError};
 use crate::limits::MAX_TEXT;
-use crate::read::elements::{number_within, one, two, whole, worded_array};
-use crate::read::place::{fault, within};
 use crate::variable::Variable;
 use crate::words::{Binary, ExprWord, Unary, expression_word_of};
 use serde_json::Value;
 use std::alloc::Global;
 use std::sync::Arc;
 use stm_history::Text;
+use stm_json::{Cause, ReadError, fault, number_within, one, two, whole, within, worded_array};
 
 // Each reader is given how many levels and how many nodes are left for its value, and answers how many
 // nodes are left after it.
@@ -29,7 +28,7 @@ pub(crate) fn expression(
     levels: usize,
     room: usize,
 ) -> Result<(Expr, usize), ReadError>
-    ensures { Gives (λ x. x) result (expression_at levels room (view value.now)) }
+    ensures { Tells (λ x. x) result (expression_at levels room (view value.now)) }
 {
     if levels == 0 {
         return Err(fault(alloc, Cause::TooDeep));
@@ -49,7 +48,7 @@ pub(crate) fn expression_part(
     levels: usize,
     room: usize,
 ) -> Result<(Arc<Expr>, usize), ReadError>
-    ensures { Gives (λ x. (x.0.value, x.1)) result (within_lem index (expression_at levels room (view value.now))) }
+    ensures { Tells (λ x. (x.0.value, x.1)) result (within_lem index (expression_at levels room (view value.now))) }
 {
     let outcome = expression(alloc, value, levels, room);
     let (expression, room) = within(alloc, index, outcome)?;
@@ -65,7 +64,7 @@ fn expression_body(
     levels: usize,
     room: usize,
 ) -> Result<(Expr, usize), ReadError>
-    ensures { Gives (λ x. x) result (expression_body_lem (expression_at levels) room (view value.now)) }
+    ensures { Tells (λ x. x) result (expression_body_lem (expression_at levels) room (view value.now)) }
 {
     if let Some(text) = value.as_str() {
         return literal(alloc, text, room);
@@ -89,7 +88,7 @@ fn expression_named(
     levels: usize,
     room: usize,
 ) -> Result<(Expr, usize), ReadError>
-    ensures { Gives (λ x. x) result (expression_named_lem (expression_at levels) room (expression_word word.now) (items_view elements.now)) }
+    ensures { Tells (λ x. x) result (expression_named_lem (expression_at levels) room (expression_word word.now) (items_view elements.now)) }
 {
     match expression_word_of(word) {
         None => Err(fault(alloc, Cause::Shape)),
@@ -107,7 +106,7 @@ fn unary_expression(
     levels: usize,
     room: usize,
 ) -> Result<(Expr, usize), ReadError>
-    ensures { Gives (λ x. x) result (one_part (expression_at levels) (unary_of unary) room (one_of (items_view elements.now))) }
+    ensures { Tells (λ x. x) result (one_part (expression_at levels) (unary_of unary) room (one_of (items_view elements.now))) }
 {
     match one(elements) {
         None => Err(fault(alloc, Cause::Shape)),
@@ -126,7 +125,7 @@ fn binary_expression(
     levels: usize,
     room: usize,
 ) -> Result<(Expr, usize), ReadError>
-    ensures { Gives (λ x. x) result (two_parts (expression_at levels) (binary_of binary) room (two_of (items_view elements.now))) }
+    ensures { Tells (λ x. x) result (two_parts (expression_at levels) (binary_of binary) room (two_of (items_view elements.now))) }
 {
     match two(elements) {
         None => Err(fault(alloc, Cause::Shape)),
@@ -139,7 +138,7 @@ fn binary_expression(
 }
 
 fn literal(alloc: Global, text: &str, room: usize) -> Result<(Expr, usize), ReadError>
-    ensures { Gives (λ x. x) result (literal_lem room text.now) }
+    ensures { Tells (λ x. x) result (literal_lem room text.now) }
 {
     if text.len() <= MAX_TEXT {
         let text = Text::copy_of(alloc, text)?;
@@ -151,7 +150,7 @@ fn literal(alloc: Global, text: &str, room: usize) -> Result<(Expr, usize), Read
 }
 
 fn variable(alloc: Global, elements: &[Value], room: usize) -> Result<(Expr, usize), ReadError>
-    ensures { Gives (λ x. x) result (variable_lem room (one_of (items_view elements.now))) }
+    ensures { Tells (λ x. x) result (variable_lem room (one_of (items_view elements.now))) }
 {
     match one(elements) {
         None => Err(fault(alloc, Cause::Shape)),
@@ -170,7 +169,7 @@ pub(crate) fn number_part(
     limit: u64,
     value: &Value,
 ) -> Result<u64, ReadError>
-    ensures exact { Gives (λ n. n) result (within_lem index (number_up_to limit (view value.now))) }
+    ensures exact { Tells (λ n. n) result (within_lem index (number_up_to limit (view value.now))) }
     ensures bounded { IfOk result (λ n. n ≤ limit) }
 {
     let outcome = number_within(alloc, limit, value);
@@ -184,7 +183,7 @@ pub(crate) fn variable_part(
     index: usize,
     value: &Value,
 ) -> Result<Variable, ReadError>
-    ensures { Gives (λ v. v) result (within_lem index (number_up_to 15 (view value.now))) }
+    ensures { Tells (λ v. v) result (within_lem index (number_up_to 15 (view value.now))) }
 {
     let number = number_part(alloc, index, 15, value)?;
     Ok(Variable::new(number as u8))

@@ -1,14 +1,15 @@
 -- What the words, the elements and the numbers that were found say of the data.
-use Rattle.std.proofs.Common.{◌≡◌, ℕ, ◌^◌, ◌<◌, ◌≤◌, ℤ, pos, negsuc, List, [], ◌∷◌, Bool, true, false, cond, Option, Some, None, Ok, refl, option_map, leb, ltb, ap, ◌∙◌, arith, leb-true, ltb-true, lt-ltb, le-leb, subst}
+use Rattle.std.proofs.Common.{◌≡◌, ◌≢◌, length, ℕ, ◌^◌, ◌<◌, ◌≤◌, ℤ, pos, negsuc, List, [], ◌∷◌, Bool, true, false, cond, Option, Some, None, Ok, refl}
+use Rattle.std.proofs.Common.{option_map, leb, ltb, ap, ◌∙◌, arith, leb-true, ltb-true, lt-ltb, le-leb, subst}
 use Rattle.std.specs.Int.{w64}
 use Rattle.std.proofs.Common.{FitsSigned}
 use Rattle.serde_json.specs.Data.{Num, unsigned, negative, float, Data, null, boolean, number, string, array, object, Items, no_items, item}
-use Rattle.serde_json.specs.View.{items_of}
+use Rattle.serde_json.specs.View.{items_of, items_view}
+use Rattle.serde_json.specs.declared.value.Value.{Value}
 use Rattle.serde_json.specs.Find.{as_integer}
-use Rattle.stm_program.specs.Outcome.{bad, ◌>>=◌}
-use Rattle.stm_program.specs.Elements.{first_word, worded, one_of, two_of, three_of, four_of, number_up_to, whole_number, is_64_bit, in_64_bits, in_range}
-use Rattle.stm_program.specs.Grammar.{SpellsNumber}
-use Rattle.stm_program.proofs.OutcomeLemmas.{guard_ok, bind_ok}
+use Rattle.stm_json.specs.Elements.{SpellsNumber, first_word, worded, one_of, two_of, three_of, four_of, number_up_to, whole_number, is_64_bit, in_64_bits}
+use Rattle.stm_json.specs.Elements.{in_range}
+use Rattle.stm_json.proofs.OutcomeLemmas.{guard_ok, bind_ok}
 
 first_word-is : (ds : Items) (p : List ℕ × Items) → first_word ds ≡ Some p → ds ≡ item (string p.0) p.1
 first_word-is no_items p h = cc
@@ -29,12 +30,19 @@ worded-is (string s) p h = cc
 worded-is (array ds) p h = ap array (first_word-is ds p h)
 worded-is (object ms) p h = cc
 
+-- a list that has not one element
+pub one_of-not_one : (vs : List Value) → length vs ≢ 1 → None ≡ one_of (items_view vs)
+one_of-not_one [] h = refl
+one_of-not_one (v ∷ []) h = absurd (h refl)
+one_of-not_one (v ∷ w ∷ vs) h = refl
+
 pub one_of-is : (ds : Items) (a : Data) → one_of ds ≡ Some a → ds ≡ items_of (a ∷ [])
 one_of-is no_items a h = cc
 one_of-is (item b no_items) a h = cc
 one_of-is (item b (item c ds)) a h = cc
 
-two_is : (a : Data) (ds : Items) (o : Option Data) (p : Data × Data) → one_of ds ≡ o → option_map (λ (b : Data). (a, b)) o ≡ Some p → item a ds ≡ items_of (p.0 ∷ p.1 ∷ [])
+two_is : (a : Data) (ds : Items) (o : Option Data) (p : Data × Data) → one_of ds ≡ o
+    → option_map (λ (b : Data). (a, b)) o ≡ Some p → item a ds ≡ items_of (p.0 ∷ p.1 ∷ [])
 two_is a ds None p e h = cc
 two_is a ds (Some b) p e h =
     let q : (a, b) ≡ p = cc in
@@ -44,7 +52,8 @@ pub two_of-is : (ds : Items) (p : Data × Data) → two_of ds ≡ Some p → ds 
 two_of-is no_items p h = cc
 two_of-is (item a ds) p h = two_is a ds (one_of ds) p refl h
 
-three_is : (a : Data) (ds : Items) (o : Option (Data × Data)) (p : Data × Data × Data) → two_of ds ≡ o → option_map (λ (q : Data × Data). (a, q.0, q.1)) o ≡ Some p → item a ds ≡ items_of (p.0 ∷ p.1 ∷ p.2 ∷ [])
+three_is : (a : Data) (ds : Items) (o : Option (Data × Data)) (p : Data × Data × Data) → two_of ds ≡ o
+    → option_map (λ (q : Data × Data). (a, q.0, q.1)) o ≡ Some p → item a ds ≡ items_of (p.0 ∷ p.1 ∷ p.2 ∷ [])
 three_is a ds None p e h = cc
 three_is a ds (Some q) p e h =
     let k : (a, q.0, q.1) ≡ p = cc in
@@ -54,7 +63,8 @@ pub three_of-is : (ds : Items) (p : Data × Data × Data) → three_of ds ≡ So
 three_of-is no_items p h = cc
 three_of-is (item a ds) p h = three_is a ds (two_of ds) p refl h
 
-four_is : (a : Data) (ds : Items) (o : Option (Data × Data × Data)) (p : Data × Data × Data × Data) → three_of ds ≡ o → option_map (λ (q : Data × Data × Data). (a, q.0, q.1, q.2)) o ≡ Some p → item a ds ≡ items_of (p.0 ∷ p.1 ∷ p.2 ∷ p.3 ∷ [])
+four_is : (a : Data) (ds : Items) (o : Option (Data × Data × Data)) (p : Data × Data × Data × Data) → three_of ds ≡ o
+    → option_map (λ (q : Data × Data × Data). (a, q.0, q.1, q.2)) o ≡ Some p → item a ds ≡ items_of (p.0 ∷ p.1 ∷ p.2 ∷ p.3 ∷ [])
 four_is a ds None p e h = cc
 four_is a ds (Some q) p e h =
     let k : (a, q.0, q.1, q.2) ≡ p = cc in
@@ -70,7 +80,8 @@ pub is_64_bit-fits : (z : ℤ) → is_64_bit z ≡ true → FitsSigned w64 z
 is_64_bit-fits (pos n) h = record { sfits = ltb-true n (2 ^ 63) h }
 is_64_bit-fits (negsuc n) h = record { sfits = ltb-true n (2 ^ 63) h }
 
-small_whole : (m : ℕ) (b : Bool) (z : ℤ) → ltb m (2 ^ 63) ≡ b → in_64_bits (cond b (Some (pos m)) None) true ≡ Ok z → (pos m ≡ z) × (is_64_bit z ≡ true)
+small_whole : (m : ℕ) (b : Bool) (z : ℤ) → ltb m (2 ^ 63) ≡ b
+    → in_64_bits (cond b (Some (pos m)) None) true ≡ Ok z → (pos m ≡ z) × (is_64_bit z ≡ true)
 small_whole m true z e h =
     let g = guard_ok (ltb m (2 ^ 63)) (pos m) z _ h in
     (g.1, cc)

@@ -1,9 +1,10 @@
 -- Looking into data: the word and the elements of an array, and numbers in a range.
-use Rattle.std.specs.Prelude.{ℕ, ◌^◌, ℤ, pos, negsuc, List, Bool, Option, Some, None, Ok, is_some, option_map, option_and_then, if◌then◌else◌, nat_le, nat_lt}
-use Rattle.serde_json.specs.Data.{Data, Items, no_items, item}
-use Rattle.serde_json.specs.Find.{as_str, as_array, as_number, as_u64, as_i64}
-use Rattle.stm_program.specs.declared.fault.Cause.TheVariants.{Shape, Range}
-use Rattle.stm_program.specs.Outcome.{Outcome, bad, ◌>>=◌}
+use Rattle.std.specs.Prelude.{◌≡◌, ℕ, ◌^◌, ℤ, pos, negsuc, List, Bool, Option, Some, None, Ok, is_some, option_map, option_and_then, if◌then◌else◌, nat_le}
+use Rattle.std.specs.Prelude.{nat_lt}
+use Rattle.serde_json.specs.Data.{Num, Data, number, Items, no_items, item}
+use Rattle.serde_json.specs.Find.{as_str, as_array, as_number, as_integer, as_u64, as_i64}
+use Rattle.stm_json.specs.declared.cause.Cause.TheVariants.{Shape, Range}
+use Rattle.stm_json.specs.Outcome.{Outcome, bad, ◌>>=◌}
 
 abbrev pub first_word : Items → Option (List ℕ × Items)
 first_word no_items = None
@@ -34,6 +35,10 @@ four_of (item a ds) = option_map (λ p. (a, p.0, p.1, p.2)) (three_of ds)
 
 -- ---- numbers
 
+-- data are a whole number
+abbrev pub SpellsNumber : Data → ℤ → Type 0
+SpellsNumber d z = (n : Num) × (d ≡ number n) × (as_integer n ≡ Some z)
+
 -- from -9223372036854775808 to 9223372036854775807
 abbrev pub is_64_bit : ℤ → Bool
 is_64_bit (pos n) = nat_lt n (2 ^ 63)
@@ -54,3 +59,10 @@ in_range limit (negsuc n) = bad Range
 -- a whole number from 0 to a limit, which is itself of 64 bits with a sign
 unfoldable pub number_up_to : ℕ → Data → Outcome ℕ
 number_up_to limit d = whole_number d >>= in_range limit
+
+abbrev pub from_least : ℕ → ℕ → Outcome ℕ
+from_least least n = if nat_le least n then Ok n else bad Range
+
+-- a whole number from a least to a most
+unfoldable pub number_in : ℕ → ℕ → Data → Outcome ℕ
+number_in least most d = number_up_to most d >>= from_least least

@@ -1,14 +1,16 @@
 //! Places of faults.
 ghost use Rattle.std.specs.Prelude.{◌≡◌, [], ◌++◌, IfOk};
-ghost use Rattle.stm_program.specs.Outcome.{step, Wraps};
-ghost use Rattle.stm_program.specs.declared.fault.ReadError.TheVariants.{BadProgram as Bad};
+ghost use Rattle.stm_json.specs.Outcome.{step};
+ghost use Rattle.stm_json.specs.Tells.{Wraps};
+ghost use Rattle.stm_json.specs.declared.read_error.ReadError.TheVariants.{Bad};
 
-use crate::fault::{BadProgram, Cause, ReadError};
+use crate::cause::Cause;
+use crate::read_error::{BadInput, ReadError};
 use std::alloc::{AllocError, Global};
 use stm_history::Text;
 
 /// The place, seen from the array in which its value is the element at an index.
-pub fn place_within(alloc: Global, index: usize, place: &Text) -> Result<Text, AllocError>
+fn place_within(alloc: Global, index: usize, place: &Text) -> Result<Text, AllocError>
     ensures { IfOk result (λ t. t ≡ step index ++ place.now) }
 {
     let rest = place.as_str();
@@ -17,29 +19,28 @@ pub fn place_within(alloc: Global, index: usize, place: &Text) -> Result<Text, A
 }
 
 /// The outcome at an element, as an outcome of its array: a fault's place is put behind the index.
-pub(crate) fn within<T>(
-    alloc: Global,
-    index: usize,
-    outcome: Result<T, ReadError>,
-) -> Result<T, ReadError>
+///
+/// A value stays as it is, and so does want of memory. The place needs memory; where that is refused,
+/// the outcome is want of memory in the fault's stead.
+pub fn within<T>(alloc: Global, index: usize, outcome: Result<T, ReadError>) -> Result<T, ReadError>
     ensures { Wraps index outcome result }
 {
     match outcome {
-        Err(ReadError::BadProgram(fault)) => {
-            let BadProgram { place, cause } = fault;
+        Err(ReadError::Bad(fault)) => {
+            let BadInput { place, cause } = fault;
             let place = place_within(alloc, index, &place)?;
-            Err(ReadError::BadProgram(BadProgram { place, cause }))
+            Err(ReadError::Bad(BadInput { place, cause }))
         }
         Err(ReadError::OutOfMemory) => Err(ReadError::OutOfMemory),
         Ok(value) => Ok(value),
     }
 }
 
-/// A fault of the value at hand.
-pub(crate) fn fault(alloc: Global, cause: Cause) -> ReadError
+/// A fault of the value at hand. It takes no memory.
+pub fn fault(alloc: Global, cause: Cause) -> ReadError
     ensures { result ≡ Bad (record { place = []; cause = cause }) }
 {
-    ReadError::BadProgram(BadProgram {
+    ReadError::Bad(BadInput {
         place: Text::new(String::new(alloc)),
         cause,
     })

@@ -1,6 +1,6 @@
 use Rattle.std.proofs.Common.{◌≢◌, length, arith}
-use Rattle.stm_program.proofs.ReadLemmas.{one_of-not_one}
-use Rattle.stm_program.proofs.read.elements.one.Goals as goal
+use Rattle.stm_json.proofs.ElementLemmas.{one_of-not_one}
+use Rattle.stm_json.proofs.elements.one.Goals as goal
 
 pub returns-else-elements-eq1 : goal.returns-else-elements-eq1
 returns-else-elements-eq1 c =

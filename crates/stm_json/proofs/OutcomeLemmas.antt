@@ -1,0 +1,27 @@
+-- What is known where reading answers a value, and what a function tells of an element.
+use Rattle.std.proofs.Common.{◌≡◌, inl, inr, ℕ, Bool, true, false, cond, Result, Ok, Err, refl}
+use Rattle.stm_json.specs.declared.cause.Cause.{Cause}
+use Rattle.stm_json.specs.declared.read_error.ReadError.{ReadError}
+use Rattle.stm_json.specs.declared.read_error.ReadError.TheVariants.{OutOfMemory, Bad}
+use Rattle.stm_json.specs.Outcome.{Outcome, bad, ◌>>=◌, within}
+use Rattle.stm_json.specs.Tells.{Tells, Wraps}
+
+pub bind_ok : {A B : Type 0} (r : Outcome A) (f : A → Outcome B) (y : B) → (r >>= f) ≡ Ok y → (x : A) × (r ≡ Ok x) × (f x ≡ Ok y)
+bind_ok (Ok x) f y h = (x, refl, h)
+bind_ok (Err e) f y h = cc
+
+pub within_ok : {A : Type 0} (i : ℕ) (r : Outcome A) (x : A) → within i r ≡ Ok x → r ≡ Ok x
+within_ok i (Ok y) x h = h
+within_ok i (Err e) x h = cc
+
+pub guard_ok : {A : Type 0} (b : Bool) (x y : A) (cause : Cause) → cond b (Ok x) (bad cause) ≡ Ok y → (b ≡ true) × (x ≡ y)
+guard_ok true x y cause h = (refl, cc)
+guard_ok false x y cause h = cc
+
+-- an outcome at an element, as the array's
+pub Tells-within : {X A : Type 0} (see : X → A) (index : ℕ) (outcome result : Result X ReadError) (reading : Outcome A)
+    → Tells see outcome reading → Wraps index outcome result → Tells see result (within index reading)
+Tells-within see index (Ok x) result reading told wrapped = rw (wrapped, told) refl
+Tells-within see index (Err OutOfMemory) result reading told wrapped = rw wrapped tt
+Tells-within see index (Err (Bad f)) result reading told (inl e) = rw e tt
+Tells-within see index (Err (Bad f)) result reading told (inr e) = rw (e, told) refl

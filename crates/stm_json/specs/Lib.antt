@@ -1,0 +1,4 @@
+pub mod CauseNames
+pub mod Elements
+pub mod Outcome
+pub mod Tells

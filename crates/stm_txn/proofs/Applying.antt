@@ -31,6 +31,10 @@ use Rattle.stm_txn.specs.Branches.{deletion_of, count_of, with_change_made, chan
 use Rattle.stm_txn.specs.Branches.{branch_refusal}
 use Rattle.stm_txn.specs.Effect.{op_of}
 use Rattle.stm_txn.specs.Outcome.{Done, chosen, with_changes, is_used_up, answer_of, finished, unless, branch_outcome, outcome}
+use Rattle.stm_txn.specs.declared.answer.TxnAnswer.{TxnAnswer}
+use Rattle.stm_leases.specs.Live.{is_live_in}
+use Rattle.stm_txn.specs.Standing.{Standing, Step, step_of, transacted}
+use Rattle.std.specs.Prelude.{IfSome}
 use Rattle.stm_txn.specs.Commits.{is_on_dead_lease, write_answer, effective, Read, read_op, read_now, AreReached, AreNamed, shown}
 use Rattle.stm_txn.specs.Commits.{read_out, reads_now}
 use Rattle.stm_txn.specs.Laws.{WritesApply, FailedCompareReads, ReadsChangeNothing, NumberAloneIsWrong, ModCompares, NoneFailed, FailedHasItsPlace}
@@ -353,3 +357,34 @@ history_grows h is_live txn done is =
     ≡ done =
     of_finished (is_used_up h (changes_after h [] ops)) _ done branch.1 in
     (changes_after h [] ops, changes_are_distinct h ops (chosen_apart txn failed whole.0), sym (ap (λ (d : Done). d.history) made))
+
+-- a failed compare's place in what a transaction comes to
+failed_case : (s : Standing) (outcome_of : Result Done Refusal) (a : TxnAnswer) (next : Standing) →
+    step_of s outcome_of ≡ Ok record { answer = a; next = next } →
+    (done : Done) × (outcome_of ≡ Ok done) × (done.answer ≡ a)
+failed_case s (Ok done) a next is = (done, refl, ap (λ (r : Result (Step TxnAnswer) Refusal). elim r [ Ok step ↦ step.answer | Err e ↦ a ]) is)
+failed_case s (Err e) a next is = cc
+
+answered_failed : (h : History) (is_live : ℕ → Bool) (txn : Txn) (done : Done) → outcome h is_live txn ≡ Ok done →
+    done.answer.failed ≡ first_failed (key_now h) 0 txn.compares
+answered_failed h is_live txn done is =
+    let failed : Option FailedCompare = first_failed (key_now h) 0 txn.compares in
+    let ops : List Op = chosen failed txn in
+    let whole : (fault_of txn ≡ None) × (branch_outcome h is_live failed ops ≡ Ok done) =
+    of_unless (fault_of txn) (branch_outcome h is_live failed ops) done is in
+    let branch : (branch_refusal (now h) is_live ops ≡ None) × (finished h failed (changes_after h [] ops) (answers_after h [] ops) ≡ Ok done) =
+    of_unless (branch_refusal (now h) is_live ops) (finished h failed (changes_after h [] ops) (answers_after h [] ops)) done whole.1 in
+    sym (ap (λ (d : Done). d.answer.failed) (of_finished (is_used_up h (changes_after h [] ops)) _ done branch.1))
+
+place_within : (state : List ℕ → Option KeyState) (cs : List Compare) (failed : Option FailedCompare) → failed ≡ first_failed state 0 cs →
+    IfSome failed (λ (f : FailedCompare). f.index < length cs)
+place_within state cs None is = tt
+place_within state cs (Some f) is = (failed_has_its_place state cs f (sym is)).within
+
+pub placed : (s next : Standing) (txn : Txn) (a : TxnAnswer) → transacted s txn ≡ Ok record { answer = a; next = next } →
+    IfSome a.failed (λ (f : FailedCompare). f.index < length txn.compares)
+placed s next txn a is =
+    let found : (done : Done) × (outcome s.history (is_live_in s.live) txn ≡ Ok done) × (done.answer ≡ a) =
+    failed_case s (outcome s.history (is_live_in s.live) txn) a next is in
+    place_within (key_now s.history) txn.compares a.failed
+    (sym (ap (λ (x : TxnAnswer). x.failed) found.2) ∙ answered_failed s.history (is_live_in s.live) txn found.0 found.1)

@@ -3,4 +3,5 @@ pub mod Moving
 pub mod Running
 pub mod Naming
 pub mod Ending
+pub mod Advancing
 pub mod Applying

@@ -11,5 +11,6 @@ pub mod LeaseKeys
 pub mod Moves
 pub mod Grants
 pub mod Standing
+pub mod Advances
 pub mod Store
 pub mod Names

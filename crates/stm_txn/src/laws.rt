@@ -1,4 +1,5 @@
 //! The laws of transactions. Each function does nothing: its contract is the law.
+ghost use Rattle.stm_txn.specs.Advances.{KeysOfLeaseHang, AdvanceExpires};
 ghost use Rattle.stm_txn.specs.Effect.{BranchIsEffect};
 ghost use Rattle.stm_txn.specs.Laws.{WritesApply, FailedCompareReads, ReadsChangeNothing, NumberAloneIsWrong, ModCompares, NoneFailed, FailedHasItsPlace, HistoryGrows};
 
@@ -48,4 +49,15 @@ pub fn failed_has_its_place()
 /// Whatever a transaction comes to, its history is the old one with some changes of distinct keys.
 pub fn history_grows()
     ensures { HistoryGrows }
+{}
+
+/// The keys of a lease, as they are computed from the history, are those that hang on it, ascending by bytes.
+pub fn keys_of_lease_hang()
+    ensures { KeysOfLeaseHang }
+{}
+
+/// An advance that does not go back ends due leases one after another, each the first that is due, until none
+/// is due or the next one can't end.
+pub fn advance_expires()
+    ensures { AdvanceExpires }
 {}

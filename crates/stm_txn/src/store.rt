@@ -1,11 +1,11 @@
 //! The store.
-ghost use Rattle.std.specs.Prelude.{◌≡◌, ◌<◌, ◌≤◌, ℕ, List, [], ◌∷◌, ◌++◌, IfOk, IfErr, OnOk, OnErr, IsOkUnless, map, string_bytes, Ok, Err, None, Some, true, false};
+ghost use Rattle.std.specs.Prelude.{◌≡◌, ◌<◌, ◌≤◌, ℕ, List, [], ◌∷◌, ◌++◌, length, IfOk, IfErr, IfSome, OnOk, OnErr, IsOkUnless, map, string_bytes, Ok, Err, None, Some, true, false};
 ghost use Rattle.std.specs.FinMap as finmap;
 ghost use Rattle.stm_history.specs.declared.revisions.TheConstants.{HIGHEST_REVISION};
 ghost use Rattle.stm_history.specs.History.{now, add_revision, IsRevision, HasDistinctKeys};
 ghost use Rattle.stm_leases.specs.LeaseLog.{LogItem, Grant, Renew, Revoke};
 ghost use Rattle.stm_leases.specs.Leases.{StandsFor};
-ghost use Rattle.stm_leases.specs.Live.{is_live_in};
+ghost use Rattle.stm_leases.specs.Live.{is_live_in, AreInRange};
 ghost use Rattle.stm_leases.specs.DueFirst.{first_due};
 ghost use Rattle.stm_txn.specs.Branches.{changes_after, answers_after, branch_refusal};
 ghost use Rattle.stm_txn.specs.Outcome.{is_used_up};
@@ -99,7 +99,7 @@ fn deletions(alloc: Global, keys: Vec<String>) -> Result<Vec<Change>, AllocError
 
 impl Store {
     ghost use Rattle.stm_txn.specs.Checks.{has_clash};
-    ghost use Rattle.stm_txn.specs.Leasing.{hangs_of, HangOnLive};
+    ghost use Rattle.stm_txn.specs.Leasing.{hangs_of, HangOnLive, lease_now};
     ghost use Rattle.stm_txn.specs.LeaseKeys.{deletions_of};
     ghost use Rattle.stm_txn.specs.Outcome.{outcome, branch_outcome, with_changes, answer_of};
     ghost use Rattle.stm_txn.specs.Standing.{opening, IsRefusalOf, ComesTo, transacted, granted, kept_alive, told, ended, revoked, after, expired_in, expire_all, at_moment, advanced, IsStopped, IsCutShort, with_expiries};
@@ -143,6 +143,18 @@ impl Store {
         ensures { result ≡ finmap.len self.now.standing.live }
     {
         self.leases.len()
+    }
+
+    /// Whether the id is that of a live lease.
+    ///
+    /// In every store the live ids and their times to live are in their ranges, and a key hangs on a live
+    /// lease or on none.
+    pub fn is_live(&self, id: u64) -> bool
+        ensures live { result ≡ is_live_in self.now.standing.live id }
+        ensures in_range { AreInRange self.now.standing.live }
+        ensures hang_on_live { (key : List ℕ) (lease : ℕ) → lease_now self.now.standing.history key ≡ Some lease → is_live_in self.now.standing.live lease ≡ true }
+    {
+        self.leases.is_live(id)
     }
 
     /// Adds a revision with these changes, and moves their keys to their leases.
@@ -227,15 +239,8 @@ impl Store {
         self.finish(ops, failed)
     }
 
-    /// Runs a transaction, as one step.
-    ///
-    /// The whole transaction is looked at first: `TooManyOps`, `EmptyKey`, `DuplicateKey`. Then the
-    /// compares pick the branch, and the first of its operations that is refused decides:
-    /// `FutureRevision` for a read above the counter, `LeaseNotFound` for a put on a lease that is not
-    /// live. Then comes `RevisionsUsedUp`, where something is to change at `HIGHEST_REVISION`, then
-    /// `OutOfMemory`. A refused transaction changes nothing. (etcd's API reference, "Transaction", has the
-    /// compares, the branches and the refused duplicates; the order of the refusals is this store's own.)
-    pub fn txn(&mut self, txn: &Txn) -> Result<TxnAnswer, Refusal>
+    /// Looks at the whole transaction, picks its branch and runs it.
+    fn transact(&mut self, txn: &Txn) -> Result<TxnAnswer, Refusal>
         ensures step { ComesTo (transacted self.old.standing txn.now) result self.new.standing }
         ensures err { OnErr result (self.new ≡ self.old) }
     {
@@ -247,6 +252,23 @@ impl Store {
             None => self.run(txn.success.as_slice(), failed),
             Some(_) => self.run(txn.failure.as_slice(), failed),
         }
+    }
+
+    /// Runs a transaction, as one step.
+    ///
+    /// The whole transaction is looked at first: `TooManyOps`, `EmptyKey`, `DuplicateKey`. Then the
+    /// compares pick the branch, and the first of its operations that is refused decides:
+    /// `FutureRevision` for a read above the counter, `LeaseNotFound` for a put on a lease that is not
+    /// live. Then comes `RevisionsUsedUp`, where something is to change at `HIGHEST_REVISION`, then
+    /// `OutOfMemory`. A refused transaction changes nothing. (etcd's API reference, "Transaction", has the
+    /// compares, the branches and the refused duplicates; the order of the refusals is this store's own.)
+    pub fn txn(&mut self, txn: &Txn) -> Result<TxnAnswer, Refusal>
+        ensures step { ComesTo (transacted self.old.standing txn.now) result self.new.standing }
+        ensures place { IfOk result (λ answer. IfSome answer.failed (λ failed. failed.index < length txn.now.compares)) }
+        ensures err { OnErr result (self.new ≡ self.old) }
+    {
+        let answer = self.transact(txn)?;
+        Ok(answer)
     }
 
     /// Grants a lease of the caller's id, for `ttl` seconds from the store's moment on.

@@ -6,7 +6,7 @@ use Rattle.stm_program.specs.declared.words.StmtWord.{StmtWord}
 use Rattle.stm_program.specs.declared.words.StmtWord.TheVariants as word
 use Rattle.stm_program.specs.declared.words.Simple.{Simple}
 use Rattle.stm_program.specs.declared.words.Simple.TheVariants as simple
-use Rattle.stm_program.specs.Syntax.{Expression, Statement, Set, Put, Del, If, For, Emit, Abort, Block, End, Then}
+use Rattle.stm_program.specs.Syntax.{Expression, Statement, Set, Put, Del, If, For, Emit, Abort, Block, End, Then, ProgramTree}
 use Rattle.stm_program.specs.Size.{expression_nodes, statement_nodes, block_nodes}
 use Rattle.stm_program.specs.Limits.{expression_depth, statement_depth, block_depth, ExpressionInRange, StatementInRange, BlockInRange, Fits}
 use Rattle.stm_program.specs.Words.{statement_word}
@@ -81,9 +81,10 @@ statement_reads (suc l) zero m d s t f g h = absurd (omega (arith, statement_nod
 statement_reads (suc l) (suc r) m d s t f g h = array_reads l (statement_at l) (statement_reads l) r m d s t f g h
 
 -- a program within the limits that data spell is read
-pub program_reads : (d : Data) (b : Block) → SpellsProgram d b → Fits b → program_of d ≡ Ok b
+pub program_reads : (d : Data) (p : ProgramTree) → SpellsProgram d p → Fits p → program_of d ≡ Ok p
 unfolding program_of
-program_reads d b (ds, is, s) f =
+program_reads d p (ds, is, s) f =
+    let b = p.statements in
     let h : 4096 ≡ (4096 - block_nodes b) + block_nodes b = omega (arith, f.nodes) in
     let e = block_reads 32 (statement_at 32) (statement_reads 32) 4096 (4096 - block_nodes b) ds b s f.depth f.ranges h in
     rw (is, e) refl

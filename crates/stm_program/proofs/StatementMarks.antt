@@ -6,7 +6,7 @@ use Rattle.stm_json.specs.declared.cause.Cause.TheVariants.{Shape}
 use Rattle.stm_json.specs.declared.read_error.BadInput.{BadInput}
 use Rattle.stm_program.specs.declared.words.StmtWord.{StmtWord}
 use Rattle.stm_program.specs.declared.words.StmtWord.TheVariants as word
-use Rattle.stm_program.specs.Syntax.{Statement, Block, Then}
+use Rattle.stm_program.specs.Syntax.{Statement, Block, Then, of_statements}
 use Rattle.stm_program.specs.Words.{statement_word}
 use Rattle.stm_json.specs.Outcome.{Outcome, ◌>>=◌}
 use Rattle.stm_json.specs.Elements.{worded, number_up_to}
@@ -135,11 +135,11 @@ statement_marked (suc l) k h p (suc r) d rest =
     ∙ inner_marked l k (omega arith) (statement_at l) (λ q s e next. statement_marked l (suc k) (omega arith) q s e next) p r d rest
 
 -- the fault that reading answers, if it does
-abbrev pub fault_of : Outcome Block → Option BadInput
-fault_of (Ok b) = None
+abbrev pub fault_of : {A : Type 0} → Outcome A → Option BadInput
+fault_of (Ok x) = None
 fault_of (Err f) = Some f
 
-told : (reading : Read Block) → after [] reading [] ≡ fault_of (reading >>= λ b. Ok b.0)
+told : (reading : Read Block) → after [] reading [] ≡ fault_of (reading >>= λ b. Ok (of_statements b.0))
 told (Ok x) = refl
 told (Err f) = refl
 

@@ -5,7 +5,7 @@ use Rattle.stm_program.specs.declared.words.StmtWord.{StmtWord}
 use Rattle.stm_program.specs.declared.words.StmtWord.TheVariants as word
 use Rattle.stm_program.specs.declared.words.Simple.{Simple}
 use Rattle.stm_program.specs.declared.words.Simple.TheVariants as simple
-use Rattle.stm_program.specs.Syntax.{Expression, Statement, Set, Put, If, For, Block, End, Then}
+use Rattle.stm_program.specs.Syntax.{Expression, Statement, Set, Put, If, For, Block, End, Then, of_statements}
 use Rattle.stm_program.specs.Size.{expression_nodes, statement_nodes, block_nodes}
 use Rattle.stm_program.specs.Limits.{ExpressionFits, StatementFits, BlockFits, Fits}
 use Rattle.stm_program.specs.Words.{statement_word}
@@ -216,7 +216,7 @@ statement_sound zero r d x h = cc
 statement_sound (suc l) zero d x h = cc
 statement_sound (suc l) (suc r) d x h = array_sound l (statement_at l) (statement_sound l) r d (worded d) x refl h
 
-pub program_sound : (d : Data) (x : Block × ℕ) → block_by (statement_at 32) 4096 d ≡ Ok x → SpellsProgram d x.0 × Fits x.0
-program_sound d x h =
+pub read_block_sound : (d : Data) (x : Block × ℕ) → block_by (statement_at 32) 4096 d ≡ Ok x → SpellsProgram d (of_statements x.0) × Fits (of_statements x.0)
+read_block_sound d x h =
     let b = block_sound 32 (statement_at 32) (statement_sound 32) 4096 d x h in
     ((b.items, b.is, b.read.spelled), b.read.fits)

@@ -1,13 +1,13 @@
 -- What is written of a program spells it, and so reads as it again.
-use Rattle.std.proofs.Common.{◌≡◌, ℤ, pos, negsuc, Ok, refl, sym, subst}
+use Rattle.std.proofs.Common.{◌≡◌, ℤ, pos, negsuc, Ok, refl, sym, ap, ◌∙◌, subst}
 use Rattle.serde_json.specs.Data.{Data, number, unsigned, negative}
 use Rattle.serde_json.specs.Find.{of_integer}
-use Rattle.stm_program.specs.Syntax.{Expression, Text, Number, Variable, Get, Rev, Arithmetic, Cat, TextOf, NumOf, Condition, Equal, Less, Not, And, Or, Statement, Set, Put, Del, If, For, Emit, Abort, Block, End, Then}
+use Rattle.stm_program.specs.Syntax.{Expression, Text, Number, Variable, Get, Rev, Arithmetic, Cat, TextOf, NumOf, Condition, Equal, Less, Not, And, Or, Statement, Set, Put, Del, If, For, Emit, Abort, Block, End, Then, ProgramTree}
 use Rattle.stm_program.specs.Limits.{Fits}
 use Rattle.stm_program.specs.Grammar.{SpellsExpression, SpellsCondition, SpellsStatement, SpellsStatements, SpellsProgram}
 use Rattle.stm_json.specs.Elements.{SpellsNumber}
 use Rattle.stm_program.specs.Reading.{program_of}
-use Rattle.stm_program.specs.Writing.{written_number, written_expression, written_condition, written_statement, written_statements, written_program}
+use Rattle.stm_program.specs.Writing.{written_number, written_expression, written_condition, written_statement, written_statements, written_program, written_block}
 use Rattle.stm_program.proofs.StatementComplete.{program_reads}
 
 number_spells : (z : ℤ) → SpellsNumber (number (of_integer z)) z
@@ -46,12 +46,12 @@ mutual
   statements_spell End = refl
   statements_spell (Then s b) = (written_statement s, written_statements b, refl, statement_spells s, statements_spell b)
 
-pub written_program-spells : (b : Block) → SpellsProgram (written_program b) b
-written_program-spells b = (written_statements b, refl, statements_spell b)
+pub written_program-spells : (p : ProgramTree) → SpellsProgram (written_program p) p
+written_program-spells p = (written_statements p.statements, refl, statements_spell p.statements)
 
--- the same, for data and a block that are equal to these
-pub spells_as : (d : Data) (b c : Block) → d ≡ written_program b → b ≡ c → SpellsProgram d c
-spells_as d b c e f = subst (λ (p : Block). SpellsProgram d p) f (subst (λ (x : Data). SpellsProgram x b) (sym e) (written_program-spells b))
+-- the same, for data and a program that are equal to these
+pub spells_as : (d : Data) (b : Block) (p : ProgramTree) → d ≡ written_block b → b ≡ p.statements → SpellsProgram d p
+spells_as d b p e f = subst (λ (x : Data). SpellsProgram x p) (sym (e ∙ ap written_block f)) (written_program-spells p)
 
-pub reads_as : (d : Data) (b c : Block) → d ≡ written_program b → b ≡ c → Fits c → program_of d ≡ Ok c
-reads_as d b c e f fits = program_reads d c (spells_as d b c e f) fits
+pub reads_as : (d : Data) (b : Block) (p : ProgramTree) → d ≡ written_block b → b ≡ p.statements → Fits p → program_of d ≡ Ok p
+reads_as d b p e f fits = program_reads d p (spells_as d b p e f) fits

@@ -6,7 +6,7 @@ use Rattle.std.proofs.Common.{ap}
 use base.Stored.{Gv, gnil, gnum, gcons}
 use Rattle.stm_program.specs.declared.operator.Operator.{Operator}
 use Rattle.stm_program.specs.declared.operator.Operator.TheVariants.{Add, Sub, Mul, Div, Rem}
-use Rattle.stm_program.specs.Syntax.{Expression, Text, Number, Variable, Get, Rev, Arithmetic, Cat, TextOf, NumOf, Condition, Equal, Less, Not, And, Or, Statement, Set, Put, Del, If, For, Emit, Abort, Block, End, Then}
+use Rattle.stm_program.specs.Syntax.{Expression, Text, Number, Variable, Get, Rev, Arithmetic, Cat, TextOf, NumOf, Condition, Equal, Less, Not, And, Or, Statement, Set, Put, Del, If, For, Emit, Abort, Block, End, Then, ProgramTree, of_statements}
 
 abbrev pub coded_tree : Coded Gv
 coded_tree = record { code = λ g. g; inj = λ x y p. p }
@@ -167,3 +167,17 @@ coded_statement = code_by Gv coded_tree encode_statement decode_statement decode
 
 abbrev pub coded_block : Coded Block
 coded_block = code_by Gv coded_tree encode_block decode_block decode_block-encode
+
+-- ---- programs
+
+abbrev pub encode_program : ProgramTree → Gv
+encode_program p = encode_block p.statements
+
+abbrev pub decode_program : Gv → ProgramTree
+decode_program g = of_statements (decode_block g)
+
+pub decode_program-encode : (p : ProgramTree) → decode_program (encode_program p) ≡ p
+decode_program-encode p = ap of_statements (decode_block-encode p.statements)
+
+abbrev pub coded_program : Coded ProgramTree
+coded_program = code_by Gv coded_tree encode_program decode_program decode_program-encode

@@ -5,7 +5,7 @@ use Rattle.serde_json.specs.View.{items_of}
 use Rattle.stm_json.specs.Elements.{SpellsNumber}
 use Rattle.stm_program.specs.declared.operator.Operator.{Operator}
 use Rattle.stm_program.specs.declared.operator.Operator.TheVariants.{Add, Sub, Mul, Div, Rem}
-use Rattle.stm_program.specs.Syntax.{Expression, Text, Number, Variable, Get, Rev, Arithmetic, Cat, TextOf, NumOf, Condition, Equal, Less, Not, And, Or, Statement, Set, Put, Del, If, For, Emit, Abort, Block, End, Then}
+use Rattle.stm_program.specs.Syntax.{Expression, Text, Number, Variable, Get, Rev, Arithmetic, Cat, TextOf, NumOf, Condition, Equal, Less, Not, And, Or, Statement, Set, Put, Del, If, For, Emit, Abort, Block, End, Then, ProgramTree}
 
 -- an array of a word and the parts behind it
 abbrev pub spelled : List ℕ → List Data → Data
@@ -52,5 +52,5 @@ abbrev mutual
   SpellsStatements ds (Then s b) = (a : Data) × (rest : Items) × (ds ≡ item a rest) × SpellsStatement a s × SpellsStatements rest b
 
 -- a program is spelled by an array of its statements
-abbrev pub SpellsProgram : Data → Block → Type 0
-SpellsProgram d b = (ds : Items) × (d ≡ array ds) × SpellsStatements ds b
+abbrev pub SpellsProgram : Data → ProgramTree → Type 0
+SpellsProgram d p = (ds : Items) × (d ≡ array ds) × SpellsStatements ds p.statements

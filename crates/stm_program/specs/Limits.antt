@@ -1,7 +1,7 @@
 -- The limits of a program: how many nodes it has, how deep they stand in one another, and what its numbers and texts may be.
 use Rattle.std.specs.Prelude.{ℕ, ◌+◌, ◌<◌, ◌≤◌, max, length, FitsSigned}
 use Rattle.std.specs.Int.{w64}
-use Rattle.stm_program.specs.Syntax.{Expression, Text, Number, Variable, Get, Rev, Arithmetic, Cat, TextOf, NumOf, Condition, Equal, Less, Not, And, Or, Statement, Set, Put, Del, If, For, Emit, Abort, Block, End, Then}
+use Rattle.stm_program.specs.Syntax.{Expression, Text, Number, Variable, Get, Rev, Arithmetic, Cat, TextOf, NumOf, Condition, Equal, Less, Not, And, Or, Statement, Set, Put, Del, If, For, Emit, Abort, Block, End, Then, ProgramTree}
 use Rattle.stm_program.specs.Size.{expression_nodes, condition_nodes, statement_nodes, block_nodes}
 
 -- ---- depth: a node stands one deeper than the node that it is a part of
@@ -97,5 +97,5 @@ pub record BlockFits (levels room : ℕ) (b : Block) : Type 0 where
   pub ranges : BlockInRange b
 
 -- a program has at most 4096 nodes, at most 32 deep
-abbrev pub Fits : Block → Type 0
-Fits b = BlockFits 32 4096 b
+abbrev pub Fits : ProgramTree → Type 0
+Fits p = BlockFits 32 4096 p.statements

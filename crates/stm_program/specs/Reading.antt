@@ -21,7 +21,7 @@ use Rattle.stm_program.specs.declared.words.StmtWord.{StmtWord}
 use Rattle.stm_program.specs.declared.words.StmtWord.TheVariants as statement
 use Rattle.stm_program.specs.declared.words.Simple.{Simple}
 use Rattle.stm_program.specs.declared.words.Simple.TheVariants as simple
-use Rattle.stm_program.specs.Syntax.{Expression, Text, Number, Variable, Get, Rev, Arithmetic, Cat, TextOf, NumOf, Condition, Equal, Less, Not, And, Or, Statement, Set, Put, Del, If, For, Emit, Abort, Block, End, Then}
+use Rattle.stm_program.specs.Syntax.{Expression, Text, Number, Variable, Get, Rev, Arithmetic, Cat, TextOf, NumOf, Condition, Equal, Less, Not, And, Or, Statement, Set, Put, Del, If, For, Emit, Abort, Block, End, Then, ProgramTree, of_statements}
 use Rattle.stm_program.specs.Words.{expression_word, condition_word, statement_word}
 use Rattle.stm_json.specs.Outcome.{Outcome, bad, ◌>>=◌, within}
 use Rattle.stm_json.specs.Elements.{worded, one_of, two_of, three_of, four_of, number_up_to, whole_number}
@@ -169,5 +169,5 @@ statement_at (suc levels) (suc room) d =
 -- ---- programs
 
 -- the program that data spell, or the first fault
-unfoldable pub program_of : Data → Outcome Block
-program_of d = block_by (statement_at 32) 4096 d >>= λ b. Ok b.0
+unfoldable pub program_of : Data → Outcome ProgramTree
+program_of d = block_by (statement_at 32) 4096 d >>= λ b. Ok (of_statements b.0)

@@ -35,3 +35,11 @@ mutual
   pub data Block : Type 0 where
     End : Block
     Then : Statement → Block → Block
+
+-- what a contract sees of a program
+pub record ProgramTree : Type 0 where
+  pub statements : Block
+
+-- the program of statements, and of nothing else
+abbrev pub of_statements : Block → ProgramTree
+of_statements b = record { statements = b }

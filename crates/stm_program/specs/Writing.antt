@@ -2,7 +2,7 @@
 use Rattle.std.specs.Prelude.{ℕ, [], ◌∷◌, codes}
 use Rattle.serde_json.specs.Data.{Data, number, unsigned, string, array, Items, no_items, item}
 use Rattle.serde_json.specs.Find.{of_integer}
-use Rattle.stm_program.specs.Syntax.{Expression, Text, Number, Variable, Get, Rev, Arithmetic, Cat, TextOf, NumOf, Condition, Equal, Less, Not, And, Or, Statement, Set, Put, Del, If, For, Emit, Abort, Block, End, Then}
+use Rattle.stm_program.specs.Syntax.{Expression, Text, Number, Variable, Get, Rev, Arithmetic, Cat, TextOf, NumOf, Condition, Equal, Less, Not, And, Or, Statement, Set, Put, Del, If, For, Emit, Abort, Block, End, Then, ProgramTree}
 use Rattle.stm_program.specs.Grammar.{spelled, operator_text}
 
 abbrev pub written_number : ℕ → Data
@@ -40,6 +40,9 @@ abbrev mutual
   written_statements End = no_items
   written_statements (Then s b) = item (written_statement s) (written_statements b)
 
+abbrev pub written_block : Block → Data
+written_block b = array (written_statements b)
+
 -- a program is the array of its statements
-abbrev pub written_program : Block → Data
-written_program b = array (written_statements b)
+abbrev pub written_program : ProgramTree → Data
+written_program p = written_block p.statements

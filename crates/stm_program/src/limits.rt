@@ -3,6 +3,7 @@ ghost use Rattle.std.specs.Prelude.{◌≡◌, ◌-◌, ◌↔◌, IsTrue, SomeI
 ghost use Rattle.stm_program.specs.BlockView.{block_of};
 ghost use Rattle.stm_program.specs.Limits.{Fits, ExpressionFits, ConditionFits, StatementFits, BlockFits};
 ghost use Rattle.stm_program.specs.Size.{expression_nodes, condition_nodes, statement_nodes, block_nodes};
+ghost use Rattle.stm_program.specs.Syntax.{of_statements};
 
 use crate::condition::{Cond, CondNode};
 use crate::expression::{Expr, ExprNode};
@@ -25,7 +26,7 @@ pub const MAX_LEASE: u64 = 9223372036854775807;
 
 /// Whether statements are within the limits of a program. It takes no memory.
 pub fn fits(statements: &[Stmt]) -> bool
-    ensures { IsTrue result ↔ Fits (block_of statements.now) }
+    ensures { IsTrue result ↔ Fits (of_statements (block_of statements.now)) }
 {
     statements_left(statements, MAX_DEPTH, MAX_NODES).is_some()
 }

@@ -2,6 +2,7 @@
 ghost use Rattle.std.specs.Prelude.{◌≡◌};
 ghost use Rattle.stm_program.specs.BlockView.{block_of};
 ghost use Rattle.stm_program.specs.Limits.{Fits};
+ghost use Rattle.stm_program.specs.Syntax.{of_statements};
 
 use crate::statement::Stmt;
 use std::alloc::AllocError;
@@ -18,33 +19,33 @@ pub struct Program {
 }
 
 impl Model for Program {
-    ghost use Rattle.stm_program.specs.Syntax.{Block};
-    ghost use Rattle.stm_program.specs.Coding.{coded_block};
+    ghost use Rattle.stm_program.specs.Syntax.{ProgramTree, of_statements};
+    ghost use Rattle.stm_program.specs.Coding.{coded_program};
 
-    ghost Value = { Block };
+    ghost Value = { ProgramTree };
 
-    ghost coded = { coded_block };
+    ghost coded = { coded_program };
 
     ghost use Rattle.stm_program.specs.BlockView.{block_of};
     ghost use Rattle.stm_program.specs.Limits.{Fits};
 
-    ghost view = { λ p. block_of p.statements.items };
+    ghost view = { λ p. of_statements (block_of p.statements.items) };
 
-    ghost invariant = { λ p. Fits (block_of p.statements.items) };
+    ghost invariant = { λ p. Fits (of_statements (block_of p.statements.items)) };
 }
 
 impl Program {
     /// The program of these statements, which are within the limits: `fits` tells. It takes no memory.
     pub fn of(statements: Vec<Stmt>) -> Program
-        requires { Fits (block_of statements.items) }
-        ensures { result ≡ block_of statements.items }
+        requires { Fits (of_statements (block_of statements.items)) }
+        ensures { result ≡ of_statements (block_of statements.items) }
     {
         Program { statements }
     }
 
     /// The statements in order. It takes no memory.
     pub fn statements(&self) -> &[Stmt]
-        ensures same { block_of result.now ≡ self.now }
+        ensures same { block_of result.now ≡ self.now.statements }
         ensures fits { Fits self.now }
     {
         self.statements.as_slice()

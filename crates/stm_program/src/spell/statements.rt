@@ -3,7 +3,7 @@ ghost use Rattle.std.specs.Prelude.{◌≡◌, codes, IfOk};
 ghost use Rattle.serde_json.specs.Data.{array};
 ghost use Rattle.serde_json.specs.View.{view};
 ghost use Rattle.stm_program.specs.BlockView.{block_of};
-ghost use Rattle.stm_program.specs.Writing.{written_statement, written_program};
+ghost use Rattle.stm_program.specs.Writing.{written_statement, written_block};
 
 use crate::spell::arrays::{four_parts, one_part, three_parts, two_parts};
 use crate::spell::expressions::{condition_value, expression_value};
@@ -45,7 +45,7 @@ fn statement_value(alloc: Global, statement: &Stmt) -> Result<Value, AllocError>
 
 #[cycle(write_statements)]
 fn block_value(alloc: Global, block: &Block) -> Result<Value, AllocError>
-    ensures { IfOk result (λ v. view v ≡ written_program block.now) }
+    ensures { IfOk result (λ v. view v ≡ written_block block.now) }
 {
     let statements: &Vec<Stmt> = &block.statements;
     statements_value(alloc, statements)
@@ -54,7 +54,7 @@ fn block_value(alloc: Global, block: &Block) -> Result<Value, AllocError>
 /// The array of statements.
 #[cycle(write_statements)]
 pub(crate) fn statements_value(alloc: Global, statements: &[Stmt]) -> Result<Value, AllocError>
-    ensures { IfOk result (λ v. view v ≡ written_program (block_of statements.now)) }
+    ensures { IfOk result (λ v. view v ≡ written_block (block_of statements.now)) }
 {
     let mut values = Vec::new(alloc);
     for statement in statements {

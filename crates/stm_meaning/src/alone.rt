@@ -37,7 +37,7 @@ pub fn run_answered<L: Lookup>(
     program: &Program,
     lookup: &L,
 ) -> Result<Answered, AllocError>
-    ensures { IfOk result (λ answer. answer ≡ run_over (L.answers lookup.now) program.now) }
+    ensures { IfOk result (λ answer. answer ≡ run_over (L.answers lookup.now) program.now.statements) }
 {
     let mut session = Session::new(alloc)?;
     match run_all(alloc, lookup, &mut session, program.statements()) {
@@ -62,7 +62,7 @@ pub fn run_answered<L: Lookup>(
 ///
 /// The one refusal is want of memory.
 pub fn run_alone(alloc: Global, program: &Program, state: &State) -> Result<Run, AllocError>
-    ensures { IfOk result (λ run. run_over (state_answers state.now) program.now ≡ Ended run) }
+    ensures { IfOk result (λ run. run_over (state_answers state.now) program.now.statements ≡ Ended run) }
 {
     match run_answered(alloc, program, state)? {
         Answered::Ended(run) => Ok(run),

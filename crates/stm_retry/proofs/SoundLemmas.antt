@@ -5,7 +5,7 @@ use Rattle.stm_history.specs.declared.change.Change.{Change}
 use Rattle.stm_history.specs.declared.key_state.ReadAnswer.{ReadAnswer}
 use Rattle.stm_history.specs.History.{History, now, add_revision, opened_at, key_now, mod_of, IsTrueAnswer, HasDistinctKeys, AreRevisions}
 use Rattle.stm_history.proofs.HistoryLaws.{older_revisions_stay, last_revision_is_now}
-use Rattle.stm_program.specs.Syntax.{Block}
+use Rattle.stm_program.specs.Syntax.{ProgramTree}
 use Rattle.stm_program.specs.declared.level.Level.{Level}
 use Rattle.stm_program.specs.declared.write.Write.{Write}
 use Rattle.stm_meaning.specs.declared.run.End.{End}
@@ -147,10 +147,10 @@ pub record Keeps (w : World) (e : WorldEvent) (s : Stepped) : Type 0 where
   pub opening : s.next.history.opening ≡ w.history.opening
   pub means : Means w e s.reply s.next
 
-keeps_refused : (w : World) (program : Block) (level : Level) (limit : ℕ) (cause : Refusal) → IsSound w → Keeps w (Start program level limit) (refused cause w)
+keeps_refused : (w : World) (program : ProgramTree) (level : Level) (limit : ℕ) (cause : Refusal) → IsSound w → Keeps w (Start program level limit) (refused cause w)
 keeps_refused w program level limit cause sound = record { sound = sound; opening = refl; means = refl }
 
-keeps_started : (w : World) (program : Block) (level : Level) (limit : ℕ) (b : Bool) → (b ≡ false → limit ≢ 0) → IsSound w →
+keeps_started : (w : World) (program : ProgramTree) (level : Level) (limit : ℕ) (b : Bool) → (b ≡ false → limit ≢ 0) → IsSound w →
     Keeps w (Start program level limit) (cond b (refused BadLimit w) (record {
       reply = Ok (Started (length w.runners + 1));
       next = record {
@@ -306,7 +306,7 @@ keeps_runner w id (Some r) sound is = keeps_live w id r sound is
 eq_false : (n : ℕ) → (n == 0) ≡ false → n ≢ 0
 eq_false n h zero_is = let one : (0 == 0) ≡ false = ap (λ m. m == 0) (sym zero_is) ∙ h in absurd (cc)
 
-keeps_start : (w : World) (program : Block) (level : Level) (limit : ℕ) → IsSound w → Keeps w (Start program level limit) (start_runner program level limit w)
+keeps_start : (w : World) (program : ProgramTree) (level : Level) (limit : ℕ) → IsSound w → Keeps w (Start program level limit) (start_runner program level limit w)
 unfolding start_runner
 keeps_start w program level limit sound = keeps_started w program level limit (limit == 0) (eq_false limit) sound
 

@@ -2,7 +2,7 @@
 -- a start that may send no commit and a step of a runner that is not there.
 use Rattle.std.proofs.Common.{◌≡◌, ◌≢◌, ℕ, ◌⊎◌, inl, inr, List, [], Option, Some, None, Result, Ok, Err, Bool, true, false, cond, refl, sym, ap, ◌∙◌}
 use Rattle.std.specs.Prelude.{◌==◌, IsOk}
-use Rattle.stm_program.specs.Syntax.{Block}
+use Rattle.stm_program.specs.Syntax.{ProgramTree}
 use Rattle.stm_program.specs.declared.level.Level.{Level}
 use Rattle.stm_meaning.specs.declared.run.End.{End}
 use Rattle.stm_meaning.specs.declared.run.End.TheVariants.{Done, Aborted as AbortedEnd, Faulted as FaultedEnd}
@@ -61,7 +61,7 @@ start_by true w s is taken = absurd (cc)
 start_by false w s is taken = taken
 
 -- a start that may send a commit is taken
-pub start_is_taken : (program : Block) (level : Level) (limit : ℕ) (w : World) → (limit == 0) ≡ false → IsOk (start_runner program level limit w).reply
+pub start_is_taken : (program : ProgramTree) (level : Level) (limit : ℕ) (w : World) → (limit == 0) ≡ false → IsOk (start_runner program level limit w).reply
 unfolding start_runner
 start_is_taken program level limit w some = start_by (limit == 0) w _ some refl
 
@@ -83,7 +83,7 @@ start_only_by : (b : Bool) (w : World) (s : Stepped) → RefusedOnly s.reply →
 start_only_by true w s taken = inl refl
 start_only_by false w s taken = taken
 
-start_only : (program : Block) (level : Level) (limit : ℕ) (w : World) → RefusedOnly (start_runner program level limit w).reply
+start_only : (program : ProgramTree) (level : Level) (limit : ℕ) (w : World) → RefusedOnly (start_runner program level limit w).reply
 unfolding start_runner
 start_only program level limit w = start_only_by (limit == 0) w _ tt
 

@@ -2,7 +2,7 @@
 use Rattle.std.proofs.Common.{◌≡◌, ◌≢◌, ℕ, ◌+◌, ◌⊎◌, inl, inr, List, [], ◌∷◌, ◌++◌, length, Option, Some, None, Result, Ok, Err, Bool, true, false, cond, refl, sym, ◌∙◌, ap, subst, OnOk, OnErr}
 use Rattle.std.specs.Prelude.{◌==◌}
 use Rattle.std.specs.declared.alloc.AllocError.{AllocError}
-use Rattle.stm_program.specs.Syntax.{Block}
+use Rattle.stm_program.specs.Syntax.{ProgramTree}
 use Rattle.stm_program.specs.declared.level.Level.{Level}
 use Rattle.stm_meaning.specs.declared.run.End.{End}
 use Rattle.stm_meaning.specs.declared.run.End.TheVariants.{Done, Aborted as AbortedEnd, Faulted as FaultedEnd}
@@ -61,7 +61,7 @@ pub made_is_sound : (old new : World) (e : WorldEvent) (outcome : Result (Result
 made_is_sound old new e (Ok reply) sound made = subst IsSound (sym made.1) (step_keeps old e sound).sound
 made_is_sound old new e (Err error) sound made = subst IsSound (sym made.0) sound
 
-pub started_is_sound : (old new : World) (program : Block) (level : Level) (limit : ℕ) (result : Result ℕ AllocError) → IsSound old →
+pub started_is_sound : (old new : World) (program : ProgramTree) (level : Level) (limit : ℕ) (result : Result ℕ AllocError) → IsSound old →
     OnOk result (new ≡ (start_runner program level limit old).next) → OnErr result (new ≡ old) → IsSound new
 started_is_sound old new program level limit (Ok id) sound ok err = subst IsSound (sym ok) (step_keeps old (Start program level limit) sound).sound
 started_is_sound old new program level limit (Err error) sound ok err = subst IsSound (sym err) sound

@@ -4,7 +4,7 @@ use Rattle.std.specs.List.{list_any}
 use Rattle.stm_meaning.specs.Writes.{latest_writes}
 use Rattle.stm_history.specs.declared.key_state.ReadAnswer.{ReadAnswer}
 use Rattle.stm_history.specs.History.{History, now, opened_at, IsTrueAnswer}
-use Rattle.stm_program.specs.Syntax.{Block}
+use Rattle.stm_program.specs.Syntax.{ProgramTree}
 use Rattle.stm_program.specs.declared.write.Write.{Write}
 use Rattle.stm_meaning.specs.declared.value.Value.{Value}
 use Rattle.stm_meaning.specs.declared.trace_item.TraceItem.{TraceItem}
@@ -27,7 +27,7 @@ writes_of (Wants key trace) = []
 -- its answers.
 abbrev pub replay_entry : Entry → History → History
 replay_entry (Program program level answers output trace revision) h =
-    with_changes h (changes_of_writes h (writes_of (run_over (look_up answers) program)))
+    with_changes h (changes_of_writes h (writes_of (run_over (look_up answers) program.statements)))
 
 -- the history that the entries make of a history, in their order
 abbrev pub replay : List Entry → History → History
@@ -42,9 +42,9 @@ AreTrue h (a ∷ answers) = IsTrueAnswer h a × AreTrue h answers
 -- A commit at ReadCommitted: the program on its answers is done, with this output and trace; each answer is true
 -- at its own revision; and the effect of the program's writes on the state of the store is one revision, none if
 -- there is none. No put names a lease, since none is live here, and nothing is changed at the highest revision.
-pub record CommitsAnswers (program : Block) (answers : List ReadAnswer) (output : List Value) (trace : List TraceItem) (before after : History) : Type 0 where
+pub record CommitsAnswers (program : ProgramTree) (answers : List ReadAnswer) (output : List Value) (trace : List TraceItem) (before after : History) : Type 0 where
   pub run : Run
-  pub is_run : run_over (look_up answers) program ≡ Ended run
+  pub is_run : run_over (look_up answers) program.statements ≡ Ended run
   pub is_done : run.end ≡ Done
   pub emits : run.output ≡ output
   pub sees : run.trace ≡ trace

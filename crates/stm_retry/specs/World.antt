@@ -5,7 +5,7 @@ use Rattle.stm_history.specs.declared.change.Change.{Change}
 use Rattle.stm_history.specs.declared.change.Change.TheVariants.{Put as PutChange, Del as DelChange}
 use Rattle.stm_history.specs.declared.key_state.ReadAnswer.{ReadAnswer}
 use Rattle.stm_history.specs.History.{History, now, add_revision, opened_at, key_now, mod_of}
-use Rattle.stm_program.specs.Syntax.{Block}
+use Rattle.stm_program.specs.Syntax.{ProgramTree}
 use Rattle.stm_program.specs.declared.level.Level.{Level}
 use Rattle.stm_program.specs.declared.write.Write.{Write}
 use Rattle.stm_program.specs.declared.write.Write.TheVariants.{Put, Del}
@@ -61,7 +61,7 @@ with_answer a r = record r { answers = r.answers ++ a ∷ [] }
 
 -- what a runner's program comes to on the answers that it has recorded
 abbrev pub evaluated : Runner → Answered
-evaluated r = run_over (look_up r.answers) r.program
+evaluated r = run_over (look_up r.answers) r.program.statements
 
 -- ---- the store's part of a commit ----
 
@@ -123,7 +123,7 @@ replied reply id slot w = record {
 }
 
 -- a new runner, the next one; a run that may send no commit is refused
-unfoldable pub start_runner : Block → Level → ℕ → World → Stepped
+unfoldable pub start_runner : ProgramTree → Level → ℕ → World → Stepped
 start_runner program level limit w =
     if limit == 0 then refused BadLimit w
     else record {

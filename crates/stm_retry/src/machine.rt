@@ -33,12 +33,12 @@ pub(crate) struct Machine {
 
 impl Model for Machine {
     ghost use Rattle.std.specs.Coded.{codes};
-    ghost use Rattle.stm_program.specs.Coding.{coded_block};
+    ghost use Rattle.stm_program.specs.Coding.{coded_program};
     ghost use Rattle.stm_retry.specs.World.{World};
 
     ghost Value = { World };
 
-    ghost coded = { Prim.hlevel (codes, coded_block) };
+    ghost coded = { Prim.hlevel (codes, coded_program) };
 
     ghost view = { λ m. record { history = m.store; runners = m.runners.items; entries = m.entries.items } };
 }

@@ -36,13 +36,13 @@ pub struct World {
 
 impl Model for World {
     ghost use Rattle.std.specs.Coded.{codes};
-    ghost use Rattle.stm_program.specs.Coding.{coded_block};
+    ghost use Rattle.stm_program.specs.Coding.{coded_program};
     ghost use Rattle.stm_retry.specs.World.{World as WorldState};
     ghost use Rattle.stm_retry.specs.Sound.{IsSound};
 
     ghost Value = { WorldState };
 
-    ghost coded = { Prim.hlevel (codes, coded_block) };
+    ghost coded = { Prim.hlevel (codes, coded_program) };
 
     ghost view = { λ w. w.machine };
 

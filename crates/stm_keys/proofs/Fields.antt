@@ -1,10 +1,10 @@
 -- The fields of a key store, the recorded revisions being the oldest first.
-use Rattle.std.proofs.Common.{◌≡◌, ℕ, ◌+◌, ◌-◌, ◌≤◌, ◌<◌, ◌^◌, Bool, true, false, List, [], ◌∷◌, ◌++◌, length, map, reverse, take, drop, get_or, Option, Some, None, suc, refl, sym, ◌∙◌, ap, subst, arith, cond, IfSome}
-use Rattle.std.specs.Prelude.{bytes_eq, nat_eq, min, string_bytes}
+use Rattle.std.proofs.Common.{◌≡◌, ℕ, ◌+◌, ◌-◌, ◌≤◌, ◌<◌, false, List, [], ◌∷◌, ◌++◌, length, map, reverse, take, drop, get_or, Option, Some, None, suc, refl, sym, ◌∙◌, ap, subst, arith, cond, IfSome}
+use Rattle.std.specs.Prelude.{bytes_eq, min}
 use Rattle.std.specs.List.{IsDistinct, AllByRecursion}
 use Rattle.std.specs.Map.{lookup, keys_of}
 use Rattle.std.proofs.Math.Seq.{drop-cons}
-use Rattle.std.proofs.lemmas.List.{length-map, length-append, length-reverse, length-take-le, reverse-append, take-append-drop, take-map, append_assoc}
+use Rattle.std.proofs.lemmas.List.{length-map, length-reverse, length-take-le, reverse-append, take-append-drop, take-map, append_assoc}
 use Rattle.indexmap.proofs.ReorderLemmas.{map-reverse}
 use Rattle.stm_history.specs.declared.change.Change.{Change}
 use Rattle.stm_history.specs.declared.key_state.KeyState.{KeyState}
@@ -79,7 +79,7 @@ pushed opening number xs ys table next changes recorded written kept place room 
     let last : reverse ys ≡ recorded ∷ reverse xs = ap reverse is ∙ reverse-append xs (recorded ∷ []) in
     let events : recorded ≡ map (event_of (opening + suc (length (reverse xs))) table) changes = made ∙ ap (λ n. map (event_of n table) changes) place in (
       subst (λ l. IsKept opening l next) (sym last)
-          (kept_after opening (reverse xs) table next changes recorded kept (omega arith) revision.1 events
+          (kept_after opening (reverse xs) table next changes recorded kept (omega arith) revision events
           (λ key. told key ∙ ap (λ es. after_all es key (table key)) (made_too ∙ sym made))),
       ap changes_of last ∙ shown_after opening (reverse xs) table changes recorded events,
     )

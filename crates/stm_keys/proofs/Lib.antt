@@ -1,2 +1,4 @@
 pub mod Recorded
 pub mod Fields
+pub mod Showing
+pub mod Numbers

@@ -7,12 +7,12 @@ use Rattle.stm_history.specs.declared.change.Change.{Change}
 use Rattle.stm_history.specs.declared.change.Change.TheVariants.{Put, Del}
 use Rattle.stm_history.specs.declared.key_state.KeyState.{KeyState}
 use Rattle.stm_history.specs.declared.revisions.TheConstants.{HIGHEST_REVISION}
-use Rattle.stm_history.specs.History.{number_of_last, key_of, change_of, key_after, after_change, state_after_put, HasDistinctKeys}
+use Rattle.stm_history.specs.History.{number_of_last, key_of, change_of, key_after, after_change, state_after_put, HasDistinctKeys, IsRevision}
 use Rattle.stm_history.proofs.HistoryLaws.{one_more}
 use Rattle.stm_keys.specs.declared.event.Event.{Event}
-use Rattle.stm_keys.specs.declared.event.Event.TheVariants.{Put as PutEvent, Delete as DeleteEvent}
+use Rattle.stm_keys.specs.declared.event.Event.TheVariants.{Put as PutEvent}
 use Rattle.stm_keys.specs.Events.{event_of, events_above, events_numbered, key_of_event, event_about, after_event, change_of_event}
-use Rattle.stm_keys.specs.Table.{after_one, after_all}
+use Rattle.stm_keys.specs.Table.{after_all}
 use Rattle.stm_keys.specs.Keys.{changes_of, all_events, state_recorded, IsKept}
 
 -- equal bytes are one text
@@ -149,11 +149,11 @@ all_written n before key (c ∷ cs) apart =
 
 -- one more revision keeps what a key store keeps
 pub kept_after : (opening : ℕ) (recorded : List (List Event)) (table : List ℕ → Option KeyState) (next : List ℕ → Option KeyState) (changes : List Change) (events : List Event) →
-    IsKept opening recorded table → opening + length recorded < HIGHEST_REVISION → HasDistinctKeys changes →
+    IsKept opening recorded table → opening + length recorded < HIGHEST_REVISION → IsRevision changes →
     events ≡ map (event_of (opening + suc (length recorded)) table) changes →
     ((key : List ℕ) → next key ≡ after_all events key (table key)) →
     IsKept opening (events ∷ recorded) next
-kept_after opening recorded table next changes events kept room apart made written =
+kept_after opening recorded table next changes events kept room revision made written =
     let n : ℕ = opening + suc (length recorded) in
     let older : List (List Change) = changes_of recorded in
     let number : n ≡ opening + suc (length older) = omega (arith, length-changes_of recorded) in
@@ -162,7 +162,9 @@ kept_after opening recorded table next changes events kept room apart made writt
     made ∙ events_same n table (λ key. key_after opening key older) changes kept.states
     ∙ ap (λ m. map (event_of m (λ key. key_after opening key older)) changes) number in
     record {
+      positive = kept.positive;
       bounded = omega (arith, kept.bounded);
+      shaped = (subst IsRevision (sym shown) revision, kept.shaped);
       events =
           ap (λ e. e ∷ recorded) above
           ∙ ap (λ r. events_above opening changes older ∷ r) kept.events
@@ -170,7 +172,7 @@ kept_after opening recorded table next changes events kept room apart made writt
       states = λ key.
           written key
           ∙ ap (λ es. after_all es key (table key)) made
-          ∙ all_written n table key changes apart
+          ∙ all_written n table key changes revision.1
           ∙ ap (λ s. after_change n (change_of key changes) s) (kept.states key)
           ∙ ap (λ m. after_change m (change_of key changes) (key_after opening key older)) number
           ∙ sym (one_more opening key changes older)

@@ -1,11 +1,11 @@
 -- The events of a history: what each change shows.
 --
 -- etcd's API reference, "Event": a PUT carries the key's whole `KeyValue`, a DELETE the key and its revision.
-use Rattle.std.specs.Prelude.{ℕ, ◌==◌, bytes_eq, if◌then◌else◌, List, [], ◌∷◌, map, Option, Some, None}
+use Rattle.std.specs.Prelude.{◌≡◌, ℕ, ◌==◌, bytes_eq, if◌then◌else◌, List, [], ◌∷◌, map, Option, Some, None}
 use Rattle.stm_history.specs.declared.change.Change.{Change}
 use Rattle.stm_history.specs.declared.change.Change.TheVariants.{Put, Del}
 use Rattle.stm_history.specs.declared.key_state.KeyState.{KeyState}
-use Rattle.stm_history.specs.History.{History, number_of_last, key_after, state_after_put}
+use Rattle.stm_history.specs.History.{History, number_of_last, key_after, key_at, state_after_put}
 use Rattle.stm_keys.specs.declared.event.Event.{Event}
 use Rattle.stm_keys.specs.declared.event.Event.TheVariants.{Put as PutEvent, Delete as DeleteEvent}
 
@@ -52,3 +52,8 @@ after_event (Some e) s = shown e
 abbrev pub change_of_event : Event → Change
 change_of_event (PutEvent key state) = Put key state.value state.lease
 change_of_event (DeleteEvent key revision) = Del key
+
+-- an event shows its key at its revision: a put the state that the key has there, a deletion that the key is absent there
+abbrev pub Shows : History → ℕ → Event → Type 0
+Shows h number (PutEvent key state) = key_at h key number ≡ Some state
+Shows h number (DeleteEvent key revision) = (revision ≡ number) × (key_at h key number ≡ None)

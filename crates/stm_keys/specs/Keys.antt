@@ -1,11 +1,12 @@
 -- What a key store is: a history, and the list of the keys that are present.
-use Rattle.std.specs.Prelude.{◌≡◌, ℕ, ◌+◌, ◌≤◌, bytes_eq, List, [], ◌∷◌, length, map, reverse, Option, Some, None, nat_eq, nat_lt, if◌then◌else◌}
+use Rattle.std.specs.Prelude.{◌≡◌, ℕ, ◌+◌, ◌≤◌, bytes_eq, List, [], ◌∷◌, length, map, Option, None, IsSome, nat_eq, if◌then◌else◌}
 use Rattle.std.specs.List.{IsDistinct}
 use Rattle.std.specs.Map.{lookup, keys_of}
 use Rattle.stm_history.specs.declared.change.Change.{Change}
+use Rattle.stm_history.specs.declared.change.Change.TheVariants.{Put, Del}
 use Rattle.stm_history.specs.declared.key_state.KeyState.{KeyState}
-use Rattle.stm_history.specs.declared.revisions.TheConstants.{HIGHEST_REVISION}
-use Rattle.stm_history.specs.History.{History, key_after, key_at, key_now}
+use Rattle.stm_history.specs.declared.revisions.TheConstants.{HIGHEST_REVISION, HIGHEST_NUMBER}
+use Rattle.stm_history.specs.History.{History, key_after, key_at, key_now, AreRevisions}
 use Rattle.stm_keys.specs.declared.event.Event.{Event}
 use Rattle.stm_keys.specs.Events.{events_above, change_of_event, event_about, after_event}
 
@@ -23,6 +24,18 @@ pub record ListsPresent (h : History) (present : List (List ℕ × KeyState)) : 
 abbrev pub key_read : History → List ℕ → ℕ → Option KeyState
 key_read h key revision = if nat_eq revision 0 then key_now h key else key_at h key revision
 
+-- each deletion among these changes is of a key that is present
+abbrev pub DeletePresent : History → List Change → Type 0
+DeletePresent h [] = Unit {0}
+DeletePresent h (Put key value lease ∷ changes) = DeletePresent h changes
+DeletePresent h (Del key ∷ changes) = IsSome (key_now h key) × DeletePresent h changes
+
+-- the numbers that the store gave a state
+pub record HasSmallNumbers (s : KeyState) : Type 0 where
+  pub version : s.version ≤ HIGHEST_NUMBER
+  pub mod_rev : s.mod_rev ≤ HIGHEST_NUMBER
+  pub create_rev : s.create_rev ≤ HIGHEST_NUMBER
+
 -- the changes of recorded revisions
 abbrev pub changes_of : List (List Event) → List (List Change)
 changes_of recorded = map (map change_of_event) recorded
@@ -37,9 +50,11 @@ abbrev pub state_recorded : List ℕ → List (List Event) → Option KeyState
 state_recorded key [] = None
 state_recorded key (events ∷ older) = after_event (event_about key events) (state_recorded key older)
 
--- What a key store keeps true of its fields, the recorded revisions being the newest first: the counter fits, each
--- recorded event is what its change shows, and the table has what each key is now.
+-- What a key store keeps true of its fields, the recorded revisions being the newest first: the counter is at least 1 and
+-- fits, each revision changes something and no key twice, each recorded event is what its change shows, and the table has what each key is now.
 pub record IsKept (opening : ℕ) (recorded : List (List Event)) (table : List ℕ → Option KeyState) : Type 0 where
+  pub positive : 1 ≤ opening
   pub bounded : opening + length recorded ≤ HIGHEST_REVISION
+  pub shaped : AreRevisions (changes_of recorded)
   pub events : recorded ≡ all_events opening (changes_of recorded)
   pub states : (key : List ℕ) → table key ≡ key_after opening key (changes_of recorded)

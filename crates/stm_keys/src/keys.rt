@@ -1,9 +1,9 @@
 //! The key store.
 ghost use Rattle.std.specs.Prelude.{◌≡◌, ◌+◌, ◌<◌, ◌≤◌, IfOk, OnOk, OnErr, IfSome, List, ℕ, length, Some, None, ◌↔◌, slice_get, option_copied, [], ◌≢◌, reverse};
 ghost use Rattle.std.specs.Map;
-ghost use Rattle.stm_history.specs.History.{History, opened_at, now, add_revision, key_at, key_now, IsRevision, state_after_put};
+ghost use Rattle.stm_history.specs.History.{History, opened_at, now, add_revision, key_at, key_now, AreRevisions, IsRevision, state_after_put};
 ghost use Rattle.stm_keys.specs.Events.{events_of};
-ghost use Rattle.stm_keys.specs.Keys.{key_read, ListsPresent, state_recorded};
+ghost use Rattle.stm_keys.specs.Keys.{key_read, DeletePresent, HasSmallNumbers, ListsPresent, state_recorded};
 
 use crate::event::{Event, find_event};
 use crate::record::{record_changes, state_put};
@@ -65,7 +65,7 @@ fn find_state<'a>(revisions: &'a [Sequence<Event>], key: &str) -> Option<&'a Key
 fn copy_events(alloc: Global, events: &[Event]) -> Result<Vec<Event>, AllocError>
     ensures { IfOk result (λ copy. copy.items ≡ events.now) }
 {
-    let mut copy = Vec::new(alloc);
+    let mut copy = Vec::with_capacity(alloc, events.len())?;
     for event in events {
         copy.push(event.clone()?)?;
     }
@@ -97,10 +97,13 @@ impl Keys {
         }
     }
 
-    /// The counter: the number of the last revision.
+    /// The counter: the number of the last revision, at least 1. Every revision changes something, and no
+    /// key twice.
     pub fn revision(&self) -> u64
         ensures value { result ≡ now self.now.history }
+        ensures positive { 1 ≤ result }
         ensures bounded { result ≤ HIGHEST_REVISION }
+        ensures revisions { AreRevisions self.now.history.revisions }
     {
         self.revisions.len() as u64 + self.opening
     }
@@ -121,7 +124,8 @@ impl Keys {
 
     /// What a key is now, `None` where it is absent.
     pub fn get(&self, key: &str) -> Option<&KeyState>
-        ensures { option_copied result ≡ key_now self.now.history key.now }
+        ensures value { option_copied result ≡ key_now self.now.history key.now }
+        ensures fits { IfSome (key_now self.now.history key.now) HasSmallNumbers }
     {
         self.table.get(key)
     }
@@ -134,6 +138,7 @@ impl Keys {
         ensures future { (result ≡ Err ReadRefusal.FutureRevision) ↔ (now self.now.history < revision) }
         ensures compacted { result ≢ Err ReadRefusal.Compacted }
         ensures found { IfOk result (λ s. option_copied s ≡ key_read self.now.history key.now revision) }
+        ensures fits { IfSome (key_read self.now.history key.now revision) HasSmallNumbers }
     {
         if revision == 0 {
             return Ok(self.get(key));
@@ -154,12 +159,14 @@ impl Keys {
         state_put(self.table.get(key), self.revision() + 1, value, lease)
     }
 
-    /// Adds one revision with these changes, in this order, and answers its number.
+    /// Adds one revision with these changes, in this order, and answers its number. There is a change, no key
+    /// is changed twice, and each deleted key is present.
     ///
     /// `RevisionsUsedUp` is answered where the counter is at `HIGHEST_REVISION`, `OutOfMemory` where a
     /// growth was refused. A refused call changes nothing.
     pub fn apply(&mut self, changes: &[Change]) -> Result<u64, ApplyRefusal>
-        requires { IsRevision changes.now }
+        requires revision { IsRevision changes.now }
+        requires present { DeletePresent self.old.history changes.now }
         ensures number { IfOk result (λ number. number ≡ now self.new.history) }
         ensures ok { OnOk result (self.new.history ≡ add_revision self.old.history changes.now) }
         ensures used_up { (result ≡ Err ApplyRefusal.RevisionsUsedUp) ↔ (now self.old.history ≡ HIGHEST_REVISION) }

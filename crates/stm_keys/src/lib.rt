@@ -6,6 +6,7 @@
 
 pub mod event;
 pub mod keys;
+pub mod laws;
 mod record;
 pub mod refusal;
 mod table;

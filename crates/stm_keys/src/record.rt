@@ -64,7 +64,7 @@ pub(crate) fn record_changes(
     requires { (key : List ℕ) → version_of (get_by_text table.now key) + 1 < 2 ^ 64 }
     ensures { IfOk result (λ v. v.items ≡ map (event_of number (get_by_text table.now)) changes.now) }
 {
-    let mut events = Vec::new(alloc);
+    let mut events = Vec::with_capacity(alloc, changes.len())?;
     for change in changes {
         events.push(event_of_change(table, number, change)?)?;
     }

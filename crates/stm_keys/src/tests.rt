@@ -3,31 +3,47 @@
 //!
 //! Each example is one text: a test that holds a store in hand over many calls is slow to prove.
 ghost use Rattle.std.specs.Prelude.{◌≡◌, ◌≤◌, IfOk};
-ghost use Rattle.stm_history.specs.History.{key_of, now};
+ghost use Rattle.stm_history.specs.History.{now};
 
 use crate::{ApplyRefusal, Change, Event, HIGHEST_REVISION, KeyState, Keys, Text};
 use std::alloc::{AllocError, Global};
 use std::test::Fail;
 
-/// A put of a key with a value, or with "-" its deletion.
-fn change_of(alloc: Global, key: &str, value: &str) -> Result<Change, AllocError>
-    ensures { IfOk result (λ change. key_of change ≡ key.now) }
+/// A put of a key with a value, on no lease.
+fn put_of(alloc: Global, key: &str, value: &str) -> Result<Change, AllocError>
+    ensures { IfOk result (λ change. change ≡ Change.Put key.now value.now 0) }
 {
-    let key = Text::copy_of(alloc, key)?;
-    if value == "-" {
-        return Ok(Change::Del { key });
-    }
-    let value = Text::copy_of(alloc, value)?;
     Ok(Change::Put {
-        key,
-        value,
+        key: Text::copy_of(alloc, key)?,
+        value: Text::copy_of(alloc, value)?,
         lease: 0,
     })
 }
 
+fn deletion_of(alloc: Global, key: &str) -> Result<Change, AllocError>
+    ensures { IfOk result (λ change. change ≡ Change.Del key.now) }
+{
+    Ok(Change::Del {
+        key: Text::copy_of(alloc, key)?,
+    })
+}
+
+/// One revision that deletes a key, none where the key is absent.
+fn delete_one(alloc: Global, keys: &mut Keys, key: &str) -> Result<u64, ApplyRefusal> {
+    if keys.get(key).is_none() {
+        return Ok(keys.revision());
+    }
+    let deletion = deletion_of(alloc, key)?;
+    keys.apply(&[deletion])
+}
+
+/// One revision that puts a key with a value, or with "-" deletes it.
 fn change_one(alloc: Global, keys: &mut Keys, key: &str, value: &str) -> Result<u64, ApplyRefusal> {
-    let change = change_of(alloc, key, value)?;
-    keys.apply(&[change])
+    if value == "-" {
+        return delete_one(alloc, keys, key);
+    }
+    let put = put_of(alloc, key, value)?;
+    keys.apply(&[put])
 }
 
 /// The number of a change's revision, or why it is refused.
@@ -157,16 +173,19 @@ fn nothing_changes_at_the_highest_revision(rt: HostRuntime) -> Result<(), Fail> 
 
 /// One revision that puts three keys.
 fn put_three(alloc: Global, keys: &mut Keys) -> Result<u64, ApplyRefusal> {
-    let first = change_of(alloc, "c", "1")?;
-    let second = change_of(alloc, "a", "1")?;
-    let third = change_of(alloc, "b", "1")?;
+    let first = put_of(alloc, "c", "1")?;
+    let second = put_of(alloc, "a", "1")?;
+    let third = put_of(alloc, "b", "1")?;
     keys.apply(&[first, second, third])
 }
 
 /// One revision that deletes a key and puts another.
 fn replace(alloc: Global, keys: &mut Keys) -> Result<u64, ApplyRefusal> {
-    let first = change_of(alloc, "a", "-")?;
-    let second = change_of(alloc, "c", "2")?;
+    if keys.get("a").is_none() {
+        return Ok(keys.revision());
+    }
+    let first = deletion_of(alloc, "a")?;
+    let second = put_of(alloc, "c", "2")?;
     keys.apply(&[first, second])
 }
 

@@ -1,5 +1,5 @@
 use Rattle.std.proofs.Common.{◌≡◌, ◌≤◌, List, ℕ, length}
-use Rattle.std.specs.Vec.Iter.{into_iter_items, into_iter_len}
+use Rattle.std.specs.Vec.Iter.{into_iter_items}
 use Rattle.indexmap.specs.IndexMap.{get_by_text, spare}
 use Rattle.stm_keys.specs.Table.{after_all}
 use Rattle.stm_keys.proofs.table.write_events.Given as goal

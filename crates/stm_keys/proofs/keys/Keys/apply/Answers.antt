@@ -1,4 +1,4 @@
-use Rattle.std.proofs.Common.{◌≡◌, ℕ, ◌+◌, ◌≤◌, ◌∙◌, sym, ap, arith, suc, length, map, reverse, List, [], ◌∷◌, ◌++◌}
+use Rattle.std.proofs.Common.{◌≡◌, ℕ, ◌+◌, ◌∙◌, sym, ap, arith, length, map, reverse, List, [], ◌∷◌, ◌++◌}
 use Rattle.std.specs.Prelude.{bytes_eq, string_bytes}
 use Rattle.std.specs.Map.{lookup}
 use Rattle.std.proofs.lemmas.List.{length-map}
@@ -33,7 +33,7 @@ kept_pushed c =
     c.self.invariant
     (omega arith)
     (omega (arith, c.revision-before.ensures.bounded, c.if-before-eq-HIGHEST_REVISION.false))
-    c.requires
+    c.requires.revision
     (c.of.ensures ∙ c.in_ok-recorded.ensures)
     c.in_ok-written.ensures
     (λ key. c.write_events.ensures key

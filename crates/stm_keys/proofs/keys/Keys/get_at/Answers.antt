@@ -1,10 +1,11 @@
-use Rattle.std.proofs.Common.{rules, ◌≡◌, ◌-◌, ◌∙◌, sym, ap, cond, length, take, reverse, List, ne_eqb, false}
+use Rattle.std.proofs.Common.{arith, rules, ◌≡◌, ◌-◌, ◌∙◌, sym, ap, cond, length, take, reverse, List, false}
 use Rattle.std.specs.Prelude.{min, nat_eq}
 use Rattle.indexmap.specs.IndexMap.{get_by_text}
 use Rattle.stm_history.specs.History.{key_at, key_now}
 use Rattle.stm_keys.specs.declared.event.Event.{Event}
-use Rattle.stm_keys.specs.Keys.{Contents, state_recorded, key_read}
+use Rattle.stm_keys.specs.Keys.{Contents, state_recorded}
 use Rattle.stm_keys.proofs.Fields.{found_at}
+use Rattle.stm_keys.proofs.Numbers.{read_small}
 use Rattle.stm_keys.proofs.keys.Keys.get_at.Goals as goal
 
 pub returns-clause-found : goal.returns-clause-found
@@ -17,3 +18,11 @@ returns-clause-found c =
     ∙ found_at c.self.inside.opening c.args.revision xs (get_by_text c.self.inside.table) c.args.key.now c.min-count.result c.self.invariant count
     ∙ ap (λ (v : Contents). key_at v.history c.args.key.now c.args.revision) c.self.view_is
     ∙ sym (ap (λ b. cond b (key_now c.args.self.now.history c.args.key.now) (key_at c.args.self.now.history c.args.key.now c.args.revision)) past)
+
+pub returns-then-revision-clause-fits : goal.returns-then-revision-clause-fits
+returns-then-revision-clause-fits c =
+    read_small c.args.self.now.history c.args.key.now c.args.revision (omega (arith, c.revision.ensures.value, c.revision.ensures.bounded))
+
+pub returns-clause-fits : goal.returns-clause-fits
+returns-clause-fits c =
+    read_small c.args.self.now.history c.args.key.now c.args.revision (omega (arith, c.revision.ensures.value, c.revision.ensures.bounded))

@@ -1,4 +1,4 @@
-use Rattle.std.proofs.Common.{◌≡◌, ◌∙◌, ap, subst}
+use Rattle.std.proofs.Common.{◌∙◌, subst}
 use Rattle.std.specs.Prelude.{string_bytes}
 use Rattle.stm_keys.specs.Keys.{Contents, ListsPresent}
 use Rattle.stm_keys.proofs.Fields.{lookup-texts, distinct-texts}

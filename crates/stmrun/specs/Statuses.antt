@@ -1,5 +1,5 @@
 -- The statuses of the program, and what it says of a fault.
-use Rattle.std.specs.Prelude.{◌≡◌, ◌⊎◌, ℕ, List, ◌++◌, Bool, false, Option, Result, Ok, Err, codes}
+use Rattle.std.specs.Prelude.{◌≡◌, ℕ, List, ◌++◌, Bool, false, Option, Result, Ok, Err, codes}
 use Rattle.std.specs.Io.KnownBytes.{Appends, Keeps}
 use Rattle.stm_json.specs.declared.read_error.BadInput.{BadInput}
 use Rattle.stm_json.specs.CauseNames.{cause_name}
@@ -15,9 +15,13 @@ status_of (Bad fault) = 2
 status_of Read = 3
 status_of Write = 3
 
+-- place and cause of the first fault
+abbrev pub bad_message : BadText → List ℕ
+bad_message bad = codes "stmrun: bad scenario at " ++ bad.place ++ codes ": " ++ cause_name bad.cause ++ codes "\n"
+
 abbrev pub message_of : ScriptFault → List ℕ
 message_of OutOfMemory = codes "stmrun: out of memory\n"
-message_of (Bad fault) = codes "stmrun: bad scenario at " ++ fault.place ++ codes ": " ++ cause_name fault.cause ++ codes "\n"
+message_of (Bad bad) = bad_message bad
 message_of Read = codes "stmrun: device fault\n"
 message_of Write = codes "stmrun: device fault\n"
 
@@ -25,10 +29,9 @@ message_of Write = codes "stmrun: device fault\n"
 abbrev pub Says : Option (List ℕ) → Option (List ℕ) → Bool → List ℕ → Type 0
 Says before after failed text = WritesFront before after text × (failed ≡ false → Appends before after text)
 
--- What is said and answered of a fault: its own message and status, or those of want of memory.
+-- what is said and answered of a fault: its own message and status
 abbrev pub Tells : Option (List ℕ) → Option (List ℕ) → Bool → ScriptFault → ℕ → Type 0
-Tells before after failed fault status =
-    (told : ScriptFault) × ((told ≡ fault) ⊎ (told ≡ OutOfMemory)) × (status ≡ status_of told) × Says before after failed (message_of told)
+Tells before after failed fault status = (status ≡ status_of fault) × Says before after failed (message_of fault)
 
 abbrev pub EndsBy : {A : Type 0} → Option (List ℕ) → Option (List ℕ) → Bool → Result A ScriptFault → ℕ → Type 0
 EndsBy before after failed (Ok u) status = (status ≡ 0) × (failed ≡ false) × Keeps before after

@@ -1,18 +1,30 @@
 //! The command line.
-ghost use Rattle.std.specs.Prelude.{◌≡◌};
+ghost use Rattle.std.specs.Prelude.{◌≡◌, IfOk, map, string_bytes};
+ghost use Rattle.clap.specs.Words.{app_of, kind_of};
+ghost use Rattle.stmrun.specs.CommandLine.{stmrun_app, status_of_kind};
+ghost use Rattle.stmrun.specs.Asking.{Asks, AsksSome};
 
 use clap::error::ErrorKind;
 use clap::{Command, Error};
 use std::alloc::{AllocError, Global};
-use std::env;
 use std::rt::Env;
+use std::{env, io};
 
 /// What a command line asks for.
+#[derive(Clone, Copy, Debug, PartialEq, Eq)]
 pub(crate) enum Asked {
     /// A script of standard input.
     Script,
     /// Nothing more: help was printed, or the command line was refused, with this status.
     Nothing(u8),
+}
+
+/// Why the words of the command line could not be read.
+enum WordsFault {
+    /// A growth was refused.
+    OutOfMemory,
+    /// One of them is not UTF-8.
+    NotText,
 }
 
 const EXAMPLE: &str =
@@ -29,8 +41,17 @@ Its report has a line for each event, one for each key that is present, and the 
 
 Statuses: 0 done, 2 bad input or usage, 3 want of memory or a failed device.";
 
+/// What is said of words that are not UTF-8, in the manner of the other usage faults.
+const NOT_TEXT: &str = "error: the command line is not UTF-8
+
+Usage: stmrun <COMMAND>
+
+For more information, try '--help'.";
+
 /// The command.
-fn command<'a>(alloc: Global) -> Result<Command<'a>, AllocError> {
+fn command<'a>(alloc: Global) -> Result<Command<'a>, AllocError>
+    ensures { IfOk result (λ command. app_of command ≡ stmrun_app) }
+{
     let script = Command::new(alloc, "script").about(
         "Runs the scenario on standard input, and prints its report",
     );
@@ -41,48 +62,61 @@ fn command<'a>(alloc: Global) -> Result<Command<'a>, AllocError> {
         .subcommand(script)
 }
 
-/// The status of a command line that is refused, or that asks for help, once its text is printed.
-fn told<R: Print + Eprint>(rt: &R, error: &Error) -> u8 {
-    let status = match error.kind() {
-        ErrorKind::OutOfMemory => return fail(rt, "stmrun: out of memory"),
-        ErrorKind::DisplayHelp => 0,
-        _ => 2,
-    };
-    match error.print(rt) {
-        Ok(()) => status,
-        Err(_) => fail(rt, "stmrun: device fault"),
+/// The status of a command line that is refused, or that asks for help, once its text is printed. That printing fails
+/// changes no status.
+fn told<R: Print + Eprint>(rt: &R, error: &Error) -> u8
+    ensures { result ≡ status_of_kind (kind_of error.now) }
+{
+    match error.kind() {
+        ErrorKind::OutOfMemory => fail(rt, "stmrun: out of memory", 3),
+        kind => {
+            let _ = error.print(rt);
+            if kind == ErrorKind::DisplayHelp { 0 } else { 2 }
+        }
     }
 }
 
-/// The status of a command that ends for want of memory or at a failed device, once the line is printed.
-fn fail<R: Eprint>(rt: &R, line: &str) -> u8
-    ensures { result ≡ 3 }
+/// The status of a command line that is refused, once the line is printed. That printing fails changes no status.
+fn fail<R: Eprint>(rt: &R, line: &str, status: u8) -> u8
+    ensures { result ≡ status }
 {
     let _ = rt.eprintln(line);
-    3
+    status
 }
 
-/// What is left to do where a growth was refused.
-fn out_of_memory<R: Eprint>(rt: &R) -> Asked
-    ensures { result ≡ Asked.Nothing 3 }
+/// The words of this process's command line, the program's name first.
+fn words<R: Env + AllocGlobal>(rt: &R) -> Result<Vec<String>, WordsFault> {
+    let arguments = match env::args(rt) {
+        Ok(arguments) => arguments,
+        Err(error) if error.kind() == io::ErrorKind::InvalidData => return Err(WordsFault::NotText),
+        Err(_) => return Err(WordsFault::OutOfMemory),
+    };
+    match arguments.collect::<Vec<String>>(rt.alloc()) {
+        Ok(words) => Ok(words),
+        Err(_) => Err(WordsFault::OutOfMemory),
+    }
+}
+
+/// What these words ask for.
+fn asked_of<R: Print + Eprint>(rt: &R, alloc: Global, words: &[String]) -> Asked
+    ensures { Asks (map string_bytes words.now) result }
 {
-    Asked::Nothing(fail(rt, "stmrun: out of memory"))
-}
-
-/// What this process's command line asks for.
-pub(crate) fn read_arguments<R: Print + Eprint + Env + AllocGlobal>(rt: &R) -> Asked {
-    let alloc = rt.alloc();
-    let Ok(arguments) = env::args(rt) else {
-        return out_of_memory(rt);
-    };
-    let Ok(words) = arguments.collect::<Vec<String>>(alloc) else {
-        return out_of_memory(rt);
-    };
     let Ok(command) = command(alloc) else {
-        return out_of_memory(rt);
+        return Asked::Nothing(fail(rt, "stmrun: out of memory", 3));
     };
-    match command.try_get_matches_from(words.as_slice()) {
+    match command.try_get_matches_from(words) {
         Ok(_) => Asked::Script,
         Err(error) => Asked::Nothing(told(rt, &error)),
+    }
+}
+
+/// What this process's command line asks for. Where it is refused, or asks for help, that was printed.
+pub(crate) fn read_arguments<R: Print + Eprint + Env + AllocGlobal>(rt: &R) -> Asked
+    ensures { AsksSome result }
+{
+    match words(rt) {
+        Ok(words) => asked_of(rt, rt.alloc(), words.as_slice()),
+        Err(WordsFault::NotText) => Asked::Nothing(fail(rt, NOT_TEXT, 2)),
+        Err(WordsFault::OutOfMemory) => Asked::Nothing(fail(rt, "stmrun: out of memory", 3)),
     }
 }

@@ -1,9 +1,11 @@
 //! The command `script` over devices.
-ghost use Rattle.std.specs.Prelude.{◌≡◌, false, IfOk, string_bytes};
-ghost use Rattle.stmrun.specs.Statuses.{status_of, message_of, Says, Tells, Ends};
+ghost use Rattle.std.specs.Prelude.{◌≡◌, false};
+ghost use Rattle.stm_report.specs.Transfers.{HasWritten};
+ghost use Rattle.stmrun.specs.Statuses.{status_of, bad_message, message_of, Tells, Ends};
 
-use std::alloc::{AllocError, Global};
-use stm_report::{ScriptFault, Sink, Source, script, write_all};
+use std::alloc::Global;
+use stm_report::{DeviceFault, ScriptFault, Sink, Source, script, write_all};
+use stm_texts::BadText;
 
 /// The status of a fault.
 fn status(fault: &ScriptFault) -> u8
@@ -15,54 +17,55 @@ fn status(fault: &ScriptFault) -> u8
     }
 }
 
-/// What is said of a fault.
-fn message(alloc: Global, fault: &ScriptFault) -> Result<String, AllocError>
-    ensures { IfOk result (λ text. string_bytes text ≡ message_of fault.now) }
+/// Writes a text. Where the sink fails, a front of it was written.
+fn write_text<E: Sink>(err: &mut E, text: &str) -> Result<(), DeviceFault>
+    requires { E.failed err.old ≡ false }
+    ensures { HasWritten (E.held err.old) (E.held err.new) (E.failed err.new) result text.now }
+{
+    write_all(err, text.as_bytes())
+}
+
+/// Writes what is wrong with a scenario, piece by piece, which takes no memory. Where the sink fails, a front of it was
+/// written.
+fn write_bad<E: Sink>(err: &mut E, bad: &BadText) -> Result<(), DeviceFault>
+    requires { E.failed err.old ≡ false }
+    ensures { HasWritten (E.held err.old) (E.held err.new) (E.failed err.new) result (bad_message bad.now) }
+{
+    write_text(err, "stmrun: bad scenario at ")?;
+    write_text(err, bad.place.as_str())?;
+    write_text(err, ": ")?;
+    write_text(err, bad.cause.name())?;
+    write_text(err, "\n")?;
+    Ok(())
+}
+
+/// Writes what is said of a fault. Where the sink fails, a front of it was written.
+fn write_message<E: Sink>(err: &mut E, fault: &ScriptFault) -> Result<(), DeviceFault>
+    requires { E.failed err.old ≡ false }
+    ensures { HasWritten (E.held err.old) (E.held err.new) (E.failed err.new) result (message_of fault.now) }
 {
     match fault {
-        ScriptFault::Bad(bad) => {
-            let mut text = String::from_str(alloc, "stmrun: bad scenario at ")?;
-            text.push_str(bad.place.as_str())?;
-            text.push_str(": ")?;
-            text.push_str(bad.cause.name())?;
-            text.push_str("\n")?;
-            Ok(text)
-        }
-        ScriptFault::OutOfMemory => String::from_str(alloc, "stmrun: out of memory\n"),
-        ScriptFault::Read | ScriptFault::Write => String::from_str(alloc, "stmrun: device fault\n"),
+        ScriptFault::Bad(bad) => write_bad(err, bad),
+        ScriptFault::OutOfMemory => write_text(err, "stmrun: out of memory\n"),
+        ScriptFault::Read | ScriptFault::Write => write_text(err, "stmrun: device fault\n"),
     }
 }
 
-/// Says a text as far as the sink takes it.
-fn say<E: Sink>(err: &mut E, text: &str)
-    requires { E.failed err.old ≡ false }
-    ensures { Says (E.held err.old) (E.held err.new) (E.failed err.new) text.now }
-{
-    let _ = write_all(err, text.as_bytes());
-}
-
-/// Says what went wrong, and gives the status.
-fn tell<E: Sink>(alloc: Global, err: &mut E, fault: &ScriptFault) -> u8
+/// Says what went wrong, and gives the status. Takes no memory.
+fn tell<E: Sink>(err: &mut E, fault: &ScriptFault) -> u8
     requires { E.failed err.old ≡ false }
     ensures { Tells (E.held err.old) (E.held err.new) (E.failed err.new) fault.now result }
 {
-    match message(alloc, fault) {
-        Ok(text) => {
-            say(err, text.as_str());
-            status(fault)
-        }
-        Err(AllocError) => {
-            say(err, "stmrun: out of memory\n");
-            3
-        }
-    }
+    let _ = write_message(err, fault);
+    status(fault)
 }
 
 /// Runs the scenario of `input` and writes its report to `out`, whole or not at all but for a failed `out`.
 ///
 /// Gives the status: 0 where the report was written, 2 where the input is no scenario, 3 where a growth was refused or
-/// a device failed. On `err` it says what went wrong: `stmrun: bad scenario at PLACE: CAUSE`, `stmrun: out of memory` or
-/// `stmrun: device fault`. None of the devices has failed before.
+/// `input` or `out` failed. On `err` it says what went wrong, and takes no memory for it: `stmrun: bad scenario at PLACE: CAUSE`,
+/// `stmrun: out of memory` or `stmrun: device fault`, whole where `err` then has not failed. That `err` fails changes no
+/// status. None of the devices has failed before.
 pub fn script_to<S: Source, W: Sink, E: Sink>(
     alloc: Global,
     input: &mut S,
@@ -82,6 +85,6 @@ pub fn script_to<S: Source, W: Sink, E: Sink>(
 {
     match script(alloc, input, out) {
         Ok(()) => 0,
-        Err(fault) => tell(alloc, err, &fault),
+        Err(fault) => tell(err, &fault),
     }
 }

@@ -1,10 +1,14 @@
-//! The worked examples, run over memory, and devices that fail in mid-stream.
+//! The worked examples, run over memory, devices that fail in mid-stream, and command lines.
 
+use crate::arguments::{Asked, read_arguments};
 use crate::script_to;
 use std::alloc::Global;
+use std::env::FillError;
+use std::fmt::Display;
 use std::io;
 use std::io::{ErrorKind, Read, Write};
 use std::process::Abort;
+use std::rt::Env;
 use std::test::Fail;
 use stm_report::Std;
 
@@ -281,4 +285,115 @@ fn a_writer_that_fails(rt: HostRuntime) -> Result<(), Fail> {
         }
     }
     Ok(())
+}
+
+/// That standard error fails changes no status.
+#[test]
+fn a_message_that_fails(rt: HostRuntime) -> Result<(), Fail> {
+    let alloc = rt.alloc();
+    for writes in 0..8usize {
+        let mut input = Std::new("[[\"step\",-1]]".as_bytes());
+        let mut out = Std::new(Vec::new(alloc));
+        let mut err = Std::new(Taken {
+            bytes: Vec::new(alloc),
+            piece: 5,
+            writes,
+        });
+        let status = script_to(alloc, &mut input, &mut out, &mut err);
+        assert_eq!(rt; status, 2);
+        assert!(rt; out.device.is_empty());
+        let said = err.device.bytes.as_slice();
+        assert!(rt; b"stmrun: bad scenario at /0/1: Range\n".starts_with(said));
+        assert_eq!(rt; err.failed, true);
+    }
+    Ok(())
+}
+
+/// A command line, whose texts are printed or not.
+#[derive(Clone, Copy)]
+struct Line<'a> {
+    words: &'a [&'a [u8]],
+    prints: bool,
+}
+
+impl Line<'_> {
+    /// What printing anything answers.
+    fn printed(&self) -> io::Result<()> {
+        if self.prints {
+            Ok(())
+        } else {
+            Err(io::Error::from(ErrorKind::BrokenPipe))
+        }
+    }
+}
+
+impl Print for Line<'_> {
+    fn print<D: Display + Drop>(&self, _value: D) -> io::Result<()> {
+        self.printed()
+    }
+
+    fn println<D: Display + Drop>(&self, _value: D) -> io::Result<()> {
+        self.printed()
+    }
+
+    fn write_all(&self, _bytes: &[u8]) -> io::Result<()> {
+        self.printed()
+    }
+}
+
+impl Eprint for Line<'_> {
+    fn eprint<D: Display + Drop>(&self, _value: D) -> io::Result<()> {
+        self.printed()
+    }
+
+    fn eprintln<D: Display + Drop>(&self, _value: D) -> io::Result<()> {
+        self.printed()
+    }
+}
+
+impl Env for Line<'_> {
+    fn arg(&self, i: usize, buffer: &mut [u8]) -> Result<usize, FillError> {
+        if i >= self.words.len() {
+            return Err(FillError::NotPresent);
+        }
+        let word = self.words[i];
+        if word.len() > buffer.len() {
+            return Err(FillError::TooLong);
+        }
+        buffer[..word.len()].copy_from_slice(word);
+        Ok(word.len())
+    }
+
+    fn var(&self, _name: &str, _buffer: &mut [u8]) -> Result<usize, FillError> {
+        Err(FillError::NotPresent)
+    }
+
+    fn var_at(&self, _i: usize, _buffer: &mut [u8]) -> Result<usize, FillError> {
+        Err(FillError::NotPresent)
+    }
+}
+
+/// A command line asks for this, whether its texts are printed or not.
+fn asks<'a>(rt: &impl Abort, alloc: Global, words: &'a [&'a [u8]], wanted: Asked) {
+    for prints in [true, false] {
+        let line = (Line { words, prints }, alloc);
+        assert_eq!(rt; read_arguments(&line), wanted);
+    }
+}
+
+#[test]
+fn command_lines(rt: HostRuntime) {
+    let alloc = rt.alloc();
+    let name = "stmrun".as_bytes();
+    let script = "script".as_bytes();
+    let help = "--help".as_bytes();
+    let other = "scripts".as_bytes();
+    let not_text = b"\xff".as_slice();
+    asks(&rt, alloc, &[name, script], Asked::Script);
+    asks(&rt, alloc, &[name, help], Asked::Nothing(0));
+    asks(&rt, alloc, &[name, script, help], Asked::Nothing(0));
+    asks(&rt, alloc, &[name], Asked::Nothing(2));
+    asks(&rt, alloc, &[name, other], Asked::Nothing(2));
+    asks(&rt, alloc, &[name, script, other], Asked::Nothing(2));
+    asks(&rt, alloc, &[name, script, not_text], Asked::Nothing(2));
 }

@@ -1,5 +1,5 @@
 -- What a command line asks for.
-use Rattle.std.specs.Prelude.{◌≡◌, ◌⊎◌, ℕ, List, [], ◌∷◌, codes}
+use Rattle.std.specs.Prelude.{◌≡◌, ◌⊎◌, List, []}
 use Rattle.clap.specs.Words.{Text}
 use Rattle.stmrun.specs.declared.arguments.Asked.{Asked}
 use Rattle.stmrun.specs.declared.arguments.Asked.TheVariants.{Script, Nothing}
@@ -14,11 +14,3 @@ Asks words (Nothing status) = IsStatusOf (faults_of words) status
 abbrev pub AsksSome : Asked → Type 0
 AsksSome Script = Unit {0}
 AsksSome (Nothing status) = (status ≡ 0) ⊎ ((status ≡ 2) ⊎ (status ≡ 3))
-
--- what is asked for unless memory ran out
-abbrev pub AsksFor : Asked → Asked → Type 0
-AsksFor wanted asked = (asked ≡ wanted) ⊎ (asked ≡ Nothing 3)
-
--- a program's name, and the one word behind it
-abbrev pub IsLineOf : List ℕ → List Text → Type 0
-IsLineOf word words = (name : Text) × (words ≡ name ∷ word ∷ [])

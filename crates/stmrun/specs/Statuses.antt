@@ -16,7 +16,7 @@ status_of Read = 3
 status_of Write = 3
 
 -- place and cause of the first fault
-abbrev pub bad_message : BadText → List ℕ
+abbrev pub bad_message : BadInput → List ℕ
 bad_message bad = codes "stmrun: bad scenario at " ++ bad.place ++ codes ": " ++ cause_name bad.cause ++ codes "\n"
 
 abbrev pub message_of : ScriptFault → List ℕ
@@ -30,12 +30,12 @@ abbrev pub Says : Option (List ℕ) → Option (List ℕ) → Bool → List ℕ 
 Says before after failed text = WritesFront before after text × (failed ≡ false → Appends before after text)
 
 -- what is said and answered of a fault: its own message and status
-abbrev pub Tells : Option (List ℕ) → Option (List ℕ) → Bool → ScriptFault → ℕ → Type 0
-Tells before after failed fault status = (status ≡ status_of fault) × Says before after failed (message_of fault)
+abbrev pub SaysOf : Option (List ℕ) → Option (List ℕ) → Bool → ScriptFault → ℕ → Type 0
+SaysOf before after failed fault status = (status ≡ status_of fault) × Says before after failed (message_of fault)
 
 abbrev pub EndsBy : {A : Type 0} → Option (List ℕ) → Option (List ℕ) → Bool → Result A ScriptFault → ℕ → Type 0
 EndsBy before after failed (Ok u) status = (status ≡ 0) × (failed ≡ false) × Keeps before after
-EndsBy before after failed (Err fault) status = Tells before after failed fault status
+EndsBy before after failed (Err fault) status = SaysOf before after failed fault status
 
 -- What the command does to its devices, and its status: a script's end, with status 0 and nothing said at a good one, and
 -- else what is said of its fault.

@@ -1,11 +1,11 @@
 //! The command `script` over devices.
 ghost use Rattle.std.specs.Prelude.{◌≡◌, false};
 ghost use Rattle.stm_report.specs.Transfers.{HasWritten};
-ghost use Rattle.stmrun.specs.Statuses.{status_of, bad_message, message_of, Tells, Ends};
+ghost use Rattle.stmrun.specs.Statuses.{status_of, bad_message, message_of, SaysOf, Ends};
 
 use std::alloc::Global;
 use stm_report::{DeviceFault, ScriptFault, Sink, Source, script, write_all};
-use stm_texts::BadText;
+use stm_texts::BadInput;
 
 /// The status of a fault.
 fn status(fault: &ScriptFault) -> u8
@@ -27,7 +27,7 @@ fn write_text<E: Sink>(err: &mut E, text: &str) -> Result<(), DeviceFault>
 
 /// Writes what is wrong with a scenario, piece by piece, which takes no memory. Where the sink fails, a front of it was
 /// written.
-fn write_bad<E: Sink>(err: &mut E, bad: &BadText) -> Result<(), DeviceFault>
+fn write_bad<E: Sink>(err: &mut E, bad: &BadInput) -> Result<(), DeviceFault>
     requires { E.failed err.old ≡ false }
     ensures { HasWritten (E.held err.old) (E.held err.new) (E.failed err.new) result (bad_message bad.now) }
 {
@@ -54,7 +54,7 @@ fn write_message<E: Sink>(err: &mut E, fault: &ScriptFault) -> Result<(), Device
 /// Says what went wrong, and gives the status. Takes no memory.
 fn tell<E: Sink>(err: &mut E, fault: &ScriptFault) -> u8
     requires { E.failed err.old ≡ false }
-    ensures { Tells (E.held err.old) (E.held err.new) (E.failed err.new) fault.now result }
+    ensures { SaysOf (E.held err.old) (E.held err.new) (E.failed err.new) fault.now result }
 {
     let _ = write_message(err, fault);
     status(fault)

@@ -1,7 +1,7 @@
-use Rattle.std.proofs.Common.{◌≡◌, ◌++◌, List, ℕ, codes}
+use Rattle.std.proofs.Common.{◌++◌, List, ℕ, codes}
 use Rattle.std.proofs.KnownBytes.{Appends-trans}
 use Rattle.std.proofs.lemmas.Result.{err_from_is_err_and}
-use Rattle.stm_texts.specs.Outcome.{cause_name}
+use Rattle.stm_json.specs.CauseNames.{cause_name}
 use Rattle.stmrun.proofs.PieceLemmas.{longer, behind}
 use Rattle.stmrun.proofs.scripting.write_bad.Goals as goal
 

@@ -3,4 +3,5 @@ pub mod IntegerRange
 pub mod WrittenNumber
 pub mod Entries
 pub mod RunLaws
-pub mod Turns
+pub mod LoopTurns
+pub mod PlaceLemmas

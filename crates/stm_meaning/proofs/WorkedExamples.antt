@@ -11,7 +11,8 @@ use Rattle.stm_meaning.specs.declared.run.Answered.{Answered}
 use Rattle.stm_meaning.specs.declared.run.Answered.TheVariants.{Ended, Wants}
 use Rattle.stm_meaning.specs.declared.fault.Fault.TheVariants.{Kind, Overflow, ZeroDivisor, NotANumber, LoopTooLong, TurnLimit, TextTooLong, EmptyKey}
 use Rattle.stm_meaning.specs.Values.{text_in, computed, arithmetic, concatenated, written_number, num_of, equal, less, put_of, turns_of}
-use Rattle.stm_meaning.specs.Outcome.{fresh, begin_turn}
+use Rattle.stm_meaning.specs.Session.{fresh}
+use Rattle.stm_meaning.specs.Outcome.{begin_turn}
 use Rattle.stm_meaning.specs.Answer.{Lookup}
 use Rattle.stm_meaning.specs.Meaning.{evaluate, holds, repeat, run_block, run_over}
 

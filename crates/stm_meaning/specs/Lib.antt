@@ -1,6 +1,8 @@
 pub mod Values
 pub mod Writes
+pub mod Session
 pub mod Outcome
+pub mod LastPlaces
 pub mod Meaning
 pub mod Tells
 pub mod Answer

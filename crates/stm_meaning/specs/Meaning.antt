@@ -6,7 +6,6 @@ use Rattle.stm_program.specs.declared.write.Write.{Write}
 use Rattle.stm_meaning.specs.declared.value.Value.{Value}
 use Rattle.stm_meaning.specs.declared.value.Value.TheVariants.{Text as TextValue, Number as NumberValue}
 use Rattle.stm_meaning.specs.declared.stop.Stop.TheVariants.{Aborted, Faulted, Wants}
-use Rattle.stm_meaning.specs.declared.session.Session.{Session}
 use Rattle.stm_meaning.specs.declared.trace_item.TraceItem.TheVariants.{Get as GetItem, Rev as RevItem}
 use Rattle.stm_meaning.specs.declared.run.End.{End as RunEnd}
 use Rattle.stm_meaning.specs.declared.run.End.TheVariants.{Done, Aborted as EndAborted, Faulted as EndFaulted}
@@ -16,7 +15,8 @@ use Rattle.stm_meaning.specs.declared.run.Answered.TheVariants.{Ended, Wants as 
 use Rattle.stm_meaning.specs.Answer.{Answer, Lookup}
 use Rattle.stm_meaning.specs.Values.{text_in, key_in, arithmetic, concatenated, text_of, num_of, equal, less, put_of, del_of, turns_of}
 use Rattle.stm_meaning.specs.Writes.{last_write, value_of}
-use Rattle.stm_meaning.specs.Outcome.{Outcome, Gives, Stops, and_then, given, fresh, variable_in, with_variable, with_output, with_write, with_item, with_read, begin_turn}
+use Rattle.stm_meaning.specs.Session.{Session, fresh, variable_in, with_variable, with_output, with_write, with_item, with_read}
+use Rattle.stm_meaning.specs.Outcome.{Outcome, Gives, Stops, and_then, given, begin_turn}
 
 -- what the look-up has to say of a key that it was asked for
 abbrev pub get_answered : List ℕ → Option Answer → Session → Outcome Value

@@ -2,7 +2,7 @@
 use Rattle.std.specs.Prelude.{◌≡◌, Result, Ok, Err, ⊤}
 use Rattle.stm_meaning.specs.declared.stop.Halt.{Halt}
 use Rattle.stm_meaning.specs.declared.stop.Halt.TheVariants.{OutOfMemory, Stopped}
-use Rattle.stm_meaning.specs.declared.session.Session.{Session}
+use Rattle.stm_meaning.specs.Session.{Session}
 use Rattle.stm_meaning.specs.Outcome.{Outcome, Gives, Stops}
 
 -- the result and what the run has come to are the outcome, unless a growth was refused

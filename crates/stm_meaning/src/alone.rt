@@ -1,8 +1,7 @@
 //! Runs of whole programs.
 ghost use Rattle.std.specs.Prelude.{◌≡◌, IfOk};
 ghost use Rattle.stm_meaning.specs.declared.run.Answered.TheVariants.{Ended};
-ghost use Rattle.stm_meaning.specs.Meaning.{run_over, run_of, answered, run_block};
-ghost use Rattle.stm_meaning.specs.Outcome.{fresh};
+ghost use Rattle.stm_meaning.specs.Meaning.{run_over};
 ghost use Rattle.stm_meaning.specs.States.{state_answers};
 
 use crate::lookup::Lookup;
@@ -13,19 +12,6 @@ use crate::statements::run_all;
 use crate::stop::{Halt, Stop};
 use std::alloc::{AllocError, Global};
 use stm_program::Program;
-
-/// The run that came to this end.
-fn ended(end: End, session: Session) -> Run
-    ensures { result ≡ run_of end session }
-{
-    Run {
-        end,
-        output: session.output,
-        trace: session.trace,
-        writes: session.writes,
-        reads: session.reads,
-    }
-}
 
 /// The run of a program over a look-up, such as a list of recorded answers: its end, or the first key that
 /// it wants and the look-up knows nothing of.
@@ -41,19 +27,17 @@ pub fn run_answered<L: Lookup>(
 {
     let mut session = Session::new(alloc)?;
     match run_all(alloc, lookup, &mut session, program.statements()) {
-        Ok(()) => Ok(Answered::Ended(ended(End::Done, session))),
+        Ok(()) => Ok(Answered::Ended(session.into_run(End::Done))),
         Err(Halt::OutOfMemory) => Err(AllocError),
-        Err(Halt::Stopped(Stop::Aborted(text))) => Ok(Answered::Ended(ended(
-            End::Aborted(text),
-            session,
-        ))),
-        Err(Halt::Stopped(Stop::Faulted(fault))) => Ok(Answered::Ended(ended(
-            End::Faulted(fault),
-            session,
-        ))),
+        Err(Halt::Stopped(Stop::Aborted(text))) => {
+            Ok(Answered::Ended(session.into_run(End::Aborted(text))))
+        }
+        Err(Halt::Stopped(Stop::Faulted(fault))) => {
+            Ok(Answered::Ended(session.into_run(End::Faulted(fault))))
+        }
         Err(Halt::Stopped(Stop::Wants(key))) => Ok(Answered::Wants {
             key,
-            trace: session.trace,
+            trace: session.into_trace(),
         }),
     }
 }

@@ -44,24 +44,26 @@ fn compute(operator: Operator, left: i64, right: i64) -> Result<i64, Fault>
     }
 }
 
-/// What an operator computes of two values, which have to be numbers.
+/// What an operator computes of two values. `Kind` is answered where one of them is a text, `ZeroDivisor` for a
+/// division or a rest by 0, and then `Overflow` for a result out of range.
 #[tactic(auto, unfolding(crate::specs::Values::arithmetic))]
-pub(crate) fn combine(operator: Operator, left: Value, right: Value) -> Result<Value, Fault>
-    ensures { result ≡ arithmetic operator left right }
+pub fn combine(operator: Operator, left: &Value, right: &Value) -> Result<Value, Fault>
+    ensures { result ≡ arithmetic operator left.now right.now }
 {
     match (left, right) {
-        (Value::Number(a), Value::Number(b)) => Ok(Value::Number(compute(operator, a, b)?)),
+        (Value::Number(a), Value::Number(b)) => Ok(Value::Number(compute(operator, *a, *b)?)),
         _ => Err(Fault::Kind),
     }
 }
 
-/// A number as decimal text.
+/// A number as decimal text. `Kind` is answered for a text.
 #[tactic(auto, unfolding(crate::specs::Values::text_of))]
-pub(crate) fn spell(alloc: Global, value: Value) -> Result<Result<Value, Fault>, AllocError>
-    ensures { IfOk result (λ r. r ≡ text_of value) }
+pub fn spell(alloc: Global, value: &Value) -> Result<Result<Value, Fault>, AllocError>
+    ensures { IfOk result (λ r. r ≡ text_of value.now) }
 {
     match value {
         Value::Number(number) => {
+            let number = *number;
             let text = format!(in alloc; "{number}")?;
             Ok(Ok(Value::Text(Text::new(text))))
         }
@@ -90,10 +92,10 @@ fn read_number(text: &str) -> Result<i64, Fault>
     }
 }
 
-/// The number that a text value writes.
+/// The number that a text value writes. `Kind` is answered for a number, `NotANumber` where the text writes none.
 #[tactic(auto, unfolding(crate::specs::Values::num_of))]
-pub(crate) fn number_of(value: Value) -> Result<Value, Fault>
-    ensures { result ≡ num_of value }
+pub fn number_of(value: &Value) -> Result<Value, Fault>
+    ensures { result ≡ num_of value.now }
 {
     match value {
         Value::Text(text) => Ok(Value::Number(read_number(text.as_str())?)),

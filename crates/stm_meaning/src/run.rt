@@ -1,5 +1,6 @@
 //! What a run of a program gives.
 use crate::fault::Fault;
+use crate::key_set::KeySet;
 use crate::trace_item::TraceItem;
 use crate::value::Value;
 use stm_history::{Sequence, Text};
@@ -28,7 +29,7 @@ pub struct Run {
     /// Each write that it made, in order.
     pub writes: Sequence<Write>,
     /// The keys that it looked up, in the order of their first look-up.
-    pub reads: Sequence<Text>,
+    pub reads: KeySet,
 }
 
 /// What a run on recorded answers gives.

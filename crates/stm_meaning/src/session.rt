@@ -1,44 +1,68 @@
 //! A run on its way.
-ghost use Rattle.std.specs.Prelude.{◌≡◌, ◌^◌, ◌<◌, IfOk, OnOk};
-ghost use Rattle.stm_meaning.specs.Outcome.{fresh, variable_in, with_variable, with_output, with_write, with_item, with_read, begin_turn, given};
-ghost use Rattle.stm_meaning.specs.declared.value.Value.TheVariants.{Text as TextValue};
+ghost use Rattle.std.specs.Prelude.{◌≡◌, ◌^◌, ◌<◌, None, IfOk, OnOk, OnErr};
+ghost use Rattle.stm_meaning.specs.Session.{fresh, variable_in, with_variable, with_output, with_write, with_item, with_read};
+ghost use Rattle.stm_meaning.specs.Outcome.{begin_turn, given, found_or_wanted};
 ghost use Rattle.stm_meaning.specs.declared.trace_item.TraceItem.TheVariants.{Get};
-ghost use Rattle.stm_meaning.specs.Meaning.{get_key, rev_key};
-ghost use Rattle.stm_meaning.specs.Tells.{Tells};
+ghost use Rattle.stm_meaning.specs.Meaning.{get_key, rev_key, run_of};
 
 use crate::fault::Fault;
+use crate::key_set::KeySet;
 use crate::lookup::Lookup;
-use crate::stop::{Halt, Stop};
+use crate::run::{End, Run};
 use crate::trace_item::TraceItem;
 use crate::value::Value;
 use crate::variables::Variables;
+use crate::write_log::WriteLog;
 use std::alloc::{AllocError, Global};
+use std::marker::Model;
 use stm_history::{Sequence, Text};
-use stm_program::{Variable, Write, last_write};
+use stm_program::{Variable, Write};
 
 /// The turns of all loops of one run, at most.
 const TURN_LIMIT: u64 = 10_000;
 
-/// What a run has come to.
+/// What a run has come to: its variables, the turns of its loops, what it emitted, saw and wrote, and the
+/// keys that it looked up.
+///
+/// A run is a row of these steps over a new session: those below, and what is computed of values between
+/// them. Where a growth is refused, a step leaves the session as it was, so that it can be taken again.
 #[derive(Drop)]
-pub(crate) struct Session {
-    /// The variables.
-    pub variables: Variables,
-    /// The turns of all loops so far.
-    pub turns: u64,
-    /// What was emitted, in order.
-    pub output: Sequence<Value>,
-    /// What each `get` and `rev` gave, in order.
-    pub trace: Sequence<TraceItem>,
-    /// Each write, in order.
-    pub writes: Sequence<Write>,
-    /// The keys that were looked up, in the order of their first look-up.
-    pub reads: Sequence<Text>,
+pub struct Session {
+    variables: Variables,
+    turns: u64,
+    output: Sequence<Value>,
+    trace: Vec<TraceItem>,
+    writes: WriteLog,
+    reads: KeySet,
+}
+
+impl Model for Session {
+    ghost use Rattle.stm_meaning.specs.Session.{Session as Progress};
+
+    ghost Value = { Progress };
+
+    ghost view = { λ s. record {
+      variables = s.variables;
+      turns = s.turns;
+      output = s.output;
+      trace = s.trace.items;
+      writes = s.writes;
+      reads = s.reads;
+    } };
+}
+
+/// What a `get` of a key that gave this value puts into the trace.
+fn get_item(key: &Text, value: &Text) -> Result<TraceItem, AllocError>
+    ensures { IfOk result (λ item. item ≡ Get key.now value.now) }
+{
+    let key = key.clone()?;
+    let value = value.clone()?;
+    Ok(TraceItem::Get { key, value })
 }
 
 impl Session {
-    /// What a run begins with.
-    #[tactic(auto, unfolding(crate::specs::Outcome::fresh))]
+    /// What a run begins with: each variable is the number 0.
+    #[tactic(auto, unfolding(crate::specs::Session::fresh))]
     pub fn new(alloc: Global) -> Result<Session, AllocError>
         ensures { IfOk result (λ s. s ≡ fresh) }
     {
@@ -47,10 +71,17 @@ impl Session {
             variables,
             turns: 0,
             output: Sequence::new(alloc),
-            trace: Sequence::new(alloc),
-            writes: Sequence::new(alloc),
-            reads: Sequence::new(alloc),
+            trace: Vec::new(alloc),
+            writes: WriteLog::new(alloc),
+            reads: KeySet::new(alloc),
         })
+    }
+
+    /// The value of a variable.
+    pub fn variable(&self, variable: Variable) -> &Value
+        ensures { result.now ≡ variable_in self.now variable }
+    {
+        self.variables.get(variable)
     }
 
     /// Gives a variable a value.
@@ -60,21 +91,27 @@ impl Session {
         self.variables.set(variable, value);
     }
 
-    /// Puts a value out.
+    /// Puts a value out. Want of memory leaves the session as it was.
     pub fn emit(&mut self, value: Value) -> Result<(), AllocError>
-        ensures { OnOk result (self.new ≡ with_output value self.old) }
+        ensures ok { OnOk result (self.new ≡ with_output value self.old) }
+        ensures err { OnErr result (self.new ≡ self.old) }
     {
-        self.output.push(value)
+        self.output.push(value)?;
+        Ok(())
     }
 
-    /// Keeps a write.
+    /// Keeps a write. Want of memory leaves the session as it was.
     pub fn write(&mut self, write: Write) -> Result<(), AllocError>
-        ensures { OnOk result (self.new ≡ with_write write self.old) }
+        ensures ok { OnOk result (self.new ≡ with_write write self.old) }
+        ensures err { OnErr result (self.new ≡ self.old) }
     {
-        self.writes.push(write)
+        self.writes.push(write)?;
+        Ok(())
     }
 
-    /// Counts a turn, and then sets the variable of its loop.
+    /// Counts a turn, and then gives the variable of its loop the turn's number.
+    ///
+    /// `TurnLimit` is answered for turn 10001 of the run, and the session is then as it was. It takes no memory.
     #[tactic(auto, unfolding(crate::specs::Outcome::begin_turn))]
     pub fn begin_turn(&mut self, variable: Variable, turn: u64) -> Result<(), Fault>
         requires { turn < 2 ^ 63 }
@@ -88,64 +125,88 @@ impl Session {
         Ok(())
     }
 
-    /// Keeps a key that was looked up, unless it is kept already.
-    fn keep_read(&mut self, key: &Text) -> Result<(), AllocError>
-        ensures { OnOk result (self.new ≡ with_read key.now self.old) }
-    {
-        if self.reads.as_slice().contains(key) {
-            return Ok(());
-        }
-        self.reads.push(key.clone()?)
-    }
-
-    /// Keeps what a `get` or a `rev` gave.
+    /// Keeps what a `get` of a written key gave.
     fn keep_item(&mut self, item: TraceItem) -> Result<(), AllocError>
-        ensures { OnOk result (self.new ≡ with_item item self.old) }
+        ensures ok { OnOk result (self.new ≡ with_item item self.old) }
+        ensures err { OnErr result (self.new ≡ self.old) }
     {
-        self.trace.push(item)
+        self.trace.push(item)?;
+        Ok(())
     }
 
-    /// Keeps a `get` of a key that gave this value, and gives the value.
-    fn gave(&mut self, alloc: Global, key: Text, value: &str) -> Result<Value, AllocError>
-        ensures value { IfOk result (λ x. x ≡ TextValue value.now) }
-        ensures kept { OnOk result (self.new ≡ with_item (Get key value.now) self.old) }
+    /// Keeps a key that was looked up, and what it gave.
+    fn keep_read(&mut self, key: &Text, item: TraceItem) -> Result<(), AllocError>
+        ensures ok { OnOk result (self.new ≡ with_item item (with_read key.now self.old)) }
+        ensures err { OnErr result (self.new ≡ self.old) }
     {
-        let given = Value::Text(Text::copy_of(alloc, value)?);
-        let value = Text::copy_of(alloc, value)?;
-        self.keep_item(TraceItem::Get { key, value })?;
-        Ok(given)
+        self.trace.reserve(1)?;
+        self.reads.insert(key)?;
+        self.trace.push_reserved(item);
+        Ok(())
     }
 
     /// What a `get` of a key gives: the last write of the key, and the look-up where there is none.
+    ///
+    /// `None` where the look-up knows nothing of the key. The session is then as it was, and want of memory
+    /// leaves it so too.
     #[tactic(auto, unfolding(crate::specs::Meaning::get_key))]
-    pub fn get<L: Lookup>(&mut self, alloc: Global, lookup: &L, key: Text) -> Result<Value, Halt>
-        ensures { Tells result self.new (get_key (L.answers lookup.now) key self.old) }
+    pub fn get<L: Lookup>(
+        &mut self,
+        alloc: Global,
+        lookup: &L,
+        key: &Text,
+    ) -> Result<Option<Value>, AllocError>
+        ensures ok { IfOk result (λ found. get_key (L.answers lookup.now) key.now self.old ≡ found_or_wanted key.now found self.new) }
+        ensures unknown { IfOk result (λ found. found ≡ None → self.new ≡ self.old) }
+        ensures err { OnErr result (self.new ≡ self.old) }
     {
-        if let Some(write) = last_write(self.writes.as_slice(), key.as_str()) {
+        if let Some(write) = self.writes.last(key.as_str()) {
             let value = Text::copy_of(alloc, write.value())?;
-            return Ok(self.gave(alloc, key, value.as_str())?);
+            self.keep_item(get_item(key, &value)?)?;
+            return Ok(Some(Value::Text(value)));
         }
-        match lookup.value(key.as_str()) {
-            Some(value) => {
-                self.keep_read(&key)?;
-                Ok(self.gave(alloc, key, value)?)
-            }
-            None => Err(Halt::Stopped(Stop::Wants(key))),
-        }
+        let Some(value) = lookup.value(key.as_str()) else {
+            return Ok(None);
+        };
+        let value = Text::copy_of(alloc, value)?;
+        self.keep_read(key, get_item(key, &value)?)?;
+        Ok(Some(Value::Text(value)))
     }
 
     /// What a `rev` of a key gives: the look-up's revision, whatever was written.
+    ///
+    /// `None` where the look-up knows nothing of the key. The session is then as it was, and want of memory
+    /// leaves it so too.
     #[tactic(auto, unfolding(crate::specs::Meaning::rev_key))]
-    pub fn rev<L: Lookup>(&mut self, lookup: &L, key: Text) -> Result<Value, Halt>
-        ensures { Tells result self.new (rev_key (L.answers lookup.now) key self.old) }
+    pub fn rev<L: Lookup>(&mut self, lookup: &L, key: &Text) -> Result<Option<Value>, AllocError>
+        ensures ok { IfOk result (λ found. rev_key (L.answers lookup.now) key.now self.old ≡ found_or_wanted key.now found self.new) }
+        ensures unknown { IfOk result (λ found. found ≡ None → self.new ≡ self.old) }
+        ensures err { OnErr result (self.new ≡ self.old) }
     {
-        match lookup.mod_rev(key.as_str()) {
-            Some(mod_rev) => {
-                self.keep_read(&key)?;
-                self.keep_item(TraceItem::Rev { key, mod_rev })?;
-                Ok(Value::Number(mod_rev as i64))
-            }
-            None => Err(Halt::Stopped(Stop::Wants(key))),
+        let Some(mod_rev) = lookup.mod_rev(key.as_str()) else {
+            return Ok(None);
+        };
+        let seen = key.clone()?;
+        self.keep_read(key, TraceItem::Rev { key: seen, mod_rev })?;
+        Ok(Some(Value::Number(mod_rev as i64)))
+    }
+
+    /// The run that came to this end. It takes no memory.
+    pub fn into_run(self, end: End) -> Run
+        ensures { result ≡ run_of end self }
+    {
+        Run {
+            end,
+            output: self.output,
+            trace: Sequence::of(self.trace),
+            writes: self.writes.into_sequence(),
+            reads: self.reads,
         }
+    }
+    /// What each `get` and `rev` gave, in order. It takes no memory.
+    pub(crate) fn into_trace(self) -> Sequence<TraceItem>
+        ensures { result ≡ self.trace }
+    {
+        Sequence::of(self.trace)
     }
 }

@@ -33,11 +33,11 @@ fn run_one<L: Lookup>(
         StmtNode::Put(key, value, lease) => {
             let key = value_of(alloc, lookup, session, key)?;
             let value = value_of(alloc, lookup, session, value)?;
-            Ok(session.write(put(key, value, *lease)?)?)
+            Ok(session.write(put(&key, &value, *lease)??)?)
         }
         StmtNode::Del(key) => {
             let key = value_of(alloc, lookup, session, key)?;
-            Ok(session.write(deletion(key)?)?)
+            Ok(session.write(deletion(&key)??)?)
         }
         StmtNode::If(condition, then_block, else_block) => {
             if is_met(alloc, lookup, session, condition)? {
@@ -47,7 +47,7 @@ fn run_one<L: Lookup>(
         }
         StmtNode::For(variable, count, limit, body) => {
             let count = value_of(alloc, lookup, session, count)?;
-            let count = turns(count, *limit)?;
+            let count = turns(&count, *limit)?;
             run_turns(alloc, lookup, session, *variable, count, body)
         }
         StmtNode::Emit(value) => {
@@ -55,7 +55,8 @@ fn run_one<L: Lookup>(
             Ok(session.emit(value)?)
         }
         StmtNode::Abort(text) => {
-            let text = wanted_text(value_of(alloc, lookup, session, text)?)?;
+            let text = value_of(alloc, lookup, session, text)?;
+            let text = wanted_text(&text)?.clone()?;
             Err(Halt::Stopped(Stop::Aborted(text)))
         }
     }

@@ -1,6 +1,6 @@
 use Rattle.std.proofs.Common.{sym, ◌∙◌}
 use Rattle.stm_meaning.specs.Meaning.{run_block}
-use Rattle.stm_meaning.proofs.Turns.{repeat-step}
+use Rattle.stm_meaning.proofs.LoopTurns.{repeat-step}
 use Rattle.stm_meaning.proofs.statements.+statements.Goals as goal
 
 pub run_turns-loop-turn-preserved : goal.run_turns-loop-turn-preserved

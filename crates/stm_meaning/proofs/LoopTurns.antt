@@ -1,6 +1,6 @@
 -- One turn of a loop.
 use Rattle.std.proofs.Common.{◌≡◌, ℕ, suc, ◌+◌, ◌-◌, ◌<◌, ap, ◌∙◌, arith}
-use Rattle.stm_meaning.specs.declared.session.Session.{Session}
+use Rattle.stm_meaning.specs.Session.{Session}
 use Rattle.stm_meaning.specs.Outcome.{Outcome, Gives, and_then, begin_turn}
 use Rattle.stm_meaning.specs.Meaning.{repeat}
 

@@ -1,0 +1,103 @@
+-- The keys of a run are not empty, and those that it read are known to its look-up and stand once.
+use Rattle.std.proofs.Common.{◌≡◌, ℕ, ◌<◌, Bool, true, false, cond, List, [], ◌∷◌, ◌++◌, length, refl, sym, ◌∙◌, ap, subst, All}
+use Rattle.std.specs.Prelude.{bytes_eq, Option, None, Some, IsSome, if◌then◌else◌, ◌||◌}
+use Rattle.std.specs.List.{IsDistinct, AllByRecursion, list_any}
+use Rattle.std.proofs.lemmas.List.Elements.{All-nil, All-push}
+use Rattle.stm_program.specs.Syntax.{Block}
+use Rattle.stm_program.specs.declared.write.Write.{Write}
+use Rattle.stm_program.proofs.WriteLemmas.{bytes_eq-flip}
+use Rattle.stm_meaning.specs.Answer.{Answer, Lookup}
+use Rattle.stm_meaning.specs.Writes.{key_of, last_write}
+use Rattle.stm_meaning.specs.Session.{Session, fresh, with_key}
+use Rattle.stm_meaning.specs.Outcome.{Outcome, Gives, Stops}
+use Rattle.stm_meaning.specs.Meaning.{get_answered, rev_answered, get_of, get_key, rev_key, answered, run_block, run_over}
+use Rattle.stm_meaning.specs.declared.stop.Stop.TheVariants.{Aborted, Faulted, Wants}
+use Rattle.stm_meaning.specs.declared.run.Run.{Run}
+use Rattle.stm_meaning.specs.declared.run.Answered.TheVariants.{Ended}
+use Rattle.stm_meaning.specs.RunKeys.{KeysAreNotEmpty, ReadsAreKnown}
+use Rattle.stm_meaning.proofs.KeepLemmas.{session_of, StepsKeep, kept_by_run}
+
+-- ---- a key more
+
+neither : (b c : Bool) → (b || c) ≡ false → (b ≡ false) × (c ≡ false)
+neither true c h = cc
+neither false c h = (refl, h)
+
+apart-push : (k key : List ℕ) (ks : List (List ℕ)) → bytes_eq key k ≡ false → AllByRecursion (λ l. bytes_eq k l ≡ false) ks → AllByRecursion (λ l. bytes_eq k l ≡ false) (ks ++ key ∷ [])
+apart-push k key [] apart h = (bytes_eq-flip k key ∙ apart, tt)
+apart-push k key (l ∷ ks) apart h = (h.0, apart-push k key ks apart h.1)
+
+distinct-push : (key : List ℕ) (ks : List (List ℕ)) → list_any (bytes_eq key) ks ≡ false → IsDistinct bytes_eq ks → IsDistinct bytes_eq (ks ++ key ∷ [])
+unfolding IsDistinct
+distinct-push key [] new h = (tt, tt)
+distinct-push key (k ∷ ks) new h =
+    let apart = neither (bytes_eq key k) (list_any (bytes_eq key) ks) new in
+    (apart-push k key ks apart.0 h.0, distinct-push key ks apart.1 h.1)
+
+module _ (Q : List ℕ → Type 0) where
+  abbrev pub AreOnce : List (List ℕ) → Type 0
+  AreOnce keys = All Q keys × IsDistinct bytes_eq keys
+
+  -- a key of which Q holds joins the keys, each once
+  with_key-once : (key : List ℕ) (keys : List (List ℕ)) → Q key → AreOnce keys → AreOnce (with_key key keys)
+  with_key-once key keys q h = by (list_any (bytes_eq key) keys) refl
+    where
+      by : (b : Bool) → list_any (bytes_eq key) keys ≡ b → AreOnce (cond b keys (keys ++ key ∷ []))
+      by true e = h
+      by false e = (All-push Q keys key h.0 q, distinct-push key keys e h.1)
+
+-- ---- the property that the steps keep
+
+module _ (look : Lookup) where
+  abbrev IsReadable : List ℕ → Type 0
+  IsReadable key = (0 < length key) × IsSome (look key)
+
+  abbrev IsRight : Session → Type 0
+  IsRight s = All (λ w. 0 < length (key_of w)) s.writes × AreOnce IsReadable s.reads
+
+  read_kept : (key : List ℕ) (s : Session) → 0 < length key → IsSome (look key) → IsRight s → AreOnce IsReadable (with_key key s.reads)
+  read_kept key s long known h = with_key-once IsReadable key s.reads (long, known) h.1
+
+  get_answered-right : (key : List ℕ) (a : Option Answer) (s : Session) → look key ≡ a → 0 < length key → IsRight s → IsRight (session_of (get_answered key a s))
+  get_answered-right key None s is long h = h
+  get_answered-right key (Some a) s is long h = (h.0, read_kept key s long (subst (λ o. IsSome o) (sym is) tt) h)
+
+  rev_answered-right : (key : List ℕ) (a : Option Answer) (s : Session) → look key ≡ a → 0 < length key → IsRight s → IsRight (session_of (rev_answered key a s))
+  rev_answered-right key None s is long h = h
+  rev_answered-right key (Some a) s is long h = (h.0, read_kept key s long (subst (λ o. IsSome o) (sym is) tt) h)
+
+  get_of-right : (key : List ℕ) (w : Option Write) (s : Session) → 0 < length key → IsRight s → IsRight (session_of (get_of look key w s))
+  get_of-right key (Some w) s long h = h
+  get_of-right key None s long h = get_answered-right key (look key) s refl long h
+
+  get-right : (key : List ℕ) (s : Session) → 0 < length key → IsRight s → IsRight (session_of (get_key look key s))
+  unfolding get_key
+  get-right key s long h = get_of-right key (last_write key s.writes) s long h
+
+  rev-right : (key : List ℕ) (s : Session) → 0 < length key → IsRight s → IsRight (session_of (rev_key look key s))
+  unfolding rev_key
+  rev-right key s long h = rev_answered-right key (look key) s refl long h
+
+  steps_right : StepsKeep look IsRight
+  steps_right = record {
+    set = λ v x s h. h;
+    turn = λ s h. h;
+    emit = λ x s h. h;
+    write = λ w s long h. (All-push (λ v. 0 < length (key_of v)) s.writes w h.0 long, h.1);
+    get = get-right;
+    rev = rev-right;
+  }
+
+  fresh_right : IsRight fresh
+  unfolding fresh, IsDistinct
+  fresh_right = (All-nil (λ w. 0 < length (key_of w)), (All-nil IsReadable, tt))
+
+  ended_right : (o : Outcome (Unit {0})) (run : Run) → answered o ≡ Ended run → IsRight (session_of o) → All (λ w. 0 < length (key_of w)) run.writes × AreOnce IsReadable run.reads
+  ended_right (Gives x s) run e h = ?
+  ended_right (Stops (Aborted t) s) run e h = ?
+  ended_right (Stops (Faulted fault) s) run e h = ?
+  ended_right (Stops (Wants key) s) run e h = cc
+
+  right : (program : Block) (run : Run) → run_over look program ≡ Ended run → All (λ w. 0 < length (key_of w)) run.writes × AreOnce IsReadable run.reads
+  unfolding run_over
+  right program run e = ended_right (run_block look program fresh) run e (kept_by_run look IsRight steps_right program fresh_right)

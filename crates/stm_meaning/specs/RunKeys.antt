@@ -1,0 +1,19 @@
+-- The keys that a run writes and reads.
+use Rattle.std.specs.Prelude.{◌≡◌, ℕ, ◌<◌, List, length, bytes_eq, IsSome, All}
+use Rattle.std.specs.List.{IsDistinct}
+use Rattle.stm_program.specs.Syntax.{Block}
+use Rattle.stm_meaning.specs.Answer.{Lookup}
+use Rattle.stm_meaning.specs.Meaning.{run_over}
+use Rattle.stm_meaning.specs.Writes.{key_of}
+use Rattle.stm_meaning.specs.declared.run.Run.{Run}
+use Rattle.stm_meaning.specs.declared.run.Answered.TheVariants.{Ended}
+
+-- no key that a run writes or reads is empty
+abbrev pub KeysAreNotEmpty : Type 0
+KeysAreNotEmpty = (look : Lookup) (program : Block) (run : Run) → run_over look program ≡ Ended run →
+    All (λ w. 0 < length (key_of w)) run.writes × All (λ key. 0 < length key) run.reads
+
+-- the look-up knows each key that a run reads, and no key stands twice among them
+abbrev pub ReadsAreKnown : Type 0
+ReadsAreKnown = (look : Lookup) (program : Block) (run : Run) → run_over look program ≡ Ended run →
+    All (λ key. IsSome (look key)) run.reads × IsDistinct bytes_eq run.reads

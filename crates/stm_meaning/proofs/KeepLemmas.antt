@@ -69,9 +69,9 @@ module _ (look : Lookup) (P : Session → Type 0) (steps : StepsKeep look P) whe
 
   keeps-evaluate : (e : Expression) → Keeps (evaluate look e)
   unfolding evaluate
-  keeps-evaluate (Text t) s h = h
-  keeps-evaluate (Number n) s h = h
-  keeps-evaluate (Variable v) s h = h
+  keeps-evaluate (Text t) = λ s h. h
+  keeps-evaluate (Number n) = λ s h. h
+  keeps-evaluate (Variable v) = λ s h. h
   keeps-evaluate (Get e) = keeps-then (evaluate look e) (λ x t. and_then (given (key_in x) t) (get_key look)) (keeps-evaluate e) (keeps-keyed (get_key look) (λ key k s. steps.get key s k))
   keeps-evaluate (Rev e) = keeps-then (evaluate look e) (λ x t. and_then (given (key_in x) t) (rev_key look)) (keeps-evaluate e) (keeps-keyed (rev_key look) (λ key k s. steps.rev key s k))
   keeps-evaluate (Arithmetic operator e f) =

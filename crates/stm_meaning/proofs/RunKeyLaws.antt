@@ -1,8 +1,8 @@
 -- The keys of a run are not empty, and those that it read are known to its look-up and stand once.
-use Rattle.std.proofs.Common.{◌≡◌, ℕ, ◌<◌, Bool, true, false, cond, List, [], ◌∷◌, ◌++◌, length, refl, sym, ◌∙◌, ap, subst, All}
-use Rattle.std.specs.Prelude.{bytes_eq, Option, None, Some, IsSome, if◌then◌else◌, ◌||◌}
+use Rattle.std.proofs.Common.{◌≡◌, ℕ, ◌<◌, Bool, true, false, cond, List, [], ◌∷◌, ◌++◌, length, refl, ◌∙◌, ap, subst, All}
+use Rattle.std.specs.Prelude.{bytes_eq, Option, None, Some, IsSome, is_some, if◌then◌else◌, ◌||◌}
 use Rattle.std.specs.List.{IsDistinct, AllByRecursion, list_any}
-use Rattle.std.proofs.lemmas.List.Elements.{All-nil, All-push}
+use Rattle.std.proofs.lemmas.List.Elements.{All-nil, All-push, All-weaker}
 use Rattle.stm_program.specs.Syntax.{Block}
 use Rattle.stm_program.specs.declared.write.Write.{Write}
 use Rattle.stm_program.proofs.WriteLemmas.{bytes_eq-flip}
@@ -10,8 +10,9 @@ use Rattle.stm_meaning.specs.Answer.{Answer, Lookup}
 use Rattle.stm_meaning.specs.Writes.{key_of, last_write}
 use Rattle.stm_meaning.specs.Session.{Session, fresh, with_key}
 use Rattle.stm_meaning.specs.Outcome.{Outcome, Gives, Stops}
-use Rattle.stm_meaning.specs.Meaning.{get_answered, rev_answered, get_of, get_key, rev_key, answered, run_block, run_over}
+use Rattle.stm_meaning.specs.Meaning.{get_answered, rev_answered, get_of, get_key, rev_key, run_of, answered, run_block, run_over}
 use Rattle.stm_meaning.specs.declared.stop.Stop.TheVariants.{Aborted, Faulted, Wants}
+use Rattle.stm_meaning.specs.declared.run.End.TheVariants.{Done, Aborted as EndAborted, Faulted as EndFaulted}
 use Rattle.stm_meaning.specs.declared.run.Run.{Run}
 use Rattle.stm_meaning.specs.declared.run.Answered.TheVariants.{Ended}
 use Rattle.stm_meaning.specs.RunKeys.{KeysAreNotEmpty, ReadsAreKnown}
@@ -52,19 +53,22 @@ module _ (look : Lookup) where
   abbrev IsReadable : List ℕ → Type 0
   IsReadable key = (0 < length key) × IsSome (look key)
 
+  abbrev AreRight : List Write → List (List ℕ) → Type 0
+  AreRight writes reads = All (λ w. 0 < length (key_of w)) writes × AreOnce IsReadable reads
+
   abbrev IsRight : Session → Type 0
-  IsRight s = All (λ w. 0 < length (key_of w)) s.writes × AreOnce IsReadable s.reads
+  IsRight s = AreRight s.writes s.reads
 
   read_kept : (key : List ℕ) (s : Session) → 0 < length key → IsSome (look key) → IsRight s → AreOnce IsReadable (with_key key s.reads)
   read_kept key s long known h = with_key-once IsReadable key s.reads (long, known) h.1
 
   get_answered-right : (key : List ℕ) (a : Option Answer) (s : Session) → look key ≡ a → 0 < length key → IsRight s → IsRight (session_of (get_answered key a s))
   get_answered-right key None s is long h = h
-  get_answered-right key (Some a) s is long h = (h.0, read_kept key s long (subst (λ o. IsSome o) (sym is) tt) h)
+  get_answered-right key (Some a) s is long h = (h.0, read_kept key s long (ap is_some is) h)
 
   rev_answered-right : (key : List ℕ) (a : Option Answer) (s : Session) → look key ≡ a → 0 < length key → IsRight s → IsRight (session_of (rev_answered key a s))
   rev_answered-right key None s is long h = h
-  rev_answered-right key (Some a) s is long h = (h.0, read_kept key s long (subst (λ o. IsSome o) (sym is) tt) h)
+  rev_answered-right key (Some a) s is long h = (h.0, read_kept key s long (ap is_some is) h)
 
   get_of-right : (key : List ℕ) (w : Option Write) (s : Session) → 0 < length key → IsRight s → IsRight (session_of (get_of look key w s))
   get_of-right key (Some w) s long h = h
@@ -89,15 +93,28 @@ module _ (look : Lookup) where
   }
 
   fresh_right : IsRight fresh
-  unfolding fresh, IsDistinct
+  unfolding fresh IsDistinct
   fresh_right = (All-nil (λ w. 0 < length (key_of w)), (All-nil IsReadable, tt))
 
-  ended_right : (o : Outcome (Unit {0})) (run : Run) → answered o ≡ Ended run → IsRight (session_of o) → All (λ w. 0 < length (key_of w)) run.writes × AreOnce IsReadable run.reads
-  ended_right (Gives x s) run e h = ?
-  ended_right (Stops (Aborted t) s) run e h = ?
-  ended_right (Stops (Faulted fault) s) run e h = ?
+  ended_right : (o : Outcome (Unit {0})) (run : Run) → answered o ≡ Ended run → IsRight (session_of o) → AreRight run.writes run.reads
+  ended_right (Gives x s) run e h = 
+      let same : run_of Done s ≡ run = cc in subst (λ r. AreRight r.writes r.reads) same h
+  ended_right (Stops (Aborted t) s) run e h = 
+      let same : run_of (EndAborted t) s ≡ run = cc in subst (λ r. AreRight r.writes r.reads) same h
+  ended_right (Stops (Faulted fault) s) run e h = 
+      let same : run_of (EndFaulted fault) s ≡ run = cc in subst (λ r. AreRight r.writes r.reads) same h
   ended_right (Stops (Wants key) s) run e h = cc
 
-  right : (program : Block) (run : Run) → run_over look program ≡ Ended run → All (λ w. 0 < length (key_of w)) run.writes × AreOnce IsReadable run.reads
+  right : (program : Block) (run : Run) → run_over look program ≡ Ended run → AreRight run.writes run.reads
   unfolding run_over
   right program run e = ended_right (run_block look program fresh) run e (kept_by_run look IsRight steps_right program fresh_right)
+
+pub keys_are_not_empty : KeysAreNotEmpty
+keys_are_not_empty look program run e =
+    let h = right look program run e in
+    (h.0, All-weaker (IsReadable look) (λ key. 0 < length key) (λ key r. r.0) run.reads h.1.0)
+
+pub reads_are_known : ReadsAreKnown
+reads_are_known look program run e =
+    let h = right look program run e in
+    (All-weaker (IsReadable look) (λ key. IsSome (look key)) (λ key r. r.1) run.reads h.1.0, h.1.1)

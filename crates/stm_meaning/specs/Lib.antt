@@ -10,3 +10,6 @@ pub mod States
 pub mod Places
 pub mod Laws
 pub mod Faults
+pub mod RunKeys
+pub mod Leaves
+pub mod EffectLaw

@@ -1,0 +1,94 @@
+-- What the steps of a run come to.
+use Rattle.std.proofs.Common.{◌≡◌, ℕ, suc, ◌+◌, ◌<◌, ◌^◌, Bool, true, false, cond, List, [], ◌∷◌, ◌++◌, length, get_or, refl, sym, ◌∙◌, ap, subst, arith}
+use Rattle.std.specs.Prelude.{Option, None, Some, IsSome, is_some, Result, Ok, Err, ℤ, pos, negsuc, neg_ℤ, if◌then◌else◌, ◌==◌, nat_lt, ◌&&◌}
+use Rattle.std.specs.Fmt.{decimal, signed_decimal}
+use Rattle.std.specs.Str.{all_ascii_digits}
+use Rattle.std.specs.Str.Parse.{digits_value}
+use Rattle.std.proofs.lemmas.Fmt.{digits_decimal, digits_value-decimal, decimal_nonempty}
+use Rattle.std.proofs.lemmas.Bool.Decides.{nat_tests}
+use Rattle.std.proofs.lemmas.Grind.{common_steps}
+use Rattle.std.proofs.lemmas.Str.Parse.{IsNumeralModel, numerals_by_value, tells_all_ascii_digits}
+use Rattle.stm_program.specs.declared.write.Write.{Write}
+use Rattle.stm_meaning.specs.declared.value.Value.TheVariants.{Text, Number}
+use Rattle.stm_meaning.specs.declared.fault.Fault.{Fault}
+use Rattle.stm_meaning.specs.declared.fault.Fault.TheVariants.{NotANumber}
+use Rattle.stm_meaning.specs.declared.trace_item.TraceItem.TheVariants.{Get, Rev}
+use Rattle.stm_meaning.specs.Answer.{Answer, Lookup}
+use Rattle.stm_meaning.specs.Values.{key_in, put_of, del_of, text_of, num_of, as_number, is_in_range, is_numeral, number_or, signed_number, written_number}
+use Rattle.stm_meaning.specs.Writes.{value_of, last_write, is_written}
+use Rattle.stm_meaning.specs.Session.{Session, with_key}
+use Rattle.stm_meaning.specs.Outcome.{Gives}
+use Rattle.stm_meaning.specs.Meaning.{get_answered, get_of, get_key, rev_answered, rev_key}
+use Rattle.stm_meaning.specs.Laws.{KnowsEachKey}
+use Rattle.stm_meaning.specs.Leaves.{value_in, mod_rev_in, value_after, trace_after_get, reads_after_get, trace_after_rev, reads_after_rev, GetGives, RevGives, TextsAreKeys, NumbersAreReadBack}
+use Rattle.std.specs.Option.{option_map_or}
+
+-- ---- look-ups
+
+get_of-known : (look : Lookup) (key : List ℕ) (w : Option Write) (a : Option Answer) (s : Session) → look key ≡ a → IsSome a →
+    get_of look key w s ≡ Gives (Text (option_map_or value_of w (option_map_or (λ a. a.value) a [])))
+        (record s { trace = s.trace ++ Get key (option_map_or value_of w (option_map_or (λ a. a.value) a [])) ∷ []; reads = if is_some w then s.reads else with_key key s.reads })
+get_of-known look key (Some w) a s is known = refl
+get_of-known look key None (Some a) s is known = ap (λ o. get_answered key o s) is
+get_of-known look key None None s is known = cc
+
+pub get_gives : GetGives
+unfolding get_key trace_after_get reads_after_get
+get_gives look knows key s = get_of-known look key (last_write key s.writes) (look key) s refl (knows key)
+
+rev_answered-known : (key : List ℕ) (a : Option Answer) (s : Session) → IsSome a →
+    rev_answered key a s ≡ Gives (Number (pos (option_map_or (λ a. a.mod_rev) a 0))) (record s { trace = s.trace ++ Rev key (option_map_or (λ a. a.mod_rev) a 0) ∷ []; reads = with_key key s.reads })
+rev_answered-known key (Some a) s known = refl
+rev_answered-known key None s known = cc
+
+pub rev_gives : RevGives
+unfolding rev_key trace_after_rev reads_after_rev
+rev_gives look knows key s = rev_answered-known key (look key) s (knows key)
+
+-- ---- keys
+
+pub texts_are_keys : TextsAreKeys
+unfolding key_in put_of del_of
+texts_are_keys [] value lease long = absurd (omega arith)
+texts_are_keys (c ∷ cs) value lease long = (refl, refl, refl)
+
+-- ---- numbers
+
+abbrev own : IsNumeralModel (λ ds. all_ascii_digits ds ≡ true) (digits_value 10)
+own = numerals_by_value (λ ds. all_ascii_digits ds ≡ true) tells_all_ascii_digits
+
+-- the text of a natural number is a numeral
+numeral : (n : ℕ) → n < 2 ^ 64 → is_numeral (decimal n) ≡ true
+numeral n small =
+    let digits : all_ascii_digits (decimal n) ≡ true = digits_decimal own n small in
+    let long : 0 < length (decimal n) = decimal_nonempty n small in
+    grind (arith, common_steps)
+
+read_back : (sign : ℤ → ℤ) (n : ℕ) (z : ℤ) → n < 2 ^ 64 → sign (pos n) ≡ z → is_in_range z ≡ true → signed_number sign (decimal n) ≡ Ok z
+read_back sign n z small signed fits =
+    ap (λ b. if b then number_or NotANumber (sign (pos (digits_value 10 (decimal n)))) else Err NotANumber) (numeral n small)
+    ∙ ap (λ (m : ℕ). number_or NotANumber (sign (pos m))) (digits_value-decimal own n small)
+    ∙ ap (λ y. number_or NotANumber y) signed
+    ∙ ap (λ b. if b then Ok z else Err NotANumber) fits
+
+-- a text of digits has no sign
+no_sign : (c : ℕ) (cs : List ℕ) → all_ascii_digits (c ∷ cs) ≡ true → (c == 45) ≡ false
+no_sign c cs digits = grind (arith, nat_tests, common_steps)
+
+unsigned : (ds : List ℕ) → 0 < length ds → all_ascii_digits ds ≡ true → written_number ds ≡ signed_number (λ z. z) ds
+unfolding written_number
+unsigned [] long digits = absurd (omega arith)
+unsigned (c ∷ cs) long digits = ap (λ b. if b then signed_number neg_ℤ cs else signed_number (λ z. z) (c ∷ cs)) (no_sign c cs digits)
+
+written : (z : ℤ) → is_in_range z ≡ true → written_number (signed_decimal z) ≡ Ok z
+unfolding written_number
+written (pos n) fits =
+    let small : n < 2 ^ 64 = grind (arith, common_steps) in
+    unsigned (decimal n) (decimal_nonempty n small) (digits_decimal own n small) ∙ read_back (λ z. z) n (pos n) small refl fits
+written (negsuc n) fits =
+    let small : suc n < 2 ^ 64 = grind (arith, common_steps) in
+    read_back neg_ℤ (suc n) (negsuc n) small refl fits
+
+pub numbers_are_read_back : NumbersAreReadBack
+unfolding text_of num_of
+numbers_are_read_back z fits = (refl, ap as_number (written z fits))

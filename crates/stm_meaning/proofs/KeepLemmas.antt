@@ -1,5 +1,5 @@
 -- A property of what a run has come to, which each of its steps keeps, holds at its end.
-use Rattle.std.proofs.Common.{◌≡◌, ℕ, suc, zero, ◌<◌, Bool, true, false, not, List, [], ◌∷◌, length, arith}
+use Rattle.std.proofs.Common.{ℕ, suc, zero, ◌<◌, Bool, true, false, not, List, [], ◌∷◌, length, arith}
 use Rattle.std.specs.Prelude.{pos, nat_lt, if◌then◌else◌, Result, Ok, Err}
 use Rattle.stm_program.specs.Syntax.{Expression, Condition, Statement, Block, Text, Number, Variable, Get, Rev, Arithmetic, Cat, TextOf, NumOf, Equal, Less, Not, And, Or, Set, Put, Del, If, For, Emit, Abort, End, Then}
 use Rattle.stm_program.specs.declared.write.Write.{Write}

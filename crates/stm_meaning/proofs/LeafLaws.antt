@@ -1,6 +1,6 @@
 -- What the steps of a run come to.
-use Rattle.std.proofs.Common.{◌≡◌, ℕ, suc, ◌+◌, ◌<◌, ◌^◌, Bool, true, false, cond, List, [], ◌∷◌, ◌++◌, length, get_or, refl, sym, ◌∙◌, ap, subst, arith}
-use Rattle.std.specs.Prelude.{Option, None, Some, IsSome, is_some, Result, Ok, Err, ℤ, pos, negsuc, neg_ℤ, if◌then◌else◌, ◌==◌, nat_lt, ◌&&◌}
+use Rattle.std.proofs.Common.{◌≡◌, ℕ, suc, ◌<◌, ◌^◌, true, false, List, [], ◌∷◌, ◌++◌, length, refl, ◌∙◌, ap, arith}
+use Rattle.std.specs.Prelude.{Option, None, Some, IsSome, is_some, Ok, Err, ℤ, pos, negsuc, neg_ℤ, if◌then◌else◌, ◌==◌}
 use Rattle.std.specs.Fmt.{decimal, signed_decimal}
 use Rattle.std.specs.Str.{all_ascii_digits}
 use Rattle.std.specs.Str.Parse.{digits_value}
@@ -10,24 +10,22 @@ use Rattle.std.proofs.lemmas.Grind.{common_steps}
 use Rattle.std.proofs.lemmas.Str.Parse.{IsNumeralModel, numerals_by_value, tells_all_ascii_digits}
 use Rattle.stm_program.specs.declared.write.Write.{Write}
 use Rattle.stm_meaning.specs.declared.value.Value.TheVariants.{Text, Number}
-use Rattle.stm_meaning.specs.declared.fault.Fault.{Fault}
 use Rattle.stm_meaning.specs.declared.fault.Fault.TheVariants.{NotANumber}
 use Rattle.stm_meaning.specs.declared.trace_item.TraceItem.TheVariants.{Get, Rev}
 use Rattle.stm_meaning.specs.Answer.{Answer, Lookup}
 use Rattle.stm_meaning.specs.Values.{key_in, put_of, del_of, text_of, num_of, as_number, is_in_range, is_numeral, number_or, signed_number, written_number}
-use Rattle.stm_meaning.specs.Writes.{value_of, last_write, is_written}
+use Rattle.stm_meaning.specs.Writes.{value_of, last_write}
 use Rattle.stm_meaning.specs.Session.{Session, with_key}
 use Rattle.stm_meaning.specs.Outcome.{Gives}
 use Rattle.stm_meaning.specs.Meaning.{get_answered, get_of, get_key, rev_answered, rev_key}
-use Rattle.stm_meaning.specs.Laws.{KnowsEachKey}
-use Rattle.stm_meaning.specs.Leaves.{value_in, mod_rev_in, value_after, trace_after_get, reads_after_get, trace_after_rev, reads_after_rev, GetGives, RevGives, TextsAreKeys, NumbersAreReadBack}
+use Rattle.stm_meaning.specs.Leaves.{trace_after_get, reads_after_get, trace_after_rev, reads_after_rev, GetGives, RevGives, TextsAreKeys, NumbersAreReadBack}
 use Rattle.std.specs.Option.{option_map_or}
 
 -- ---- look-ups
 
 get_of-known : (look : Lookup) (key : List ℕ) (w : Option Write) (a : Option Answer) (s : Session) → look key ≡ a → IsSome a →
     get_of look key w s ≡ Gives (Text (option_map_or value_of w (option_map_or (λ a. a.value) a [])))
-        (record s { trace = s.trace ++ Get key (option_map_or value_of w (option_map_or (λ a. a.value) a [])) ∷ []; reads = if is_some w then s.reads else with_key key s.reads })
+    (record s { trace = s.trace ++ Get key (option_map_or value_of w (option_map_or (λ a. a.value) a [])) ∷ []; reads = if is_some w then s.reads else with_key key s.reads })
 get_of-known look key (Some w) a s is known = refl
 get_of-known look key None (Some a) s is known = ap (λ o. get_answered key o s) is
 get_of-known look key None None s is known = cc

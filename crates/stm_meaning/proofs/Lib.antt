@@ -5,8 +5,7 @@ pub mod Entries
 pub mod RunLaws
 pub mod LoopTurns
 pub mod PlaceLemmas
-pub mod LoopTurns
-pub mod PlaceLemmas
 pub mod KeepLemmas
 pub mod RunKeyLaws
 pub mod LeafLaws
+pub mod EffectLemmas

@@ -1,6 +1,6 @@
 -- The keys of a run are not empty, and those that it read are known to its look-up and stand once.
 use Rattle.std.proofs.Common.{◌≡◌, ℕ, ◌<◌, Bool, true, false, cond, List, [], ◌∷◌, ◌++◌, length, refl, ◌∙◌, ap, subst, All}
-use Rattle.std.specs.Prelude.{bytes_eq, Option, None, Some, IsSome, is_some, if◌then◌else◌, ◌||◌}
+use Rattle.std.specs.Prelude.{bytes_eq, Option, None, Some, IsSome, is_some, ◌||◌}
 use Rattle.std.specs.List.{IsDistinct, AllByRecursion, list_any}
 use Rattle.std.proofs.lemmas.List.Elements.{All-nil, All-push, All-weaker}
 use Rattle.stm_program.specs.Syntax.{Block}
@@ -97,11 +97,11 @@ module _ (look : Lookup) where
   fresh_right = (All-nil (λ w. 0 < length (key_of w)), (All-nil IsReadable, tt))
 
   ended_right : (o : Outcome (Unit {0})) (run : Run) → answered o ≡ Ended run → IsRight (session_of o) → AreRight run.writes run.reads
-  ended_right (Gives x s) run e h = 
+  ended_right (Gives x s) run e h =
       let same : run_of Done s ≡ run = cc in subst (λ r. AreRight r.writes r.reads) same h
-  ended_right (Stops (Aborted t) s) run e h = 
+  ended_right (Stops (Aborted t) s) run e h =
       let same : run_of (EndAborted t) s ≡ run = cc in subst (λ r. AreRight r.writes r.reads) same h
-  ended_right (Stops (Faulted fault) s) run e h = 
+  ended_right (Stops (Faulted fault) s) run e h =
       let same : run_of (EndFaulted fault) s ≡ run = cc in subst (λ r. AreRight r.writes r.reads) same h
   ended_right (Stops (Wants key) s) run e h = cc
 

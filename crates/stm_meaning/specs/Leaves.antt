@@ -1,6 +1,6 @@
 -- What the steps of a run come to, where its keys are not empty and the look-up knows them. The run of a concrete program is computed by
 -- these, one after another, with the steps themselves left closed.
-use Rattle.std.specs.Prelude.{◌≡◌, ℕ, ◌<◌, true, List, [], ◌∷◌, ◌++◌, length, ℤ, pos, Option, None, Some, Ok, if◌then◌else◌}
+use Rattle.std.specs.Prelude.{◌≡◌, ℕ, ◌<◌, true, List, [], ◌∷◌, ◌++◌, length, ℤ, pos, Ok, if◌then◌else◌}
 use Rattle.std.specs.Option.{option_map_or}
 use Rattle.std.specs.Fmt.{signed_decimal}
 use Rattle.stm_program.specs.declared.write.Write.{Write}
@@ -8,7 +8,7 @@ use Rattle.stm_program.specs.declared.write.Write.TheVariants.{Put, Del}
 use Rattle.stm_meaning.specs.declared.value.Value.TheVariants.{Text, Number}
 use Rattle.stm_meaning.specs.declared.trace_item.TraceItem.{TraceItem}
 use Rattle.stm_meaning.specs.declared.trace_item.TraceItem.TheVariants.{Get, Rev}
-use Rattle.stm_meaning.specs.Answer.{Answer, Lookup}
+use Rattle.stm_meaning.specs.Answer.{Lookup}
 use Rattle.stm_meaning.specs.Values.{key_in, put_of, del_of, text_of, num_of, is_in_range}
 use Rattle.stm_meaning.specs.Writes.{value_of, last_write, is_written}
 use Rattle.stm_meaning.specs.Session.{Session, with_key}

@@ -1,5 +1,5 @@
 -- The keys that a run writes and reads.
-use Rattle.std.specs.Prelude.{◌≡◌, ℕ, ◌<◌, List, length, bytes_eq, IsSome, All}
+use Rattle.std.specs.Prelude.{◌≡◌, ◌<◌, length, bytes_eq, IsSome, All}
 use Rattle.std.specs.List.{IsDistinct}
 use Rattle.stm_program.specs.Syntax.{Block}
 use Rattle.stm_meaning.specs.Answer.{Lookup}

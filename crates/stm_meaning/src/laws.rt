@@ -1,6 +1,7 @@
 //! Laws of runs. Each stands on a function without a body.
 ghost use Rattle.stm_meaning.specs.Laws.{AnswersGiveTheRun, WholeLookupsEnd, WantedKeysAreUnknown};
 ghost use Rattle.stm_meaning.specs.RunKeys.{KeysAreNotEmpty, ReadsAreKnown};
+ghost use Rattle.stm_meaning.specs.EffectLaw.{EffectLeavesLastWrites};
 ghost use Rattle.stm_meaning.specs.Leaves.{GetGives, RevGives, TextsAreKeys, NumbersAreReadBack};
 
 /// A run on recorded answers, and the run of the same program on any look-up that these answers agree with
@@ -30,6 +31,12 @@ pub fn keys_are_not_empty()
 /// The look-up of a run knows each key that the run reads, and no key stands twice among them.
 pub fn reads_are_known()
     ensures { ReadsAreKnown }
+{}
+
+/// The effect of writes leaves of each key what its last write leaves: its last write of the key is the key's
+/// last write, or nothing where that one deletes an absent key.
+pub fn effect_leaves_last_writes()
+    ensures { EffectLeavesLastWrites }
 {}
 
 /// Over a look-up that knows every key, a `get` gives the key's value after the run's writes.

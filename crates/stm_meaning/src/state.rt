@@ -1,5 +1,5 @@
 //! A state that programs run on.
-ghost use Rattle.std.specs.Prelude.{◌≡◌, ◌<◌, ◌≤◌, [], length, slice_get, Some, IfSome, IfOk, IfErr, OnOk, OnErr};
+ghost use Rattle.std.specs.Prelude.{◌≡◌, ◌<◌, ◌≤◌, ℕ, List, [], length, bytes_eq, if◌then◌else◌, slice_get, Some, IfSome, IfOk, IfErr, OnOk, OnErr};
 ghost use Rattle.std.specs.Option.{option_copied};
 
 use crate::lookup::Lookup;
@@ -77,11 +77,13 @@ impl State {
         }
     }
 
-    /// Puts a key with a value and a modification revision, in place of what stood under the key. Want of
-    /// memory leaves the state as it was.
+    /// Puts a key with a value and a modification revision, in place of what stood under the key. What stands
+    /// under every other key stays. Want of memory leaves the state as it was.
     pub fn insert(&mut self, key: Text, value: Text, mod_rev: u64) -> Result<(), AllocError>
         requires { mod_rev ≤ 9223372036854775807 }
         ensures ok { OnOk result (self.new ≡ with_entry (record { key = key; value = value; mod_rev = mod_rev }) self.old) }
+        ensures entry { OnOk result ((other : List ℕ) → find_entry other self.new
+            ≡ (if bytes_eq key other then Some (record { key = key; value = value; mod_rev = mod_rev }) else find_entry other self.old)) }
         ensures err { OnErr result (self.new ≡ self.old) }
     {
         let place = self.search(key.as_str());

@@ -1,8 +1,8 @@
 use Rattle.std.proofs.Common.{◌≡◌, subst, sym, ap, ◌∙◌, set}
-use Rattle.stm_meaning.specs.States.{with_entry, IsAscending, AreInRange}
+use Rattle.stm_meaning.specs.States.{find_entry, with_entry, IsAscending, AreInRange}
 use Rattle.stm_meaning.specs.Places.{IsAt, IsGapFor}
 use Rattle.stm_meaning.specs.declared.state.StateEntry.{StateEntry}
-use Rattle.stm_meaning.proofs.Entries.{with_entry-at, with_entry-gap, with_entry-ascending, with_entry-in_range}
+use Rattle.stm_meaning.proofs.Entries.{with_entry-at, with_entry-gap, with_entry-ascending, with_entry-in_range, find_entry-with_entry}
 use Rattle.stm_meaning.proofs.state.State.insert.Goals as goal
 
 -- the entry in place of the one that has its key
@@ -23,6 +23,11 @@ returns-in-Ok-clause-ok c =
     let entry : StateEntry = record { key = c.args.key; value = c.args.value; mod_rev = c.args.mod_rev } in
     replaced c ∙ ap (λ l. with_entry entry l) c.self.view_is
 
+pub returns-in-Ok-clause-entry : goal.returns-in-Ok-clause-entry
+returns-in-Ok-clause-entry c = λ other.
+    let entry : StateEntry = record { key = c.args.key; value = c.args.value; mod_rev = c.args.mod_rev } in
+    ap (λ l. find_entry other l) (returns-in-Ok-clause-ok c) ∙ find_entry-with_entry other entry c.args.self.now
+
 -- the entry in the gap where its key goes
 inserted : (c : goal.In_ok-insert-in-Err) → let entry : StateEntry = record { key = c.args.key; value = c.args.value; mod_rev = c.args.mod_rev } in c.insert.new.self.items ≡ with_entry entry c.self.inside.entries.items
 inserted c =
@@ -40,3 +45,8 @@ pub returns-in_ok-insert-in-Err-clause-ok : goal.returns-in_ok-insert-in-Err-cla
 returns-in_ok-insert-in-Err-clause-ok c =
     let entry : StateEntry = record { key = c.args.key; value = c.args.value; mod_rev = c.args.mod_rev } in
     inserted c ∙ ap (λ l. with_entry entry l) c.self.view_is
+
+pub returns-in_ok-insert-in-Err-clause-entry : goal.returns-in_ok-insert-in-Err-clause-entry
+returns-in_ok-insert-in-Err-clause-entry c = λ other.
+    let entry : StateEntry = record { key = c.args.key; value = c.args.value; mod_rev = c.args.mod_rev } in
+    ap (λ l. find_entry other l) (returns-in_ok-insert-in-Err-clause-ok c) ∙ find_entry-with_entry other entry c.args.self.now

@@ -1,13 +1,12 @@
 -- Bytes that are JSON, and bytes that are not.
-use Rattle.std.proofs.Common.{◌≡◌, ℕ, ◌≤◌, List, length, Bool, true, false, Option, Some, None, refl, ◌∙◌, IsUtf8, arith}
+use Rattle.std.proofs.Common.{◌≡◌, ℕ, ◌≤◌, List, length, Bool, true, false, Some, None, refl, ◌∙◌, IsUtf8, arith}
 use Rattle.std.specs.Str.{is_utf8}
 use Rattle.std.proofs.lemmas.Str.{IsUtf8-from_is_utf8, is_utf8-from_IsUtf8}
 use Rattle.std.proofs.lemmas.Bool.Decides.{nat_tests}
 use Rattle.serde_json.specs.Data.{Data}
 use Rattle.serde_json.specs.Read.{read}
 use Rattle.stm_json.specs.declared.cause.Cause.TheVariants.{NotJson}
-use Rattle.stm_texts.specs.declared.scenario.Scenario.{Scenario}
-use Rattle.stm_json.specs.Outcome.{Outcome, bad}
+use Rattle.stm_json.specs.Outcome.{bad}
 use Rattle.stm_texts.specs.Reading.{data_of, scenario_of, scenario_read, scenario_in}
 
 pub scenario_in-short : (bytes : List ℕ) → length bytes ≤ 16777216 → scenario_in bytes ≡ scenario_read (data_of bytes)

@@ -1,4 +1,4 @@
-use Rattle.std.proofs.Common.{◌≡◌, ◌≤◌, length, arith, IsTrue}
+use Rattle.std.proofs.Common.{◌≤◌, length, arith, IsTrue}
 use Rattle.serde_json.specs.View.{view}
 use Rattle.stm_texts.proofs.ScenarioLemmas.{scenario_in-json, scenario_in-other}
 use Rattle.stm_texts.proofs.reading.read_scenario.Goals as goal

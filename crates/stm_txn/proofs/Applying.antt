@@ -1,6 +1,7 @@
 -- What transactions of writes and of reads come to.
 use Rattle.std.proofs.Common.{◌≡◌, ℕ, ◌+◌, ◌<◌, zero, suc, Bool, true, false, cond, List, [], ◌∷◌, ◌++◌, length, map, Option, Some, None, refl, sym, ◌∙◌}
 use Rattle.std.proofs.Common.{ap, subst, arith}
+use Rattle.std.specs.Option.{option_or}
 use Rattle.std.specs.Prelude.{bytes_eq, nat_eq, ◌||◌, ◌&&◌, ◌↔◌, not, Result, Ok, Err, slice_get}
 use Rattle.std.specs.List.{list_any, list_all}
 use Rattle.std.specs.Ordering.{nat_cmp, is_eq, is_lt, MatchOrdering}
@@ -27,19 +28,25 @@ use Rattle.stm_txn.specs.declared.refusal.Refusal.TheVariants.{LeaseNotFound, To
 use Rattle.stm_txn.specs.Operations.{key_of_op, clash}
 use Rattle.stm_txn.specs.Compares.{holds, first_failed}
 use Rattle.stm_txn.specs.Checks.{has_too_many, is_empty_key, has_empty_key, has_clash, fault_of}
-use Rattle.stm_txn.specs.Branches.{deletion_of, count_of, with_change_made, changes_after, answers_after, first_refusal}
+use Rattle.stm_txn.specs.Branches.{deletion_of, count_of}
+use Rattle.stm_txn.specs.LookUps.{with_copied, changes_copied, answers_copied}
 use Rattle.stm_txn.specs.Branches.{branch_refusal}
 use Rattle.stm_txn.specs.Effect.{op_of}
 use Rattle.stm_txn.specs.Outcome.{Done, chosen, with_changes, is_used_up, answer_of, finished, unless, branch_outcome, outcome}
 use Rattle.stm_txn.specs.declared.answer.TxnAnswer.{TxnAnswer}
 use Rattle.stm_leases.specs.Live.{is_live_in}
-use Rattle.stm_txn.specs.Standing.{Standing, Step, step_of, transacted}
+use Rattle.stm_txn.specs.Standing.{Standing, Step, IsRefusalOf, ComesTo, with_history, step_of, transacted}
+use Rattle.std.specs.Prelude.{IfOk, IfErr}
 use Rattle.std.specs.Prelude.{IfSome}
 use Rattle.stm_txn.specs.Commits.{is_on_dead_lease, write_answer, effective, Read, read_op, read_now, AreReached, AreNamed, shown}
 use Rattle.stm_txn.specs.Commits.{read_out, reads_now}
 use Rattle.stm_txn.specs.Laws.{WritesApply, FailedCompareReads, ReadsChangeNothing, NumberAloneIsWrong, ModCompares, NoneFailed, FailedHasItsPlace}
 use Rattle.stm_txn.specs.Laws.{HistoryGrows}
-use Rattle.stm_txn.proofs.Branching.{branch_is_effect, changes_are_distinct, apart_case, apart_back, all_absent, absent_push}
+use Rattle.stm_txn.proofs.Folding.{changes_agree, by_look_up}
+use Rattle.stm_txn.specs.Branches.{begun, answers_after, changes_of_branch}
+use Rattle.stm_txn.specs.LookUps.{outcome_copied}
+use Rattle.stm_txn.specs.Effect.{BranchIsEffect}
+use Rattle.stm_txn.proofs.Branching.{effect_copied, changes_are_distinct, apart_case, apart_back, all_absent, absent_push}
 
 -- the outcome, where the whole transaction has no fault
 judged : (h : History) (is_live : ℕ → Bool) (txn : Txn) (failed : Option FailedCompare) → fault_of txn ≡ None →
@@ -52,16 +59,16 @@ judged h is_live txn failed whole first =
 -- a branch by its refusal, its changes and its answers
 by_parts : (h : History) (is_live : ℕ → Bool) (failed : Option FailedCompare) (ops : List Op) (refusal : Option Refusal) (changes : List Change)
     (answers : List OpAnswer) →
-    branch_refusal (now h) is_live ops ≡ refusal → changes_after h [] ops ≡ changes → answers_after h [] ops ≡ answers →
-    branch_outcome h is_live failed ops ≡ unless refusal (finished h failed changes answers)
+    branch_refusal (now h) is_live ops ≡ refusal → changes_copied h [] ops ≡ changes → answers_copied h [] ops ≡ answers →
+    outcome_copied h is_live failed ops ≡ unless refusal (finished h failed changes answers)
 by_parts h is_live failed ops refusal changes answers refused changed answered =
-    ap (λ o. unless o (finished h failed (changes_after h [] ops) (answers_after h [] ops))) refused
-    ∙ ap (λ cs. unless refusal (finished h failed cs (answers_after h [] ops))) changed
+    ap (λ o. unless o (finished h failed (changes_copied h [] ops) (answers_copied h [] ops))) refused
+    ∙ ap (λ cs. unless refusal (finished h failed cs (answers_copied h [] ops))) changed
     ∙ ap (λ l. unless refusal (finished h failed changes l)) answered
 
 -- Writes: a put on a dead lease is their only refusal.
 dead_case : (lives any : Bool) (rest : Option Refusal) → rest ≡ cond any (Some LeaseNotFound) None →
-    first_refusal (cond lives None (Some LeaseNotFound)) rest ≡ cond (not lives || any) (Some LeaseNotFound) None
+    option_or (cond lives None (Some LeaseNotFound)) rest ≡ cond (not lives || any) (Some LeaseNotFound) None
 dead_case true any rest is = is
 dead_case false any rest is = refl
 
@@ -74,16 +81,16 @@ dead_refusal counter is_live (PutChange key value lease ∷ ws) =
 dead_refusal counter is_live (DelChange key ∷ ws) = dead_refusal counter is_live ws
 
 answers_on : (h : History) (done ws : List Change) → HasDistinctKeys ws → all_absent done ws →
-    answers_after h done (map op_of ws) ≡ map (write_answer (key_now h)) ws
+    answers_copied h done (map op_of ws) ≡ map (write_answer (key_now h)) ws
 answers_on h done [] distinct absent = refl
 answers_on h done (PutChange key value lease ∷ ws) distinct absent =
     ap (λ l. PutAnswer ∷ l) (answers_on h (done ++ PutChange key value lease ∷ []) ws distinct.1
     (absent_push done (PutChange key value lease) ws distinct.0 absent.1))
 answers_on h done (DelChange key ∷ ws) distinct absent =
     ap (λ o. DelAnswer (count_of (deletion_of key (after_change (now h + 1) o (key_now h key))))
-    ∷ answers_after h (with_change_made done (deletion_of key (after_change (now h + 1) o (key_now h key)))) (map op_of ws)) absent.0
-    ∙ elim (key_now h key) as (λ s. ◌≡◌ {A = List OpAnswer} (DelAnswer (count_of (deletion_of key s)) ∷ answers_after h
-    (with_change_made done (deletion_of key s)) (map op_of ws))
+    ∷ answers_copied h (with_copied done (deletion_of key (after_change (now h + 1) o (key_now h key)))) (map op_of ws)) absent.0
+    ∙ elim (key_now h key) as (λ s. ◌≡◌ {A = List OpAnswer} (DelAnswer (count_of (deletion_of key s)) ∷ answers_copied h
+    (with_copied done (deletion_of key s)) (map op_of ws))
     (DelAnswer (count_of (deletion_of key s)) ∷ map (write_answer (key_now h)) ws)) [
       | None ↦ ap (λ l. DelAnswer 0 ∷ l) (answers_on h done ws distinct.1 absent.1)
       | Some s ↦ ap (λ l. DelAnswer 1 ∷ l)
@@ -94,27 +101,48 @@ nothing_done : (ws : List Change) → all_absent [] ws
 nothing_done [] = tt
 nothing_done (w ∷ ws) = (refl, nothing_done ws)
 
+write_apart : (w later : Change) → bytes_eq (key_of later) (key_of w) ≡ false → clash (op_of w) (op_of later) ≡ false
+write_apart (PutChange key value lease) (PutChange k v l) apart = apart_back k key apart
+write_apart (PutChange key value lease) (DelChange k) apart = apart_back k key apart
+write_apart (DelChange key) (PutChange k v l) apart = apart_back k key apart
+write_apart (DelChange key) (DelChange k) apart = refl
+
+none_clash : (w : Change) (ws : List Change) → change_of (key_of w) ws ≡ None → list_any (clash (op_of w)) (map op_of ws) ≡ false
+none_clash w [] absent = refl
+none_clash w (x ∷ xs) absent =
+    let split : (bytes_eq (key_of x) (key_of w) ≡ false) × (change_of (key_of w) xs ≡ None) =
+    apart_case (bytes_eq (key_of x) (key_of w)) x (change_of (key_of w) xs) absent in
+    ap (λ b. b || list_any (clash (op_of w)) (map op_of xs)) (write_apart w x split.0) ∙ none_clash w xs split.1
+
+writes_apart : (ws : List Change) → HasDistinctKeys ws → has_clash (map op_of ws) ≡ false
+writes_apart [] distinct = refl
+writes_apart (w ∷ ws) distinct = ap (λ b. b || has_clash (map op_of ws)) (none_clash w ws distinct.0) ∙ writes_apart ws distinct.1
+
 unless_dead : (dead : Bool) (next : Result Done Refusal) → unless (cond dead (Some LeaseNotFound) None) next ≡ cond dead (Err LeaseNotFound) next
 unless_dead true next = refl
 unless_dead false next = refl
+
+pub branch_is_effect : BranchIsEffect
+branch_is_effect h ws distinct = changes_agree h (map op_of ws) (writes_apart ws distinct) ∙ effect_copied h ws distinct
 
 pub writes_apply : WritesApply
 writes_apply h is_live txn ws is distinct whole first =
     judged h is_live txn None whole first
     ∙ ap (branch_outcome h is_live None) is
+    ∙ by_look_up h is_live None (map op_of ws) (writes_apart ws distinct)
     ∙ by_parts h is_live None (map op_of ws) (cond (list_any (is_on_dead_lease is_live) ws) (Some LeaseNotFound) None) (effective h ws)
     (map (write_answer (key_now h)) ws)
-    (dead_refusal (now h) is_live ws) (branch_is_effect h ws distinct) (answers_on h [] ws distinct (nothing_done ws))
+    (dead_refusal (now h) is_live ws) (effect_copied h ws distinct) (answers_on h [] ws distinct (nothing_done ws))
     ∙ unless_dead (list_any (is_on_dead_lease is_live) ws) (finished h None (effective h ws) (map (write_answer (key_now h)) ws))
 
 -- Reads: none above the counter is refused, and none changes anything.
 no_refusal : (h : History) (is_live : ℕ → Bool) (reads : List Read) → AreReached h reads → branch_refusal (now h) is_live (map read_op reads) ≡ None
 no_refusal h is_live [] reached = refl
 no_refusal h is_live (r ∷ rs) reached =
-    ap (λ b. first_refusal (cond b (Some FutureRevision) None) (branch_refusal (now h) is_live (map read_op rs))) (le-ltb (now h) r.rev reached.0)
+    ap (λ b. option_or (cond b (Some FutureRevision) None) (branch_refusal (now h) is_live (map read_op rs))) (le-ltb (now h) r.rev reached.0)
     ∙ no_refusal h is_live rs reached.1
 
-no_changes : (h : History) (reads : List Read) → changes_after h [] (map read_op reads) ≡ []
+no_changes : (h : History) (reads : List Read) → changes_copied h [] (map read_op reads) ≡ []
 no_changes h [] = refl
 no_changes h (r ∷ rs) = no_changes h rs
 
@@ -126,13 +154,22 @@ shown_case h r true = ap (λ s. GetAnswer (record { key = r.key; kv = s; of_rev 
     (sym (last_revision_is_now h r.key (now h) (omega arith)))
 shown_case h r false = refl
 
-all_shown : (h : History) (reads : List Read) → answers_after h [] (map read_op reads) ≡ map (shown h) reads
+all_shown : (h : History) (reads : List Read) → answers_copied h [] (map read_op reads) ≡ map (shown h) reads
 all_shown h [] = refl
-all_shown h (r ∷ rs) = ap (λ a. a ∷ answers_after h [] (map read_op rs)) (shown_case h r (nat_eq r.rev 0)) ∙ ap (λ l. shown h r ∷ l) (all_shown h rs)
+all_shown h (r ∷ rs) = ap (λ a. a ∷ answers_copied h [] (map read_op rs)) (shown_case h r (nat_eq r.rev 0)) ∙ ap (λ l. shown h r ∷ l) (all_shown h rs)
+
+get_clashes : (key : List ℕ) (rev : ℕ) (ops : List Op) → list_any (clash (Get key rev)) ops ≡ false
+get_clashes key rev [] = refl
+get_clashes key rev (op ∷ ops) = get_clashes key rev ops
+
+reads_stand_apart : (reads : List Read) → has_clash (map read_op reads) ≡ false
+reads_stand_apart [] = refl
+reads_stand_apart (r ∷ rs) = ap (λ b. b || has_clash (map read_op rs)) (get_clashes r.key r.rev (map read_op rs)) ∙ reads_stand_apart rs
 
 reads_come_to : (h : History) (is_live : ℕ → Bool) (failed : Option FailedCompare) (reads : List Read) → AreReached h reads →
     branch_outcome h is_live failed (map read_op reads) ≡ Ok (read_out h failed reads)
 reads_come_to h is_live failed reads reached =
+    by_look_up h is_live failed (map read_op reads) (reads_stand_apart reads) ∙
     by_parts h is_live failed (map read_op reads) None [] (map (shown h) reads) (no_refusal h is_live reads reached) (no_changes h reads) (all_shown h reads)
 
 pub reads_change_nothing : ReadsChangeNothing
@@ -175,30 +212,9 @@ reads_named : (keys : List (List ℕ)) → AreNamed keys → list_any (λ op. is
 reads_named [] named = refl
 reads_named (k ∷ ks) named = ap (λ b. b || list_any (λ op. is_empty_key (key_of_op op)) (map read_now ks)) (has_bytes k named.0) ∙ reads_named ks named.1
 
-write_apart : (w later : Change) → bytes_eq (key_of later) (key_of w) ≡ false → clash (op_of w) (op_of later) ≡ false
-write_apart (PutChange key value lease) (PutChange k v l) apart = apart_back k key apart
-write_apart (PutChange key value lease) (DelChange k) apart = apart_back k key apart
-write_apart (DelChange key) (PutChange k v l) apart = apart_back k key apart
-write_apart (DelChange key) (DelChange k) apart = refl
-
-none_clash : (w : Change) (ws : List Change) → change_of (key_of w) ws ≡ None → list_any (clash (op_of w)) (map op_of ws) ≡ false
-none_clash w [] absent = refl
-none_clash w (x ∷ xs) absent =
-    let split : (bytes_eq (key_of x) (key_of w) ≡ false) × (change_of (key_of w) xs ≡ None) =
-    apart_case (bytes_eq (key_of x) (key_of w)) x (change_of (key_of w) xs) absent in
-    ap (λ b. b || list_any (clash (op_of w)) (map op_of xs)) (write_apart w x split.0) ∙ none_clash w xs split.1
-
-writes_apart : (ws : List Change) → HasDistinctKeys ws → has_clash (map op_of ws) ≡ false
-writes_apart [] distinct = refl
-writes_apart (w ∷ ws) distinct = ap (λ b. b || has_clash (map op_of ws)) (none_clash w ws distinct.0) ∙ writes_apart ws distinct.1
-
-read_clashes : (key : List ℕ) (ops : List Op) → list_any (clash (Get key 0)) ops ≡ false
-read_clashes key [] = refl
-read_clashes key (op ∷ ops) = read_clashes key ops
-
 reads_apart : (keys : List (List ℕ)) → has_clash (map read_now keys) ≡ false
 reads_apart [] = refl
-reads_apart (k ∷ ks) = ap (λ b. b || has_clash (map read_now ks)) (read_clashes k (map read_now ks)) ∙ reads_apart ks
+reads_apart (k ∷ ks) = ap (λ b. b || has_clash (map read_now ks)) (get_clashes k 0 (map read_now ks)) ∙ reads_apart ks
 
 pub number_alone_is_wrong : NumberAloneIsWrong
 number_alone_is_wrong txn ws keys writes reads distinct compared written read =
@@ -345,18 +361,25 @@ chosen_apart : (txn : Txn) (failed : Option FailedCompare) → fault_of txn ≡ 
 chosen_apart txn None none = (no_clash_case (has_too_many txn) (has_empty_key txn) (has_clash txn.success) (has_clash txn.failure) none).0
 chosen_apart txn (Some f) none = (no_clash_case (has_too_many txn) (has_empty_key txn) (has_clash txn.success) (has_clash txn.failure) none).1
 
+distinct_changes : (h : History) (ops : List Op) → has_clash ops ≡ false → HasDistinctKeys (changes_of_branch h ops)
+distinct_changes h ops apart = subst (λ cs. HasDistinctKeys cs) (sym (changes_agree h ops apart)) (changes_are_distinct h ops apart)
+
 pub history_grows : HistoryGrows
 history_grows h is_live txn done is =
     let failed : Option FailedCompare = first_failed (key_now h) 0 txn.compares in
     let ops : List Op = chosen failed txn in
     let whole : (fault_of txn ≡ None) × (branch_outcome h is_live failed ops ≡ Ok done) =
     of_unless (fault_of txn) (branch_outcome h is_live failed ops) done is in
-    let branch : (branch_refusal (now h) is_live ops ≡ None) × (finished h failed (changes_after h [] ops) (answers_after h [] ops) ≡ Ok done) =
-    of_unless (branch_refusal (now h) is_live ops) (finished h failed (changes_after h [] ops) (answers_after h [] ops)) done whole.1 in
-    let made : record { answer = answer_of h failed (changes_after h [] ops) (answers_after h [] ops); history = with_changes h (changes_after h [] ops) }
+    let branch : (branch_refusal (now h) is_live ops ≡ None) × (finished h failed (changes_of_branch h ops) (answers_after h (begun h) ops) ≡ Ok done) =
+    of_unless (branch_refusal (now h) is_live ops) (finished h failed (changes_of_branch h ops) (answers_after h (begun h) ops)) done whole.1 in
+    let made : record {
+      answer = answer_of h failed (changes_of_branch h ops) (answers_after h (begun h) ops);
+      history = with_changes h
+          (changes_of_branch h ops);
+    }
     ≡ done =
-    of_finished (is_used_up h (changes_after h [] ops)) _ done branch.1 in
-    (changes_after h [] ops, changes_are_distinct h ops (chosen_apart txn failed whole.0), sym (ap (λ (d : Done). d.history) made))
+    of_finished (is_used_up h (changes_of_branch h ops)) _ done branch.1 in
+    (changes_of_branch h ops, distinct_changes h ops (chosen_apart txn failed whole.0), sym (ap (λ (d : Done). d.history) made))
 
 -- a failed compare's place in what a transaction comes to
 failed_case : (s : Standing) (outcome_of : Result Done Refusal) (a : TxnAnswer) (next : Standing) →
@@ -372,9 +395,9 @@ answered_failed h is_live txn done is =
     let ops : List Op = chosen failed txn in
     let whole : (fault_of txn ≡ None) × (branch_outcome h is_live failed ops ≡ Ok done) =
     of_unless (fault_of txn) (branch_outcome h is_live failed ops) done is in
-    let branch : (branch_refusal (now h) is_live ops ≡ None) × (finished h failed (changes_after h [] ops) (answers_after h [] ops) ≡ Ok done) =
-    of_unless (branch_refusal (now h) is_live ops) (finished h failed (changes_after h [] ops) (answers_after h [] ops)) done whole.1 in
-    sym (ap (λ (d : Done). d.answer.failed) (of_finished (is_used_up h (changes_after h [] ops)) _ done branch.1))
+    let branch : (branch_refusal (now h) is_live ops ≡ None) × (finished h failed (changes_of_branch h ops) (answers_after h (begun h) ops) ≡ Ok done) =
+    of_unless (branch_refusal (now h) is_live ops) (finished h failed (changes_of_branch h ops) (answers_after h (begun h) ops)) done whole.1 in
+    sym (ap (λ (d : Done). d.answer.failed) (of_finished (is_used_up h (changes_of_branch h ops)) _ done branch.1))
 
 place_within : (state : List ℕ → Option KeyState) (cs : List Compare) (failed : Option FailedCompare) → failed ≡ first_failed state 0 cs →
     IfSome failed (λ (f : FailedCompare). f.index < length cs)
@@ -388,3 +411,34 @@ placed s next txn a is =
     failed_case s (outcome s.history (is_live_in s.live) txn) a next is in
     place_within (key_now s.history) txn.compares a.failed
     (sym (ap (λ (x : TxnAnswer). x.failed) found.2) ∙ answered_failed s.history (is_live_in s.live) txn found.0 found.1)
+
+-- a transaction, by its branch as it is run
+refusal_of : (s : Standing) (outcome_of : Result Done Refusal) (refusal : Refusal) → IsRefusalOf outcome_of refusal → IsRefusalOf (step_of s outcome_of) refusal
+refusal_of s (Ok done) refusal is = is
+refusal_of s (Err cause) refusal is = is
+
+same_leases : (s next : Standing) → next.live ≡ s.live → next.moment ≡ s.moment → with_history s next.history ≡ next
+same_leases s next live moment = λ i. record { history = next.history; live = sym live i; moment = sym moment i }
+
+abbrev answered : TxnAnswer → Standing → Result (Step TxnAnswer) Refusal
+answered a next = Ok record { answer = a; next = next }
+
+as_run : (s : Standing) (txn : Txn) (failed : Option FailedCompare) (ops : List Op) → fault_of txn ≡ None →
+    first_failed (key_now s.history) 0 txn.compares ≡ failed → chosen failed txn ≡ ops →
+    outcome s.history (is_live_in s.live) txn ≡ outcome_copied s.history (is_live_in s.live) failed ops
+as_run s txn failed ops whole first branch =
+    judged s.history (is_live_in s.live) txn failed whole first
+    ∙ ap (branch_outcome s.history (is_live_in s.live) failed) branch
+    ∙ by_look_up s.history (is_live_in s.live) failed ops (subst (λ l. has_clash l ≡ false) branch (chosen_apart txn failed whole))
+
+pub came : (s next : Standing) (txn : Txn) (failed : Option FailedCompare) (ops : List Op) (r : Result TxnAnswer Refusal) → fault_of txn ≡ None →
+    first_failed (key_now s.history) 0 txn.compares ≡ failed → chosen failed txn ≡ ops →
+    IfOk r (λ a. outcome_copied s.history (is_live_in s.live) failed ops ≡ Ok record { answer = a; history = next.history }) →
+    IfErr r (IsRefusalOf (outcome_copied s.history (is_live_in s.live) failed ops)) → next.live ≡ s.live → next.moment ≡ s.moment
+    → ComesTo (transacted s txn) r next
+came s next txn failed ops (Ok a) whole first branch ok refused live moment =
+    ap (step_of s) (as_run s txn failed ops whole first branch ∙ ok)
+    ∙ ap (answered a) (same_leases s next live moment)
+came s next txn failed ops (Err e) whole first branch ok refused live moment =
+    subst (λ o. IsRefusalOf (step_of s o) e) (sym (as_run s txn failed ops whole first branch))
+    (refusal_of s (outcome_copied s.history (is_live_in s.live) failed ops) e refused)

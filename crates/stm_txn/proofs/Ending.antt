@@ -16,6 +16,8 @@ use Rattle.stm_history.specs.declared.key_state.KeyState.{KeyState}
 use Rattle.stm_history.specs.declared.revisions.TheConstants.{HIGHEST_REVISION}
 use Rattle.stm_history.specs.History.{History, now, key_now, add_revision, change_of, after_change, HasDistinctKeys}
 use Rattle.stm_history.proofs.HistoryLaws.{one_more_revision}
+use Rattle.std.specs.Prelude.{IsSome}
+use Rattle.stm_keys.specs.Keys.{DeletePresent}
 use Rattle.stm_leases.specs.LeaseLog.{LogItem, Expire, Term, term_of}
 use Rattle.stm_leases.specs.Live.{Live, is_live_in}
 use Rattle.stm_leases.specs.DueFirst.{first_due}
@@ -67,6 +69,22 @@ distinct_deletions (k ∷ ks) ascending = (below_all k ks ascending, distinct_de
 
 pub deletions_are_distinct : (h : History) (id : ℕ) → HasDistinctKeys (deletions_of h id)
 deletions_are_distinct h id = distinct_deletions (keys_of_lease h id) (are_keys h id).ascending
+
+-- a key that hangs on a lease is present
+hanging_present : (s : Option KeyState) (id : ℕ) → hanging s ≡ Some id → IsSome s
+hanging_present None id is = cc
+hanging_present (Some s) id is = refl
+
+present_deletions : (h : History) (id : ℕ) (keys : List (List ℕ)) → ((key : List ℕ) → Contains keys key → lease_now h key ≡ Some id)
+    → DeletePresent h (map Del keys)
+present_deletions h id [] hang = tt
+present_deletions h id (k ∷ ks) hang = (
+  hanging_present (key_now h k) id (hang k (0, omega arith, refl)),
+  present_deletions h id ks (λ key has. hang key (suc has.0, omega (arith, has.1), has.2)),
+)
+
+pub deletions_are_present : (h : History) (id : ℕ) → DeletePresent h (deletions_of h id)
+deletions_are_present h id = present_deletions h id (keys_of_lease h id) (λ key has. ((are_keys h id).each key).0 has)
 
 -- deletions hang nothing
 no_hangs : (keys : List (List ℕ)) → hangs_of (map Del keys) ≡ []

@@ -1,4 +1,5 @@
 pub mod Branching
+pub mod Folding
 pub mod Moving
 pub mod Running
 pub mod Naming

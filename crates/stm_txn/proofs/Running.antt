@@ -1,26 +1,31 @@
 -- A branch that no operation refuses.
-use Rattle.std.proofs.Common.{◌≡◌, ℕ, Bool, true, false, cond, List, [], ◌∷◌, ◌++◌, Option, Some, None, refl, sym, ◌∙◌, ap, subst}
-use Rattle.std.specs.Prelude.{nat_eq, nat_lt, ◌||◌, ◌&&◌, Ok, Err}
+use Rattle.std.proofs.Common.{◌≡◌, ℕ, ◌+◌, Bool, true, false, cond, List, [], ◌∷◌, ◌++◌, Option, Some, None, refl, sym, ◌∙◌, ap, subst}
+use Rattle.std.specs.Option.{option_or}
+use Rattle.std.specs.Prelude.{nat_eq, nat_lt, ◌||◌, ◌&&◌}
 use Rattle.std.specs.FinMap as finmap
 use Rattle.std.proofs.lemmas.Bool.{le-leb, ltb-false}
 use Rattle.stm_history.specs.declared.change.Change.{Change}
 use Rattle.stm_history.specs.declared.change.Change.TheVariants.{Put as PutChange, Del as DelChange}
-use Rattle.stm_history.specs.declared.revisions.TheConstants.{HIGHEST_REVISION}
-use Rattle.stm_history.specs.History.{History, now, key_of}
+use Rattle.std.specs.Prelude.{is_some, IsSome}
+use Rattle.std.specs.List.{list_any}
+use Rattle.stm_history.specs.declared.key_state.KeyState.{KeyState}
+use Rattle.stm_history.specs.History.{History, now, key_now, key_of, change_of, after_change, HasDistinctKeys}
+use Rattle.stm_keys.specs.Keys.{DeletePresent}
+use Rattle.stm_txn.specs.Operations.{clash}
+use Rattle.stm_txn.specs.Checks.{has_clash}
+use Rattle.stm_txn.proofs.Branching.{neither, all_fit, HasDistinctKeys-push, puts_fit, dels_fit, first_deletion, nothing_before}
 use Rattle.stm_txn.specs.declared.txn.Op.{Op}
 use Rattle.stm_txn.specs.declared.txn.Op.TheVariants.{Get, Put, Del}
-use Rattle.stm_txn.specs.declared.answer.OpAnswer.{OpAnswer}
-use Rattle.stm_txn.specs.declared.answer.FailedCompare.{FailedCompare}
 use Rattle.stm_txn.specs.declared.refusal.Refusal.{Refusal}
-use Rattle.stm_txn.specs.declared.refusal.Refusal.TheVariants.{FutureRevision, LeaseNotFound, RevisionsUsedUp}
-use Rattle.stm_txn.specs.Branches.{copy, deletion_of, with_change_made, changes_after, answers_after, has_changes, is_readable, are_readable, op_refusal}
-use Rattle.stm_txn.specs.Branches.{first_refusal, branch_refusal}
+use Rattle.stm_txn.specs.declared.refusal.Refusal.TheVariants.{FutureRevision, LeaseNotFound}
+use Rattle.stm_txn.specs.Branches.{deletion_of, is_readable, are_readable, op_refusal}
+use Rattle.stm_txn.specs.LookUps.{copy, with_copied, changes_copied}
+use Rattle.stm_txn.specs.Branches.{branch_refusal}
 use Rattle.stm_leases.specs.Live.{Live, is_live_in}
 use Rattle.stm_txn.specs.Leasing.{hung_by, with_hang, hangs_of, HangOnLive}
-use Rattle.stm_txn.specs.Outcome.{is_used_up, with_changes, answer_of, finished, unless, branch_outcome}
 
 -- where no refusal comes first, neither part has one
-both_none : (a b : Option Refusal) → first_refusal a b ≡ None → (a ≡ None) × (b ≡ None)
+both_none : (a b : Option Refusal) → option_or a b ≡ None → (a ≡ None) × (b ≡ None)
 both_none None b none = (refl, none)
 both_none (Some r) b none = cc
 
@@ -73,7 +78,7 @@ live_push live cs c before one =
 
 -- what a branch hangs, it hangs on live leases
 live_after : (h : History) (live : Live) (counter : ℕ) (done : List Change) (ops : List Op) → branch_refusal counter (is_live_in live) ops ≡ None →
-    HangOnLive live (hangs_of done) → HangOnLive live (hangs_of (changes_after h done ops))
+    HangOnLive live (hangs_of done) → HangOnLive live (hangs_of (changes_copied h done ops))
 live_after h live counter done [] none before = before
 live_after h live counter done (Get key rev ∷ ops) none before =
     live_after h live counter done ops (both_none (op_refusal counter (is_live_in live) (Get key rev))
@@ -84,13 +89,13 @@ live_after h live counter done (Put key value lease ∷ ops) none before =
     live_after h live counter (done ++ PutChange key value lease ∷ []) ops parts.1
     (live_push live done (PutChange key value lease) before (named_case live key lease (nat_eq lease 0) parts.0))
 live_after h live counter done (Del key ∷ ops) none before =
-    elim (copy h done key) as (λ s. HangOnLive live (hangs_of (changes_after h (with_change_made done (deletion_of key s)) ops))) [
+    elim (copy h done key) as (λ s. HangOnLive live (hangs_of (changes_copied h (with_copied done (deletion_of key s)) ops))) [
       | None ↦ live_after h live counter done ops none before
       | Some s ↦ live_after h live counter (done ++ DelChange key ∷ []) ops none (live_push live done (DelChange key) before tt)
     ]
 
 pub hangs_live : (h : History) (live : Live) (ops : List Op) → branch_refusal (now h) (is_live_in live) ops ≡ None →
-    HangOnLive live (hangs_of (changes_after h [] ops))
+    HangOnLive live (hangs_of (changes_copied h [] ops))
 hangs_live h live ops none = live_after h live (now h) [] ops none tt
 
 -- nothing is used up below the highest revision, or without changes
@@ -102,27 +107,37 @@ pub all_used : (b : Bool) → (b && true) ≡ b
 all_used true = refl
 all_used false = refl
 
-pub used_up : (h : History) (changes : List Change) → (nat_eq (now h) HIGHEST_REVISION && has_changes changes) ≡ is_used_up h changes
-used_up h [] = none_used (nat_eq (now h) HIGHEST_REVISION)
-used_up h (c ∷ cs) = all_used (nat_eq (now h) HIGHEST_REVISION)
+-- A branch deletes only what is present, where it changes no key twice.
+pub DeletePresent-push : (h : History) (cs : List Change) (c : Change) → DeletePresent h cs → DeletePresent h (c ∷ []) → DeletePresent h (cs ++ c ∷ [])
+DeletePresent-push h [] c before one = one
+DeletePresent-push h (PutChange key value lease ∷ ds) c before one = DeletePresent-push h ds c before one
+DeletePresent-push h (DelChange key ∷ ds) c before one = (before.0, DeletePresent-push h ds c before.1 one)
 
--- the outcomes of a branch
-pub outcome_refused : (h : History) (is_live : ℕ → Bool) (failed : Option FailedCompare) (ops : List Op) (refusal : Refusal) →
-    branch_refusal (now h) is_live ops ≡ Some refusal → branch_outcome h is_live failed ops ≡ Err refusal
-outcome_refused h is_live failed ops refusal is =
-    ap (λ o. unless o (finished h failed (changes_after h [] ops) (answers_after h [] ops))) is
+present_before : (n : ℕ) (o : Option Change) (before : Option KeyState) (s : KeyState) → o ≡ None → after_change n o before ≡ Some s → IsSome before
+present_before n o before s none is = ap (λ (k : Option KeyState). is_some k) (sym (ap (λ p. after_change n p before) none) ∙ is)
 
-pub outcome_finished : (h : History) (is_live : ℕ → Bool) (failed : Option FailedCompare) (ops : List Op) →
-    branch_refusal (now h) is_live ops ≡ None → branch_outcome h is_live failed ops ≡ finished h failed (changes_after h [] ops) (answers_after h [] ops)
-outcome_finished h is_live failed ops is =
-    ap (λ o. unless o (finished h failed (changes_after h [] ops) (answers_after h [] ops))) is
+present_on : (h : History) (changes : List Change) (ops : List Op) → DeletePresent h changes → HasDistinctKeys changes → all_fit changes ops
+    → has_clash ops ≡ false →
+    DeletePresent h (changes_copied h changes ops)
+present_on h changes [] present distinct fit apart = present
+present_on h changes (Get key rev ∷ ops) present distinct fit apart =
+    present_on h changes ops present distinct fit.1 (neither (list_any (clash (Get key rev)) ops) (has_clash ops) apart).1
+present_on h changes (Put key value lease ∷ ops) present distinct fit apart =
+    let split : (list_any (clash (Put key value lease)) ops ≡ false) × (has_clash ops ≡ false) =
+    neither (list_any (clash (Put key value lease)) ops) (has_clash ops) apart in
+    let c : Change = PutChange key value lease in
+    present_on h (changes ++ c ∷ []) ops (DeletePresent-push h changes c present tt) (HasDistinctKeys-push changes c distinct fit.0)
+    (puts_fit changes key value lease ops fit.1 split.0) split.1
+present_on h changes (Del key ∷ ops) present distinct fit apart =
+    let split : (list_any (clash (Del key)) ops ≡ false) × (has_clash ops ≡ false) = neither (list_any (clash (Del key)) ops) (has_clash ops) apart in
+    elim (copy h changes key) as (λ s. copy h changes key ≡ s → DeletePresent h (changes_copied h (with_copied changes (deletion_of key s)) ops)) [
+      | None ↦ λ is. present_on h changes ops present distinct fit.1 split.1
+      | Some s ↦ λ is.
+          let first : change_of key changes ≡ None = first_deletion (now h + 1) (change_of key changes) (key_now h key) (Some s) s fit.0 is refl in
+          present_on h (changes ++ DelChange key ∷ []) ops
+          (DeletePresent-push h changes (DelChange key) present (present_before (now h + 1) (change_of key changes) (key_now h key) s first is, tt))
+          (HasDistinctKeys-push changes (DelChange key) distinct first) (dels_fit changes key ops fit.1 split.0) split.1
+    ] refl
 
-pub finished_refused : (h : History) (failed : Option FailedCompare) (changes : List Change) (answers : List OpAnswer) → is_used_up h changes ≡ true →
-    finished h failed changes answers ≡ Err RevisionsUsedUp
-finished_refused h failed changes answers used =
-    ap (λ b. cond b (Err RevisionsUsedUp) (Ok record { answer = answer_of h failed changes answers; history = with_changes h changes })) used
-
-pub finished_done : (h : History) (failed : Option FailedCompare) (changes : List Change) (answers : List OpAnswer) → is_used_up h changes ≡ false →
-    finished h failed changes answers ≡ Ok record { answer = answer_of h failed changes answers; history = with_changes h changes }
-finished_done h failed changes answers used =
-    ap (λ b. cond b (Err RevisionsUsedUp) (Ok record { answer = answer_of h failed changes answers; history = with_changes h changes })) used
+pub deletes_present : (h : History) (ops : List Op) → has_clash ops ≡ false → DeletePresent h (changes_copied h [] ops)
+deletes_present h ops apart = present_on h [] ops tt tt (nothing_before ops) apart

@@ -5,6 +5,7 @@
 -- compare of its value, `!=` included, and texts compare by bytes. That an answer tells the first compare that failed,
 -- with its key's modification revision, is this store's own choice.
 use Rattle.std.specs.Prelude.{ℕ, ◌+◌, Bool, false, if◌then◌else◌, List, [], ◌∷◌, Option, Some, None}
+use Rattle.std.specs.Option.{option_map_or}
 use Rattle.std.specs.Ordering.{nat_cmp, is_eq, is_ne, is_gt, is_lt}
 use Rattle.std.specs.Cmp.Lexicographic.{slice_cmp}
 use Rattle.std.specs.declared.cmp.Ordering.{Ordering}
@@ -24,17 +25,12 @@ is_asked NotEqual sides = is_ne sides
 is_asked Greater sides = is_gt sides
 is_asked Less sides = is_lt sides
 
--- a number of a key, 0 where it is absent
-abbrev pub number_of : (KeyState → ℕ) → Option KeyState → ℕ
-number_of field None = 0
-number_of field (Some s) = field s
-
--- how the stored side and the compare's side stand, nothing for the value of an absent key
+-- how the stored side and the compare's side stand: an absent key has 0 for each number, and nothing for its value
 abbrev pub sides : Target → Option KeyState → Option Ordering
-sides (Version n) s = Some (nat_cmp (number_of (λ k. k.version) s) n)
-sides (Create n) s = Some (nat_cmp (number_of (λ k. k.create_rev) s) n)
-sides (Mod n) s = Some (nat_cmp (number_of (λ k. k.mod_rev) s) n)
-sides (Lease n) s = Some (nat_cmp (number_of (λ k. k.lease) s) n)
+sides (Version n) s = Some (nat_cmp (option_map_or (λ k. k.version) s 0) n)
+sides (Create n) s = Some (nat_cmp (option_map_or (λ k. k.create_rev) s 0) n)
+sides (Mod n) s = Some (nat_cmp (option_map_or (λ k. k.mod_rev) s 0) n)
+sides (Lease n) s = Some (nat_cmp (option_map_or (λ k. k.lease) s 0) n)
 sides (Value text) s = value_sides s
   where
     value_sides : Option KeyState → Option Ordering

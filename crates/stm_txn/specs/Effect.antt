@@ -1,12 +1,12 @@
 -- A branch of puts and deletes, and what they change.
-use Rattle.std.specs.Prelude.{◌≡◌, ℕ, Bool, true, is_some, List, [], map, filter, Option}
+use Rattle.std.specs.Prelude.{◌≡◌, ℕ, Bool, true, is_some, List, map, filter, Option}
 use Rattle.stm_history.specs.declared.change.Change.{Change}
 use Rattle.stm_history.specs.declared.change.Change.TheVariants.{Put as PutChange, Del as DelChange}
 use Rattle.stm_history.specs.declared.key_state.KeyState.{KeyState}
 use Rattle.stm_history.specs.History.{History, key_now, HasDistinctKeys}
 use Rattle.stm_txn.specs.declared.txn.Op.{Op}
 use Rattle.stm_txn.specs.declared.txn.Op.TheVariants.{Put, Del}
-use Rattle.stm_txn.specs.Branches.{changes_after}
+use Rattle.stm_txn.specs.Branches.{changes_of_branch}
 
 -- the operation of a write
 abbrev pub op_of : Change → Op
@@ -22,4 +22,4 @@ changes_something state (DelChange key) = is_some (state key)
 -- keys that are absent.
 abbrev pub BranchIsEffect : Type 0
 BranchIsEffect =
-    (h : History) (writes : List Change) → HasDistinctKeys writes → changes_after h [] (map op_of writes) ≡ filter (changes_something (key_now h)) writes
+    (h : History) (writes : List Change) → HasDistinctKeys writes → changes_of_branch h (map op_of writes) ≡ filter (changes_something (key_now h)) writes

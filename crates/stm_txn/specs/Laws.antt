@@ -1,15 +1,17 @@
 -- The laws of transactions, each carried by a function of `src/laws.rt`.
-use Rattle.std.specs.Prelude.{◌≡◌, ◌↔◌, ℕ, ◌<◌, Bool, true, false, if◌then◌else◌, List, [], length, map, Option, Some, None, Ok, slice_get}
+use Rattle.std.specs.Prelude.{◌≡◌, ◌↔◌, ℕ, ◌+◌, ◌<◌, Bool, true, false, if◌then◌else◌, List, [], length, map, Option, Some, None, Ok, slice_get}
 use Rattle.std.specs.List.{list_all}
 use Rattle.stm_history.specs.declared.change.Change.{Change}
 use Rattle.stm_history.specs.declared.key_state.KeyState.{KeyState}
-use Rattle.stm_history.specs.History.{History, key_now, key_of, mod_of, HasDistinctKeys}
+use Rattle.stm_history.specs.History.{History, now, key_now, key_of, mod_of, change_of, after_change, HasDistinctKeys}
 use Rattle.stm_txn.specs.declared.txn.Txn.{Txn}
 use Rattle.stm_txn.specs.declared.txn.Compare.{Compare}
 use Rattle.stm_txn.specs.declared.answer.FailedCompare.{FailedCompare}
 use Rattle.stm_txn.specs.declared.refusal.Refusal.TheVariants.{TooManyOps}
 use Rattle.stm_txn.specs.Compares.{holds, first_failed}
-use Rattle.stm_txn.specs.Checks.{has_too_many, fault_of}
+use Rattle.stm_txn.specs.Checks.{has_too_many, has_clash, fault_of}
+use Rattle.stm_txn.specs.declared.txn.Op.{Op}
+use Rattle.stm_txn.specs.Branches.{begun, progress_after, changes_of_branch}
 use Rattle.stm_txn.specs.Effect.{op_of}
 use Rattle.stm_txn.specs.Outcome.{Done, outcome, with_changes}
 use Rattle.stm_txn.specs.Commits.{mod_is, mod_is_below, applied, Read, read_op, read_now, AreReached, AreNamed, read_out, turned_down}
@@ -69,3 +71,9 @@ abbrev pub HistoryGrows : Type 0
 HistoryGrows =
     (h : History) (is_live : ℕ → Bool) (txn : Txn) (done : Done) → outcome h is_live txn ≡ Ok done
     → (changes : List Change) × HasDistinctKeys changes × (done.history ≡ with_changes h changes)
+
+-- Where no two operations of a branch clash, what a key is by now is what its change in the list makes of it.
+abbrev pub LookUpIsTheState : Type 0
+LookUpIsTheState =
+    (h : History) (ops : List Op) (key : List ℕ) → has_clash ops ≡ false
+    → (progress_after h (begun h) ops).state key ≡ after_change (now h + 1) (change_of key (changes_of_branch h ops)) (key_now h key)

@@ -3,6 +3,7 @@ pub mod Compares
 pub mod Checks
 pub mod Branches
 pub mod Outcome
+pub mod LookUps
 pub mod Effect
 pub mod Commits
 pub mod Laws

@@ -12,7 +12,7 @@ use Rattle.stm_txn.specs.declared.refusal.Refusal.{Refusal}
 use Rattle.stm_txn.specs.declared.refusal.Refusal.TheVariants.{RevisionsUsedUp}
 use Rattle.stm_txn.specs.Compares.{first_failed}
 use Rattle.stm_txn.specs.Checks.{fault_of}
-use Rattle.stm_txn.specs.Branches.{changes_after, answers_after, branch_refusal}
+use Rattle.stm_txn.specs.Branches.{begun, changes_of_branch, answers_after, branch_refusal}
 
 -- what a transaction that is not refused comes to
 pub record Done : Type 0 where
@@ -51,7 +51,7 @@ unless (Some refusal) next = Err refusal
 
 abbrev pub branch_outcome : History → (ℕ → Bool) → Option FailedCompare → List Op → Result Done Refusal
 branch_outcome h is_live failed ops =
-    unless (branch_refusal (now h) is_live ops) (finished h failed (changes_after h [] ops) (answers_after h [] ops))
+    unless (branch_refusal (now h) is_live ops) (finished h failed (changes_of_branch h ops) (answers_after h (begun h) ops))
 
 abbrev pub outcome : History → (ℕ → Bool) → Txn → Result Done Refusal
 outcome h is_live txn =

@@ -45,7 +45,7 @@ ComesTo defined (Err refusal) next = IsRefusalOf defined refusal
 
 -- the store with another history
 abbrev pub with_history : Standing → History → Standing
-with_history s h = record { history = h; live = s.live; moment = s.moment }
+with_history s h = record s { history = h }
 
 -- a call that takes no memory comes to exactly this
 abbrev pub told : {A : Type 0} → Result A Refusal → Standing → Result (Step A) Refusal
@@ -62,7 +62,7 @@ transacted s txn = step_of s (outcome s.history (is_live_in s.live) txn)
 
 -- a lease that is renewed at the store's moment
 abbrev pub with_lease : Standing → ℕ → ℕ → Standing
-with_lease s id ttl = record { history = s.history; live = finmap.insert s.live id (record { ttl = ttl; renewed = s.moment }); moment = s.moment }
+with_lease s id ttl = record s { live = finmap.insert s.live id (record { ttl = ttl; renewed = s.moment }) }
 
 -- a grant
 abbrev pub granted : Standing → ℕ → ℕ → Result (Step (Unit {0})) Refusal
@@ -83,7 +83,7 @@ kept_alive s id =
 -- a lease without its keys, which are deleted in one revision; with no revision where it has none
 abbrev pub without_lease : Standing → ℕ → Standing
 without_lease s id =
-    record { history = with_changes s.history (deletions_of s.history id); live = finmap.remove s.live id; moment = s.moment }
+    record s { history = with_changes s.history (deletions_of s.history id); live = finmap.remove s.live id }
 
 -- a live lease ends
 abbrev pub ended : Standing → ℕ → Result Standing Refusal
@@ -129,7 +129,7 @@ expire_all s = expire_up_to (finmap.len s.live) s
 
 -- the store at another moment
 abbrev pub at_moment : Standing → ℕ → Standing
-at_moment s moment = record { history = s.history; live = s.live; moment = moment }
+at_moment s moment = record s { moment = moment }
 
 -- an advance to a moment
 abbrev pub advanced : Standing → ℕ → Advance

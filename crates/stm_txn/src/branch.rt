@@ -1,7 +1,8 @@
 //! One branch of a transaction.
 ghost use Rattle.std.specs.Prelude.{◌≡◌, ◌+◌, ◌<◌, ◌≤◌, IfOk, IsTrue, [], option_copied, is_some, Some, None};
 ghost use Rattle.stm_history.specs.History.{now, key_at, key_now};
-ghost use Rattle.stm_txn.specs.Branches.{copy, carried, read_answer, change_made, count_of, op_answer, changes_after, answers_after, is_readable, are_readable, has_changes};
+ghost use Rattle.stm_txn.specs.Branches.{carried, count_of, is_readable, are_readable, has_changes};
+ghost use Rattle.stm_txn.specs.LookUps.{copy, read_copied, change_copied, answer_copied, changes_copied, answers_copied};
 
 use crate::answer::OpAnswer;
 use crate::txn::Op;
@@ -74,7 +75,7 @@ fn carried_revision(keys: &Keys, changes: &[Change]) -> u64
 /// What a read answers.
 fn read(keys: &Keys, changes: &[Change], key: &Text, rev: u64) -> Result<ReadAnswer, AllocError>
     requires { rev ≤ now keys.now.history }
-    ensures { IfOk result (λ a. a ≡ read_answer keys.now.history changes.now key.now rev) }
+    ensures { IfOk result (λ a. a ≡ read_copied keys.now.history changes.now key.now rev) }
 {
     let revision = carried_revision(keys, changes);
     let (kv, of_rev) = if rev == 0 {
@@ -93,7 +94,7 @@ fn read(keys: &Keys, changes: &[Change], key: &Text, rev: u64) -> Result<ReadAns
 /// What an operation answers.
 fn answer(keys: &Keys, changes: &[Change], op: &Op) -> Result<OpAnswer, AllocError>
     requires { IsTrue (is_readable (now keys.now.history) op.now) }
-    ensures { IfOk result (λ a. a ≡ op_answer keys.now.history changes.now op.now) }
+    ensures { IfOk result (λ a. a ≡ answer_copied keys.now.history changes.now op.now) }
 {
     match op {
         Op::Get { key, rev } => Ok(OpAnswer::Get(read(keys, changes, key, *rev)?)),
@@ -104,7 +105,7 @@ fn answer(keys: &Keys, changes: &[Change], op: &Op) -> Result<OpAnswer, AllocErr
 
 /// The change that an operation makes, if it makes one.
 fn change(keys: &Keys, changes: &[Change], op: &Op) -> Result<Option<Change>, AllocError>
-    ensures { IfOk result (λ c. c ≡ change_made keys.now.history changes.now op.now) }
+    ensures { IfOk result (λ c. c ≡ change_copied keys.now.history changes.now op.now) }
 {
     match op {
         Op::Get { .. } => Ok(None),
@@ -126,8 +127,8 @@ fn change(keys: &Keys, changes: &[Change], op: &Op) -> Result<Option<Change>, Al
 /// Runs a branch over the current state, which it leaves as it is.
 pub(crate) fn run_branch(alloc: Global, keys: &Keys, ops: &[Op]) -> Result<Branch, AllocError>
     requires { IsTrue (are_readable (now keys.now.history) ops.now) }
-    ensures answers { IfOk result (λ b. b.answers.items ≡ answers_after keys.now.history [] ops.now) }
-    ensures changes { IfOk result (λ b. b.changes.items ≡ changes_after keys.now.history [] ops.now) }
+    ensures answers { IfOk result (λ b. b.answers.items ≡ answers_copied keys.now.history [] ops.now) }
+    ensures changes { IfOk result (λ b. b.changes.items ≡ changes_copied keys.now.history [] ops.now) }
 {
     let mut answers = Vec::new(alloc);
     let mut changes = Vec::new(alloc);
@@ -142,7 +143,7 @@ pub(crate) fn run_branch(alloc: Global, keys: &Keys, ops: &[Op]) -> Result<Branc
 
 /// Whether an operation would change something, were it the first.
 fn makes_change(keys: &Keys, op: &Op) -> bool
-    ensures { result ≡ is_some (change_made keys.now.history [] op.now) }
+    ensures { result ≡ is_some (change_copied keys.now.history [] op.now) }
 {
     match op {
         Op::Get { .. } => false,
@@ -153,7 +154,7 @@ fn makes_change(keys: &Keys, op: &Op) -> bool
 
 /// Whether a branch would change something.
 pub(crate) fn makes_changes(keys: &Keys, ops: &[Op]) -> bool
-    ensures { result ≡ has_changes (changes_after keys.now.history [] ops.now) }
+    ensures { result ≡ has_changes (changes_copied keys.now.history [] ops.now) }
 {
     for op in ops {
         if makes_change(keys, op) {

@@ -1,7 +1,7 @@
 //! The laws of transactions. Each function does nothing: its contract is the law.
 ghost use Rattle.stm_txn.specs.Advances.{KeysOfLeaseHang, AdvanceExpires};
 ghost use Rattle.stm_txn.specs.Effect.{BranchIsEffect};
-ghost use Rattle.stm_txn.specs.Laws.{WritesApply, FailedCompareReads, ReadsChangeNothing, NumberAloneIsWrong, ModCompares, NoneFailed, FailedHasItsPlace, HistoryGrows};
+ghost use Rattle.stm_txn.specs.Laws.{WritesApply, FailedCompareReads, ReadsChangeNothing, NumberAloneIsWrong, ModCompares, NoneFailed, FailedHasItsPlace, HistoryGrows, LookUpIsTheState};
 
 /// What a branch of puts and deletes of distinct keys changes is the effect of these writes.
 pub fn branch_is_effect()
@@ -60,4 +60,10 @@ pub fn keys_of_lease_hang()
 /// is due or the next one can't end.
 pub fn advance_expires()
     ensures { AdvanceExpires }
+{}
+
+/// Where no two operations of a branch clash, what a key is by now is what a look-up through the changes so
+/// far finds.
+pub fn look_up_is_the_state()
+    ensures { LookUpIsTheState }
 {}

@@ -3,11 +3,13 @@ ghost use Rattle.std.specs.Prelude.{◌≡◌, ◌<◌, ◌≤◌, ℕ, List, []
 ghost use Rattle.std.specs.FinMap as finmap;
 ghost use Rattle.stm_history.specs.declared.revisions.TheConstants.{HIGHEST_REVISION};
 ghost use Rattle.stm_history.specs.History.{now, add_revision, IsRevision, HasDistinctKeys};
+ghost use Rattle.stm_keys.specs.Keys.{DeletePresent};
 ghost use Rattle.stm_leases.specs.LeaseLog.{LogItem, Grant, Renew, Revoke};
 ghost use Rattle.stm_leases.specs.Leases.{StandsFor};
 ghost use Rattle.stm_leases.specs.Live.{is_live_in, AreInRange};
 ghost use Rattle.stm_leases.specs.DueFirst.{first_due};
-ghost use Rattle.stm_txn.specs.Branches.{changes_after, answers_after, branch_refusal};
+ghost use Rattle.stm_txn.specs.Branches.{branch_refusal};
+ghost use Rattle.stm_txn.specs.LookUps.{changes_copied, answers_copied, outcome_copied};
 ghost use Rattle.stm_txn.specs.Outcome.{is_used_up};
 ghost use Rattle.stm_txn.specs.Grants.{grant_refusal_of, grant_told};
 
@@ -57,7 +59,7 @@ impl Model for Store {
 
 /// Whether a branch is to change something at the highest revision.
 fn uses_up(keys: &Keys, ops: &[Op]) -> bool
-    ensures { result ≡ is_used_up keys.now.history (changes_after keys.now.history [] ops.now) }
+    ensures { result ≡ is_used_up keys.now.history (changes_copied keys.now.history [] ops.now) }
 {
     let is_highest = keys.revision() == HIGHEST_REVISION;
     is_highest && makes_changes(keys, ops)
@@ -98,10 +100,10 @@ fn deletions(alloc: Global, keys: Vec<String>) -> Result<Vec<Change>, AllocError
 }
 
 impl Store {
-    ghost use Rattle.stm_txn.specs.Checks.{has_clash};
+    ghost use Rattle.stm_txn.specs.Checks.{has_clash, fault_of};
     ghost use Rattle.stm_txn.specs.Leasing.{hangs_of, HangOnLive, lease_now};
     ghost use Rattle.stm_txn.specs.LeaseKeys.{deletions_of};
-    ghost use Rattle.stm_txn.specs.Outcome.{outcome, branch_outcome, with_changes, answer_of};
+    ghost use Rattle.stm_txn.specs.Outcome.{with_changes, answer_of};
     ghost use Rattle.stm_txn.specs.Standing.{opening, IsRefusalOf, ComesTo, transacted, granted, kept_alive, told, ended, revoked, after, expired_in, expire_all, at_moment, advanced, IsStopped, IsCutShort, with_expiries};
 
     /// An empty store at revision 1 and moment 0. Want of memory is its only refusal.
@@ -130,11 +132,13 @@ impl Store {
         })
     }
 
-    /// The keys.
+    /// The keys. The counter of every store is at least 1.
     pub fn keys(&self) -> &Keys
         ensures history { result.now.history ≡ self.now.standing.history }
         ensures present { result.now.present ≡ self.now.present }
+        ensures counter { 1 ≤ now self.now.standing.history }
     {
+        let _counter = self.keys.revision();
         &self.keys
     }
 
@@ -162,6 +166,7 @@ impl Store {
         requires revision { IsRevision changes.now }
         requires room { now self.old.standing.history < HIGHEST_REVISION }
         requires live { HangOnLive self.old.standing.live (hangs_of changes.now) }
+        requires present { DeletePresent self.old.standing.history changes.now }
         ensures ok { OnOk result (self.new.standing.history ≡ add_revision self.old.standing.history changes.now) }
         ensures live { self.new.standing.live ≡ self.old.standing.live }
         ensures moment { self.new.standing.moment ≡ self.old.standing.moment }
@@ -184,6 +189,7 @@ impl Store {
         requires distinct { HasDistinctKeys changes.now }
         requires room { is_used_up self.old.standing.history changes.now ≡ false }
         requires live { HangOnLive self.old.standing.live (hangs_of changes.now) }
+        requires present { DeletePresent self.old.standing.history changes.now }
         ensures ok { OnOk result (self.new.standing.history ≡ with_changes self.old.standing.history changes.now) }
         ensures live { self.new.standing.live ≡ self.old.standing.live }
         ensures moment { self.new.standing.moment ≡ self.old.standing.moment }
@@ -203,9 +209,9 @@ impl Store {
     fn finish(&mut self, ops: &[Op], failed: Option<FailedCompare>) -> Result<TxnAnswer, Refusal>
         requires apart { has_clash ops.now ≡ false }
         requires allowed { branch_refusal (now self.old.standing.history) (is_live_in self.old.standing.live) ops.now ≡ None }
-        requires room { is_used_up self.old.standing.history (changes_after self.old.standing.history [] ops.now) ≡ false }
-        ensures answer { IfOk result (λ answer. answer ≡ answer_of self.old.standing.history failed (changes_after self.old.standing.history [] ops.now) (answers_after self.old.standing.history [] ops.now)) }
-        ensures history { OnOk result (self.new.standing.history ≡ with_changes self.old.standing.history (changes_after self.old.standing.history [] ops.now)) }
+        requires room { is_used_up self.old.standing.history (changes_copied self.old.standing.history [] ops.now) ≡ false }
+        ensures answer { IfOk result (λ answer. answer ≡ answer_of self.old.standing.history failed (changes_copied self.old.standing.history [] ops.now) (answers_copied self.old.standing.history [] ops.now)) }
+        ensures history { OnOk result (self.new.standing.history ≡ with_changes self.old.standing.history (changes_copied self.old.standing.history [] ops.now)) }
         ensures live { self.new.standing.live ≡ self.old.standing.live }
         ensures moment { self.new.standing.moment ≡ self.old.standing.moment }
         ensures memory { IsOkUnless result Refusal.OutOfMemory }
@@ -224,10 +230,10 @@ impl Store {
     /// Runs one branch, whose first failed compare is given.
     fn run(&mut self, ops: &[Op], failed: Option<FailedCompare>) -> Result<TxnAnswer, Refusal>
         requires { has_clash ops.now ≡ false }
-        ensures ok { IfOk result (λ answer. branch_outcome self.old.standing.history (is_live_in self.old.standing.live) failed ops.now ≡ Ok (record { answer = answer; history = self.new.standing.history })) }
+        ensures ok { IfOk result (λ answer. outcome_copied self.old.standing.history (is_live_in self.old.standing.live) failed ops.now ≡ Ok (record { answer = answer; history = self.new.standing.history })) }
         ensures live { self.new.standing.live ≡ self.old.standing.live }
         ensures moment { self.new.standing.moment ≡ self.old.standing.moment }
-        ensures refused { IfErr result (IsRefusalOf (branch_outcome self.old.standing.history (is_live_in self.old.standing.live) failed ops.now)) }
+        ensures refused { IfErr result (IsRefusalOf (outcome_copied self.old.standing.history (is_live_in self.old.standing.live) failed ops.now)) }
         ensures err { OnErr result (self.new ≡ self.old) }
     {
         if let Some(refusal) = find_refusal(ops, self.keys.revision(), &self.leases) {
@@ -239,18 +245,27 @@ impl Store {
         self.finish(ops, failed)
     }
 
-    /// Looks at the whole transaction, picks its branch and runs it.
-    fn transact(&mut self, txn: &Txn) -> Result<TxnAnswer, Refusal>
+    /// Runs the branch that the compares pick, of a transaction that is right as a whole.
+    fn run_chosen(&mut self, txn: &Txn) -> Result<TxnAnswer, Refusal>
+        requires { fault_of txn.now ≡ None }
         ensures step { ComesTo (transacted self.old.standing txn.now) result self.new.standing }
         ensures err { OnErr result (self.new ≡ self.old) }
     {
-        if let Some(refusal) = find_fault(txn) {
-            return Err(refusal);
-        }
         let failed = find_failed(txn.compares.as_slice(), &self.keys);
         match failed {
             None => self.run(txn.success.as_slice(), failed),
             Some(_) => self.run(txn.failure.as_slice(), failed),
+        }
+    }
+
+    /// Looks at the whole transaction, then runs it.
+    fn transact(&mut self, txn: &Txn) -> Result<TxnAnswer, Refusal>
+        ensures step { ComesTo (transacted self.old.standing txn.now) result self.new.standing }
+        ensures err { OnErr result (self.new ≡ self.old) }
+    {
+        match find_fault(txn) {
+            Some(refusal) => Err(refusal),
+            None => self.run_chosen(txn),
         }
     }
 

@@ -1,13 +1,14 @@
 use Rattle.std.proofs.Common.{◌≡◌, ◌++◌, [], drop}
 use Rattle.std.specs.Prelude.{IsTrue}
 use Rattle.stm_history.specs.History.{now}
-use Rattle.stm_txn.specs.Branches.{changes_after, answers_after, are_readable}
+use Rattle.stm_txn.specs.Branches.{are_readable}
+use Rattle.stm_txn.specs.LookUps.{changes_copied, answers_copied}
 use Rattle.stm_txn.proofs.branch.run_branch.Given as goal
 
 -- the operations that are left make the rest of the answers and of the changes
 abbrev pub invariant-loop-op : goal.invariant-loop-op
 invariant-loop-op l = record {
   readable : IsTrue (are_readable (now l.keys.history) (drop l.op-index l.ops));
-  answered : l.answers.items ++ answers_after l.keys.history l.changes.items (drop l.op-index l.ops) ≡ answers_after l.keys.history [] l.ops;
-  changed : changes_after l.keys.history l.changes.items (drop l.op-index l.ops) ≡ changes_after l.keys.history [] l.ops;
+  answered : l.answers.items ++ answers_copied l.keys.history l.changes.items (drop l.op-index l.ops) ≡ answers_copied l.keys.history [] l.ops;
+  changed : changes_copied l.keys.history l.changes.items (drop l.op-index l.ops) ≡ changes_copied l.keys.history [] l.ops;
 }

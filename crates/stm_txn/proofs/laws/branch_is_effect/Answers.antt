@@ -1,4 +1,4 @@
-use Rattle.stm_txn.proofs.Branching.{branch_is_effect}
+use Rattle.stm_txn.proofs.Applying.{branch_is_effect}
 use Rattle.stm_txn.proofs.laws.branch_is_effect.Goals as goal
 
 pub returns : goal.returns

@@ -1,11 +1,12 @@
 use Rattle.std.proofs.Common.{◌≡◌, ◌∙◌, sym, ap, subst, List}
 use Rattle.stm_history.specs.declared.change.Change.{Change}
 use Rattle.stm_history.specs.History.{History, HasDistinctKeys}
+use Rattle.stm_keys.specs.Keys.{DeletePresent}
 use Rattle.stm_txn.specs.Leasing.{lease_now, hangs_of, HangOnLive}
 use Rattle.stm_txn.specs.LeaseKeys.{deletions_of}
 use Rattle.stm_txn.specs.Outcome.{with_changes}
 use Rattle.stm_txn.specs.Store.{StoreView}
-use Rattle.stm_txn.proofs.Ending.{deletions_are_distinct, hangs_of-deletions, gone}
+use Rattle.stm_txn.proofs.Ending.{deletions_are_distinct, deletions_are_present, hangs_of-deletions, gone}
 use Rattle.stm_txn.proofs.store.Store.end_lease.Goals as goal
 
 pub commit-requires-clause-distinct : goal.commit-requires-clause-distinct
@@ -25,3 +26,8 @@ remove-requires-clause-no_keys c = λ has.
     ap (λ (s : StoreView). s.standing.history) c.self.view_is ∙ c.in_ok-commit.ensures.ok
     ∙ ap (with_changes h) (c.as_slice.ensures.value ∙ c.in_ok-changes.ensures.ok) in
     gone h c.args.id has.0 (sym (ap (λ (x : History). lease_now x has.0) history) ∙ sym (c.self.invariant has.0) ∙ has.1)
+
+pub commit-requires-clause-present : goal.commit-requires-clause-present
+commit-requires-clause-present c =
+    subst (λ (cs : List Change). DeletePresent c.args.self.now.standing.history cs) (sym (c.as_slice.ensures.value ∙ c.in_ok-changes.ensures.ok))
+    (deletions_are_present c.args.self.now.standing.history c.args.id)

@@ -3,12 +3,14 @@ use Rattle.std.specs.Prelude.{IsTrue}
 use Rattle.stm_history.specs.declared.change.Change.{Change}
 use Rattle.stm_history.specs.History.{History, now, HasDistinctKeys}
 use Rattle.stm_txn.specs.declared.txn.Op.{Op}
-use Rattle.stm_txn.specs.Branches.{changes_after, are_readable}
+use Rattle.stm_txn.specs.Branches.{are_readable}
+use Rattle.stm_txn.specs.LookUps.{changes_copied}
+use Rattle.stm_keys.specs.Keys.{DeletePresent}
 use Rattle.stm_leases.specs.Live.{is_live_in}
 use Rattle.stm_txn.specs.Leasing.{hangs_of, HangOnLive}
 use Rattle.stm_txn.specs.Store.{StoreView}
 use Rattle.stm_txn.proofs.Branching.{changes_are_distinct}
-use Rattle.stm_txn.proofs.Running.{all_readable, hangs_live}
+use Rattle.stm_txn.proofs.Running.{all_readable, hangs_live, deletes_present}
 use Rattle.stm_txn.proofs.store.Store.finish.Goals as goal
 
 pub run_branch-requires : goal.run_branch-requires
@@ -19,10 +21,10 @@ run_branch-requires c =
     (all_readable (now h) (is_live_in c.args.self.now.standing.live) ops c.requires.allowed)
 
 -- the changes that the branch made
-made : (c : goal.After-as_slice) → c.as_slice.result.now ≡ changes_after c.args.self.now.standing.history [] c.args.ops.now
+made : (c : goal.After-as_slice) → c.as_slice.result.now ≡ changes_copied c.args.self.now.standing.history [] c.args.ops.now
 made c =
     c.as_slice.ensures.value ∙ c.in_ok-branch.ensures.changes
-    ∙ ap (λ (s : StoreView). changes_after s.standing.history [] c.args.ops.now) c.self.view_is
+    ∙ ap (λ (s : StoreView). changes_copied s.standing.history [] c.args.ops.now) c.self.view_is
 
 pub commit-requires-clause-distinct : goal.commit-requires-clause-distinct
 commit-requires-clause-distinct c =
@@ -32,3 +34,8 @@ pub commit-requires-clause-live : goal.commit-requires-clause-live
 commit-requires-clause-live c =
     subst (λ (cs : List Change). HangOnLive c.args.self.now.standing.live (hangs_of cs)) (sym (made c))
     (hangs_live c.args.self.now.standing.history c.args.self.now.standing.live c.args.ops.now c.requires.allowed)
+
+pub commit-requires-clause-present : goal.commit-requires-clause-present
+commit-requires-clause-present c =
+    subst (λ (cs : List Change). DeletePresent c.args.self.now.standing.history cs) (sym (made c))
+    (deletes_present c.args.self.now.standing.history c.args.ops.now c.requires.apart)

@@ -15,7 +15,8 @@ use Rattle.stm_texts.specs.Reading.{event_after, events_from}
 abbrev pub with_front : List WorldEvent → Outcome (List WorldEvent) → Outcome (List WorldEvent)
 with_front front reading = reading >>= λ es. Ok (front ++ es)
 
-regroup : (front : List WorldEvent) (e : WorldEvent) (reading : Outcome (List WorldEvent)) → with_front front (reading >>= λ es. Ok (e ∷ es)) ≡ with_front (front ++ e ∷ []) reading
+regroup : (front : List WorldEvent) (e : WorldEvent) (reading : Outcome (List WorldEvent))
+    → with_front front (reading >>= λ es. Ok (e ∷ es)) ≡ with_front (front ++ e ∷ []) reading
 regroup front e (Ok es) = ap (λ (x : List WorldEvent). Ok x) (simp append_assoc)
 regroup front e (Err f) = refl
 
@@ -29,8 +30,10 @@ pub goes_on : (first : ℕ) (front : List WorldEvent) (vs : List Value) (i : ℕ
 unfolding events_from
 goes_on first front vs i v e total lt at is so_far =
     let k : i + 1 ≡ suc i = omega arith in
-    let one : with_front front (events_from first i (items_view (drop i vs))) ≡ with_front (front ++ e ∷ []) (events_from first (i + 1) (items_view (drop (i + 1) vs))) =
-    ap (λ (ws : List Value). with_front front (events_from first i (items_view ws))) (one_more vs i v lt at) ∙ rw (is, k) (regroup front e (events_from first (suc i) (items_view (drop (suc i) vs)))) in
+    let one : with_front front (events_from first i (items_view (drop i vs))) ≡ with_front (front ++ e ∷ [])
+    (events_from first (i + 1) (items_view (drop (i + 1) vs))) =
+    ap (λ (ws : List Value). with_front front (events_from first i (items_view ws))) (one_more vs i v lt at)
+    ∙ rw (is, k) (regroup front e (events_from first (suc i) (items_view (drop (suc i) vs)))) in
     sym one ∙ so_far
 
 pub ends : (e : ReadError) (first : ℕ) (front : List WorldEvent) (vs : List Value) (i : ℕ) (v : Value) (total : Outcome (List WorldEvent))

@@ -7,14 +7,16 @@ use Rattle.serde_json.specs.Data.{Data}
 use Rattle.serde_json.specs.Read.{read}
 use Rattle.stm_json.specs.declared.cause.Cause.TheVariants.{NotJson}
 use Rattle.stm_json.specs.Outcome.{bad}
-use Rattle.stm_texts.specs.Reading.{data_of, scenario_of, scenario_read, scenario_in}
+use Rattle.stm_texts.specs.declared.reading.TheConstants.{MOST_BYTES}
+use Rattle.stm_texts.specs.Bytes.{data_of}
+use Rattle.stm_texts.specs.Reading.{scenario_of, scenario_read, scenario_in}
 
-pub scenario_in-short : (bytes : List ℕ) → length bytes ≤ 16777216 → scenario_in bytes ≡ scenario_read (data_of bytes)
+pub scenario_in-short : (bytes : List ℕ) → length bytes ≤ MOST_BYTES → scenario_in bytes ≡ scenario_read (data_of bytes)
 unfolding scenario_in
 scenario_in-short bytes short = grind (arith, nat_tests)
 
 -- text that is the JSON of data
-pub scenario_in-json : (bytes : List ℕ) (d : Data) → length bytes ≤ 16777216 → IsUtf8 bytes → read bytes ≡ Some d → scenario_in bytes ≡ scenario_of d
+pub scenario_in-json : (bytes : List ℕ) (d : Data) → length bytes ≤ MOST_BYTES → IsUtf8 bytes → read bytes ≡ Some d → scenario_in bytes ≡ scenario_of d
 scenario_in-json bytes d short utf8 is = scenario_in-short bytes short ∙ rw (is_utf8-from_IsUtf8 bytes utf8, is) refl
 
 refused : (bytes : List ℕ) (utf8 : Bool) → is_utf8 bytes ≡ utf8 → (IsUtf8 bytes → read bytes ≡ None) → scenario_read (data_of bytes) ≡ bad NotJson
@@ -22,5 +24,5 @@ refused bytes true is none = rw (is, none (IsUtf8-from_is_utf8 bytes is)) refl
 refused bytes false is none = rw is refl
 
 -- anything else
-pub scenario_in-other : (bytes : List ℕ) → length bytes ≤ 16777216 → (IsUtf8 bytes → read bytes ≡ None) → scenario_in bytes ≡ bad NotJson
+pub scenario_in-other : (bytes : List ℕ) → length bytes ≤ MOST_BYTES → (IsUtf8 bytes → read bytes ≡ None) → scenario_in bytes ≡ bad NotJson
 scenario_in-other bytes short none = scenario_in-short bytes short ∙ refused bytes (is_utf8 bytes) refl none

@@ -1,14 +1,12 @@
 -- Reading a scenario: the value that a text spells, or the first fault. A value is looked at before its elements, and
 -- these from the first to the last.
-use Rattle.std.specs.Prelude.{ℕ, suc, ◌+◌, ◌≤◌, List, [], ◌∷◌, length, Bool, Option, Some, None, Ok, if◌then◌else◌, nat_lt, nat_eq, codes}
-use Rattle.std.specs.Cmp.Lexicographic.{pointwise}
-use Rattle.std.specs.Str.{is_utf8}
+use Rattle.std.specs.Prelude.{ℕ, suc, ◌+◌, ◌≤◌, List, [], ◌∷◌, length, Option, Some, None, Ok, if◌then◌else◌, nat_lt, codes}
 use Rattle.serde_json.specs.Data.{Data, Items, no_items, item}
 use Rattle.serde_json.specs.Find.{as_str, as_array}
-use Rattle.serde_json.specs.Read.{read}
 use Rattle.stm_json.specs.Elements.{worded, one_of, three_of, number_up_to, number_in}
 use Rattle.stm_history.specs.declared.revisions.TheConstants.{HIGHEST_NUMBER, HIGHEST_REVISION}
 use Rattle.stm_program.specs.Reading.{program_of}
+use Rattle.stm_program.specs.Words.{same}
 use Rattle.stm_program.specs.declared.level.Level.{Level}
 use Rattle.stm_program.specs.declared.level.Level.TheVariants.{ReadCommitted}
 use Rattle.stm_retry.specs.declared.event.WorldEvent.{WorldEvent}
@@ -17,13 +15,10 @@ use Rattle.stm_json.specs.declared.cause.Cause.TheVariants.{NotJson, Shape, TooL
 use Rattle.stm_texts.specs.declared.events.TheConstants.{HIGHEST_LIMIT, MOST_EVENTS}
 use Rattle.stm_texts.specs.declared.reading.TheConstants.{MOST_BYTES}
 use Rattle.stm_texts.specs.declared.scenario.Scenario.{Scenario}
+use Rattle.stm_texts.specs.Bytes.{data_of}
 use Rattle.stm_json.specs.Outcome.{Outcome, bad, ◌>>=◌, within}
 
 -- ---- words
-
--- two texts are the same
-abbrev pub same : List ℕ → List ℕ → Bool
-same = pointwise nat_eq
 
 abbrev pub level_named : Option (List ℕ) → Outcome Level
 level_named None = bad Shape
@@ -37,7 +32,8 @@ level_of d = level_named (as_str d)
 abbrev pub start_of : Option (Data × Data × Data) → Outcome WorldEvent
 start_of None = bad Shape
 start_of (Some p) =
-    within 1 (level_of p.0) >>= λ level. within 2 (number_up_to HIGHEST_LIMIT p.1) >>= λ limit. within 3 (program_of p.2) >>= λ program. Ok (Start program level limit)
+    within 1 (level_of p.0) >>= λ level. within 2 (number_up_to HIGHEST_LIMIT p.1) >>= λ limit. within 3 (program_of p.2) >>= λ program. Ok
+    (Start program level limit)
 
 abbrev pub step_of : Option Data → Outcome WorldEvent
 step_of None = bad Shape
@@ -94,10 +90,6 @@ scenario_list (Some (item d ds)) = scenario_after (begins (worded d)) (item d ds
 -- the scenario that data spell
 unfoldable pub scenario_of : Data → Outcome Scenario
 scenario_of d = scenario_list (as_array d)
-
--- the data that bytes are the JSON of
-abbrev pub data_of : List ℕ → Option Data
-data_of bytes = if is_utf8 bytes then read bytes else None
 
 abbrev pub scenario_read : Option Data → Outcome Scenario
 scenario_read None = bad NotJson

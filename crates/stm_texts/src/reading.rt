@@ -1,8 +1,10 @@
 //! Reading scenarios.
-ghost use Rattle.std.specs.Prelude.{◌≡◌, ◌≤◌, option_map, IfOk};
+ghost use Rattle.std.specs.Prelude.{◌≡◌, ◌≤◌, Ok as OkOf, None, option_map, IfOk, MatchResult};
 ghost use Rattle.serde_json.specs.View.{view, items_view};
 ghost use Rattle.stm_json.specs.Elements.{worded, one_of};
 ghost use Rattle.stm_json.specs.Tells.{Tells};
+ghost use Rattle.stm_texts.specs.FirstFault.{first_fault, IsFirstFault};
+ghost use Rattle.stm_texts.specs.Grammar.{SpellsScenario};
 ghost use Rattle.stm_texts.specs.Reading.{begins, opening_of, scenario_of, scenario_in, IsOpening};
 
 use crate::events::events;
@@ -74,14 +76,9 @@ fn scenario(alloc: Global, value: &Value) -> Result<Scenario, ReadError>
     }
 }
 
-/// The scenario that bytes spell, as JSON in UTF-8: an array of events, whose first element may be
-/// `["begin",R]` with the opening revision, from 1 to 9223372036854775806.
-///
-/// It fails by the first fault of the text, with its place and cause: more than 16777216 bytes are too
-/// long, whatever they are; then bytes that are not JSON; then the first fault in reading order, a value
-/// before its elements. Or it fails as `OutOfMemory`, where a growth was refused.
+/// The scenario that bytes spell, or their first fault.
 #[tactic(auto, unfolding(crate::specs::Reading::scenario_in))]
-pub fn read_scenario(alloc: Global, bytes: &[u8]) -> Result<Scenario, ReadError>
+fn scenario_of_bytes(alloc: Global, bytes: &[u8]) -> Result<Scenario, ReadError>
     ensures value { Tells (λ s. s) result (scenario_in bytes.now) }
     ensures opening { IfOk result (λ s. IsOpening s.opening) }
 {
@@ -98,4 +95,23 @@ pub fn read_scenario(alloc: Global, bytes: &[u8]) -> Result<Scenario, ReadError>
             }
         }
     }
+}
+
+/// The scenario that bytes spell, as JSON in UTF-8: an array of events, whose first element may be
+/// `["begin",R]` with the opening revision, from 1 to 9223372036854775806.
+///
+/// It fails by the first fault of the text, with its place and cause: more than 16777216 bytes are too
+/// long, whatever they are; then bytes that are not JSON; then the first fault in reading order, a value
+/// before its elements. Or it fails as `OutOfMemory`, where a growth was refused.
+pub fn read_scenario(alloc: Global, bytes: &[u8]) -> Result<Scenario, ReadError>
+    ensures exact { Tells (λ s. s) result (scenario_in bytes.now) }
+    // What is read is spelled so.
+    ensures spelled { IfOk result (SpellsScenario bytes.now) }
+    // A scenario that is spelled so is read.
+    ensures accepts { (s : _) → SpellsScenario bytes.now s → Tells (λ t. t) result (OkOf s) }
+    // Which fault it is.
+    ensures faults { MatchResult result (λ s. first_fault bytes.now ≡ None) (IsFirstFault bytes.now) }
+    ensures opening { IfOk result (λ s. IsOpening s.opening) }
+{
+    scenario_of_bytes(alloc, bytes)
 }

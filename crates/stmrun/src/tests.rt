@@ -217,6 +217,19 @@ fn bad_texts(rt: HostRuntime) {
         "[[\"step\",1],[\"begin\",2]]",
         "stmrun: bad scenario at /1: Shape\n",
     );
+    // Two faults inside one event: the first in reading order is told.
+    refuses(
+        &rt,
+        alloc,
+        "[[\"start\",\"None\",-1,[[\"emit\",1.5]]]]",
+        "stmrun: bad scenario at /0/1: Shape\n",
+    );
+    refuses(
+        &rt,
+        alloc,
+        "[[\"start\",\"ReadCommitted\",-1,[[\"emit\",1.5]]]]",
+        "stmrun: bad scenario at /0/2: Range\n",
+    );
 }
 
 #[test]

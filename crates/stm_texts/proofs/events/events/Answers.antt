@@ -20,4 +20,5 @@ loop-before-preserved c =
 pub returns : goal.returns
 returns c =
     let none : drop c.loop-before.before c.args.values.now ≡ [] = drop_all c.loop-before.before c.args.values.now (omega arith) in
-    is_done c.args.first c.loop-before.events.items c.args.values.now c.loop-before.before (events_from c.args.first 0 (items_view c.args.values.now)) none c.loop-before.invariant
+    is_done c.args.first c.loop-before.events.items c.args.values.now c.loop-before.before
+    (events_from c.args.first 0 (items_view c.args.values.now)) none c.loop-before.invariant

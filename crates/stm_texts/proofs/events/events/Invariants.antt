@@ -6,4 +6,5 @@ use Rattle.stm_texts.proofs.events.events.Given as goal
 
 -- the events so far, and then what is read of the rest
 abbrev pub invariant-loop-before : goal.invariant-loop-before
-invariant-loop-before l = with_front l.events.items (events_from l.first l.before (items_view (drop l.before l.values))) ≡ events_from l.first 0 (items_view l.values)
+invariant-loop-before l = with_front l.events.items (events_from l.first l.before (items_view (drop l.before l.values))) ≡ events_from l.first 0
+    (items_view l.values)

@@ -23,7 +23,11 @@ returns-in_err-write_text g c =
     let name = cause_name c.args.bad.now.cause in
     let old = held c.args.err.now in
     let new = held c.write_text.new.err in
-    rw p.1 (e.0, longer old new (((begin ++ place) ++ between) ++ name) end (longer old new ((begin ++ place) ++ between) name (longer old new (begin ++ place) between (longer old new begin place e.1))))
+    rw p.1 (
+      e.0,
+      longer old new (((begin ++ place) ++ between) ++ name) end
+          (longer old new ((begin ++ place) ++ between) name (longer old new (begin ++ place) between (longer old new begin place e.1))),
+    )
 
 pub returns-in_err-write_text-2 : goal.returns-in_err-write_text-2
 returns-in_err-write_text-2 g c =
@@ -35,7 +39,11 @@ returns-in_err-write_text-2 g c =
     let old = held c.args.err.now in
     let new = held c.write_text-2.new.err in
     let front = behind old (held c.write_text.new.err) new begin place c.in_ok-write_text.ensures.1 e.1 in
-    rw p.1 (e.0, longer old new (((begin ++ place) ++ between) ++ name) end (longer old new ((begin ++ place) ++ between) name (longer old new (begin ++ place) between front)))
+    rw p.1 (
+      e.0,
+      longer old new (((begin ++ place) ++ between) ++ name) end
+          (longer old new ((begin ++ place) ++ between) name (longer old new (begin ++ place) between front)),
+    )
 
 pub returns-in_err-write_text-3 : goal.returns-in_err-write_text-3
 returns-in_err-write_text-3 g c =

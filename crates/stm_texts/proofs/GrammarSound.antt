@@ -1,0 +1,223 @@
+-- What is read of a scenario is spelled by the bytes.
+use Rattle.std.proofs.Common.{◌≡◌, ℕ, suc, ◌+◌, ◌<◌, ◌≤◌, List, [], ◌∷◌, length, Bool, true, false, cond, leb, ltb, leb-true, ltb-true, Option}
+use Rattle.std.proofs.Common.{Some, None, Result, Ok, Err, refl, ap, subst, ◌∙◌, arith, codes, IfOk}
+use Rattle.std.proofs.lemmas.Bool.Decides.{nat_tests}
+use Rattle.std.proofs.lemmas.Slice.Eq.{bytes_eq-Decides}
+use Rattle.serde_json.specs.Data.{Data, null, boolean, number, string, array, object, Items, no_items, item}
+use Rattle.serde_json.specs.Find.{as_str, as_array}
+use Rattle.serde_json.specs.View.{items_of}
+use Rattle.stm_json.specs.declared.cause.Cause.TheVariants.{Shape, TooMany, TooLong}
+use Rattle.stm_json.specs.declared.read_error.ReadError.{ReadError}
+use Rattle.stm_json.specs.Outcome.{bad, ◌>>=◌, within}
+use Rattle.stm_json.specs.Tells.{Tells}
+use Rattle.stm_json.specs.Elements.{worded, one_of, three_of, number_up_to, from_least, number_in}
+use Rattle.stm_json.proofs.OutcomeLemmas.{bind_ok, within_ok, guard_ok}
+use Rattle.stm_json.proofs.ElementLemmas.{worded-is, one_of-is, three_of-is, number_up_to-is}
+use Rattle.stm_program.specs.declared.level.Level.{Level}
+use Rattle.stm_program.specs.declared.level.Level.TheVariants.{ReadCommitted}
+use Rattle.stm_program.specs.Grammar.{spelled}
+use Rattle.stm_program.specs.Reading.{program_of}
+use Rattle.stm_program.proofs.ExpressionSound.{words_and}
+use Rattle.stm_program.proofs.ProgramLemmas.{program_sound}
+use Rattle.stm_retry.specs.declared.event.WorldEvent.{WorldEvent}
+use Rattle.stm_retry.specs.declared.event.WorldEvent.TheVariants.{Start, Step}
+use Rattle.stm_texts.specs.declared.scenario.Scenario.{Scenario}
+use Rattle.stm_history.specs.declared.revisions.TheConstants.{HIGHEST_NUMBER, HIGHEST_REVISION}
+use Rattle.stm_texts.specs.declared.events.TheConstants.{HIGHEST_LIMIT, MOST_EVENTS}
+use Rattle.stm_texts.specs.declared.reading.TheConstants.{MOST_BYTES}
+use Rattle.stm_texts.specs.Bytes.{data_of}
+use Rattle.stm_program.specs.Words.{same}
+use Rattle.stm_texts.specs.Grammar.{level_text, SpellsNumberIn, SpellsEvent, SpellsEvents, SpellsElements, SpellsData, SpellsScenario}
+use Rattle.stm_texts.specs.Reading.{level_named, level_of, start_of, step_of, event_worded, event_of, event_after, events_from, begins, opening_of}
+use Rattle.stm_texts.specs.Reading.{scenario_after, scenario_list, scenario_of, scenario_read, scenario_in}
+
+-- ---- parts
+
+text_is : (d : Data) (s : List ℕ) → as_str d ≡ Some s → d ≡ string s
+text_is (string t) s h = ap string cc
+text_is null s h = cc
+text_is (boolean b) s h = cc
+text_is (number n) s h = cc
+text_is (array ds) s h = cc
+text_is (object ms) s h = cc
+
+list_is : (d : Data) (ds : Items) → as_array d ≡ Some ds → d ≡ array ds
+list_is (array es) ds h = ap array cc
+list_is null ds h = cc
+list_is (boolean b) ds h = cc
+list_is (number n) ds h = cc
+list_is (string s) ds h = cc
+list_is (object ms) ds h = cc
+
+word_is : (w : List ℕ) (l : Level) → level_named (Some w) ≡ Ok l → w ≡ level_text l
+word_is w ReadCommitted h = (bytes_eq-Decides w (codes "ReadCommitted")).0 (guard_ok (same w (codes "ReadCommitted")) ReadCommitted ReadCommitted Shape h).0
+
+level_named-is : (d : Data) (o : Option (List ℕ)) (l : Level) → as_str d ≡ o → level_named o ≡ Ok l → d ≡ string (level_text l)
+level_named-is d None l e h = cc
+level_named-is d (Some w) l e h = text_is d w e ∙ ap string (word_is w l h)
+
+level_is : (d : Data) (l : Level) → level_of d ≡ Ok l → d ≡ string (level_text l)
+unfolding level_of
+level_is d l h = level_named-is d (as_str d) l refl h
+
+number_is : (least most : ℕ) (d : Data) (n : ℕ) → number_in least most d ≡ Ok n → SpellsNumberIn least most d n
+unfolding number_in
+number_is least most d n h =
+    let q = bind_ok (number_up_to most d) (from_least least) n h in
+    let up = number_up_to-is most d q.0 q.1 in
+    let from = guard_ok (leb least q.0) q.0 n _ q.2 in
+    let low : least ≤ q.0 = leb-true least q.0 from.0 in
+    subst (λ (m : ℕ). SpellsNumberIn least most d m) from.1 (up.0, low, up.1)
+
+up_to_is : (most : ℕ) (d : Data) (n : ℕ) → number_up_to most d ≡ Ok n → SpellsNumberIn 0 most d n
+up_to_is most d n h =
+    let up = number_up_to-is most d n h in
+    (up.0, omega arith, up.1)
+
+-- ---- events
+
+start_sound : (d : Data) (p : List ℕ × Items) (o : Option (Data × Data × Data)) (e : WorldEvent) → worded d ≡ Some p → p.0 ≡ codes "start" → three_of p.1 ≡ o
+    → start_of o ≡ Ok e → SpellsEvent d e
+start_sound d p None e w t i h = cc
+start_sound d p (Some q) e w t i h =
+    let level = bind_ok (within 1 (level_of q.0)) _ e h in
+    let limit = bind_ok (within 2 (number_up_to HIGHEST_LIMIT q.1)) _ e level.2 in
+    let program = bind_ok (within 3 (program_of q.2)) _ e limit.2 in
+    let is : Start program.0 level.0 limit.0 ≡ e = cc program.2 in
+    let sound = program_sound q.2 program.0 (within_ok 3 _ _ program.1) in
+    subst (λ (x : WorldEvent). SpellsEvent d x) is (
+      q.0,
+      q.1,
+      q.2,
+      words_and d p (codes "start") (q.0 ∷ q.1 ∷ q.2 ∷ []) w t (three_of-is p.1 q i),
+      level_is q.0 level.0 (within_ok 1 _ _ level.1),
+      up_to_is HIGHEST_LIMIT q.1 limit.0 (within_ok 2 _ _ limit.1),
+      sound.0,
+      sound.1,
+    )
+
+step_sound : (d : Data) (p : List ℕ × Items) (o : Option Data) (e : WorldEvent) → worded d ≡ Some p → p.0 ≡ codes "step" → one_of p.1 ≡ o → step_of o ≡ Ok e
+    → SpellsEvent d e
+step_sound d p None e w t i h = cc
+step_sound d p (Some a) e w t i h =
+    let runner = bind_ok (within 1 (number_up_to HIGHEST_NUMBER a)) _ e h in
+    let is : Step runner.0 ≡ e = cc runner.2 in
+    subst (λ (x : WorldEvent). SpellsEvent d x) is (
+      a,
+      words_and d p (codes "step") (a ∷ []) w t (one_of-is p.1 a i),
+      up_to_is HIGHEST_NUMBER a runner.0 (within_ok 1 _ _ runner.1),
+    )
+
+word_sound : (d : Data) (p : List ℕ × Items) (e : WorldEvent) (starts steps : Bool) → worded d ≡ Some p → same p.0 (codes "start") ≡ starts
+    → same p.0 (codes "step") ≡ steps
+    → cond starts (start_of (three_of p.1)) (cond steps (step_of (one_of p.1)) (bad Shape)) ≡ Ok e → SpellsEvent d e
+word_sound d p e true steps w s t h = start_sound d p (three_of p.1) e w ((bytes_eq-Decides p.0 (codes "start")).0 s) refl h
+word_sound d p e false true w s t h = step_sound d p (one_of p.1) e w ((bytes_eq-Decides p.0 (codes "step")).0 t) refl h
+word_sound d p e false false w s t h = cc
+
+array_sound : (d : Data) (o : Option (List ℕ × Items)) (e : WorldEvent) → worded d ≡ o → event_worded o ≡ Ok e → SpellsEvent d e
+array_sound d None e w h = cc
+array_sound d (Some p) e w h = word_sound d p e (same p.0 (codes "start")) (same p.0 (codes "step")) w refl refl h
+
+event_sound : (d : Data) (e : WorldEvent) → event_of d ≡ Ok e → SpellsEvent d e
+unfolding event_of
+event_sound d e h = array_sound d (worded d) e refl h
+
+counted : (d : Data) (b : Bool) (e : WorldEvent) → cond b (event_of d) (bad TooMany) ≡ Ok e → (b ≡ true) × (event_of d ≡ Ok e)
+counted d true e h = (refl, h)
+counted d false e h = cc
+
+event_after-sound : (before : ℕ) (d : Data) (e : WorldEvent) → event_after before d ≡ Ok e → (before < MOST_EVENTS) × SpellsEvent d e
+unfolding event_after
+event_after-sound before d e h =
+    let c = counted d (ltb before MOST_EVENTS) e h in
+    (ltb-true before MOST_EVENTS c.0, event_sound d e c.1)
+
+-- events that were read, so many others before them
+abbrev EventsRead : ℕ → Items → List WorldEvent → Type 0
+EventsRead before ds es = SpellsEvents ds es × (before + length es ≤ MOST_EVENTS)
+
+events_sound : (first before : ℕ) (ds : Items) (es : List WorldEvent) → before ≤ MOST_EVENTS → events_from first before ds ≡ Ok es → EventsRead before ds es
+unfolding events_from
+events_sound first before no_items es few h =
+    let is : [] ≡ es = cc in
+    subst (λ (xs : List WorldEvent). EventsRead before no_items xs) is (refl, omega arith)
+events_sound first before (item d ds) es few h =
+    let one = bind_ok (within (first + before) (event_after before d)) _ es h in
+    let rest = bind_ok (events_from first (suc before) ds) _ es one.2 in
+    let event = event_after-sound before d one.0 (within_ok (first + before) _ _ one.1) in
+    let others = events_sound first (suc before) ds rest.0 (omega (arith, event.0)) rest.1 in
+    let is : one.0 ∷ rest.0 ≡ es = cc rest.2 in
+    subst (λ (xs : List WorldEvent). EventsRead before (item d ds) xs) is ((d, ds, refl, event.1, others.0), omega (arith, others.1))
+
+-- ---- scenarios
+
+-- a scenario that was read of the elements of an array
+abbrev ElementsRead : Items → Scenario → Type 0
+ElementsRead ds s = SpellsElements ds s.opening s.events × (length s.events ≤ MOST_EVENTS)
+
+abbrev scenario_with : Option ℕ → List WorldEvent → Scenario
+scenario_with opening es = record { opening = opening; events = es }
+
+alone_sound : (ds : Items) (s : Scenario) → (events_from 0 0 ds >>= λ es. Ok (scenario_with None es)) ≡ Ok s → ElementsRead ds s
+alone_sound ds s h =
+    let q = bind_ok (events_from 0 0 ds) _ s h in
+    let r = events_sound 0 0 ds q.0 (omega arith) q.1 in
+    let is : scenario_with None q.0 ≡ s = cc q.2 in
+    subst (ElementsRead ds) is (r.0, omega (arith, r.1))
+
+begins_is : (p : List ℕ × Items) (parts : Items) (b : Bool) → same p.0 (codes "begin") ≡ b → cond b (Some p.1) None ≡ Some parts
+    → (p.0 ≡ codes "begin") × (p.1 ≡ parts)
+begins_is p parts true t h = ((bytes_eq-Decides p.0 (codes "begin")).0 t, cc)
+begins_is p parts false t h = cc
+
+begins-is : (d : Data) (o : Option (List ℕ × Items)) (parts : Items) → worded d ≡ o → begins o ≡ Some parts → d ≡ array (item (string (codes "begin")) parts)
+begins-is d None parts w h = cc
+begins-is d (Some p) parts w h =
+    let is = begins_is p parts (same p.0 (codes "begin")) refl h in
+    worded-is d p w ∙ rw (is.0, is.1) refl
+
+opening_sound : (parts : Items) (o : Option Data) (n : ℕ) → one_of parts ≡ o → opening_of o ≡ Ok n
+    → (a : Data) × (parts ≡ items_of (a ∷ [])) × SpellsNumberIn 1 HIGHEST_REVISION a n
+opening_sound parts None n e h = cc
+opening_sound parts (Some a) n e h = (a, one_of-is parts a e, number_is 1 HIGHEST_REVISION a n (within_ok 1 _ _ h))
+
+after_sound : (d : Data) (ds : Items) (o : Option Items) (s : Scenario) → begins (worded d) ≡ o → scenario_after o (item d ds) ds ≡ Ok s
+    → ElementsRead (item d ds) s
+after_sound d ds None s e h = alone_sound (item d ds) s h
+after_sound d ds (Some parts) s e h =
+    let opening = bind_ok (within 0 (opening_of (one_of parts))) _ s h in
+    let events = bind_ok (events_from 1 0 ds) _ s opening.2 in
+    let r = events_sound 1 0 ds events.0 (omega arith) events.1 in
+    let o = opening_sound parts (one_of parts) opening.0 refl (within_ok 0 _ _ opening.1) in
+    let begin : d ≡ spelled (codes "begin") (o.0 ∷ []) =
+    begins-is d (worded d) parts refl e ∙ ap (λ (x : Items). array (item (string (codes "begin")) x)) o.1 in
+    let is : scenario_with (Some opening.0) events.0 ≡ s = cc events.2 in
+    subst (ElementsRead (item d ds)) is ((o.0, ds, ap (λ (x : Data). item x ds) begin, o.2, r.0), omega (arith, r.1))
+
+list_sound : (d : Data) (o : Option Items) (s : Scenario) → as_array d ≡ o → scenario_list o ≡ Ok s → SpellsData d s
+list_sound d None s e h = cc
+list_sound d (Some no_items) s e h =
+    let is : scenario_with None [] ≡ s = cc h in
+    subst (SpellsData d) is (no_items, list_is d no_items e, refl, omega arith)
+list_sound d (Some (item a ds)) s e h =
+    let r = after_sound a ds (begins (worded a)) s refl h in
+    (item a ds, list_is d (item a ds) e, r.0, r.1)
+
+read_sound : (bytes : List ℕ) (s : Scenario) (o : Option Data) → length bytes ≤ MOST_BYTES → data_of bytes ≡ o → scenario_read o ≡ Ok s → SpellsScenario bytes s
+unfolding scenario_of
+read_sound bytes s None short e h = cc
+read_sound bytes s (Some d) short e h = (short, d, e, list_sound d (as_array d) s refl h)
+
+tested : (bytes : List ℕ) (s : Scenario) (b : Bool) → ltb MOST_BYTES (length bytes) ≡ b → cond b (bad TooLong) (scenario_read (data_of bytes)) ≡ Ok s
+    → SpellsScenario bytes s
+tested bytes s true t h = cc
+tested bytes s false t h = read_sound bytes s (data_of bytes) (grind (arith, nat_tests)) refl h
+
+scenario_sound : (bytes : List ℕ) (s : Scenario) → scenario_in bytes ≡ Ok s → SpellsScenario bytes s
+unfolding scenario_in
+scenario_sound bytes s h = tested bytes s (ltb MOST_BYTES (length bytes)) refl h
+
+pub spelled_by : (bytes : List ℕ) (r : Result Scenario ReadError) → Tells (λ s. s) r (scenario_in bytes) → IfOk r (SpellsScenario bytes)
+spelled_by bytes (Ok s) h = scenario_sound bytes s h
+spelled_by bytes (Err e) h = tt

@@ -20,3 +20,4 @@ pub mod ProgramLemmas
 pub mod WriteLemmas
 pub mod LatestLemmas
 pub mod TableLemmas
+pub mod SameLemmas

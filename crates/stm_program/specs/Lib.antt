@@ -16,3 +16,4 @@ pub mod FirstFault
 pub mod Writes
 pub use Rattle.stm_json.specs.Outcome
 pub use Rattle.stm_json.specs.Tells
+pub mod SameProgram

@@ -10,6 +10,7 @@ mod limits;
 mod operator;
 mod program;
 mod read;
+mod same;
 mod spell;
 mod statement;
 mod variable;

@@ -1,9 +1,10 @@
 //! Programs.
-ghost use Rattle.std.specs.Prelude.{◌≡◌};
+ghost use Rattle.std.specs.Prelude.{◌≡◌, ◌↔◌, IsTrue};
 ghost use Rattle.stm_program.specs.BlockView.{block_of};
 ghost use Rattle.stm_program.specs.Limits.{Fits};
 ghost use Rattle.stm_program.specs.Syntax.{of_statements};
 
+use crate::same::are_same_statements;
 use crate::statement::Stmt;
 use std::alloc::AllocError;
 use std::marker::Model;
@@ -43,6 +44,15 @@ impl Program {
         Program { statements }
     }
 
+    /// Whether it is the same program as another one. `==` answers this.
+    ///
+    /// It takes no memory, and looks at no more nodes than the smaller program has, however much is shared.
+    pub fn is_same(&self, other: &Program) -> bool
+        ensures { IsTrue result ↔ self.now ≡ other.now }
+    {
+        are_same_statements(self.statements(), other.statements())
+    }
+
     /// The statements in order. It takes no memory.
     pub fn statements(&self) -> &[Stmt]
         ensures same { block_of result.now ≡ self.now.statements }
@@ -60,4 +70,24 @@ impl Clone for Program {
         let statements = self.statements.clone()?;
         Ok(Program { statements })
     }
+}
+
+/// `==` holds exactly where two programs are the same.
+impl PartialEq for Program {
+    ghost use Rattle.stm_program.specs.SameProgram.{same_program, same_program-equivalence};
+    ghost use Rattle.std.specs.Cmp.{partial_equiv_from_equiv};
+
+    ghost eq = { same_program };
+
+    ghost laws = { partial_equiv_from_equiv same_program-equivalence };
+
+    fn eq(&self, other: &Program) -> bool {
+        self.is_same(other)
+    }
+}
+
+impl Eq for Program {
+    ghost use Rattle.stm_program.specs.SameProgram.{same_program-equivalence};
+
+    ghost laws = { same_program-equivalence };
 }

@@ -14,7 +14,8 @@ or_else-none None = refl
 or_else-none (Some w) = refl
 
 -- the last write of a key stands behind the first write, or is it
-last_write-cons : (key : List ℕ) (w : Write) (ws : List Write) → last_write key (w ∷ ws) ≡ or_else (last_write key ws) (cond (bytes_eq (key_of w) key) (Some w) None)
+last_write-cons : (key : List ℕ) (w : Write) (ws : List Write) →
+    last_write key (w ∷ ws) ≡ or_else (last_write key ws) (cond (bytes_eq (key_of w) key) (Some w) None)
 last_write-cons key w ws = last_write-append key (w ∷ []) ws ∙ ap (λ o. or_else (last_write key ws) o) (last_write-one key w)
 
 -- a key that differs from all keys of these writes is not written
@@ -45,7 +46,8 @@ module _ (test : Write → Bool) where
       ∙ sym (ap (λ o. kept_by test (or_else o (Some w))) (alone refl))
   first_dropped false w r fails alone = sym (ap (λ o. kept_by test o) (or_else-none r))
 
-  filtered-first : (b : Bool) (key : List ℕ) (w : Write) (ws : List Write) → test w ≡ b → AllByRecursion (λ other. bytes_eq (key_of w) other ≡ false) (map key_of ws) →
+  filtered-first : (b : Bool) (key : List ℕ) (w : Write) (ws : List Write) → test w ≡ b →
+      AllByRecursion (λ other. bytes_eq (key_of w) other ≡ false) (map key_of ws) →
       last_write key (filter test ws) ≡ kept_by test (last_write key ws) →
       last_write key (cond b (w ∷ filter test ws) (filter test ws)) ≡ kept_by test (or_else (last_write key ws) (cond (bytes_eq (key_of w) key) (Some w) None))
   filtered-first true key w ws is apart rest =

@@ -1,7 +1,8 @@
 -- A property of what a run has come to, which each of its steps keeps, holds at its end.
 use Rattle.std.proofs.Common.{ℕ, suc, zero, ◌<◌, Bool, true, false, not, List, [], ◌∷◌, length, arith}
 use Rattle.std.specs.Prelude.{pos, nat_lt, if◌then◌else◌, Result, Ok, Err}
-use Rattle.stm_program.specs.Syntax.{Expression, Condition, Statement, Block, Text, Number, Variable, Get, Rev, Arithmetic, Cat, TextOf, NumOf, Equal, Less, Not, And, Or, Set, Put, Del, If, For, Emit, Abort, End, Then}
+use Rattle.stm_program.specs.Syntax.{Expression, Condition, Statement, Block, Text, Number, Variable, Get, Rev, Arithmetic, Cat, TextOf, NumOf, Equal}
+use Rattle.stm_program.specs.Syntax.{Less, Not, And, Or, Set, Put, Del, If, For, Emit, Abort, End, Then}
 use Rattle.stm_program.specs.declared.write.Write.{Write}
 use Rattle.stm_meaning.specs.declared.value.Value.{Value}
 use Rattle.stm_meaning.specs.declared.value.Value.TheVariants.{Text as TextValue, Number as NumberValue}
@@ -45,7 +46,8 @@ module _ (look : Lookup) (P : Session → Type 0) (steps : StepsKeep look P) whe
   keeps-given (Err fault) s h = h
 
   -- a key that is no text or is empty is a fault
-  keeps-keyed : (f : List ℕ → Session → Outcome Value) → ((key : List ℕ) → 0 < length key → Keeps (f key)) → (x : Value) → Keeps (λ t. and_then (given (key_in x) t) f)
+  keeps-keyed : (f : List ℕ → Session → Outcome Value) → ((key : List ℕ) → 0 < length key → Keeps (f key)) → (x : Value) →
+      Keeps (λ t. and_then (given (key_in x) t) f)
   unfolding key_in
   keeps-keyed f keyed (TextValue []) s h = h
   keeps-keyed f keyed (TextValue (c ∷ cs)) s h = keyed (c ∷ cs) (omega arith) s h
@@ -72,8 +74,12 @@ module _ (look : Lookup) (P : Session → Type 0) (steps : StepsKeep look P) whe
   keeps-evaluate (Text t) = λ s h. h
   keeps-evaluate (Number n) = λ s h. h
   keeps-evaluate (Variable v) = λ s h. h
-  keeps-evaluate (Get e) = keeps-then (evaluate look e) (λ x t. and_then (given (key_in x) t) (get_key look)) (keeps-evaluate e) (keeps-keyed (get_key look) (λ key k s. steps.get key s k))
-  keeps-evaluate (Rev e) = keeps-then (evaluate look e) (λ x t. and_then (given (key_in x) t) (rev_key look)) (keeps-evaluate e) (keeps-keyed (rev_key look) (λ key k s. steps.rev key s k))
+  keeps-evaluate (Get e) =
+      keeps-then (evaluate look e) (λ x t. and_then (given (key_in x) t) (get_key look)) (keeps-evaluate e)
+      (keeps-keyed (get_key look) (λ key k s. steps.get key s k))
+  keeps-evaluate (Rev e) =
+      keeps-then (evaluate look e) (λ x t. and_then (given (key_in x) t) (rev_key look)) (keeps-evaluate e)
+      (keeps-keyed (rev_key look) (λ key k s. steps.rev key s k))
   keeps-evaluate (Arithmetic operator e f) =
       keeps-then (evaluate look e) (λ x t. and_then (evaluate look f t) (λ y. given (arithmetic operator x y))) (keeps-evaluate e)
       (λ x. keeps-then (evaluate look f) (λ y. given (arithmetic operator x y)) (keeps-evaluate f) (λ y. keeps-given (arithmetic operator x y)))
@@ -103,14 +109,16 @@ module _ (look : Lookup) (P : Session → Type 0) (steps : StepsKeep look P) whe
   keeps-holds (And c d) = keeps-then (holds look c) (unless_false (holds look d)) (keeps-holds c) (keeps-unless_false (holds look d) (keeps-holds d))
   keeps-holds (Or c d) = keeps-then (holds look c) (unless_true (holds look d)) (keeps-holds c) (keeps-unless_true (holds look d) (keeps-holds d))
 
-  turn-kept : (b : Bool) (t : Session) (fault : Fault) (s : Session) → P t → P s → P (session_of {X = Unit {0}} (if b then Gives tt t else Stops (Faulted fault) s))
+  turn-kept : (b : Bool) (t : Session) (fault : Fault) (s : Session) → P t → P s →
+      P (session_of {X = Unit {0}} (if b then Gives tt t else Stops (Faulted fault) s))
   turn-kept true t fault s begun h = begun
   turn-kept false t fault s begun h = h
 
   keeps-begin : (v i : ℕ) → Keeps (begin_turn v i)
   unfolding begin_turn
   keeps-begin v i s h =
-      turn-kept (nat_lt s.turns turn_limit) (with_variable v (NumberValue (pos i)) (with_turn s)) TurnLimit s (steps.set v (NumberValue (pos i)) (with_turn s) (steps.turn s h)) h
+      turn-kept (nat_lt s.turns turn_limit) (with_variable v (NumberValue (pos i)) (with_turn s)) TurnLimit s
+      (steps.set v (NumberValue (pos i)) (with_turn s) (steps.turn s h)) h
 
   keeps-branch : (f g : Session → Outcome (Unit {0})) → Keeps f → Keeps g → (b : Bool) → Keeps (branch f g b)
   keeps-branch f g first second true = first
@@ -137,7 +145,8 @@ module _ (look : Lookup) (P : Session → Type 0) (steps : StepsKeep look P) whe
         (keeps-branch (run_block look then_block) (run_block look else_block) (keeps-block then_block) (keeps-block else_block))
     keeps-statement (For v e limit body) =
         keeps-then (evaluate look e) (λ x t. and_then (given (turns_of x limit) t) (λ n. repeat v (run_block look body) n 0)) (keeps-evaluate e)
-        (λ x. keeps-then (given (turns_of x limit)) (λ n. repeat v (run_block look body) n 0) (keeps-given (turns_of x limit)) (λ n. keeps-repeat v (run_block look body) (keeps-block body) n 0))
+        (λ x. keeps-then (given (turns_of x limit)) (λ n. repeat v (run_block look body) n 0) (keeps-given (turns_of x limit))
+        (λ n. keeps-repeat v (run_block look body) (keeps-block body) n 0))
     keeps-statement (Emit e) = keeps-then (evaluate look e) (λ x t. Gives tt (with_output x t)) (keeps-evaluate e) (λ x s h. steps.emit x s h)
     keeps-statement (Abort e) =
         keeps-then (evaluate look e) (λ x t. and_then (given (text_in x) t) aborts) (keeps-evaluate e)

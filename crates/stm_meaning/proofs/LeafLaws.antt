@@ -25,7 +25,10 @@ use Rattle.std.specs.Option.{option_map_or}
 
 get_of-known : (look : Lookup) (key : List ℕ) (w : Option Write) (a : Option Answer) (s : Session) → look key ≡ a → IsSome a →
     get_of look key w s ≡ Gives (Text (option_map_or value_of w (option_map_or (λ a. a.value) a [])))
-    (record s { trace = s.trace ++ Get key (option_map_or value_of w (option_map_or (λ a. a.value) a [])) ∷ []; reads = if is_some w then s.reads else with_key key s.reads })
+    (record s {
+      trace = s.trace ++ Get key (option_map_or value_of w (option_map_or (λ a. a.value) a [])) ∷ [];
+      reads = if is_some w then s.reads else with_key key s.reads;
+    })
 get_of-known look key (Some w) a s is known = refl
 get_of-known look key None (Some a) s is known = ap (λ o. get_answered key o s) is
 get_of-known look key None None s is known = cc
@@ -35,7 +38,8 @@ unfolding get_key trace_after_get reads_after_get
 get_gives look knows key s = get_of-known look key (last_write key s.writes) (look key) s refl (knows key)
 
 rev_answered-known : (key : List ℕ) (a : Option Answer) (s : Session) → IsSome a →
-    rev_answered key a s ≡ Gives (Number (pos (option_map_or (λ a. a.mod_rev) a 0))) (record s { trace = s.trace ++ Rev key (option_map_or (λ a. a.mod_rev) a 0) ∷ []; reads = with_key key s.reads })
+    rev_answered key a s ≡ Gives (Number (pos (option_map_or (λ a. a.mod_rev) a 0)))
+    (record s { trace = s.trace ++ Rev key (option_map_or (λ a. a.mod_rev) a 0) ∷ []; reads = with_key key s.reads })
 rev_answered-known key (Some a) s known = refl
 rev_answered-known key None s known = cc
 

@@ -1,4 +1,5 @@
 pub mod WorkedExamples
+pub mod KeyExamples
 pub mod IntegerRange
 pub mod WrittenNumber
 pub mod Entries

@@ -29,15 +29,18 @@ earlier_place ws w i below =
     ∙ ap (λ v. Some v) (get_or_append_left ws (w ∷ []) w i below)
     ∙ sym (slice_get-get_or ws i w below)
 
-earlier_write : (ws : List Write) (w : Write) (place : Option ℕ) → ((i : ℕ) → place ≡ Some i → i < length ws) → write_at (ws ++ w ∷ []) place ≡ write_at ws place
+earlier_write : (ws : List Write) (w : Write) (place : Option ℕ) → ((i : ℕ) → place ≡ Some i → i < length ws) →
+    write_at (ws ++ w ∷ []) place ≡ write_at ws place
 earlier_write ws w None within = refl
 earlier_write ws w (Some i) within = earlier_place ws w i (within i refl)
 
-within_after : (b : Bool) (ws : List Write) (w : Write) (place : Option ℕ) → ((i : ℕ) → place ≡ Some i → i < length ws) → (i : ℕ) → cond b (Some (length ws)) place ≡ Some i → i < length (ws ++ w ∷ [])
+within_after : (b : Bool) (ws : List Write) (w : Write) (place : Option ℕ) → ((i : ℕ) → place ≡ Some i → i < length ws) → (i : ℕ) →
+    cond b (Some (length ws)) place ≡ Some i → i < length (ws ++ w ∷ [])
 within_after true ws w place within i at = let same : length ws ≡ i = same_Some (length ws) i at in omega (arith, length-append ws (w ∷ []), same)
 within_after false ws w place within i at = omega (arith, length-append ws (w ∷ []), within i at)
 
-write_after : (b : Bool) (ws : List Write) (w : Write) (place : Option ℕ) → ((i : ℕ) → place ≡ Some i → i < length ws) → write_at (ws ++ w ∷ []) (cond b (Some (length ws)) place) ≡ cond b (Some w) (write_at ws place)
+write_after : (b : Bool) (ws : List Write) (w : Write) (place : Option ℕ) → ((i : ℕ) → place ≡ Some i → i < length ws) →
+    write_at (ws ++ w ∷ []) (cond b (Some (length ws)) place) ≡ cond b (Some w) (write_at ws place)
 write_after true ws w place within = last_place ws w
 write_after false ws w place within = earlier_write ws w place within
 

@@ -24,7 +24,8 @@ neither : (b c : Bool) → (b || c) ≡ false → (b ≡ false) × (c ≡ false)
 neither true c h = cc
 neither false c h = (refl, h)
 
-apart-push : (k key : List ℕ) (ks : List (List ℕ)) → bytes_eq key k ≡ false → AllByRecursion (λ l. bytes_eq k l ≡ false) ks → AllByRecursion (λ l. bytes_eq k l ≡ false) (ks ++ key ∷ [])
+apart-push : (k key : List ℕ) (ks : List (List ℕ)) → bytes_eq key k ≡ false → AllByRecursion (λ l. bytes_eq k l ≡ false) ks →
+    AllByRecursion (λ l. bytes_eq k l ≡ false) (ks ++ key ∷ [])
 apart-push k key [] apart h = (bytes_eq-flip k key ∙ apart, tt)
 apart-push k key (l ∷ ks) apart h = (h.0, apart-push k key ks apart h.1)
 
@@ -62,11 +63,13 @@ module _ (look : Lookup) where
   read_kept : (key : List ℕ) (s : Session) → 0 < length key → IsSome (look key) → IsRight s → AreOnce IsReadable (with_key key s.reads)
   read_kept key s long known h = with_key-once IsReadable key s.reads (long, known) h.1
 
-  get_answered-right : (key : List ℕ) (a : Option Answer) (s : Session) → look key ≡ a → 0 < length key → IsRight s → IsRight (session_of (get_answered key a s))
+  get_answered-right : (key : List ℕ) (a : Option Answer) (s : Session) → look key ≡ a → 0 < length key → IsRight s →
+      IsRight (session_of (get_answered key a s))
   get_answered-right key None s is long h = h
   get_answered-right key (Some a) s is long h = (h.0, read_kept key s long (ap is_some is) h)
 
-  rev_answered-right : (key : List ℕ) (a : Option Answer) (s : Session) → look key ≡ a → 0 < length key → IsRight s → IsRight (session_of (rev_answered key a s))
+  rev_answered-right : (key : List ℕ) (a : Option Answer) (s : Session) → look key ≡ a → 0 < length key → IsRight s →
+      IsRight (session_of (rev_answered key a s))
   rev_answered-right key None s is long h = h
   rev_answered-right key (Some a) s is long h = (h.0, read_kept key s long (ap is_some is) h)
 

@@ -1,7 +1,9 @@
 -- Two computations side by side: one over answers, and one over a look-up that these agree with.
-use Rattle.std.proofs.Common.{◌≡◌, ℕ, suc, zero, ◌<◌, Bool, true, false, not, List, [], ◌∷◌, ◌++◌, length, refl, sym, ◌∙◌, ap, subst, append_assoc, append-nil, arith}
+use Rattle.std.proofs.Common.{◌≡◌, ℕ, suc, zero, ◌<◌, Bool, true, false, not, List, [], ◌∷◌, ◌++◌, length, refl, sym, ◌∙◌, ap, subst, append_assoc}
+use Rattle.std.proofs.Common.{append-nil, arith}
 use Rattle.std.specs.Prelude.{pos, nat_lt, if◌then◌else◌, Result, Ok, Err, Option, None, Some, IsSome}
-use Rattle.stm_program.specs.Syntax.{Expression, Condition, Statement, Block, Text, Number, Variable, Get, Rev, Arithmetic, Cat, TextOf, NumOf, Equal, Less, Not, And, Or, Set, Put, Del, If, For, Emit, Abort, End, Then}
+use Rattle.stm_program.specs.Syntax.{Expression, Condition, Statement, Block, Text, Number, Variable, Get, Rev, Arithmetic, Cat, TextOf, NumOf, Equal}
+use Rattle.stm_program.specs.Syntax.{Less, Not, And, Or, Set, Put, Del, If, For, Emit, Abort, End, Then}
 use Rattle.stm_program.specs.declared.write.Write.{Write}
 use Rattle.stm_meaning.specs.declared.value.Value.{Value}
 use Rattle.stm_meaning.specs.declared.value.Value.TheVariants.{Text as TextValue, Number as NumberValue}
@@ -18,7 +20,8 @@ use Rattle.stm_meaning.specs.Answer.{Answer, Lookup}
 use Rattle.stm_meaning.specs.Values.{text_in, key_in, arithmetic, concatenated, text_of, num_of, equal, less, put_of, del_of, turns_of}
 use Rattle.stm_meaning.specs.Writes.{last_write, value_of}
 use Rattle.stm_meaning.specs.Outcome.{Outcome, Gives, Stops, and_then, given, turn_limit, begin_turn}
-use Rattle.stm_meaning.specs.Meaning.{get_answered, rev_answered, get_of, get_key, rev_key, evaluate, unless_false, unless_true, holds, branch, repeat, aborts, run_statement, run_block, answered, run_over}
+use Rattle.stm_meaning.specs.Meaning.{get_answered, rev_answered, get_of, get_key, rev_key, evaluate, unless_false, unless_true, holds, branch}
+use Rattle.stm_meaning.specs.Meaning.{repeat, aborts, run_statement, run_block, answered, run_over}
 use Rattle.stm_meaning.specs.Laws.{AgreesWith, KnowsEachKey, IsPrefix, trace_of, IsContinuedBy, AnswersGiveTheRun, WholeLookupsEnd, WantedKeysAreUnknown}
 
 -- ---- prefixes ----
@@ -75,20 +78,24 @@ itself {X} (Stops stop s) = stop_itself X stop s
 
 -- ---- one part after another ----
 
-then-sees : {X Y : Type 0} (t : List TraceItem) (o : Outcome X) (k : X → Session → Outcome Y) → Sees t o → ((x : X) (s : Session) → Sees s.trace (k x s)) → Sees t (and_then o k)
+then-sees : {X Y : Type 0} (t : List TraceItem) (o : Outcome X) (k : X → Session → Outcome Y) → Sees t o → ((x : X) (s : Session) → Sees s.trace (k x s)) →
+    Sees t (and_then o k)
 then-sees t (Gives x s) k before after = IsPrefix-trans t s.trace (session_of (k x s)).trace before (after x s)
 then-sees t (Stops stop s) k before after = before
 
-then-ends : {X Y : Type 0} (look : Lookup) (o : Outcome X) (h : X → Session → Outcome Y) → EndsRightly look o → ((x : X) (s : Session) → EndsRightly look (h x s)) → EndsRightly look (and_then o h)
+then-ends : {X Y : Type 0} (look : Lookup) (o : Outcome X) (h : X → Session → Outcome Y) → EndsRightly look o →
+    ((x : X) (s : Session) → EndsRightly look (h x s)) → EndsRightly look (and_then o h)
 then-ends look (Gives x s) h before after = after x s
 then-ends look (Stops stop s) h before after = before
 
-stop-goes : {X Y : Type 0} (stop : Stop) (s : Session) (other : Outcome X) (k : X → Session → Outcome Y) → StopContinued stop s other → ((x : X) (s : Session) → Sees s.trace (k x s)) → StopContinued stop s (and_then other k)
+stop-goes : {X Y : Type 0} (stop : Stop) (s : Session) (other : Outcome X) (k : X → Session → Outcome Y) → StopContinued stop s other →
+    ((x : X) (s : Session) → Sees s.trace (k x s)) → StopContinued stop s (and_then other k)
 stop-goes (Aborted t) s other k e sees = ap (λ o. and_then o k) e
 stop-goes (Faulted fault) s other k e sees = ap (λ o. and_then o k) e
 stop-goes (Wants key) s other k e sees = then-sees s.trace other k e sees
 
-then-goes : {X Y : Type 0} (o other : Outcome X) (h k : X → Session → Outcome Y) → Continued o other → ((x : X) (s : Session) → Continued (h x s) (k x s)) → ((x : X) (s : Session) → Sees s.trace (k x s)) → Continued (and_then o h) (and_then other k)
+then-goes : {X Y : Type 0} (o other : Outcome X) (h k : X → Session → Outcome Y) → Continued o other → ((x : X) (s : Session) → Continued (h x s) (k x s)) →
+    ((x : X) (s : Session) → Sees s.trace (k x s)) → Continued (and_then o h) (and_then other k)
 then-goes (Gives x s) other h k e goes sees = subst (λ p. Continued (h x s) (and_then p k)) (sym e) (goes x s)
 then-goes (Stops stop s) other h k e goes sees = stop-goes stop s other k e sees
 
@@ -101,14 +108,16 @@ record Follows (look : Lookup) {X : Type 0} (f g : Session → Outcome X) : Type
   goes : (s : Session) → Continued (f s) (g s)
 
 -- a computation without a look-up
-follows-own : (look : Lookup) {X : Type 0} (f : Session → Outcome X) → ((s : Session) → Sees s.trace (f s)) → ((s : Session) → EndsRightly look (f s)) → Follows look f f
+follows-own : (look : Lookup) {X : Type 0} (f : Session → Outcome X) → ((s : Session) → Sees s.trace (f s)) → ((s : Session) → EndsRightly look (f s)) →
+    Follows look f f
 follows-own look f sees ends = record { sees = sees; ends = ends; goes = λ s. itself (f s) }
 
 follows-given : (look : Lookup) {X : Type 0} (r : Result X Fault) → Follows look (given r) (given r)
 follows-given look (Ok x) = record { sees = λ s. IsPrefix-refl s.trace; ends = λ s. tt; goes = λ s. refl }
 follows-given look (Err fault) = record { sees = λ s. IsPrefix-refl s.trace; ends = λ s. tt; goes = λ s. refl }
 
-follows-then : (look : Lookup) {X Y : Type 0} (f g : Session → Outcome X) (h k : X → Session → Outcome Y) → Follows look f g → ((x : X) → Follows look (h x) (k x)) → Follows look (λ s. and_then (f s) h) (λ s. and_then (g s) k)
+follows-then : (look : Lookup) {X Y : Type 0} (f g : Session → Outcome X) (h k : X → Session → Outcome Y) → Follows look f g →
+    ((x : X) → Follows look (h x) (k x)) → Follows look (λ s. and_then (f s) h) (λ s. and_then (g s) k)
 follows-then look f g h k first second = record {
   sees = λ s. then-sees s.trace (g s) k (first.sees s) (λ x t. (second x).sees t);
   ends = λ s. then-ends look (f s) h (first.ends s) (λ x t. (second x).ends t);
@@ -116,7 +125,8 @@ follows-then look f g h k first second = record {
 }
 
 -- a key that is no text or is empty is a fault
-follows-keyed : (look : Lookup) (h k : List ℕ → Session → Outcome Value) → ((key : List ℕ) → 0 < length key → Follows look (h key) (k key)) → (x : Value) → Follows look (λ t. and_then (given (key_in x) t) h) (λ t. and_then (given (key_in x) t) k)
+follows-keyed : (look : Lookup) (h k : List ℕ → Session → Outcome Value) → ((key : List ℕ) → 0 < length key → Follows look (h key) (k key)) → (x : Value) →
+    Follows look (λ t. and_then (given (key_in x) t) h) (λ t. and_then (given (key_in x) t) k)
 unfolding key_in
 follows-keyed look h k keyed (TextValue []) = record { sees = λ s. IsPrefix-refl s.trace; ends = λ s. tt; goes = λ s. refl }
 follows-keyed look h k keyed (TextValue (c ∷ cs)) = keyed (c ∷ cs) (omega arith)
@@ -140,11 +150,13 @@ rev_answered-ends : (look : Lookup) (key : List ℕ) (a : Option Answer) (s : Se
 rev_answered-ends look key None s e h = (e, h)
 rev_answered-ends look key (Some a) s e h = tt
 
-get_answered-goes : (key : List ℕ) (a b : Option Answer) (s : Session) → ((x : Answer) → a ≡ Some x → b ≡ Some x) → Continued (get_answered key a s) (get_answered key b s)
+get_answered-goes : (key : List ℕ) (a b : Option Answer) (s : Session) → ((x : Answer) → a ≡ Some x → b ≡ Some x) →
+    Continued (get_answered key a s) (get_answered key b s)
 get_answered-goes key None b s h = get_answered-sees key b s
 get_answered-goes key (Some a) b s h = ap (λ c. get_answered key c s) (h a refl)
 
-rev_answered-goes : (key : List ℕ) (a b : Option Answer) (s : Session) → ((x : Answer) → a ≡ Some x → b ≡ Some x) → Continued (rev_answered key a s) (rev_answered key b s)
+rev_answered-goes : (key : List ℕ) (a b : Option Answer) (s : Session) → ((x : Answer) → a ≡ Some x → b ≡ Some x) →
+    Continued (rev_answered key a s) (rev_answered key b s)
 rev_answered-goes key None b s h = rev_answered-sees key b s
 rev_answered-goes key (Some a) b s h = ap (λ c. rev_answered key c s) (h a refl)
 
@@ -156,11 +168,13 @@ get_of-ends : (look : Lookup) (key : List ℕ) (w : Option Write) (s : Session) 
 get_of-ends look key (Some w) s h = tt
 get_of-ends look key None s h = get_answered-ends look key (look key) s refl h
 
-turn-sees : (b : Bool) (t : Session) (fault : Fault) (s : Session) → t.trace ≡ s.trace → Sees {X = Unit {0}} s.trace (if b then Gives tt t else Stops (Faulted fault) s)
+turn-sees : (b : Bool) (t : Session) (fault : Fault) (s : Session) → t.trace ≡ s.trace →
+    Sees {X = Unit {0}} s.trace (if b then Gives tt t else Stops (Faulted fault) s)
 turn-sees true t fault s e = ([], e ∙ sym (append-nil s.trace))
 turn-sees false t fault s e = IsPrefix-refl s.trace
 
-turn-ends : (look : Lookup) (b : Bool) (t : Session) (fault : Fault) (s : Session) → EndsRightly {X = Unit {0}} look (if b then Gives tt t else Stops (Faulted fault) s)
+turn-ends : (look : Lookup) (b : Bool) (t : Session) (fault : Fault) (s : Session) →
+    EndsRightly {X = Unit {0}} look (if b then Gives tt t else Stops (Faulted fault) s)
 turn-ends look true t fault s = tt
 turn-ends look false t fault s = tt
 
@@ -168,7 +182,9 @@ abbrev writing : Write → Session → Outcome (Unit {0})
 writing w s = Gives tt (with_write w s)
 
 follows-write : (look : Lookup) (r : Result Write Fault) → Follows look (λ t. and_then (given r t) writing) (λ t. and_then (given r t) writing)
-follows-write look r = follows-then look (given r) (given r) writing writing (follows-given look r) (λ w. record { sees = λ s. IsPrefix-refl s.trace; ends = λ s. tt; goes = λ s. refl })
+follows-write look r =
+    follows-then look (given r) (given r) writing writing (follows-given look r)
+    (λ w. record { sees = λ s. IsPrefix-refl s.trace; ends = λ s. tt; goes = λ s. refl })
 
 module _ (answers whole : Lookup) (agree : AgreesWith answers whole) where
   get_of-goes : (key : List ℕ) (w : Option Write) (s : Session) → Continued (get_of answers key w s) (get_of whole key w s)
@@ -196,12 +212,28 @@ module _ (answers whole : Lookup) (agree : AgreesWith answers whole) where
   follows-evaluate (Text t) = record { sees = λ s. IsPrefix-refl s.trace; ends = λ s. tt; goes = λ s. refl }
   follows-evaluate (Number n) = record { sees = λ s. IsPrefix-refl s.trace; ends = λ s. tt; goes = λ s. refl }
   follows-evaluate (Variable v) = record { sees = λ s. IsPrefix-refl s.trace; ends = λ s. tt; goes = λ s. refl }
-  follows-evaluate (Get e) = follows-then answers (evaluate answers e) (evaluate whole e) (λ x t. and_then (given (key_in x) t) (get_key answers)) (λ x t. and_then (given (key_in x) t) (get_key whole)) (follows-evaluate e) (follows-keyed answers (get_key answers) (get_key whole) follows-get)
-  follows-evaluate (Rev e) = follows-then answers (evaluate answers e) (evaluate whole e) (λ x t. and_then (given (key_in x) t) (rev_key answers)) (λ x t. and_then (given (key_in x) t) (rev_key whole)) (follows-evaluate e) (follows-keyed answers (rev_key answers) (rev_key whole) follows-rev)
-  follows-evaluate (Arithmetic operator e f) = follows-then answers (evaluate answers e) (evaluate whole e) (λ x t. and_then (evaluate answers f t) (λ y. given (arithmetic operator x y))) (λ x t. and_then (evaluate whole f t) (λ y. given (arithmetic operator x y))) (follows-evaluate e) (λ x. follows-then answers (evaluate answers f) (evaluate whole f) (λ y. given (arithmetic operator x y)) (λ y. given (arithmetic operator x y)) (follows-evaluate f) (λ y. follows-given answers (arithmetic operator x y)))
-  follows-evaluate (Cat e f) = follows-then answers (evaluate answers e) (evaluate whole e) (λ x t. and_then (evaluate answers f t) (λ y. given (concatenated x y))) (λ x t. and_then (evaluate whole f t) (λ y. given (concatenated x y))) (follows-evaluate e) (λ x. follows-then answers (evaluate answers f) (evaluate whole f) (λ y. given (concatenated x y)) (λ y. given (concatenated x y)) (follows-evaluate f) (λ y. follows-given answers (concatenated x y)))
-  follows-evaluate (TextOf e) = follows-then answers (evaluate answers e) (evaluate whole e) (λ x. given (text_of x)) (λ x. given (text_of x)) (follows-evaluate e) (λ x. follows-given answers (text_of x))
-  follows-evaluate (NumOf e) = follows-then answers (evaluate answers e) (evaluate whole e) (λ x. given (num_of x)) (λ x. given (num_of x)) (follows-evaluate e) (λ x. follows-given answers (num_of x))
+  follows-evaluate (Get e) =
+      follows-then answers (evaluate answers e) (evaluate whole e) (λ x t. and_then (given (key_in x) t) (get_key answers))
+      (λ x t. and_then (given (key_in x) t) (get_key whole)) (follows-evaluate e) (follows-keyed answers (get_key answers) (get_key whole) follows-get)
+  follows-evaluate (Rev e) =
+      follows-then answers (evaluate answers e) (evaluate whole e) (λ x t. and_then (given (key_in x) t) (rev_key answers))
+      (λ x t. and_then (given (key_in x) t) (rev_key whole)) (follows-evaluate e) (follows-keyed answers (rev_key answers) (rev_key whole) follows-rev)
+  follows-evaluate (Arithmetic operator e f) =
+      follows-then answers (evaluate answers e) (evaluate whole e) (λ x t. and_then (evaluate answers f t) (λ y. given (arithmetic operator x y)))
+      (λ x t. and_then (evaluate whole f t) (λ y. given (arithmetic operator x y))) (follows-evaluate e)
+      (λ x. follows-then answers (evaluate answers f) (evaluate whole f) (λ y. given (arithmetic operator x y)) (λ y. given (arithmetic operator x y))
+      (follows-evaluate f) (λ y. follows-given answers (arithmetic operator x y)))
+  follows-evaluate (Cat e f) =
+      follows-then answers (evaluate answers e) (evaluate whole e) (λ x t. and_then (evaluate answers f t) (λ y. given (concatenated x y)))
+      (λ x t. and_then (evaluate whole f t) (λ y. given (concatenated x y))) (follows-evaluate e)
+      (λ x. follows-then answers (evaluate answers f) (evaluate whole f) (λ y. given (concatenated x y)) (λ y. given (concatenated x y))
+      (follows-evaluate f) (λ y. follows-given answers (concatenated x y)))
+  follows-evaluate (TextOf e) =
+      follows-then answers (evaluate answers e) (evaluate whole e) (λ x. given (text_of x)) (λ x. given (text_of x)) (follows-evaluate e)
+      (λ x. follows-given answers (text_of x))
+  follows-evaluate (NumOf e) =
+      follows-then answers (evaluate answers e) (evaluate whole e) (λ x. given (num_of x)) (λ x. given (num_of x)) (follows-evaluate e)
+      (λ x. follows-given answers (num_of x))
 
   follows-unless_false : (f g : Session → Outcome Bool) → Follows answers f g → (b : Bool) → Follows answers (unless_false f b) (unless_false g b)
   follows-unless_false f g h true = h
@@ -213,11 +245,25 @@ module _ (answers whole : Lookup) (agree : AgreesWith answers whole) where
 
   follows-holds : (c : Condition) → Follows answers (holds answers c) (holds whole c)
   unfolding holds
-  follows-holds (Equal e f) = follows-then answers (evaluate answers e) (evaluate whole e) (λ x t. and_then (evaluate answers f t) (λ y. given (equal x y))) (λ x t. and_then (evaluate whole f t) (λ y. given (equal x y))) (follows-evaluate e) (λ x. follows-then answers (evaluate answers f) (evaluate whole f) (λ y. given (equal x y)) (λ y. given (equal x y)) (follows-evaluate f) (λ y. follows-given answers (equal x y)))
-  follows-holds (Less e f) = follows-then answers (evaluate answers e) (evaluate whole e) (λ x t. and_then (evaluate answers f t) (λ y. given (less x y))) (λ x t. and_then (evaluate whole f t) (λ y. given (less x y))) (follows-evaluate e) (λ x. follows-then answers (evaluate answers f) (evaluate whole f) (λ y. given (less x y)) (λ y. given (less x y)) (follows-evaluate f) (λ y. follows-given answers (less x y)))
-  follows-holds (Not c) = follows-then answers (holds answers c) (holds whole c) (λ b. Gives (not b)) (λ b. Gives (not b)) (follows-holds c) (λ b. record { sees = λ s. IsPrefix-refl s.trace; ends = λ s. tt; goes = λ s. refl })
-  follows-holds (And c d) = follows-then answers (holds answers c) (holds whole c) (unless_false (holds answers d)) (unless_false (holds whole d)) (follows-holds c) (follows-unless_false (holds answers d) (holds whole d) (follows-holds d))
-  follows-holds (Or c d) = follows-then answers (holds answers c) (holds whole c) (unless_true (holds answers d)) (unless_true (holds whole d)) (follows-holds c) (follows-unless_true (holds answers d) (holds whole d) (follows-holds d))
+  follows-holds (Equal e f) =
+      follows-then answers (evaluate answers e) (evaluate whole e) (λ x t. and_then (evaluate answers f t) (λ y. given (equal x y)))
+      (λ x t. and_then (evaluate whole f t) (λ y. given (equal x y))) (follows-evaluate e)
+      (λ x. follows-then answers (evaluate answers f) (evaluate whole f) (λ y. given (equal x y)) (λ y. given (equal x y)) (follows-evaluate f)
+      (λ y. follows-given answers (equal x y)))
+  follows-holds (Less e f) =
+      follows-then answers (evaluate answers e) (evaluate whole e) (λ x t. and_then (evaluate answers f t) (λ y. given (less x y)))
+      (λ x t. and_then (evaluate whole f t) (λ y. given (less x y))) (follows-evaluate e)
+      (λ x. follows-then answers (evaluate answers f) (evaluate whole f) (λ y. given (less x y)) (λ y. given (less x y)) (follows-evaluate f)
+      (λ y. follows-given answers (less x y)))
+  follows-holds (Not c) =
+      follows-then answers (holds answers c) (holds whole c) (λ b. Gives (not b)) (λ b. Gives (not b)) (follows-holds c)
+      (λ b. record { sees = λ s. IsPrefix-refl s.trace; ends = λ s. tt; goes = λ s. refl })
+  follows-holds (And c d) =
+      follows-then answers (holds answers c) (holds whole c) (unless_false (holds answers d)) (unless_false (holds whole d)) (follows-holds c)
+      (follows-unless_false (holds answers d) (holds whole d) (follows-holds d))
+  follows-holds (Or c d) =
+      follows-then answers (holds answers c) (holds whole c) (unless_true (holds answers d)) (unless_true (holds whole d)) (follows-holds c)
+      (follows-unless_true (holds answers d) (holds whole d) (follows-holds d))
 
   follows-begin : (v i : ℕ) → Follows answers (begin_turn v i) (begin_turn v i)
   unfolding begin_turn
@@ -225,7 +271,8 @@ module _ (answers whole : Lookup) (agree : AgreesWith answers whole) where
       (λ s. turn-sees (nat_lt s.turns turn_limit) (with_variable v (NumberValue (pos i)) (with_turn s)) TurnLimit s refl)
       (λ s. turn-ends answers (nat_lt s.turns turn_limit) (with_variable v (NumberValue (pos i)) (with_turn s)) TurnLimit s)
 
-  follows-branch : (f g h k : Session → Outcome (Unit {0})) → Follows answers f g → Follows answers h k → (b : Bool) → Follows answers (branch f h b) (branch g k b)
+  follows-branch : (f g h k : Session → Outcome (Unit {0})) → Follows answers f g → Follows answers h k → (b : Bool) →
+      Follows answers (branch f h b) (branch g k b)
   follows-branch f g h k first second true = first
   follows-branch f g h k first second false = second
 
@@ -233,33 +280,52 @@ module _ (answers whole : Lookup) (agree : AgreesWith answers whole) where
   unfolding repeat
   follows-repeat v f g body zero i = record { sees = λ s. IsPrefix-refl s.trace; ends = λ s. tt; goes = λ s. refl }
   follows-repeat v f g body (suc left) i =
-      follows-then answers (begin_turn v i) (begin_turn v i) (λ _ t. and_then (f t) (λ _. repeat v f left (suc i))) (λ _ t. and_then (g t) (λ _. repeat v g left (suc i))) (follows-begin v i)
+      follows-then answers (begin_turn v i) (begin_turn v i) (λ _ t. and_then (f t) (λ _. repeat v f left (suc i)))
+      (λ _ t. and_then (g t) (λ _. repeat v g left (suc i))) (follows-begin v i)
       (λ _. follows-then answers f g (λ _. repeat v f left (suc i)) (λ _. repeat v g left (suc i)) body (λ _. follows-repeat v f g body left (suc i)))
 
   mutual
     unfolding run_statement
 
     follows-statement : (p : Statement) → Follows answers (run_statement answers p) (run_statement whole p)
-    follows-statement (Set v e) = follows-then answers (evaluate answers e) (evaluate whole e) (λ x t. Gives tt (with_variable v x t)) (λ x t. Gives tt (with_variable v x t)) (follows-evaluate e) (λ x. record { sees = λ s. IsPrefix-refl s.trace; ends = λ s. tt; goes = λ s. refl })
+    follows-statement (Set v e) =
+        follows-then answers (evaluate answers e) (evaluate whole e) (λ x t. Gives tt (with_variable v x t)) (λ x t. Gives tt (with_variable v x t))
+        (follows-evaluate e) (λ x. record { sees = λ s. IsPrefix-refl s.trace; ends = λ s. tt; goes = λ s. refl })
     follows-statement (Put e f lease) =
-        follows-then answers (evaluate answers e) (evaluate whole e) (λ x t. and_then (evaluate answers f t) (λ y u. and_then (given (put_of x y lease) u) writing)) (λ x t. and_then (evaluate whole f t) (λ y u. and_then (given (put_of x y lease) u) writing)) (follows-evaluate e)
-        (λ x. follows-then answers (evaluate answers f) (evaluate whole f) (λ y u. and_then (given (put_of x y lease) u) writing) (λ y u. and_then (given (put_of x y lease) u) writing) (follows-evaluate f) (λ y. follows-write answers (put_of x y lease)))
+        follows-then answers (evaluate answers e) (evaluate whole e)
+        (λ x t. and_then (evaluate answers f t) (λ y u. and_then (given (put_of x y lease) u) writing))
+        (λ x t. and_then (evaluate whole f t) (λ y u. and_then (given (put_of x y lease) u) writing)) (follows-evaluate e)
+        (λ x. follows-then answers (evaluate answers f) (evaluate whole f) (λ y u. and_then (given (put_of x y lease) u) writing)
+        (λ y u. and_then (given (put_of x y lease) u) writing) (follows-evaluate f) (λ y. follows-write answers (put_of x y lease)))
     follows-statement (Del e) =
-        follows-then answers (evaluate answers e) (evaluate whole e) (λ x t. and_then (given (del_of x) t) writing) (λ x t. and_then (given (del_of x) t) writing) (follows-evaluate e) (λ x. follows-write answers (del_of x))
+        follows-then answers (evaluate answers e) (evaluate whole e) (λ x t. and_then (given (del_of x) t) writing)
+        (λ x t. and_then (given (del_of x) t) writing) (follows-evaluate e) (λ x. follows-write answers (del_of x))
     follows-statement (If c then_block else_block) =
-        follows-then answers (holds answers c) (holds whole c) (branch (run_block answers then_block) (run_block answers else_block)) (branch (run_block whole then_block) (run_block whole else_block)) (follows-holds c)
-        (follows-branch (run_block answers then_block) (run_block whole then_block) (run_block answers else_block) (run_block whole else_block) (follows-block then_block) (follows-block else_block))
+        follows-then answers (holds answers c) (holds whole c) (branch (run_block answers then_block) (run_block answers else_block))
+        (branch (run_block whole then_block) (run_block whole else_block)) (follows-holds c)
+        (follows-branch (run_block answers then_block) (run_block whole then_block) (run_block answers else_block) (run_block whole else_block)
+        (follows-block then_block) (follows-block else_block))
     follows-statement (For v e limit body) =
-        follows-then answers (evaluate answers e) (evaluate whole e) (λ x t. and_then (given (turns_of x limit) t) (λ n. repeat v (run_block answers body) n 0)) (λ x t. and_then (given (turns_of x limit) t) (λ n. repeat v (run_block whole body) n 0)) (follows-evaluate e)
-        (λ x. follows-then answers (given (turns_of x limit)) (given (turns_of x limit)) (λ n. repeat v (run_block answers body) n 0) (λ n. repeat v (run_block whole body) n 0) (follows-given answers (turns_of x limit)) (λ n. follows-repeat v (run_block answers body) (run_block whole body) (follows-block body) n 0))
-    follows-statement (Emit e) = follows-then answers (evaluate answers e) (evaluate whole e) (λ x t. Gives tt (with_output x t)) (λ x t. Gives tt (with_output x t)) (follows-evaluate e) (λ x. record { sees = λ s. IsPrefix-refl s.trace; ends = λ s. tt; goes = λ s. refl })
+        follows-then answers (evaluate answers e) (evaluate whole e)
+        (λ x t. and_then (given (turns_of x limit) t) (λ n. repeat v (run_block answers body) n 0))
+        (λ x t. and_then (given (turns_of x limit) t) (λ n. repeat v (run_block whole body) n 0)) (follows-evaluate e)
+        (λ x. follows-then answers (given (turns_of x limit)) (given (turns_of x limit)) (λ n. repeat v (run_block answers body) n 0)
+        (λ n. repeat v (run_block whole body) n 0) (follows-given answers (turns_of x limit))
+        (λ n. follows-repeat v (run_block answers body) (run_block whole body) (follows-block body) n 0))
+    follows-statement (Emit e) =
+        follows-then answers (evaluate answers e) (evaluate whole e) (λ x t. Gives tt (with_output x t)) (λ x t. Gives tt (with_output x t))
+        (follows-evaluate e) (λ x. record { sees = λ s. IsPrefix-refl s.trace; ends = λ s. tt; goes = λ s. refl })
     follows-statement (Abort e) =
-        follows-then answers (evaluate answers e) (evaluate whole e) (λ x t. and_then (given (text_in x) t) aborts) (λ x t. and_then (given (text_in x) t) aborts) (follows-evaluate e)
-        (λ x. follows-then answers (given (text_in x)) (given (text_in x)) aborts aborts (follows-given answers (text_in x)) (λ t. record { sees = λ s. IsPrefix-refl s.trace; ends = λ s. tt; goes = λ s. refl }))
+        follows-then answers (evaluate answers e) (evaluate whole e) (λ x t. and_then (given (text_in x) t) aborts)
+        (λ x t. and_then (given (text_in x) t) aborts) (follows-evaluate e)
+        (λ x. follows-then answers (given (text_in x)) (given (text_in x)) aborts aborts (follows-given answers (text_in x))
+        (λ t. record { sees = λ s. IsPrefix-refl s.trace; ends = λ s. tt; goes = λ s. refl }))
 
     follows-block : (b : Block) → Follows answers (run_block answers b) (run_block whole b)
     follows-block End = record { sees = λ s. IsPrefix-refl s.trace; ends = λ s. tt; goes = λ s. refl }
-    follows-block (Then first rest) = follows-then answers (run_statement answers first) (run_statement whole first) (λ _. run_block answers rest) (λ _. run_block whole rest) (follows-statement first) (λ _. follows-block rest)
+    follows-block (Then first rest) =
+        follows-then answers (run_statement answers first) (run_statement whole first) (λ _. run_block answers rest) (λ _. run_block whole rest)
+        (follows-statement first) (λ _. follows-block rest)
 
 -- ---- whole runs ----
 
@@ -277,7 +343,8 @@ answered-goes (Stops (Wants key) s) other h = (h.0, answered-trace other ∙ h.1
 
 pub answers_give_the_run : AnswersGiveTheRun
 unfolding run_over
-answers_give_the_run answers whole program agree = answered-goes (run_block answers program fresh) (run_block whole program fresh) ((follows-block answers whole agree program).goes fresh)
+answers_give_the_run answers whole program agree =
+    answered-goes (run_block answers program fresh) (run_block whole program fresh) ((follows-block answers whole agree program).goes fresh)
 
 answered-ends : (whole : Lookup) → KnowsEachKey whole → (o : Outcome (Unit {0})) → EndsRightly whole o → (run : Run) × (answered o ≡ Ended run)
 answered-ends whole knows (Gives x s) h = (_, refl)
@@ -287,9 +354,11 @@ answered-ends whole knows (Stops (Wants key) s) h = (let unknown : IsSome {T = A
 
 pub whole_lookups_end : WholeLookupsEnd
 unfolding run_over
-whole_lookups_end whole program knows = answered-ends whole knows (run_block whole program fresh) ((follows-block whole whole (λ key a e. e) program).ends fresh)
+whole_lookups_end whole program knows =
+    answered-ends whole knows (run_block whole program fresh) ((follows-block whole whole (λ key a e. e) program).ends fresh)
 
-answered-wants : (answers : Lookup) (o : Outcome (Unit {0})) (key : List ℕ) (trace : List TraceItem) → answered o ≡ WantsKey key trace → EndsRightly answers o → (answers key ≡ None) × (0 < length key)
+answered-wants : (answers : Lookup) (o : Outcome (Unit {0})) (key : List ℕ) (trace : List TraceItem) → answered o ≡ WantsKey key trace →
+    EndsRightly answers o → (answers key ≡ None) × (0 < length key)
 answered-wants answers (Gives x s) key trace e h = cc
 answered-wants answers (Stops (Aborted t) s) key trace e h = cc
 answered-wants answers (Stops (Faulted fault) s) key trace e h = cc
@@ -299,4 +368,5 @@ answered-wants answers (Stops (Wants wanted) s) key trace e h =
 
 pub wanted_keys_are_unknown : WantedKeysAreUnknown
 unfolding run_over
-wanted_keys_are_unknown answers program key trace e = answered-wants answers (run_block answers program fresh) key trace e ((follows-block answers answers (λ key a e. e) program).ends fresh)
+wanted_keys_are_unknown answers program key trace e =
+    answered-wants answers (run_block answers program fresh) key trace e ((follows-block answers answers (λ key a e. e) program).ends fresh)

@@ -1,7 +1,8 @@
 -- Worked examples of the meaning, computed by the definition.
 use Rattle.std.proofs.Common.{◌≡◌, refl, ℕ, List, [], ◌∷◌}
 use Rattle.std.specs.Prelude.{pos, negsuc, codes, Some}
-use Rattle.stm_program.specs.Syntax.{Statement, Block, Text, Number, Variable, Arithmetic, Cat, NumOf, Equal, Less, And, Or, Set, Put, If, For, Emit, Abort, End, Then}
+use Rattle.stm_program.specs.Syntax.{Condition, Statement, Block, Text, Number, Variable, Arithmetic, Cat, NumOf, Equal, Less, And, Or, Set, Put, If, For, Emit}
+use Rattle.stm_program.specs.Syntax.{Abort, End, Then}
 use Rattle.stm_program.specs.declared.operator.Operator.TheVariants.{Add, Div, Rem}
 use Rattle.stm_meaning.specs.declared.value.Value.{Value}
 use Rattle.stm_meaning.specs.declared.value.Value.TheVariants.{Number as NumberValue}
@@ -93,10 +94,14 @@ longest_text : end_of (run_over empty_state (grow 16)) ≡ Done
 unfolding run_over run_block evaluate concatenated turns_of begin_turn repeat fresh grow
 longest_text = refl
 
-and_looks_no_further : output_of (run_over empty_state (one (If (And (Equal (Number (pos 1)) (Number (pos 2))) (Less (Number (pos 1)) (Text (codes "a")))) (one (Emit (Number (pos 1)))) (one (Emit (Number (pos 0))))))) ≡ NumberValue (pos 0) ∷ []
+-- `1 < "a"` is a fault wherever it is looked at
+abbrev choice : Condition → Answered
+choice c = run_over empty_state (one (If c (one (Emit (Number (pos 1)))) (one (Emit (Number (pos 0))))))
+
+and_looks_no_further : output_of (choice (And (Equal (Number (pos 1)) (Number (pos 2))) (Less (Number (pos 1)) (Text (codes "a"))))) ≡ NumberValue (pos 0) ∷ []
 unfolding run_over run_block evaluate holds equal less fresh
 and_looks_no_further = refl
 
-or_looks_further : end_of (run_over empty_state (one (If (Or (Equal (Number (pos 1)) (Number (pos 2))) (Less (Number (pos 1)) (Text (codes "a")))) (one (Emit (Number (pos 1)))) (one (Emit (Number (pos 0))))))) ≡ Faulted Kind
+or_looks_further : end_of (choice (Or (Equal (Number (pos 1)) (Number (pos 2))) (Less (Number (pos 1)) (Text (codes "a"))))) ≡ Faulted Kind
 unfolding run_over run_block evaluate holds equal less fresh
 or_looks_further = refl

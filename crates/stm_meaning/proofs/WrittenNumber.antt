@@ -21,11 +21,14 @@ own = numerals_by_value (λ ds. all_ascii_digits ds ≡ true) tells_all_ascii_di
 abbrev Reads : {E : Type 0} → Result ℤ Fault → Result ℤ E → Type 0
 Reads read r = MatchResult r (λ z. read ≡ Ok z) (λ _. read ≡ Err NotANumber)
 
-plain : {E : Type 0} (ds : List ℕ) (r : Result ℤ E) → OkIff r ((all_ascii_digits ds ≡ true) × (0 < length ds) × (digits_value 10 ds < 2 ^ 63)) (pos (digits_value 10 ds)) → Reads (signed_number (λ z. z) ds) r
+plain : {E : Type 0} (ds : List ℕ) (r : Result ℤ E) →
+    OkIff r ((all_ascii_digits ds ≡ true) × (0 < length ds) × (digits_value 10 ds < 2 ^ 63)) (pos (digits_value 10 ds)) → Reads (signed_number (λ z. z) ds) r
 plain ds (Ok z) h = grind (arith, common_steps)
 plain ds (Err e) h = grind (arith, common_steps)
 
-minus : {E : Type 0} (ds : List ℕ) (r : Result ℤ E) → OkIff r ((all_ascii_digits ds ≡ true) × (0 < length ds) × (digits_value 10 ds ≤ 2 ^ 63)) (neg_ℤ (pos (digits_value 10 ds))) → Reads (signed_number neg_ℤ ds) r
+minus : {E : Type 0} (ds : List ℕ) (r : Result ℤ E) →
+    OkIff r ((all_ascii_digits ds ≡ true) × (0 < length ds) × (digits_value 10 ds ≤ 2 ^ 63)) (neg_ℤ (pos (digits_value 10 ds))) →
+    Reads (signed_number neg_ℤ ds) r
 minus ds (Ok z) h = grind (arith, common_steps)
 minus ds (Err e) h = grind (arith, common_steps)
 
@@ -36,11 +39,13 @@ written_number-plus [] h = refl
 written_number-plus (c ∷ cs) h = grind (arith, common_steps)
 
 -- without a digit nothing is read
-nothing : {E : Type 0} (r : Result ℤ E) → OkIff r ((all_ascii_digits [] ≡ true) × (0 < length {A = ℕ} []) × (digits_value 10 [] < 2 ^ 63)) (pos (digits_value 10 [])) → Reads (Err NotANumber) r
+nothing : {E : Type 0} (r : Result ℤ E) →
+    OkIff r ((all_ascii_digits [] ≡ true) × (0 < length {A = ℕ} []) × (digits_value 10 [] < 2 ^ 63)) (pos (digits_value 10 [])) → Reads (Err NotANumber) r
 nothing (Ok z) h = absurd (omega arith)
 nothing (Err e) h = refl
 
-by_sign : {E : Type 0} (c : ℕ) (cs : List ℕ) (r : Result ℤ E) (b : Bool) → ParsesSigned w64 10 (c ∷ cs) r → (c ≡ 43 → ⊥) → (c == 45) ≡ b → Reads (if b then signed_number neg_ℤ cs else signed_number (λ z. z) (c ∷ cs)) r
+by_sign : {E : Type 0} (c : ℕ) (cs : List ℕ) (r : Result ℤ E) (b : Bool) → ParsesSigned w64 10 (c ∷ cs) r → (c ≡ 43 → ⊥) → (c == 45) ≡ b →
+    Reads (if b then signed_number neg_ℤ cs else signed_number (λ z. z) (c ∷ cs)) r
 by_sign c cs r true h other e = minus cs r (parse_signed_minus own w64 (c ∷ cs) r h (let same : c ≡ 45 = grind (arith, nat_tests) in same))
 by_sign c cs r false h other e = plain (c ∷ cs) r (parse_signed_plain own w64 (c ∷ cs) r h other (λ same. absurd (grind (arith, nat_tests))))
 

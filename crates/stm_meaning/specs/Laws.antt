@@ -40,4 +40,5 @@ WholeLookupsEnd = (whole : Lookup) (program : Block) → KnowsEachKey whole → 
 
 -- a key that a run wants is not empty, and the look-up knows nothing of it
 abbrev pub WantedKeysAreUnknown : Type 0
-WantedKeysAreUnknown = (answers : Lookup) (program : Block) (key : List ℕ) (trace : List TraceItem) → run_over answers program ≡ Wants key trace → (answers key ≡ None) × (0 < length key)
+WantedKeysAreUnknown = (answers : Lookup) (program : Block) (key : List ℕ) (trace : List TraceItem) →
+    run_over answers program ≡ Wants key trace → (answers key ≡ None) × (0 < length key)

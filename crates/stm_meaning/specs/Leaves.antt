@@ -45,7 +45,8 @@ reads_after_rev key s = with_key key s.reads
 -- a `get` gives the key's value after the run's writes
 abbrev pub GetGives : Type 0
 GetGives = (look : Lookup) → KnowsEachKey look → (key : List ℕ) (s : Session) →
-    get_key look key s ≡ Gives (Text (value_after s.writes (value_in look) key)) (record s { trace = trace_after_get look key s; reads = reads_after_get key s })
+    get_key look key s ≡ Gives (Text (value_after s.writes (value_in look) key))
+    (record s { trace = trace_after_get look key s; reads = reads_after_get key s })
 
 -- a `rev` gives the look-up's modification revision
 abbrev pub RevGives : Type 0

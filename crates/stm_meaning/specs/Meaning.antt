@@ -1,7 +1,8 @@
 -- The meaning of a program over a look-up. Elements are evaluated from left to right, and the first stop ends the run.
 use Rattle.std.specs.Prelude.{ℕ, suc, zero, Bool, true, false, not, List, pos, Option, None, Some}
 use Rattle.stm_program.specs.Syntax.{Expression, Condition, Statement, Block}
-use Rattle.stm_program.specs.Syntax.{Text, Number, Variable, Get, Rev, Arithmetic, Cat, TextOf, NumOf, Equal, Less, Not, And, Or, Set, Put, Del, If, For, Emit, Abort, End, Then}
+use Rattle.stm_program.specs.Syntax.{Text, Number, Variable, Get, Rev, Arithmetic, Cat, TextOf, NumOf, Equal, Less, Not, And, Or, Set, Put, Del, If}
+use Rattle.stm_program.specs.Syntax.{For, Emit, Abort, End, Then}
 use Rattle.stm_program.specs.declared.write.Write.{Write}
 use Rattle.stm_meaning.specs.declared.value.Value.{Value}
 use Rattle.stm_meaning.specs.declared.value.Value.TheVariants.{Text as TextValue, Number as NumberValue}

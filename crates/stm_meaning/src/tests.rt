@@ -126,6 +126,7 @@ fn the_effect_of_a_transfer(rt: HostRuntime) -> Result<(), Fail> {
     assert!(rt; effect[0] == key_put(alloc, "a0", "70")?);
     assert!(rt; effect[1] == key_put(alloc, "a1", "130")?);
     assert_eq!(rt; run.reads.len(), 2);
+    assert_eq!(rt; run.reads.as_slice().len(), 2);
     Ok(())
 }
 

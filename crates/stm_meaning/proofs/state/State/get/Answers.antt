@@ -6,7 +6,10 @@ use Rattle.stm_meaning.proofs.state.State.get.Goals as goal
 pub returns-in-Ok-clause-entry : goal.returns-in-Ok-clause-entry
 returns-in-Ok-clause-entry c =
     let place = subst (λ l. IsAt l c.args.key.now c.in-Ok.at) (sym c.self.view_is) c.in-Ok.ensures.found in
-    rw (← c.self.view_is) (ap (λ e. Some e) c.index.ensures ∙ sym (find_entry-at c.args.key.now c.self.inside.entries.items c.in-Ok.at c.index.result.now c.self.invariant.0 place.in_range (place.has_key c.index.result.now)))
+    rw (← c.self.view_is)
+    (ap (λ e. Some e) c.index.ensures
+    ∙ sym (find_entry-at c.args.key.now c.self.inside.entries.items c.in-Ok.at c.index.result.now c.self.invariant.0 place.in_range
+    (place.has_key c.index.result.now)))
 
 pub returns-in-Ok-clause-in_range : goal.returns-in-Ok-clause-in_range
 returns-in-Ok-clause-in_range c =

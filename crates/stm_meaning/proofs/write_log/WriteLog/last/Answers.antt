@@ -10,7 +10,8 @@ index-requires c = omega (arith, c.self.inside.writes.ok, c.self.invariant.withi
 
 pub returns : goal.returns
 returns c =
-    let within : c.in_ok-place.field-0.now < length c.self.inside.writes.items = c.self.invariant.within c.args.key.now c.in_ok-place.field-0.now (sym c.in_ok-place.ensures.value) in
+    let within : c.in_ok-place.field-0.now < length c.self.inside.writes.items =
+    c.self.invariant.within c.args.key.now c.in_ok-place.field-0.now (sym c.in_ok-place.ensures.value) in
     sym (slice_get_read c.self.inside.writes.items (length c.self.inside.writes.items) c.in_ok-place.field-0.now c.index.result.now refl within c.index.ensures)
     ∙ ap (λ place. write_at c.self.inside.writes.items place) c.in_ok-place.ensures.value
     ∙ c.self.invariant.last c.args.key.now

@@ -19,6 +19,7 @@ invariant_of-self-2 c =
     let key_is : string_bytes c.in_ok-key.key ≡ key_of c.args.write = c.in_ok-key.ensures.ok ∙ c.key.ensures in
     subst (λ l. AreLastPlaces l (get_by_text c.insert.new.self)) (sym items)
     (place_added ws c.args.write (get_by_text c.self.inside.last_places) (get_by_text c.insert.new.self) c.self.invariant
-    (λ key. hash_map_updates_text (string_bytes c.in_ok-key.key) c.self.inside.last_places c.insert.new.self (Some c.len.result) c.in_ok-insert.ensures.updates key
+    (λ key. hash_map_updates_text (string_bytes c.in_ok-key.key) c.self.inside.last_places c.insert.new.self (Some c.len.result)
+    c.in_ok-insert.ensures.updates key
     ∙ ap (λ (n : ℕ). update bytes_eq (get_by_text c.self.inside.last_places) (string_bytes c.in_ok-key.key) (Some n) key) count
     ∙ ap (λ k. update bytes_eq (get_by_text c.self.inside.last_places) k (Some (length ws)) key) key_is))

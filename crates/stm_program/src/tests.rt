@@ -122,7 +122,8 @@ fn is_read_again(rt: &impl Abort, alloc: Global, text: &str) -> Result<(), Fail>
     let again = read_program(alloc, &written)?;
     let written = write_program(alloc, &again.clone()?)?;
     assert_eq!(rt; written.to_string(alloc)?.as_str(), text);
-    assert_eq!(rt; again.statements().len(), program.statements().len());
+    assert!(rt; again == program);
+    assert!(rt; again.is_same(&program));
     Ok(())
 }
 
@@ -223,6 +224,15 @@ fn programs_are_made_of_statements(rt: HostRuntime) -> Result<(), Fail> {
     let program = Program::of(statements);
     let written = write_program(alloc, &program)?;
     assert_eq!(rt; written.to_string(alloc)?.as_str(), "[]");
+    Ok(())
+}
+
+#[test]
+fn puts_on_other_leases_are_other_programs(rt: HostRuntime) -> Result<(), Fail> {
+    let alloc = rt.alloc();
+    let on_none = read_program(alloc, &Value::from_str(alloc, r#"[["put","k","v",0]]"#)?)?;
+    let on_one = read_program(alloc, &Value::from_str(alloc, r#"[["put","k","v",1]]"#)?)?;
+    assert!(rt; on_none != on_one);
     Ok(())
 }
 

@@ -1,11 +1,13 @@
 -- The laws of histories, by induction on the revisions.
-use Rattle.std.proofs.Common.{◌≡◌, ℕ, ◌+◌, ◌≤◌, ◌<◌, Bool, true, false, List, [], ◌∷◌, length, Option, Some, None, suc, refl, sym, ◌∙◌, ap, subst, arith, cond, IfSome}
+use Rattle.std.proofs.Common.{◌≡◌, ℕ, ◌+◌, ◌≤◌, ◌<◌, Bool, true, false, List, [], ◌∷◌, length, Option, Some, None, suc, refl, sym, ◌∙◌, ap, subst, arith}
+use Rattle.std.proofs.Common.{cond, IfSome}
 use Rattle.std.specs.Prelude.{nat_le}
 use Rattle.std.proofs.lemmas.Bool.{le-leb, lt-leb}
 use Rattle.stm_history.specs.declared.change.Change.{Change}
 use Rattle.stm_history.specs.declared.change.Change.TheVariants.{Put, Del}
 use Rattle.stm_history.specs.declared.key_state.KeyState.{KeyState}
-use Rattle.stm_history.specs.History.{Dated, DatedPut, number_of_last, revisions_up_to, changes_of, with_change, puts_since_deletion, state_of, key_after, key_at, mod_of, change_of, after_change, state_after_put}
+use Rattle.stm_history.specs.History.{Dated, DatedPut, number_of_last, revisions_up_to, changes_of, with_change, puts_since_deletion, state_of, key_after}
+use Rattle.stm_history.specs.History.{key_at, mod_of, change_of, after_change, state_after_put}
 use Rattle.stm_history.specs.Laws.{SameModMeansSameState, OlderRevisionsStay, OneMoreRevision, LastRevisionIsNow, NumbersStaySmall}
 
 -- a put on top of the puts of a key
@@ -97,7 +99,8 @@ mod_is_reached opening key revisions = bounded (key_after opening key revisions)
     bounded (Some s) h = h.modified
 
 -- a key whose modification revision is 0 is absent
-pub absent_at_zero : (opening : ℕ) (key : List ℕ) (revisions : List (List Change)) → mod_of (key_after opening key revisions) ≡ 0 → key_after opening key revisions ≡ None
+pub absent_at_zero : (opening : ℕ) (key : List ℕ) (revisions : List (List Change)) →
+    mod_of (key_after opening key revisions) ≡ 0 → key_after opening key revisions ≡ None
 absent_at_zero opening key revisions zero = absent (key_after opening key revisions) (are_small opening key revisions) zero
   where
     absent : (s : Option KeyState) → SmallIfPresent opening (length revisions) s → mod_of s ≡ 0 → s ≡ None
@@ -164,7 +167,8 @@ same_if_mod_is : (opening : ℕ) (key : List ℕ) (revisions : List (List Change
     SameIfModIs opening key (revisions_up_to opening r revisions) (revisions_up_to opening s revisions)
 same_if_mod_is opening key [] r s = λ equal. refl
 same_if_mod_is opening key (changes ∷ older) r s =
-    let all_older : revisions_up_to opening (number_of_last opening older) older ≡ older = all_up_to opening (number_of_last opening older) older (omega arith) in
+    let all_older : revisions_up_to opening (number_of_last opening older) older ≡ older =
+    all_up_to opening (number_of_last opening older) older (omega arith) in
     let left : SameIfModIs opening key (changes ∷ older) (revisions_up_to opening s older) =
     last_and_older opening key changes older s
     (subst (λ l. SameIfModIs opening key l (revisions_up_to opening s older)) all_older (same_if_mod_is opening key older (number_of_last opening older) s)) in

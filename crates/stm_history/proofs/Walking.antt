@@ -1,5 +1,6 @@
 -- A walk back over the revisions of a key tells what the key is after all of them.
-use Rattle.std.proofs.Common.{◌≡◌, ℕ, ◌+◌, ◌-◌, ◌≤◌, ◌<◌, zero, Bool, true, false, cond, List, [], ◌∷◌, length, reverse, take, get_or, Option, Some, None, suc, refl, sym, ◌∙◌, ap, arith}
+use Rattle.std.proofs.Common.{◌≡◌, ℕ, ◌+◌, ◌-◌, ◌≤◌, ◌<◌, zero, Bool, true, false, cond, List, [], ◌∷◌, length, reverse, take, get_or, Option, Some, None}
+use Rattle.std.proofs.Common.{suc, refl, sym, ◌∙◌, ap, arith}
 use Rattle.std.proofs.Math.Seq.{take-suc}
 use Rattle.std.proofs.lemmas.List.{reverse-append, length-reverse, length-take-le, take_all}
 use Rattle.std.specs.Prelude.{nat_le}
@@ -8,7 +9,8 @@ use Rattle.std.specs.Prelude.{min}
 use Rattle.stm_history.specs.declared.change.Change.{Change}
 use Rattle.stm_history.specs.declared.change.Change.TheVariants.{Put, Del}
 use Rattle.stm_history.specs.declared.key_state.KeyState.{KeyState}
-use Rattle.stm_history.specs.History.{DatedPut, number_of_last, changes_of, change_of, with_change, puts_since_deletion, first_number, state_of, revisions_up_to}
+use Rattle.stm_history.specs.History.{DatedPut, number_of_last, changes_of, change_of, with_change, puts_since_deletion, first_number, state_of}
+use Rattle.stm_history.specs.History.{revisions_up_to}
 use Rattle.stm_history.specs.Walk.{put_before}
 
 -- the state that a walk ends with, when it has found one and these puts are left
@@ -35,7 +37,8 @@ continued_put None n value lease puts =
     ap (λ (k : ℕ). Some (let s : KeyState = record { value = value; create_rev = first_number n puts; mod_rev = n; version = k; lease = lease } in s)) same
 continued_put (Some s) n value lease puts =
     let same : s.version + 1 + length puts ≡ s.version + suc (length puts) = omega arith in
-    ap (λ (k : ℕ). Some (let t : KeyState = record { value = s.value; create_rev = first_number n puts; mod_rev = s.mod_rev; version = k; lease = s.lease } in t)) same
+    ap (λ (k : ℕ).
+    Some (let t : KeyState = record { value = s.value; create_rev = first_number n puts; mod_rev = s.mod_rev; version = k; lease = s.lease } in t)) same
 
 -- what a walk tells that has found a state and is left with these revisions
 abbrev pub walked : ℕ → List ℕ → Option KeyState → List (List Change) → Option KeyState

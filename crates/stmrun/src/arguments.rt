@@ -1,7 +1,7 @@
 //! The command line.
 ghost use Rattle.std.specs.Prelude.{◌≡◌, IfOk, map, string_bytes};
 ghost use Rattle.clap.specs.Words.{app_of, kind_of};
-ghost use Rattle.stmrun.specs.CommandLine.{stmrun_app, status_of_kind};
+ghost use Rattle.stmrun.specs.CommandLine.{stmrun_app, IsToldBy};
 ghost use Rattle.stmrun.specs.Asking.{Asks, AsksSome};
 
 use clap::error::ErrorKind;
@@ -62,16 +62,20 @@ fn command<'a>(alloc: Global) -> Result<Command<'a>, AllocError>
         .subcommand(script)
 }
 
-/// The status of a command line that is refused, or that asks for help, once its text is printed. That printing fails
-/// changes no status.
+/// The status of a command line that is refused, or that asks for help, once its text is printed: 0 for help that was
+/// printed, 3 for want of memory and for help that could not be printed, and 2 for usage, printed or not.
 fn told<R: Print + Eprint>(rt: &R, error: &Error) -> u8
-    ensures { result ≡ status_of_kind (kind_of error.now) }
+    ensures { IsToldBy (kind_of error.now) result }
 {
     match error.kind() {
         ErrorKind::OutOfMemory => fail(rt, "stmrun: out of memory", 3),
-        kind => {
+        ErrorKind::DisplayHelp => match error.print(rt) {
+            Ok(()) => 0,
+            Err(_) => fail(rt, "stmrun: device fault", 3),
+        },
+        _ => {
             let _ = error.print(rt);
-            if kind == ErrorKind::DisplayHelp { 0 } else { 2 }
+            2
         }
     }
 }

@@ -386,9 +386,15 @@ impl Env for Line<'_> {
     }
 }
 
-/// A command line asks for this, whether its texts are printed or not.
-fn asks<'a>(rt: &impl Abort, alloc: Global, words: &'a [&'a [u8]], wanted: Asked) {
-    for prints in [true, false] {
+/// A command line asks for this where its texts are printed, and for that where they cannot be.
+fn asks<'a>(
+    rt: &impl Abort,
+    alloc: Global,
+    words: &'a [&'a [u8]],
+    printed: Asked,
+    unprinted: Asked,
+) {
+    for (prints, wanted) in [(true, printed), (false, unprinted)] {
         let line = (Line { words, prints }, alloc);
         assert_eq!(rt; read_arguments(&line), wanted);
     }
@@ -402,11 +408,14 @@ fn command_lines(rt: HostRuntime) {
     let help = "--help".as_bytes();
     let other = "scripts".as_bytes();
     let not_text = b"\xff".as_slice();
-    asks(&rt, alloc, &[name, script], Asked::Script);
-    asks(&rt, alloc, &[name, help], Asked::Nothing(0));
-    asks(&rt, alloc, &[name, script, help], Asked::Nothing(0));
-    asks(&rt, alloc, &[name], Asked::Nothing(2));
-    asks(&rt, alloc, &[name, other], Asked::Nothing(2));
-    asks(&rt, alloc, &[name, script, other], Asked::Nothing(2));
-    asks(&rt, alloc, &[name, script, not_text], Asked::Nothing(2));
+    let usage = Asked::Nothing(2);
+    let shown = Asked::Nothing(0);
+    let failed = Asked::Nothing(3);
+    asks(&rt, alloc, &[name, script], Asked::Script, Asked::Script);
+    asks(&rt, alloc, &[name, help], shown, failed);
+    asks(&rt, alloc, &[name, script, help], shown, failed);
+    asks(&rt, alloc, &[name], usage, usage);
+    asks(&rt, alloc, &[name, other], usage, usage);
+    asks(&rt, alloc, &[name, script, other], usage, usage);
+    asks(&rt, alloc, &[name, script, not_text], usage, usage);
 }

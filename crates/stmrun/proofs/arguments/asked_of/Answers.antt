@@ -3,4 +3,4 @@ use Rattle.clap.specs.declared.error.kind.ErrorKind.TheVariants.{OutOfMemory}
 use Rattle.stmrun.proofs.arguments.asked_of.Goals as goal
 
 pub returns-in_default : goal.returns-in_default
-returns-in_default g c = (OutOfMemory, inl refl, c.fail.ensures)
+returns-in_default g c = (OutOfMemory, inl refl, inl c.fail.ensures)

@@ -1,5 +1,6 @@
 -- Adding lines one after the other, as a loop does.
-use Rattle.std.proofs.Common.{◌≡◌, ℕ, zero, suc, ◌+◌, ◌<◌, List, [], ◌∷◌, ◌++◌, length, drop, get_or, slice_get, Some, Result, refl, sym, ap, ◌∙◌, append_assoc, append-nil, arith, add-one}
+use Rattle.std.proofs.Common.{◌≡◌, ℕ, zero, suc, ◌+◌, ◌<◌, List, [], ◌∷◌, ◌++◌, length, drop, get_or, slice_get, Some, Result, refl, sym}
+use Rattle.std.proofs.Common.{ap, ◌∙◌, append_assoc, append-nil, arith, add-one}
 use Rattle.std.proofs.Math.Seq.{drop-cons}
 use Rattle.serde_json.specs.Data.{Data}
 use Rattle.stm_history.specs.History.{History, key_now}
@@ -12,7 +13,8 @@ use Rattle.stm_report.specs.StateKeys.{keys_of}
 
 pub lines_text-append : (ds es : List Data) → lines_text (ds ++ es) ≡ lines_text ds ++ lines_text es
 lines_text-append [] es = refl
-lines_text-append (d ∷ ds) es = ap (λ (t : List ℕ). line_text d ++ t) (lines_text-append ds es) ∙ sym (append_assoc (line_text d) (lines_text ds) (lines_text es))
+lines_text-append (d ∷ ds) es = ap (λ (t : List ℕ). line_text d ++ t) (lines_text-append ds es)
+    ∙ sym (append_assoc (line_text d) (lines_text ds) (lines_text es))
 
 -- ---- events
 
@@ -24,7 +26,8 @@ pub next_event : (text total : List ℕ) (rs : List (Result Reply Denied)) (i : 
     → (text ++ line_text (event_line (i + 1) r)) ++ lines_text (event_lines (i + 1 + 1) (drop (i + 1) rs)) ≡ total
 next_event text total rs i r lt at so_far =
     let k : i + 1 + 1 ≡ suc (i + 1) = omega arith in
-    let one : text ++ lines_text (event_lines (i + 1) (drop i rs)) ≡ (text ++ line_text (event_line (i + 1) r)) ++ lines_text (event_lines (i + 1 + 1) (drop (i + 1) rs)) =
+    let one : text ++ lines_text (event_lines (i + 1) (drop i rs))
+    ≡ (text ++ line_text (event_line (i + 1) r)) ++ lines_text (event_lines (i + 1 + 1) (drop (i + 1) rs)) =
     ap (λ (qs : List (Result Reply Denied)). text ++ lines_text (event_lines (i + 1) qs)) (next_reply rs i r lt at)
     ∙ sym (append_assoc text (line_text (event_line (i + 1) r)) (lines_text (event_lines (suc (i + 1)) (drop (i + 1) rs)))) ∙ rw k refl in
     sym one ∙ so_far

@@ -1,5 +1,5 @@
 -- No line of a report has a float.
-use Rattle.std.proofs.Common.{◌≡◌, ℕ, Bool, false, List, [], ◌∷◌, map, Option, Some, None, Result, Ok, Err, ℤ, pos, negsuc, refl}
+use Rattle.std.proofs.Common.{◌≡◌, ℕ, false, List, [], ◌∷◌, map, Option, Some, None, Result, Ok, Err, ℤ, pos, negsuc, refl}
 use Rattle.serde_json.specs.Data.{Data}
 use Rattle.serde_json.specs.Find.{is_float, of_integer}
 use Rattle.serde_json.specs.View.{items_of}
@@ -46,7 +46,11 @@ reply_line-no_float : (n : ℕ) (reply : Reply) → has_float (reply_line n repl
 reply_line-no_float n (Started runner) = refl
 reply_line-no_float n (Fetched runner key mod_rev of_rev revision) = refl
 reply_line-no_float n (Committed runner revision attempts output trace answers) =
-    rw (items_of-no_floats value_data value_data-no_float output, items_of-no_floats trace_data trace_data-no_float trace, items_of-no_floats answer_data answer_data-no_float answers) refl
+    rw (
+      items_of-no_floats value_data value_data-no_float output,
+      items_of-no_floats trace_data trace_data-no_float trace,
+      items_of-no_floats answer_data answer_data-no_float answers,
+    ) refl
 reply_line-no_float n (Aborted runner text) = refl
 reply_line-no_float n (Faulted runner fault) = refl
 reply_line-no_float n (Ended runner cause) = refl

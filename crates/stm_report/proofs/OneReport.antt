@@ -32,7 +32,8 @@ has_key-own : (k : List ℕ) (ks : List (List ℕ)) → has_key k (k ∷ ks) ≡
 has_key-own k ks = ap (λ b. b || has_key k ks) (own_key k)
 
 -- a key of a list, and one that is below the list
-below_by : (key q k : List ℕ) (ks : List (List ℕ)) (b : Bool) → bytes_eq k q ≡ b → slice_cmp nat_cmp key k ≡ Less → (has_key q ks ≡ true → slice_cmp nat_cmp key q ≡ Less)
+below_by : (key q k : List ℕ) (ks : List (List ℕ)) (b : Bool) → bytes_eq k q ≡ b → slice_cmp nat_cmp key k ≡ Less →
+    (has_key q ks ≡ true → slice_cmp nat_cmp key q ≡ Less)
     → b || has_key q ks ≡ true → slice_cmp nat_cmp key q ≡ Less
 below_by key q k ks true is less rest h = subst (λ (x : List ℕ). slice_cmp nat_cmp key x ≡ Less) (equal_key k q is) less
 below_by key q k ks false is less rest h = rest h
@@ -41,7 +42,8 @@ below_member : (key q : List ℕ) (ks : List (List ℕ)) → IsBelowAll key ks �
 below_member key q [] below h = cc
 below_member key q (k ∷ ks) below h = below_by key q k ks (bytes_eq k q) refl below.0 (below_member key q ks below.1) h
 
-first_by : (k q : List ℕ) (ks : List (List ℕ)) (b : Bool) → bytes_eq k q ≡ b → IsBelowAll k ks → b || has_key q ks ≡ true → (k ≡ q) ⊎ (slice_cmp nat_cmp k q ≡ Less)
+first_by : (k q : List ℕ) (ks : List (List ℕ)) (b : Bool) → bytes_eq k q ≡ b → IsBelowAll k ks →
+    b || has_key q ks ≡ true → (k ≡ q) ⊎ (slice_cmp nat_cmp k q ≡ Less)
 first_by k q ks true is below h = inl (equal_key k q is)
 first_by k q ks false is below h = inr (below_member k q ks below h)
 
@@ -50,7 +52,8 @@ heads k j (inl e) other = sym e
 heads k j (inr less) (inl e) = e
 heads k j (inr less) (inr greater) = absurd (not_both j k less greater)
 
-tail_by : (k q : List ℕ) (ks js : List (List ℕ)) (b : Bool) → bytes_eq k q ≡ b → IsBelowAll k ks → IsBelowAll k js → (b || has_key q ks) ≡ (b || has_key q js) → has_key q ks ≡ has_key q js
+tail_by : (k q : List ℕ) (ks js : List (List ℕ)) (b : Bool) → bytes_eq k q ≡ b → IsBelowAll k ks → IsBelowAll k js →
+    (b || has_key q ks) ≡ (b || has_key q js) → has_key q ks ≡ has_key q js
 tail_by k q ks js true is below under same =
     subst (λ (x : List ℕ). has_key x ks ≡ has_key x js) (equal_key k q is) (has_key-below k ks below ∙ sym (has_key-below k js under))
 tail_by k q ks js false is below under same = same
@@ -60,12 +63,17 @@ one_list [] [] up vp same = refl
 one_list [] (j ∷ js) up vp same = let e : false ≡ true = same j ∙ has_key-own j js in cc
 one_list (k ∷ ks) [] up vp same = let e : false ≡ true = sym (same k) ∙ has_key-own k ks in cc
 one_list (k ∷ ks) (j ∷ js) up vp same =
-    let first : k ≡ j = heads k j (first_by j k js (bytes_eq j k) refl vp.0 (sym (same k) ∙ has_key-own k ks)) (first_by k j ks (bytes_eq k j) refl up.0 (same j ∙ has_key-own j js)) in
+    let first : k ≡ j =
+    heads k j (first_by j k js (bytes_eq j k) refl vp.0 (sym (same k) ∙ has_key-own k ks))
+    (first_by k j ks (bytes_eq k j) refl up.0 (same j ∙ has_key-own j js)) in
     let under : IsBelowAll k js = subst (λ (x : List ℕ). IsBelowAll x js) (sym first) vp.0 in
-    let alike : (q : List ℕ) → has_key q (k ∷ ks) ≡ has_key q (k ∷ js) = λ q. subst (λ (x : List ℕ). has_key q (k ∷ ks) ≡ has_key q (x ∷ js)) (sym first) (same q) in
+    let alike : (q : List ℕ) → has_key q (k ∷ ks) ≡ has_key q (k ∷ js) =
+    λ q. subst (λ (x : List ℕ). has_key q (k ∷ ks) ≡ has_key q (x ∷ js)) (sym first) (same q) in
     let rest : ks ≡ js = one_list ks js up.1 vp.1 (λ q. tail_by k q ks js (bytes_eq k q) refl up.0 under (alike q)) in
     cc
 
 pub one_report : OneReport
 one_report w replies a b first second =
-    first.2 ∙ ap (λ (ks : List (List ℕ)). report_text w ks replies) (one_list first.0 second.0 first.1.ascending second.1.ascending (λ q. first.1.present q ∙ sym (second.1.present q))) ∙ sym second.2
+    let same : first.0 ≡ second.0 =
+    one_list first.0 second.0 first.1.ascending second.1.ascending (λ q. first.1.present q ∙ sym (second.1.present q)) in
+    first.2 ∙ ap (λ (ks : List (List ℕ)). report_text w ks replies) same ∙ sym second.2

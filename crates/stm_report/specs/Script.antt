@@ -1,5 +1,5 @@
 -- What a script does: from the bytes of a source to the report in a sink.
-use Rattle.std.specs.Prelude.{◌≡◌, ℕ, List, Bool, true, false, Option, Some, None, Result, Ok, Err, IfSome, unwrap_or}
+use Rattle.std.specs.Prelude.{◌≡◌, ℕ, List, Bool, true, false, Option, Result, Ok, Err, IfSome, unwrap_or}
 use Rattle.std.specs.Io.KnownBytes.{Appends, Keeps}
 use Rattle.stm_retry.specs.declared.event.WorldEvent.{WorldEvent}
 use Rattle.stm_retry.specs.World.{World, opened, world_after, replies_to}
@@ -60,9 +60,11 @@ IsUntouched d = (d.source_failed ≡ false) × (d.sink_failed ≡ false) × Keep
 -- device is answered exactly where the device has failed.
 abbrev pub Does : {A : Type 0} → Devices → Result A ScriptFault → Type 0
 Does d (Ok u) =
-    (d.source_failed ≡ false) × (d.sink_failed ≡ false) × IfSome d.input (λ input. (text : List ℕ) × IsReportOf (scenario_in input) text × Appends d.before d.after text)
+    (d.source_failed ≡ false) × (d.sink_failed ≡ false)
+    × IfSome d.input (λ input. (text : List ℕ) × IsReportOf (scenario_in input) text × Appends d.before d.after text)
 Does d (Err OutOfMemory) = IsUntouched d
 Does d (Err (Bad fault)) = IsUntouched d × IfSome d.input (λ input. scenario_in input ≡ Err fault)
 Does d (Err Read) = (d.source_failed ≡ true) × (d.sink_failed ≡ false) × Keeps d.before d.after
 Does d (Err Write) =
-    (d.source_failed ≡ false) × (d.sink_failed ≡ true) × IfSome d.input (λ input. (text : List ℕ) × IsReportOf (scenario_in input) text × WritesFront d.before d.after text)
+    (d.source_failed ≡ false) × (d.sink_failed ≡ true)
+    × IfSome d.input (λ input. (text : List ℕ) × IsReportOf (scenario_in input) text × WritesFront d.before d.after text)

@@ -1,6 +1,7 @@
 -- What reading to the end and writing to the end do.
 use Rattle.std.specs.Prelude.{◌≡◌, ℕ, ◌≤◌, List, ◌++◌, length, take, Bool, true, false, Option, Result, Ok, Err, IfSome}
 use Rattle.std.specs.Io.KnownBytes.{Appends, Consumes, IsAtEnd}
+use Rattle.stm_report.specs.declared.transfer.TheConstants.{MOST_READ}
 use Rattle.stm_report.specs.declared.transfer.ReadFault.{ReadFault}
 use Rattle.stm_report.specs.declared.transfer.ReadFault.TheVariants.{OutOfMemory, Device}
 
@@ -16,12 +17,9 @@ HasTaken old new failed most (Ok n) before after =
     (failed ≡ false) × (n ≤ most) × (n ≡ 0 → IsAtEnd new) × (piece : List ℕ) × (length piece ≡ n) × (after ≡ before ++ piece) × Consumes old new piece
 HasTaken old new failed most (Err fault) before after = ReadFails failed fault
 
-abbrev pub most_read : ℕ
-most_read = 16777217
-
 -- what reading to the end did: the bytes left before, whether the source has failed then, and the answer, seen by view
 abbrev pub HasRead : {X : Type 0} → (X → List ℕ) → Option (List ℕ) → Bool → Result X ReadFault → Type 0
-HasRead view known failed (Ok x) = (failed ≡ false) × IfSome known (λ all. view x ≡ take most_read all)
+HasRead view known failed (Ok x) = (failed ≡ false) × IfSome known (λ all. view x ≡ take MOST_READ all)
 HasRead view known failed (Err fault) = ReadFails failed fault
 
 -- a front of these bytes was written

@@ -11,5 +11,13 @@ returns c =
     let state = c.in_ok-state.state in
     let rises : IsAscending state = subst IsAscending c.state-2.view_is c.state-2.invariant.0 in
     let text : string_bytes c.push_line.new.text ≡ report_text w (keys_of state) c.args.replies.now =
-    rw (c.in_ok-push_line.ensures, c.in_ok-push_keys.ensures, c.in_ok-push_events.ensures, c.new-text.ensures.bytes, c.in_ok-end.ensures, c.revision.ensures, c.history.ensures.entries) refl in
+    rw (
+      c.in_ok-push_line.ensures,
+      c.in_ok-push_keys.ensures,
+      c.in_ok-push_events.ensures,
+      c.new-text.ensures.bytes,
+      c.in_ok-end.ensures,
+      c.revision.ensures,
+      c.history.ensures.entries,
+    ) refl in
     (keys_of state, keys_of-present w.history state rises c.in_ok-state.ensures, text)

@@ -8,5 +8,7 @@ loop-rest-preserved g c =
     let so_far = c.loop-rest.invariant.written in
     record {
       works = e.0;
-      written = rw c.split_at.ensures.back (writes_on (held c.args.sink.now) (held c.loop-rest.sink) (held c.write.new.self) c.args.bytes.now so_far.0 c.loop-rest.rest.now c.in_ok-count.count so_far.1 so_far.2 e.3);
+      written = rw c.split_at.ensures.back
+          (writes_on (held c.args.sink.now) (held c.loop-rest.sink) (held c.write.new.self) c.args.bytes.now
+          so_far.0 c.loop-rest.rest.now c.in_ok-count.count so_far.1 so_far.2 e.3);
     }

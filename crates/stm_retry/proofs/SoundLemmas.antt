@@ -1,5 +1,6 @@
 -- Each step keeps a world sound, and its reply means what it should.
-use Rattle.std.proofs.Common.{◌≡◌, ◌≢◌, ℕ, ◌+◌, ◌-◌, ◌≤◌, ◌<◌, ◌⊎◌, zero, suc, List, [], ◌∷◌, ◌++◌, length, Option, Some, None, Result, Ok, Err, Bool, true, false, cond, refl, sym, ◌∙◌, ap, subst, arith, append_assoc}
+use Rattle.std.proofs.Common.{◌≡◌, ◌≢◌, ℕ, ◌+◌, ◌-◌, ◌≤◌, ◌<◌, ◌⊎◌, zero, suc, List, [], ◌∷◌, ◌++◌, length, Option, Some, None, Result, Ok}
+use Rattle.std.proofs.Common.{Err, Bool, true, false, cond, refl, sym, ◌∙◌, ap, subst, arith, append_assoc}
 use Rattle.std.specs.Prelude.{slice_get, slice_set, ◌==◌}
 use Rattle.stm_history.specs.declared.change.Change.{Change}
 use Rattle.stm_history.specs.declared.key_state.ReadAnswer.{ReadAnswer}
@@ -23,14 +24,18 @@ use Rattle.stm_retry.specs.declared.refusal.Refusal.{Refusal}
 use Rattle.stm_retry.specs.declared.refusal.Refusal.TheVariants.{BadLimit, TooManyOps, LeaseNotFound, RevisionsUsedUp}
 use Rattle.std.specs.Prelude.{nat_lt, not, ◌&&◌}
 use Rattle.std.specs.List.{list_any}
-use Rattle.stm_retry.specs.World.{refusal_at, most_writes, highest_revision, is_empty, names_lease}
+use Rattle.stm_history.specs.declared.revisions.TheConstants.{HIGHEST_REVISION}
+use Rattle.stm_retry.specs.declared.commit.TheConstants.{MOST_WRITES}
+use Rattle.stm_retry.specs.World.{refusal_at, is_empty, names_lease}
 use Rattle.stm_meaning.specs.declared.trace_item.TraceItem.{TraceItem}
 use Rattle.stm_retry.specs.declared.entry.Entry.{Entry}
 use Rattle.stm_retry.specs.declared.entry.Entry.TheVariants.{Program}
 use Rattle.stm_retry.specs.declared.runner.Runner.{Runner}
 use Rattle.stm_retry.specs.declared.runner.Slot.{Slot}
 use Rattle.stm_retry.specs.declared.runner.Slot.TheVariants.{Over, Live}
-use Rattle.stm_retry.specs.World.{World, Stepped, opened, step, step_runner, step_live, step_on, start_runner, fetch, finish, commit, judged, committed, replied, refused, runner_at, live_in, with_slot, with_answer, answer_now, evaluated, with_changes, changes_of_writes, commit_refusal, entry_of, world_after}
+use Rattle.stm_retry.specs.World.{World, Stepped, opened, step, step_runner, step_live, step_on, start_runner, fetch, finish, commit}
+use Rattle.stm_retry.specs.World.{judged, committed, replied, refused, runner_at, live_in, with_slot, with_answer, answer_now, evaluated}
+use Rattle.stm_retry.specs.World.{with_changes, changes_of_writes, commit_refusal, entry_of, world_after}
 use Rattle.stm_retry.specs.Replay.{AreTrue, CommitsAnswers, replay, replay_entry, writes_of, IsLegal, AreLegal}
 use Rattle.stm_retry.specs.Sound.{SlotIsTrue, SlotsAreTrue, IsSound}
 use Rattle.stm_retry.proofs.EffectLemmas.{changes_are_distinct}
@@ -114,9 +119,9 @@ none_of_three false false false x y z h = (refl, refl)
 
 -- a commit that is not refused names no lease, and finds a revision where it changes something
 pub unrefused : (latest : List Write) (changes : List Change) (revision : ℕ) → refusal_at latest changes revision ≡ None →
-    (list_any names_lease latest ≡ false) × ((not (is_empty changes) && (revision == highest_revision)) ≡ false)
+    (list_any names_lease latest ≡ false) × ((not (is_empty changes) && (revision == HIGHEST_REVISION)) ≡ false)
 unrefused latest changes revision h =
-    none_of_three (nat_lt most_writes (length latest)) (list_any names_lease latest) (not (is_empty changes) && (revision == highest_revision))
+    none_of_three (nat_lt MOST_WRITES (length latest)) (list_any names_lease latest) (not (is_empty changes) && (revision == HIGHEST_REVISION))
     TooManyOps LeaseNotFound RevisionsUsedUp h
 
 -- ---- replay ----
@@ -184,7 +189,8 @@ keeps_replied w reply id slot sound new means = record {
   means = means;
 }
 
-keeps_fetch : (w : World) (id : ℕ) (r : Runner) (key : List ℕ) (trace : List TraceItem) → IsSound w → runner_at id w.runners ≡ Some r → AreTrue w.history r.answers →
+keeps_fetch : (w : World) (id : ℕ) (r : Runner) (key : List ℕ) (trace : List TraceItem) →
+    IsSound w → runner_at id w.runners ≡ Some r → AreTrue w.history r.answers →
     evaluated r ≡ Wants key trace → Keeps w (Step id) (fetch id r key w)
 unfolding fetch
 keeps_fetch w id r key trace sound live recorded wants =
@@ -267,7 +273,8 @@ ends_as : (w : World) (id : ℕ) (r : Runner) (run : Run) (reply : Reply) → ru
     EndsAs w id run (replied reply id Over w).next
 ends_as w id r run reply live is_run = record { runner = r; is_live = live; is_run = is_run; over = is_over id w.runners }
 
-keeps_judged : (w : World) (id : ℕ) (r : Runner) (run : Run) (refusal : Option Refusal) → IsSound w → runner_at id w.runners ≡ Some r → AreTrue w.history r.answers →
+keeps_judged : (w : World) (id : ℕ) (r : Runner) (run : Run) (refusal : Option Refusal) →
+    IsSound w → runner_at id w.runners ≡ Some r → AreTrue w.history r.answers →
     evaluated r ≡ EndedRun run → run.end ≡ Done →
     commit_refusal (latest_writes run.writes) (changes_of_writes w.history run.writes) w.history ≡ refusal →
     Keeps w (Step id) (judged id r run (changes_of_writes w.history run.writes) refusal w)
@@ -286,9 +293,11 @@ keeps_finish : (w : World) (id : ℕ) (r : Runner) (run : Run) (end : End) → I
     evaluated r ≡ EndedRun run → run.end ≡ end → Keeps w (Step id) (finish id r run end w)
 keeps_finish w id r run Done sound live recorded is_run ended = keeps_commit w id r run sound live recorded is_run ended
 keeps_finish w id r run (AbortedEnd text) sound live recorded is_run ended =
-    keeps_replied w (Aborted id text) id Over sound tt (record { history = refl; entries = refl }, refl, (run, ends_as w id r run (Aborted id text) live is_run, ended))
+    keeps_replied w (Aborted id text) id Over sound tt
+    (record { history = refl; entries = refl }, refl, (run, ends_as w id r run (Aborted id text) live is_run, ended))
 keeps_finish w id r run (FaultedEnd fault) sound live recorded is_run ended =
-    keeps_replied w (Faulted id fault) id Over sound tt (record { history = refl; entries = refl }, refl, (run, ends_as w id r run (Faulted id fault) live is_run, ended))
+    keeps_replied w (Faulted id fault) id Over sound tt
+    (record { history = refl; entries = refl }, refl, (run, ends_as w id r run (Faulted id fault) live is_run, ended))
 
 keeps_on : (w : World) (id : ℕ) (r : Runner) (answered : Answered) → IsSound w → runner_at id w.runners ≡ Some r → AreTrue w.history r.answers →
     evaluated r ≡ answered → Keeps w (Step id) (step_on id r answered w)

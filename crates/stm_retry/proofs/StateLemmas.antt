@@ -1,5 +1,6 @@
 -- The state of a store, gathered key by key.
-use Rattle.std.proofs.Common.{◌≡◌, ℕ, ◌+◌, ◌≤◌, ◌<◌, zero, suc, List, [], ◌∷◌, ◌++◌, length, take, reverse, get_or, Option, Some, None, Bool, true, false, cond, refl, sym, ◌∙◌, ap, subst, arith}
+use Rattle.std.proofs.Common.{◌≡◌, ℕ, ◌+◌, ◌≤◌, ◌<◌, zero, suc, List, [], ◌∷◌, ◌++◌, length, take, reverse, get_or, Option, Some, None}
+use Rattle.std.proofs.Common.{Bool, true, false, cond, refl, sym, ◌∙◌, ap, subst, arith}
 use Rattle.std.specs.Prelude.{bytes_eq, is_some, ◌||◌}
 use Rattle.std.specs.List.{list_any}
 use Rattle.std.proofs.Math.Seq.{take-suc}
@@ -11,7 +12,7 @@ use Rattle.stm_history.specs.declared.key_state.KeyState.{KeyState}
 use Rattle.stm_history.specs.History.{History, number_of_last, key_of, change_of, after_change, key_after, key_now}
 use Rattle.stm_history.proofs.HistoryLaws.{one_more}
 use Rattle.stm_meaning.specs.declared.state.StateEntry.{StateEntry}
-use Rattle.stm_meaning.specs.States.{find_entry, with_entry}
+use Rattle.stm_meaning.specs.States.{find_entry, is_present, with_entry}
 use Rattle.stm_meaning.proofs.Entries.{find_entry-with_entry}
 use Rattle.stm_retry.specs.StateOf.{entry_now, IsStateOf, IsStateOfSeen}
 
@@ -28,6 +29,19 @@ pub seen_absent : (h : History) (seen : List ℕ → Bool) (entries : List State
 seen_absent h seen entries key absent so_far q =
     so_far q ∙ absent_either_way (seen q) (bytes_eq key q) (entry_now q (key_now h q))
     (λ e. ap (entry_now q) (ap (key_now h) (sym ((bytes_eq-Decides key q).0 e)) ∙ absent))
+
+again_either_way : (s b : Bool) (target found : Option StateEntry) → found ≡ cond s target None → (b ≡ true → is_some found ≡ true) →
+    found ≡ cond (s || b) target None
+again_either_way true b target found is there = is
+again_either_way false true target found is there = let one : false ≡ true = sym (ap (λ (o : Option StateEntry). is_some o) is) ∙ there refl in absurd (cc)
+again_either_way false false target found is there = is
+
+-- a key that is there adds nothing
+pub seen_again : (h : History) (seen : List ℕ → Bool) (entries : List StateEntry) (key : List ℕ) → is_present entries key ≡ true →
+    IsStateOfSeen h seen entries → IsStateOfSeen h (λ q. seen q || bytes_eq key q) entries
+seen_again h seen entries key there so_far q =
+    again_either_way (seen q) (bytes_eq key q) (entry_now q (key_now h q)) (find_entry q entries) (so_far q)
+    (λ e. ap (λ (k : List ℕ). is_present entries k) (sym ((bytes_eq-Decides key q).0 e)) ∙ there)
 
 present_either_way : (s b : Bool) (target other found : Option StateEntry) → found ≡ cond b other (cond s target None) → (b ≡ true → other ≡ target) →
     found ≡ cond (s || b) target None

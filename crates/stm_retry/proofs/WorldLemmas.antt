@@ -1,5 +1,6 @@
 -- What the calls of a world keep and tell.
-use Rattle.std.proofs.Common.{◌≡◌, ◌≢◌, ℕ, ◌+◌, ◌⊎◌, inl, inr, List, [], ◌∷◌, ◌++◌, length, Option, Some, None, Result, Ok, Err, Bool, true, false, cond, refl, sym, ◌∙◌, ap, subst, OnOk, OnErr}
+use Rattle.std.proofs.Common.{◌≡◌, ◌≢◌, ℕ, ◌+◌, ◌⊎◌, inl, inr, List, [], ◌∷◌, ◌++◌, length, Option, Some, None, Result, Ok, Err, Bool, true}
+use Rattle.std.proofs.Common.{false, cond, refl, sym, ◌∙◌, ap, subst, OnOk, OnErr}
 use Rattle.std.specs.Prelude.{◌==◌}
 use Rattle.std.specs.declared.alloc.AllocError.{AllocError}
 use Rattle.stm_program.specs.Syntax.{ProgramTree}
@@ -18,18 +19,20 @@ use Rattle.stm_retry.specs.declared.refusal.Denied.{Denied}
 use Rattle.stm_retry.specs.declared.refusal.Refusal.{Refusal}
 use Rattle.stm_retry.specs.declared.refusal.Refusal.TheVariants.{OutOfMemory, TooManyOps, LeaseNotFound, RevisionsUsedUp, BadLimit, NoRunner}
 use Rattle.stm_retry.specs.declared.runner.Runner.{Runner}
-use Rattle.stm_retry.specs.World.{World, Stepped, step, step_runner, step_live, step_on, start_runner, fetch, finish, commit, judged, evaluated, refused, runner_at, changes_of_writes, commit_refusal}
-use Rattle.stm_retry.specs.Made.{Made, as_reply}
+use Rattle.stm_retry.specs.World.{World, Stepped, step, step_runner, step_live, step_on, start_runner, fetch, finish, commit, judged}
+use Rattle.stm_retry.specs.World.{evaluated, refused, runner_at, changes_of_writes, commit_refusal}
+use Rattle.stm_retry.specs.MachineTells.{Tells as MachineTells, as_reply}
 use Rattle.stm_retry.specs.Sound.{IsSound}
 use Rattle.stm_retry.specs.Means.{Means}
-use Rattle.stm_retry.specs.Tells.{Tells, TellsDenied, IsStep, is_want, ran_out}
+use Rattle.stm_retry.specs.Tells.{Tells, TellsFault, IsStep, is_want, ran_out}
 use Rattle.stm_retry.specs.World.{world_after, replies_to}
 use Rattle.std.proofs.Common.{◌<◌, get_or, drop, take, append_assoc}
 use Rattle.std.proofs.lemmas.List.{drop_more, take_more}
 use Rattle.stm_retry.proofs.SoundLemmas.{step_keeps}
 use Rattle.stm_retry.proofs.TakenLemmas.{IsRefusal, RefusedOnly, refused_only}
 
-tells_denied : (old new : World) (s : Stepped) (denied : Denied) (cause : Refusal) → IsRefusal cause → IsStep s (Err denied) new → TellsDenied old s denied cause new
+tells_denied : (old new : World) (s : Stepped) (denied : Denied) (cause : Refusal) → IsRefusal cause → IsStep s (Err denied) new →
+    TellsFault cause denied old new s
 tells_denied old new s denied OutOfMemory (inl h) is = absurd (cc)
 tells_denied old new s denied OutOfMemory (inr h) is = absurd (cc)
 tells_denied old new s denied TooManyOps h is = is
@@ -39,27 +42,28 @@ tells_denied old new s denied BadLimit h is = is
 tells_denied old new s denied NoRunner h is = is
 
 -- what the call of the machine makes is what the world's call tells
-pub made_tells : (old new : World) (e : WorldEvent) (outcome : Result (Result Reply Denied) AllocError) → Made old new outcome (step e old) →
-    Tells old e (as_reply outcome) new
-made_tells old new e (Ok (Ok reply)) made = record { reply_is = made.0; next_is = made.1 }
-made_tells old new e (Ok (Err denied)) made =
-    tells_denied old new (step e old) denied denied.cause (subst RefusedOnly (sym made.0) (refused_only e old)) (record { reply_is = made.0; next_is = made.1 })
-made_tells old new e (Err error) made = (made.0, refl, made.1)
+pub machine_tells : (old new : World) (e : WorldEvent) (outcome : Result (Result Reply Denied) AllocError) → MachineTells outcome old new (step e old) →
+    Tells (as_reply outcome) old new (step e old)
+machine_tells old new e (Ok (Ok reply)) made = record { reply_is = made.0; next_is = made.1 }
+machine_tells old new e (Ok (Err denied)) made =
+    tells_denied old new (step e old) denied denied.cause (subst RefusedOnly made.0 (refused_only e old)) (record { reply_is = made.0; next_is = made.1 })
+machine_tells old new e (Err error) made = (made.0, refl, made.1)
 
 means_nothing : (old new : World) (e : WorldEvent) (denied : Denied) → new ≡ old → Means old e (Err denied) new
 means_nothing old new (Start program level limit) denied same = same
 means_nothing old new (Step id) denied same = same
 
-pub made_means : (old new : World) (e : WorldEvent) (outcome : Result (Result Reply Denied) AllocError) → IsSound old → Made old new outcome (step e old) →
-    Means old e (as_reply outcome) new
-made_means old new e (Ok reply) sound made =
-    subst (λ (r : Result Reply Denied). Means old e r new) (sym made.0)
-    (subst (λ (w : World). Means old e (step e old).reply w) (sym made.1) (step_keeps old e sound).means)
-made_means old new e (Err error) sound made = means_nothing old new e (record { cause = OutOfMemory; expired = [] }) made.0
+pub machine_means : (old new : World) (e : WorldEvent) (outcome : Result (Result Reply Denied) AllocError) →
+    IsSound old → MachineTells outcome old new (step e old) → Means old e (as_reply outcome) new
+machine_means old new e (Ok reply) sound made =
+    subst (λ (r : Result Reply Denied). Means old e r new) made.0
+    (subst (λ (w : World). Means old e (step e old).reply w) made.1 (step_keeps old e sound).means)
+machine_means old new e (Err error) sound made = means_nothing old new e (record { cause = OutOfMemory; expired = [] }) made.0
 
-pub made_is_sound : (old new : World) (e : WorldEvent) (outcome : Result (Result Reply Denied) AllocError) → IsSound old → Made old new outcome (step e old) → IsSound new
-made_is_sound old new e (Ok reply) sound made = subst IsSound (sym made.1) (step_keeps old e sound).sound
-made_is_sound old new e (Err error) sound made = subst IsSound (sym made.0) sound
+pub machine_is_sound : (old new : World) (e : WorldEvent) (outcome : Result (Result Reply Denied) AllocError) →
+    IsSound old → MachineTells outcome old new (step e old) → IsSound new
+machine_is_sound old new e (Ok reply) sound made = subst IsSound made.1 (step_keeps old e sound).sound
+machine_is_sound old new e (Err error) sound made = subst IsSound (sym made.0) sound
 
 pub started_is_sound : (old new : World) (program : ProgramTree) (level : Level) (limit : ℕ) (result : Result ℕ AllocError) → IsSound old →
     OnOk result (new ≡ (start_runner program level limit old).next) → OnErr result (new ≡ old) → IsSound new
@@ -68,7 +72,8 @@ started_is_sound old new program level limit (Err error) sound ok err = subst Is
 
 -- ---- a run of events ----
 
-taken_denied : (old new : World) (s : Stepped) (denied : Denied) (cause : Refusal) → is_want cause ≡ false → TellsDenied old s denied cause new → IsStep s (Err denied) new
+taken_denied : (old new : World) (s : Stepped) (denied : Denied) (cause : Refusal) →
+    is_want cause ≡ false → TellsFault cause denied old new s → IsStep s (Err denied) new
 taken_denied old new s denied OutOfMemory h told = absurd (cc)
 taken_denied old new s denied TooManyOps h told = told
 taken_denied old new s denied LeaseNotFound h told = told
@@ -77,7 +82,8 @@ taken_denied old new s denied BadLimit h told = told
 taken_denied old new s denied NoRunner h told = told
 
 -- an event that memory sufficed for is taken
-pub taken : (old new : World) (e : WorldEvent) (reply : Result Reply Denied) → ran_out reply ≡ false → Tells old e reply new → IsStep (step e old) reply new
+pub taken : (old new : World) (e : WorldEvent) (reply : Result Reply Denied) → ran_out reply ≡ false →
+    Tells reply old new (step e old) → IsStep (step e old) reply new
 taken old new e (Ok reply) h told = told
 taken old new e (Err denied) h told = taken_denied old new (step e old) denied denied.cause h told
 
@@ -91,21 +97,21 @@ pub replies_step : (events : List WorldEvent) (i : ℕ) (e : WorldEvent) (w next
     (so_far ++ reply ∷ []) ++ replies_to (drop (i + 1) events) next ≡ so_far ++ replies_to (drop i events) w
 replies_step events i e w next reply so_far within is s =
     append_assoc so_far (reply ∷ []) (replies_to (drop (i + 1) events) next)
-    ∙ ap (λ (w' : World). so_far ++ reply ∷ replies_to (drop (i + 1) events) w') s.next_is
-    ∙ ap (λ (r : Result Reply Denied). so_far ++ r ∷ replies_to (drop (i + 1) events) (step e w).next) s.reply_is
+    ∙ ap (λ (w' : World). so_far ++ reply ∷ replies_to (drop (i + 1) events) w') (sym s.next_is)
+    ∙ ap (λ (r : Result Reply Denied). so_far ++ r ∷ replies_to (drop (i + 1) events) (step e w).next) (sym s.reply_is)
     ∙ sym (ap (λ (l : List WorldEvent). so_far ++ replies_to l w) (drop_more events i e within ∙ ap (λ (x : WorldEvent). x ∷ drop (i + 1) events) (sym is)))
 
 pub rest_step : (events : List WorldEvent) (i : ℕ) (e : WorldEvent) (w next : World) (reply : Result Reply Denied) →
     i < length events → e ≡ get_or events i e → IsStep (step e w) reply next →
     world_after (drop (i + 1) events) next ≡ world_after (drop i events) w
 rest_step events i e w next reply within is s =
-    ap (world_after (drop (i + 1) events)) s.next_is
+    ap (world_after (drop (i + 1) events)) (sym s.next_is)
     ∙ sym (ap (λ (l : List WorldEvent). world_after l w) (drop_more events i e within ∙ ap (λ (x : WorldEvent). x ∷ drop (i + 1) events) (sym is)))
 
 pub reached_step : (events : List WorldEvent) (i : ℕ) (e : WorldEvent) (w next start : World) (reply : Result Reply Denied) →
     i < length events → e ≡ get_or events i e → IsStep (step e w) reply next → w ≡ world_after (take i events) start →
     next ≡ world_after (take (i + 1) events) start
 reached_step events i e w next start reply within is s reached =
-    s.next_is ∙ ap (λ (x : World). (step e x).next) reached
+    sym s.next_is ∙ ap (λ (x : World). (step e x).next) reached
     ∙ sym (after_append (take i events) e start)
     ∙ sym (ap (λ (l : List WorldEvent). world_after l start) (take_more events i e within ∙ ap (λ (x : WorldEvent). take i events ++ x ∷ []) (sym is)))

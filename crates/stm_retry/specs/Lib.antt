@@ -1,5 +1,5 @@
 pub mod Answers
-pub mod Made
+pub mod MachineTells
 pub mod Means
 pub mod Names
 pub mod Planned

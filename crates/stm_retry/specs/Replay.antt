@@ -4,6 +4,7 @@ use Rattle.std.specs.List.{list_any}
 use Rattle.stm_meaning.specs.Writes.{latest_writes}
 use Rattle.stm_history.specs.declared.key_state.ReadAnswer.{ReadAnswer}
 use Rattle.stm_history.specs.History.{History, now, opened_at, IsTrueAnswer}
+use Rattle.stm_history.specs.declared.revisions.TheConstants.{HIGHEST_REVISION}
 use Rattle.stm_program.specs.Syntax.{ProgramTree}
 use Rattle.stm_program.specs.declared.write.Write.{Write}
 use Rattle.stm_meaning.specs.declared.value.Value.{Value}
@@ -16,7 +17,7 @@ use Rattle.stm_meaning.specs.Meaning.{run_over}
 use Rattle.stm_retry.specs.declared.entry.Entry.{Entry}
 use Rattle.stm_retry.specs.declared.entry.Entry.TheVariants.{Program}
 use Rattle.stm_retry.specs.Answers.{look_up}
-use Rattle.stm_retry.specs.World.{with_changes, changes_of_writes, names_lease, is_empty, highest_revision}
+use Rattle.stm_retry.specs.World.{with_changes, changes_of_writes, names_lease, is_empty}
 
 -- what a program writes on its answers
 abbrev pub writes_of : Answered → List Write
@@ -51,7 +52,7 @@ pub record CommitsAnswers (program : ProgramTree) (answers : List ReadAnswer) (o
   pub reads_truth : AreTrue before answers
   pub writes_effect : after ≡ with_changes before (changes_of_writes before run.writes)
   pub names_no_lease : list_any names_lease (latest_writes run.writes) ≡ false
-  pub finds_a_revision : (not (is_empty (changes_of_writes before run.writes)) && (now before == highest_revision)) ≡ false
+  pub finds_a_revision : (not (is_empty (changes_of_writes before run.writes)) && (now before == HIGHEST_REVISION)) ≡ false
 
 -- an entry at its point of the history
 abbrev pub IsLegal : Entry → History → Type 0

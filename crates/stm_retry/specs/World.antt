@@ -1,10 +1,12 @@
 -- The world's step: from a world and one event to the reply and the next world.
-use Rattle.std.specs.Prelude.{◌≡◌, ℕ, ◌+◌, ◌-◌, ◌<◌, ◌==◌, nat_lt, Bool, true, false, ◌&&◌, not, if◌then◌else◌, List, [], ◌∷◌, ◌++◌, length, map, Option, None, Some, is_some, slice_get, slice_set, Result, Ok, Err, suc}
+use Rattle.std.specs.Prelude.{◌≡◌, ℕ, ◌+◌, ◌-◌, ◌<◌, ◌==◌, nat_lt, Bool, true, false, ◌&&◌, not, if◌then◌else◌, List, [], ◌∷◌, ◌++◌, length}
+use Rattle.std.specs.Prelude.{map, Option, None, Some, is_some, slice_get, slice_set, Result, Ok, Err, suc}
 use Rattle.std.specs.List.{list_any}
 use Rattle.stm_history.specs.declared.change.Change.{Change}
 use Rattle.stm_history.specs.declared.change.Change.TheVariants.{Put as PutChange, Del as DelChange}
 use Rattle.stm_history.specs.declared.key_state.ReadAnswer.{ReadAnswer}
 use Rattle.stm_history.specs.History.{History, now, add_revision, opened_at, key_now, mod_of}
+use Rattle.stm_history.specs.declared.revisions.TheConstants.{HIGHEST_REVISION}
 use Rattle.stm_program.specs.Syntax.{ProgramTree}
 use Rattle.stm_program.specs.declared.level.Level.{Level}
 use Rattle.stm_program.specs.declared.write.Write.{Write}
@@ -28,6 +30,7 @@ use Rattle.stm_retry.specs.declared.entry.Entry.TheVariants.{Program}
 use Rattle.stm_retry.specs.declared.runner.Runner.{Runner}
 use Rattle.stm_retry.specs.declared.runner.Slot.{Slot}
 use Rattle.stm_retry.specs.declared.runner.Slot.TheVariants.{Over, Live}
+use Rattle.stm_retry.specs.declared.commit.TheConstants.{MOST_WRITES}
 use Rattle.stm_retry.specs.Answers.{look_up}
 
 -- A world: the history of its store, the places of its runners (runner 1 stands first), and the entries of
@@ -85,12 +88,6 @@ abbrev pub names_lease : Write → Bool
 names_lease (Put key value lease) = not (lease == 0)
 names_lease (Del key) = false
 
-abbrev pub most_writes : ℕ
-most_writes = 128
-
-abbrev pub highest_revision : ℕ
-highest_revision = 9223372036854775806
-
 abbrev pub is_empty : List Change → Bool
 is_empty [] = true
 is_empty (c ∷ cs) = false
@@ -99,9 +96,9 @@ is_empty (c ∷ cs) = false
 -- here; a change at the highest revision.
 abbrev pub refusal_at : List Write → List Change → ℕ → Option Refusal
 refusal_at latest changes revision =
-    if nat_lt most_writes (length latest) then Some TooManyOps
+    if nat_lt MOST_WRITES (length latest) then Some TooManyOps
     else (if list_any names_lease latest then Some LeaseNotFound
-    else (if not (is_empty changes) && (revision == highest_revision) then Some RevisionsUsedUp else None))
+    else (if not (is_empty changes) && (revision == HIGHEST_REVISION) then Some RevisionsUsedUp else None))
 
 abbrev pub commit_refusal : List Write → List Change → History → Option Refusal
 commit_refusal latest changes h = refusal_at latest changes (now h)

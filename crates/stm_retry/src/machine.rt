@@ -7,7 +7,7 @@ ghost use Rattle.stm_retry.specs.declared.runner.Runner.{Runner as LiveRunner};
 ghost use Rattle.stm_retry.specs.World.{opened, runner_at, start_runner, fetch, committed, commit, finish, step_runner, step, with_changes, is_empty, replied, entry_of, with_slot};
 ghost use Rattle.stm_retry.specs.declared.reply.Reply.TheVariants.{Started};
 ghost use Rattle.stm_retry.specs.declared.runner.Slot.TheVariants.{Over};
-ghost use Rattle.stm_retry.specs.Made.{Made};
+ghost use Rattle.stm_retry.specs.MachineTells.{Tells};
 
 use crate::answers::{ReadAnswers, mod_rev_in};
 use crate::commit::{add_changes, planned_changes};
@@ -98,7 +98,7 @@ impl Machine {
         level: Level,
         limit: u32,
     ) -> Result<Result<Reply, Denied>, AllocError>
-        ensures { Made self.old self.new result (start_runner program.now level limit self.old) }
+        ensures { Tells result self.old self.new (start_runner program.now level limit self.old) }
     {
         if limit == 0 {
             return Ok(Err(denied(alloc, Refusal::BadLimit)));
@@ -112,7 +112,7 @@ impl Machine {
     #[tactic(auto, unfolding(crate::specs::World::fetch))]
     fn fetch(&mut self, id: u64, key: Text) -> Result<Result<Reply, Denied>, AllocError>
         requires { (0 < id) × (id ≤ length self.old.runners) }
-        ensures { (r : LiveRunner) → runner_at id self.old.runners ≡ Some r → Made self.old self.new result (fetch id r key self.old) }
+        ensures { (r : LiveRunner) → runner_at id self.old.runners ≡ Some r → Tells result self.old self.new (fetch id r key self.old) }
     {
         let revision = self.store.now();
         let kv = self.store.key_now(key.as_str())?;
@@ -137,7 +137,7 @@ impl Machine {
     /// Ends the run of a runner with this reply, which changes nothing else.
     fn end(&mut self, id: u64, reply: Reply) -> Result<Result<Reply, Denied>, AllocError>
         requires { (0 < id) × (id ≤ length self.old.runners) }
-        ensures { Made self.old self.new result (replied reply id Over self.old) }
+        ensures { Tells result self.old self.new (replied reply id Over self.old) }
     {
         let _ = end_run(&mut self.runners, id);
         Ok(Ok(reply))
@@ -155,7 +155,7 @@ impl Machine {
         requires distinct { HasDistinctKeys changes.items }
         requires room { (is_empty changes.items ≡ false) → now self.old.history < HIGHEST_REVISION }
         ensures { (r : LiveRunner) → runner_at id self.old.runners ≡ Some r
-            → Made self.old self.new result (committed id r run (with_changes self.old.history changes.items) self.old) }
+            → Tells result self.old self.new (committed id r run (with_changes self.old.history changes.items) self.old) }
     {
         let answers = answers_of(alloc, self.runners.as_slice(), id)?;
         let output = copy_output(&run.output)?;
@@ -182,7 +182,7 @@ impl Machine {
         run: Run,
     ) -> Result<Result<Reply, Denied>, AllocError>
         requires { (0 < id) × (id ≤ length self.old.runners) }
-        ensures { (r : LiveRunner) → runner_at id self.old.runners ≡ Some r → Made self.old self.new result (commit id r run self.old) }
+        ensures { (r : LiveRunner) → runner_at id self.old.runners ≡ Some r → Tells result self.old self.new (commit id r run self.old) }
     {
         let latest = latest_writes(alloc, run.writes.as_slice())?;
         match planned_changes(alloc, &self.store, latest.as_slice())? {
@@ -200,7 +200,7 @@ impl Machine {
         run: Run,
     ) -> Result<Result<Reply, Denied>, AllocError>
         requires { (0 < id) × (id ≤ length self.old.runners) }
-        ensures { (r : LiveRunner) → runner_at id self.old.runners ≡ Some r → Made self.old self.new result (finish id r run run.end self.old) }
+        ensures { (r : LiveRunner) → runner_at id self.old.runners ≡ Some r → Tells result self.old self.new (finish id r run run.end self.old) }
     {
         match &run.end {
             End::Done => self.commit(alloc, id, run),
@@ -218,7 +218,7 @@ impl Machine {
     /// Makes one step of a runner. One that is not there is refused before any memory is taken.
     #[tactic(auto, unfolding(crate::specs::World::step_live), using(crate::proofs::TakenLemmas::step_is_taken))]
     fn step_runner(&mut self, alloc: Global, id: u64) -> Result<Result<Reply, Denied>, AllocError>
-        ensures { Made self.old self.new result (step_runner id (runner_at id self.old.runners) self.old) }
+        ensures { Tells result self.old self.new (step_runner id (runner_at id self.old.runners) self.old) }
     {
         let evaluated = match live_runner(self.runners.as_slice(), id) {
             None => return Ok(Err(denied(alloc, Refusal::NoRunner))),
@@ -236,7 +236,7 @@ impl Machine {
         alloc: Global,
         event: &WorldEvent,
     ) -> Result<Result<Reply, Denied>, AllocError>
-        ensures { Made self.old self.new result (step event.now self.old) }
+        ensures { Tells result self.old self.new (step event.now self.old) }
     {
         match event {
             WorldEvent::Start {

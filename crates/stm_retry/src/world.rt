@@ -4,8 +4,8 @@ ghost use Rattle.stm_history.specs.History.{now, key_now, opened_at, AreRevision
 ghost use Rattle.stm_history.specs.declared.revisions.TheConstants.{HIGHEST_REVISION};
 ghost use Rattle.stm_retry.specs.declared.refusal.Refusal.TheVariants.{OutOfMemory, BadLimit};
 ghost use Rattle.stm_retry.specs.declared.reply.Reply.TheVariants.{Started};
-ghost use Rattle.stm_retry.specs.World.{opened, start_runner, world_after, replies_to};
-ghost use Rattle.stm_retry.specs.Made.{as_reply};
+ghost use Rattle.stm_retry.specs.World.{opened, start_runner, step, world_after, replies_to};
+ghost use Rattle.stm_retry.specs.MachineTells.{as_reply};
 ghost use Rattle.stm_retry.specs.Means.{Means};
 ghost use Rattle.stm_retry.specs.Replay.{replay, AreLegal};
 ghost use Rattle.stm_retry.specs.StateOf.{IsStateOf};
@@ -143,7 +143,7 @@ impl World {
     /// memory is taken, so want of memory is never told in their place. A refused event leaves the world as
     /// it was.
     pub fn step(&mut self, event: &WorldEvent) -> Result<Reply, Denied>
-        ensures told { Tells self.old event.now result self.new }
+        ensures told { Tells result self.old self.new (step event.now self.old) }
         ensures means { Means self.old event.now result self.new }
     {
         let outcome = self.machine.step(self.alloc, event);

@@ -13,7 +13,8 @@ loop-revision-preserved c =
     let before : List ℕ → Bool = λ q. is_changed q (take i xs) in
     let within : i < length xs = omega arith in
     seen_alike c.args.store.now (λ q. before q || is_some (change_of q c.changes.result.now)) (λ q. is_changed q (take (i + 1) xs)) c.add_changed.new.state
-    (λ q. ap (λ (l : List Change). before q || is_some (change_of q l)) c.changes.ensures.same ∙ more_revisions q xs i c.revision-item.result within c.revision-item.is)
+    (λ q. ap (λ (l : List Change). before q || is_some (change_of q l)) c.changes.ensures.same
+    ∙ more_revisions q xs i c.revision-item.result within c.revision-item.is)
     (c.in_ok-add_changed.ensures before c.loop-revision.invariant)
 
 pub returns : goal.returns

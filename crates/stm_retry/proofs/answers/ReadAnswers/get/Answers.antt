@@ -1,4 +1,4 @@
-use Rattle.std.proofs.Common.{◌≡◌, IfSome, sym, ap, subst, Option, ◌∙◌}
+use Rattle.std.proofs.Common.{IfSome, sym, ap, subst, Option, ◌∙◌}
 use Rattle.stm_history.specs.declared.key_state.ReadAnswer.{ReadAnswer}
 use Rattle.stm_retry.specs.Answers.{IsInRange, answer_in}
 use Rattle.stm_retry.proofs.AnswerLemmas.{answer_is_in_range}

@@ -1,10 +1,9 @@
 use Rattle.std.proofs.Common.{◌≡◌, ◌∙◌, sym, ap, subst, List, Some, None}
 use Rattle.stm_history.specs.declared.change.Change.{Change}
 use Rattle.stm_history.specs.History.{History, HasDistinctKeys}
-use Rattle.stm_program.specs.declared.write.Write.{Write}
 use Rattle.stm_meaning.specs.Writes.{changes, latest_writes}
 use Rattle.stm_retry.specs.World.{World, Stepped, is_present, committed, with_changes}
-use Rattle.stm_retry.specs.Made.{Made}
+use Rattle.stm_retry.specs.MachineTells.{Tells}
 use Rattle.stm_retry.proofs.CommitLemmas.{changes_made, commit_is}
 use Rattle.stm_retry.proofs.EffectLemmas.{effect_is_distinct}
 use Rattle.stm_retry.proofs.machine.Machine.commit.Goals as goal
@@ -25,7 +24,7 @@ returns-in-Err c r e =
     let latest_is : c.as_slice-2.result.now ≡ latest_writes c.args.run.writes =
     c.as_slice-2.ensures ∙ c.in_ok-latest.ensures ∙ ap latest_writes c.as_slice.ensures in
     let told = commit_is c.args.id r c.args.run w c.self.inside.store c.as_slice-2.result.now (Some c.in-Err.cause) history_is latest_is planned in
-    subst (λ (s : Stepped). Made w c.end.new.self c.end.result s) (sym told) c.end.ensures
+    subst (λ (s : Stepped). Tells c.end.result w c.end.new.self s) (sym told) c.end.ensures
 
 pub returns-in-Ok : goal.returns-in-Ok
 returns-in-Ok c r e =
@@ -36,4 +35,4 @@ returns-in-Ok c r e =
     c.as_slice-2.ensures ∙ c.in_ok-latest.ensures ∙ ap latest_writes c.as_slice.ensures in
     let told = commit_is c.args.id r c.args.run w c.self.inside.store c.as_slice-2.result.now None history_is latest_is planned.1
     ∙ ap (λ (ds : List Change). committed c.args.id r c.args.run (with_changes w.history ds) w) (sym planned.0) in
-    subst (λ (s : Stepped). Made w c.take_commit.new.self c.take_commit.result s) (sym told) (c.take_commit.ensures r e)
+    subst (λ (s : Stepped). Tells c.take_commit.result w c.take_commit.new.self s) (sym told) (c.take_commit.ensures r e)

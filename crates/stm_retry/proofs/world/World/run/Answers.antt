@@ -1,9 +1,8 @@
-use Rattle.std.proofs.Common.{◌≡◌, ◌+◌, ◌<◌, ◌≤◌, ℕ, List, ◌∷◌, ◌++◌, [], length, get_or, drop, take, sym, ◌∙◌, ap, arith, length-drop, Result, false}
-use Rattle.std.proofs.Common.{vec_len, vec_capacity}
+use Rattle.std.proofs.Common.{◌≡◌, ◌+◌, ◌<◌, List, ◌++◌, length, drop, sym, ◌∙◌, ap, arith, length-drop, Result, false}
 use Rattle.stm_retry.specs.declared.event.WorldEvent.{WorldEvent}
 use Rattle.stm_retry.specs.declared.reply.Reply.{Reply}
 use Rattle.stm_retry.specs.declared.refusal.Denied.{Denied}
-use Rattle.stm_retry.specs.World.{World, step, replies_to, world_after}
+use Rattle.stm_retry.specs.World.{World, step, replies_to}
 use Rattle.stm_retry.specs.Tells.{IsStep, ran_out}
 use Rattle.stm_retry.proofs.WorldLemmas.{taken, replies_step, rest_step, reached_step}
 use Rattle.stm_retry.proofs.world.World.run.Goals as goal

@@ -6,11 +6,11 @@ use Rattle.stm_retry.specs.declared.reply.Reply.{Reply}
 use Rattle.stm_retry.specs.declared.refusal.Denied.{Denied}
 use Rattle.stm_retry.specs.World.{World, Stepped}
 
--- The reply and the next world are the step's. Where a growth was refused, the event is one that the step takes, and the
+-- The reply and the next world are the step's, unless memory ran out: then the event is one that the step takes, and the
 -- world is as it was.
-abbrev pub Made : World → World → Result (Result Reply Denied) AllocError → Stepped → Type 0
-Made old new (Ok reply) s = (reply ≡ s.reply) × (new ≡ s.next)
-Made old new (Err e) s = (new ≡ old) × IsOk s.reply
+abbrev pub Tells : Result (Result Reply Denied) AllocError → World → World → Stepped → Type 0
+Tells (Ok reply) old new s = (s.reply ≡ reply) × (s.next ≡ new)
+Tells (Err e) old new s = (new ≡ old) × IsOk s.reply
 
 -- the reply of such a call to the world's caller: want of memory is a refusal, too
 abbrev pub as_reply : Result (Result Reply Denied) AllocError → Result Reply Denied

@@ -152,7 +152,8 @@ pub record Keeps (w : World) (e : WorldEvent) (s : Stepped) : Type 0 where
   pub opening : s.next.history.opening ≡ w.history.opening
   pub means : Means w e s.reply s.next
 
-keeps_refused : (w : World) (program : ProgramTree) (level : Level) (limit : ℕ) (cause : Refusal) → IsSound w → Keeps w (Start program level limit) (refused cause w)
+keeps_refused : (w : World) (program : ProgramTree) (level : Level) (limit : ℕ) (cause : Refusal) → IsSound w →
+    Keeps w (Start program level limit) (refused cause w)
 keeps_refused w program level limit cause sound = record { sound = sound; opening = refl; means = refl }
 
 keeps_started : (w : World) (program : ProgramTree) (level : Level) (limit : ℕ) (b : Bool) → (b ≡ false → limit ≢ 0) → IsSound w →
@@ -315,7 +316,8 @@ keeps_runner w id (Some r) sound is = keeps_live w id r sound is
 eq_false : (n : ℕ) → (n == 0) ≡ false → n ≢ 0
 eq_false n h zero_is = let one : (0 == 0) ≡ false = ap (λ m. m == 0) (sym zero_is) ∙ h in absurd (cc)
 
-keeps_start : (w : World) (program : ProgramTree) (level : Level) (limit : ℕ) → IsSound w → Keeps w (Start program level limit) (start_runner program level limit w)
+keeps_start : (w : World) (program : ProgramTree) (level : Level) (limit : ℕ) → IsSound w →
+    Keeps w (Start program level limit) (start_runner program level limit w)
 unfolding start_runner
 keeps_start w program level limit sound = keeps_started w program level limit (limit == 0) (eq_false limit) sound
 

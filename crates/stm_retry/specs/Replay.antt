@@ -43,7 +43,8 @@ AreTrue h (a ∷ answers) = IsTrueAnswer h a × AreTrue h answers
 -- A commit at ReadCommitted: the program on its answers is done, with this output and trace; each answer is true
 -- at its own revision; and the effect of the program's writes on the state of the store is one revision, none if
 -- there is none. No put names a lease, since none is live here, and nothing is changed at the highest revision.
-pub record CommitsAnswers (program : ProgramTree) (answers : List ReadAnswer) (output : List Value) (trace : List TraceItem) (before after : History) : Type 0 where
+pub record CommitsAnswers (program : ProgramTree) (answers : List ReadAnswer) (output : List Value) (trace : List TraceItem)
+    (before after : History) : Type 0 where
   pub run : Run
   pub is_run : run_over (look_up answers) program.statements ≡ Ended run
   pub is_done : run.end ≡ Done

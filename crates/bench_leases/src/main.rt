@@ -1,13 +1,16 @@
-//! Times attaching, moving and detaching every key once, for several numbers of keys on 100 leases.
+//! Times attaching, moving and detaching every key once, for several numbers of keys on 100 leases, and the
+//! expiry of several numbers of leases that are due at one moment.
 //!
 //! The figures go to standard error. They are of one machine at one moment: no proof is about time.
 #![tactic(auto)]
 
 ghost use Rattle.std.specs.Prelude.{◌<◌};
 
+mod expiries;
 mod texts;
 
 use anyhow::Result;
+use expiries::time_expiring;
 use std::alloc::Global;
 use std::io;
 use std::rt::Clock;
@@ -24,7 +27,20 @@ const TTL: u64 = 60;
 fn main(rt: HostRuntime) -> Result<()> {
     time_round(&rt, rt.alloc(), 1_000)?;
     time_round(&rt, rt.alloc(), 10_000)?;
-    time_round(&rt, rt.alloc(), 100_000)
+    time_round(&rt, rt.alloc(), 100_000)?;
+    time_expiries(&rt, rt.alloc(), 1_000)?;
+    time_expiries(&rt, rt.alloc(), 10_000)?;
+    time_expiries(&rt, rt.alloc(), 100_000)
+}
+
+/// Times the expiry of so many leases.
+fn time_expiries(rt: &(impl Clock + Eprint), alloc: Global, count: u32) -> Result<()>
+    requires { 0 < count }
+{
+    let expiring = time_expiring(rt, alloc, count)?;
+    let each = (expiring / count).as_nanos();
+    eprintln!(rt; "expire {count:>6} leases {each:>5} ns for each")?;
+    Ok(())
 }
 
 /// Times each operation on so many keys of their own leases.

@@ -160,6 +160,19 @@ module _ {A : Type 0} where
         other_list : (q l : ℕ) → new_list_of q ≡ Some l → l ≢ list
         other_list q l is same = not_id q l is (in_step.own q id list (old q l is ∙ ap Some same) live)
 
+    -- every list stays, as where a list that was just made is dropped again
+    pub lists_stay : ((l : ℕ) → list_at new_keys l ≡ list_at keys l) → AreInStep list_of place_of new_keys
+    lists_stay same =
+        record {
+          listed = λ q l is. subst IsSome (sym (same l)) (in_step.listed q l is);
+          own = in_step.own;
+          placed = λ key place is.
+              let had = in_step.placed key place is in
+              (had.0, had.1, subst (λ (xs : List (ℕ × String A)). Holds xs place.node key) (sym (ap (λ o. unwrap_or o []) (same had.0))) had.2);
+          held = λ q l node key is holds.
+              in_step.held q l node key is (subst (λ (xs : List (ℕ × String A)). Holds xs node key) (ap (λ o. unwrap_or o []) (same l)) holds);
+        }
+
     -- the lists of the ids stay
     pub same_lists : ((q : ℕ) → new_list_of q ≡ list_of q) → AreInStep new_list_of place_of keys
     same_lists same =
@@ -286,3 +299,11 @@ module _ {A : Type 0} where
                   rw (same, now_entries place.list (place.before ++ place.after) updates) (holds-without n node q place.value place.before place.after (λ equal. let yes_true = (bytes_eq-Decides key q).1 (sym text ∙ equal) in absurd (cc)) on)
               | inr other ↦ rw (same_entries place.list l (Some (place.before ++ place.after)) updates other) holds
             ]
+
+-- a list that was made and dropped again leaves every list as it was
+pub dropped_again : {A : Type 0} (old made dropped : Lists (String A)) (list : ℕ) → list_at old list ≡ None → Updates old made list (Some []) → Updates made dropped list None →
+    (l : ℕ) → list_at dropped l ≡ list_at old l
+dropped_again old made dropped list fresh making dropping l = elim (cases_eq l list) [
+  | inl same ↦ ap (list_at dropped) same ∙ dropping.changed ∙ sym fresh ∙ ap (list_at old) (sym same)
+  | inr differs ↦ dropping.others l differs ∙ making.others l differs
+]

@@ -1,6 +1,6 @@
 -- What callers see of the tables, and what each change of a table makes of it.
-use Rattle.std.proofs.Common.{◌≡◌, ◌≢◌, ◌⊎◌, ℕ, ◌+◌, ◌-◌, ◌<◌, ◌≤◌, Bool, true, false, cond, is_some, ◌&&◌, nat_le, IsTrue, List, length, Option, Some, None, option_map, String, nat_eq, refl, sym, ap, subst, ◌∙◌, inl, inr, arith}
-use Rattle.std.proofs.lemmas.Bool.{true≢false, cases_lt, eqb-true, leb-false}
+use Rattle.std.proofs.Common.{◌≡◌, ◌≢◌, ℕ, ◌-◌, ◌≤◌, Bool, true, false, cond, is_some, ◌&&◌, nat_le, IsTrue, List, length, Option, Some, None, option_map, String, nat_eq, refl, sym, ap, subst, ◌∙◌, arith}
+use Rattle.std.proofs.lemmas.Bool.{true≢false, eqb-true, leb-false}
 use Rattle.std.proofs.lemmas.Cmp.{nat_list_cmp_total}
 use Rattle.std.proofs.lemmas.Option.{same_Some}
 use Rattle.std.specs.Cmp.{eq_by_cmp_equiv}
@@ -10,17 +10,14 @@ use Rattle.std.specs.Str.{bytes_eq}
 use Rattle.std.specs.FinMap as finmap
 use Rattle.indexmap.specs.IndexMap.{IndexMap, get, get_by_text, ContainsKey}
 use Rattle.stm_lists.specs.Lists.{Lists, entries_at}
-use Rattle.stm_leases.specs.LeaseLog.{LogItem, Term, term_of, due}
-use Rattle.stm_leases.specs.DueFirst.{NoneIsDue, IsNextDue, ComesNoLater}
+use Rattle.stm_leases.specs.LeaseLog.{LogItem, Term, term_of}
 use Rattle.stm_leases.specs.Leases.{Leases, StandsFor, IsLive, HangOnLive, lease_of}
-use Rattle.stm_leases.specs.Due.{overdue_at, best_of}
 use Rattle.stm_leases.specs.declared.lease.Lease.{Lease}
 use Rattle.stm_leases.specs.declared.lease.Attachment.{Attachment}
 use Rattle.stm_leases.specs.Live.{is_id, is_ttl, AreInRange}
 use Rattle.stm_leases.specs.Kept.{term_in, view_of, list_in, AllInRange, AreInStep, Holds}
 use Rattle.stm_leases.proofs.Tables.{get-live, get-attached, live-insert, live-remove, attached-insert, attached-remove, log-insert, log-remove, log-renew, len-entries}
 use Rattle.stm_leases.proofs.Ordered.{placed_at}
-use Rattle.stm_leases.proofs.First.{IsEntry, IsBest, best, none_best, lookup-entry, entry-lookup, due-for, due-some}
 
 through_list : (b : Bool) (o p : Option Lease) → option_map (λ (l : Lease). l.keys) (cond b o p) ≡ cond b (option_map (λ (l : Lease). l.keys) o) (option_map (λ (l : Lease). l.keys) p)
 through_list true o p = refl
@@ -175,46 +172,3 @@ module _ {A S R : Type 0} (leases : IndexMap ℕ Lease S) (attached : IndexMap (
 
   pub len-now : IsDistinct nat_eq (keys_of leases.entries) → length leases.entries ≡ finmap.len now.live
   len-now distinct = sym (len-entries term_in leases.entries distinct) ∙ ap (λ (s : Leases). finmap.len s.live) seen
-
-  -- the longest due lease is the next
-  pub none-due : (at : ℕ) → best_of at None leases.entries ≡ None → NoneIsDue now.live at
-  none-due at none id term is =
-      by_lease (get nat_eq leases id) refl (sym (live-now id) ∙ is)
-    where
-      by_lease : (o : Option Lease) → get nat_eq leases id ≡ o → option_map term_in o ≡ Some term → at < due term
-      by_lease None found same = absurd (cc)
-      by_lease (Some l) found same =
-          let terms : term_in l ≡ term = same_Some (term_in l) term same in
-          let not_due = (none_best at None leases.entries none).none_due id l (lookup-entry id l leases.entries found) in
-          elim (cases_lt at (l.renewed + l.ttl)) [
-            | inl later ↦ subst (λ (t : Term). at < due t) terms later
-            | inr now_due ↦ let is_due = due-some at l now_due in absurd (cc)
-          ]
-
-  pub next-due : (at overdue id : ℕ) → IsDistinct nat_eq (keys_of leases.entries) → best_of at None leases.entries ≡ Some (overdue, id) → IsNextDue now.live at id
-  next-due at overdue id distinct is =
-      let top = best at None leases.entries (overdue, id) is in
-      let found = entry_found top.from in
-      let lease = found.0 in
-      let when = due-for at overdue lease found.2 in
-      record {
-        term = term_in lease;
-        live_now = live-now id ∙ ap (option_map term_in) (entry-lookup id lease leases.entries distinct found.1);
-        is_due = omega arith;
-        first = λ other term is_term is_due. by_lease top other term is_due (get nat_eq leases other) refl (sym (live-now other) ∙ is_term) lease when;
-      }
-    where
-      entry_found : (◌≡◌ {A = Option (ℕ × ℕ)} None (Some (overdue, id))) ⊎ ((lease : Lease) × IsEntry (id, lease) leases.entries × (overdue_at at lease ≡ Some overdue)) → (lease : Lease) × IsEntry (id, lease) leases.entries × (overdue_at at lease ≡ Some overdue)
-      entry_found (inl none) = absurd (cc)
-      entry_found (inr found) = found
-
-      by_lease : IsBest at None leases.entries (overdue, id) → (other : ℕ) (term : Term) → due term ≤ at → (o : Option Lease) → get nat_eq leases other ≡ o → option_map term_in o ≡ Some term → (lease : Lease) → lease.renewed + lease.ttl + overdue ≡ at → ComesNoLater (due (term_in lease)) id (due term) other
-      by_lease top other term is_due None at_other same lease when = absurd (cc)
-      by_lease top other term is_due (Some l) at_other same lease when =
-          let terms : term_in l ≡ term = same_Some (term_in l) term same in
-          let ttls : l.ttl ≡ term.ttl = ap (λ (t : Term). t.ttl) terms in
-          let renewals : l.renewed ≡ term.renewed = ap (λ (t : Term). t.renewed) terms in
-          let within : l.renewed + l.ttl ≤ at = omega arith in
-          let order = top.over_each other (at - (l.renewed + l.ttl)) l (lookup-entry other l leases.entries at_other) (due-some at l within) in
-          let longer = order.0 in
-          (omega arith, λ equal. let same_time : at - (l.renewed + l.ttl) ≡ overdue = omega arith in order.1 same_time)

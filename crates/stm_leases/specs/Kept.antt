@@ -6,6 +6,8 @@ use Rattle.stm_lists.specs.Lists.{Lists, entries_at, HasList}
 use Rattle.stm_leases.specs.LeaseLog.{Term}
 use Rattle.stm_leases.specs.Live.{is_id, is_ttl}
 use Rattle.stm_leases.specs.Leases.{Leases}
+use Rattle.stm_leases.specs.Due.{IsTimed}
+use Rattle.stm_leases.specs.declared.tournament.Tournament.{Tournament}
 use Rattle.stm_leases.specs.declared.lease.Lease.{Lease}
 use Rattle.stm_leases.specs.declared.lease.Attachment.{Attachment}
 
@@ -43,9 +45,11 @@ pub record AreInStep {A : Type 0} (list_of : ℕ → Option ℕ) (place_of : Lis
 abbrev pub AllInRange : {S : Type 0} → IndexMap ℕ Lease S → Type 0
 AllInRange leases = (id : ℕ) (lease : Lease) → get nat_eq leases id ≡ Some lease → IsTrue (is_id id) × IsTrue (is_ttl lease.ttl)
 
--- the tables and the lists agree, ids and times to live are in range, and the attaches that are certain have room in both
-pub record AreKept {A S R : Type 0} (leases : IndexMap ℕ Lease S) (attached : IndexMap (String A) Attachment R) (keys : Lists (String A)) (room : ℕ) : Type 0 where
+-- the tables and the lists agree, ids and times to live are in range, the tournament has when each lease falls due, and the attaches that are certain have room in both
+pub record AreKept {A S R : Type 0} (leases : IndexMap ℕ Lease S) (attached : IndexMap (String A) Attachment R) (keys : Lists (String A))
+    (due : Tournament) (room : ℕ) : Type 0 where
   pub in_step : AreInStep (list_in leases) (get_by_text attached) keys
   pub in_range : AllInRange leases
+  pub timed : IsTimed (get nat_eq leases) due
   pub table_room : room ≤ spare attached
   pub list_room : room ≤ keys.spare

@@ -4,6 +4,7 @@ pub mod DueFirst
 pub mod AttachedKeys
 pub mod Leases
 pub mod Laws
+pub mod Tournament
 pub mod Due
 pub mod Kept
 pub mod GrantNames

@@ -1,7 +1,8 @@
 //! The records of the two tables.
 ghost use Rattle.std.specs.Prelude.{◌≡◌};
-ghost use Rattle.stm_leases.specs.Due.{overdue_at};
+ghost use Rattle.stm_leases.specs.Due.{due_in};
 
+use crate::tournament::DueAt;
 use stm_lists::{ListId, NodeId};
 
 /// A live lease: its time to live, the moment of its last renewal, and the list of its keys.
@@ -13,11 +14,12 @@ pub(crate) struct Lease {
 }
 
 impl Lease {
-    /// For how long the lease has been due at this moment, `None` where it is not due.
-    pub fn overdue(&self, now: u64) -> Option<u64>
-        ensures { result ≡ overdue_at now self.now }
+    /// When the lease of this id falls due, `None` where that is past the last moment.
+    pub fn due_at(&self, id: u64) -> Option<DueAt>
+        ensures { result ≡ due_in id self.now }
     {
-        now.checked_sub(self.renewed)?.checked_sub(self.ttl)
+        let moment = self.renewed.checked_add(self.ttl)?;
+        Some(DueAt { moment, id })
     }
 }
 

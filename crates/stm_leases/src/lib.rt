@@ -10,6 +10,7 @@ mod errors;
 pub mod laws;
 mod lease;
 mod table;
+mod tournament;
 
 pub use bounds::{HIGHEST_ID, HIGHEST_TTL};
 pub use errors::{GrantError, KeysError, LeaseNotFound};

@@ -26,10 +26,13 @@ impl ListId {
         ListId { index }
     }
 
-    pub(crate) fn index(self) -> usize
+    /// The list's number. No two lists have the same, and the number of a dropped list is given out again, so
+    /// the numbers stay below the most lists that there were.
+    pub fn index(self) -> usize
         ensures { result ≡ self }
     {
-        self.index
+        let ListId { index } = self;
+        index
     }
 }
 

@@ -24,6 +24,7 @@ invariant_of-self c =
     record {
       in_step = attached (list_in c.self.inside.leases) (list_in c.self.inside.leases) (get_by_text c.self.inside.attached) (get_by_text c.insert.new.self) c.self.inside.keys c.push_back.new.self c.self.invariant.in_step c.args.id c.index.result.now.keys c.in-Ok.node (string_bytes c.args.key) c.args.copy (ap (option_map (λ l. l.keys)) c.index.ensures) loose (sym c.requires.same_text) c.in-Ok.ensures.ok (λ q. hash_map_updates_text (string_bytes c.args.key) c.self.inside.attached c.insert.new.self _ c.in-Ok-insert.ensures.updates q);
       in_range = c.self.invariant.in_range;
+      timed = c.self.invariant.timed;
       table_room = omega (arith, c.self.invariant.table_room, c.in-Ok-insert.ensures.spare);
       list_room = omega (arith, c.self.invariant.list_room, c.in-Ok.ensures.spare);
     }

@@ -30,6 +30,7 @@ invariant_of-self-2 c =
     record {
       in_step = detached (list_in c.self.inside.leases) (list_in c.self.inside.leases) (get_by_text c.self.inside.attached) (get_by_text c.swap_remove.new.self) c.self.inside.keys c.unlink.new.self c.self.invariant.in_step c.in_ok-place.place.lease c.in_ok-place.place.node c.args.key.now found place.place place.stands (had.1 ∙ ap Some (sym place.here)) place.text (c.unlink.ensures.unlinked place.place place.stands) c.unlink.ensures.gone (λ q. hash_map_updates_text c.args.key.now c.self.inside.attached c.swap_remove.new.self _ c.swap_remove.ensures.updates q);
       in_range = c.self.invariant.in_range;
+      timed = c.self.invariant.timed;
       table_room = omega (arith, c.self.invariant.table_room, c.swap_remove.ensures.room.0);
       list_room = omega (arith, c.self.invariant.list_room, c.unlink.ensures.spare);
     }

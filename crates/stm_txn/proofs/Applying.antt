@@ -340,11 +340,11 @@ failed_has_its_place state cs f is =
     }
 
 -- What an outcome's history is.
-of_unless : {T : Type 0} (refusal : Option Refusal) (next : Result T Refusal) (t : T) → unless refusal next ≡ Ok t → (refusal ≡ None) × (next ≡ Ok t)
+pub of_unless : {T : Type 0} (refusal : Option Refusal) (next : Result T Refusal) (t : T) → unless refusal next ≡ Ok t → (refusal ≡ None) × (next ≡ Ok t)
 of_unless None next t is = (refl, is)
 of_unless (Some r) next t is = cc
 
-of_finished : (used : Bool) (d done : Done) → cond used (Err RevisionsUsedUp) (Ok d) ≡ Ok done → d ≡ done
+pub of_finished : (used : Bool) (d done : Done) → cond used (Err RevisionsUsedUp) (Ok d) ≡ Ok done → d ≡ done
 of_finished true d done is = cc
 of_finished false d done is = cc
 
@@ -357,7 +357,7 @@ no_clash_case false false true failure none = cc
 no_clash_case false false false true none = cc
 no_clash_case false false false false none = (refl, refl)
 
-chosen_apart : (txn : Txn) (failed : Option FailedCompare) → fault_of txn ≡ None → has_clash (chosen failed txn) ≡ false
+pub chosen_apart : (txn : Txn) (failed : Option FailedCompare) → fault_of txn ≡ None → has_clash (chosen failed txn) ≡ false
 chosen_apart txn None none = (no_clash_case (has_too_many txn) (has_empty_key txn) (has_clash txn.success) (has_clash txn.failure) none).0
 chosen_apart txn (Some f) none = (no_clash_case (has_too_many txn) (has_empty_key txn) (has_clash txn.success) (has_clash txn.failure) none).1
 
@@ -382,7 +382,7 @@ history_grows h is_live txn done is =
     (changes_of_branch h ops, distinct_changes h ops (chosen_apart txn failed whole.0), sym (ap (λ (d : Done). d.history) made))
 
 -- a failed compare's place in what a transaction comes to
-failed_case : (s : Standing) (outcome_of : Result Done Refusal) (a : TxnAnswer) (next : Standing) →
+pub failed_case : (s : Standing) (outcome_of : Result Done Refusal) (a : TxnAnswer) (next : Standing) →
     step_of s outcome_of ≡ Ok record { answer = a; next = next } →
     (done : Done) × (outcome_of ≡ Ok done) × (done.answer ≡ a)
 failed_case s (Ok done) a next is = (done, refl, ap (λ (r : Result (Step TxnAnswer) Refusal). elim r [ Ok step ↦ step.answer | Err e ↦ a ]) is)

@@ -107,3 +107,6 @@ by_look_up h is_live failed ops apart =
 
 pub look_up_is_the_state : LookUpIsTheState
 look_up_is_the_state h ops key apart = (whole h ops apart).step key
+
+pub answers_agree : (h : History) (ops : List Op) → has_clash ops ≡ false → answers_after h (begun h) ops ≡ answers_copied h [] ops
+answers_agree h ops apart = (whole h ops apart).answers

@@ -6,3 +6,4 @@ pub mod Naming
 pub mod Ending
 pub mod Advancing
 pub mod Applying
+pub mod Fitting

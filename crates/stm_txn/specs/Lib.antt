@@ -13,5 +13,6 @@ pub mod Moves
 pub mod Grants
 pub mod Standing
 pub mod Advances
+pub mod Numbers
 pub mod Store
 pub mod Names

@@ -52,6 +52,13 @@ pub(crate) fn prepare_hangs(alloc: Global, changes: &[Change]) -> Result<Vec<Han
     Ok(hangs)
 }
 
+/// Takes a key off its lease, if it hangs on one.
+fn take_off(leases: &mut Leases, key: &str)
+    ensures { leases.new ≡ record leases.old { attached = finmap.remove leases.old.attached key.now } }
+{
+    leases.detach(key);
+}
+
 /// Takes the keys of changes off their leases.
 fn detach_all(leases: &mut Leases, changes: &[Change])
     ensures keys { (key : List ℕ) → lease_of leases.new key ≡ detached_all changes.now key (lease_of leases.old key) }
@@ -59,7 +66,7 @@ fn detach_all(leases: &mut Leases, changes: &[Change])
     ensures spare { leases.new.spare ≡ leases.old.spare }
 {
     for change in changes {
-        leases.detach(change.key().as_str());
+        take_off(leases, change.key().as_str());
     }
 }
 

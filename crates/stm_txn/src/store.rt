@@ -104,6 +104,7 @@ impl Store {
     ghost use Rattle.stm_txn.specs.Leasing.{hangs_of, HangOnLive, lease_now};
     ghost use Rattle.stm_txn.specs.LeaseKeys.{deletions_of};
     ghost use Rattle.stm_txn.specs.Outcome.{with_changes, answer_of};
+    ghost use Rattle.stm_txn.specs.Numbers.{AnswerFits};
     ghost use Rattle.stm_txn.specs.Standing.{opening, IsRefusalOf, ComesTo, transacted, granted, kept_alive, told, ended, revoked, after, expired_in, expire_all, at_moment, advanced, IsStopped, IsCutShort, with_expiries};
 
     /// An empty store at revision 1 and moment 0. Want of memory is its only refusal.
@@ -277,11 +278,15 @@ impl Store {
     /// live. Then comes `RevisionsUsedUp`, where something is to change at `HIGHEST_REVISION`, then
     /// `OutOfMemory`. A refused transaction changes nothing. (etcd's API reference, "Transaction", has the
     /// compares, the branches and the refused duplicates; the order of the refusals is this store's own.)
+    /// The place of a failed compare is below their number, and the store's numbers in an answer are at most
+    /// `HIGHEST_NUMBER`.
     pub fn txn(&mut self, txn: &Txn) -> Result<TxnAnswer, Refusal>
         ensures step { ComesTo (transacted self.old.standing txn.now) result self.new.standing }
         ensures place { IfOk result (λ answer. IfSome answer.failed (λ failed. failed.index < length txn.now.compares)) }
+        ensures numbers { IfOk result AnswerFits }
         ensures err { OnErr result (self.new ≡ self.old) }
     {
+        let _counter = self.keys.revision();
         let answer = self.transact(txn)?;
         Ok(answer)
     }

@@ -9,16 +9,22 @@ use stm_history::{Sequence, Text};
 /// (etcd's API reference, "Transaction".)
 #[derive(Debug, Drop, Clone)]
 pub struct Txn {
+    /// What has to hold of the keys as they are now, each of it, for the success list to run. At most 128.
     pub compares: Sequence<Compare>,
+    /// The operations that run where all compares hold. At most 128.
     pub success: Sequence<Op>,
+    /// The operations that run where a compare fails. At most 128.
     pub failure: Sequence<Op>,
 }
 
 /// A test of what a key is now. The stored side stands on the left of the order.
 #[derive(Debug, Drop, Clone)]
 pub struct Compare {
+    /// The key that is looked at. It is not empty.
     pub key: Text,
+    /// What of the key is looked at, and the compare's side.
     pub target: Target,
+    /// How the key's side is to stand to the compare's side.
     pub order: Order,
 }
 
@@ -42,9 +48,13 @@ pub enum Target {
 /// The order that a compare asks for.
 #[derive(Debug, Clone, Copy, PartialEq, Eq)]
 pub enum Order {
+    /// The two sides are equal.
     Equal,
+    /// They are not equal. It fails for the value of an absent key.
     NotEqual,
+    /// The stored side is above the compare's.
     Greater,
+    /// The stored side is below the compare's.
     Less,
 }
 

@@ -17,7 +17,8 @@ returns-in-None-clause-step c =
 
 pub returns-in-Some-clause-step : goal.returns-in-Some-clause-step
 returns-in-Some-clause-step c =
-    came c.args.self.now.standing c.run-in-Some.new.self.standing c.args.txn.now c.find_failed-failed.result c.as_slice-in-Some.result.now c.run-in-Some.result c.requires
+    came c.args.self.now.standing c.run-in-Some.new.self.standing c.args.txn.now c.find_failed-failed.result c.as_slice-in-Some.result.now
+    c.run-in-Some.result c.requires
     (sym (c.find_failed-failed.ensures ∙ ap (first_failed (key_now c.self.inside.keys.history) 0) c.as_slice.ensures
     ∙ ap (λ (s : StoreView). first_failed (key_now s.standing.history) 0 c.args.txn.now.compares) c.self.view_is))
     (ap (λ (f : Option FailedCompare). chosen f c.args.txn.now) c.in-Some.is ∙ sym c.as_slice-in-Some.ensures)

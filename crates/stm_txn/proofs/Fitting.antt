@@ -1,0 +1,123 @@
+-- The numbers of an answer fit.
+use Rattle.std.proofs.Common.{◌≡◌, ℕ, ◌+◌, ◌≤◌, Bool, true, false, cond, List, [], ◌∷◌, ◌++◌, length, Option, Some, None, refl, sym, ap, subst, arith}
+use Rattle.std.specs.Prelude.{nat_eq, nat_le, ◌&&◌, Ok, IfSome}
+use Rattle.std.proofs.lemmas.Bool.{leb-true}
+use Rattle.stm_history.specs.declared.change.Change.{Change}
+use Rattle.stm_history.specs.declared.change.Change.TheVariants.{Put as PutChange, Del as DelChange}
+use Rattle.stm_history.specs.declared.key_state.KeyState.{KeyState}
+use Rattle.stm_history.specs.declared.revisions.TheConstants.{HIGHEST_REVISION, HIGHEST_NUMBER}
+use Rattle.stm_history.specs.History.{History, now, key_now, key_at, mod_of, change_of, after_change}
+use Rattle.stm_history.proofs.HistoryLaws.{numbers_stay_small, last_revision_is_now, mod_is_reached}
+use Rattle.stm_keys.specs.Keys.{HasSmallNumbers}
+use Rattle.stm_keys.proofs.Numbers.{at_small}
+use Rattle.stm_leases.specs.Live.{is_live_in}
+use Rattle.stm_txn.specs.declared.txn.Op.{Op}
+use Rattle.stm_txn.specs.declared.txn.Op.TheVariants.{Get, Put, Del}
+use Rattle.stm_txn.specs.declared.txn.Txn.{Txn}
+use Rattle.stm_txn.specs.declared.txn.Compare.{Compare}
+use Rattle.stm_txn.specs.declared.answer.FailedCompare.{FailedCompare}
+use Rattle.stm_txn.specs.declared.answer.TxnAnswer.{TxnAnswer}
+use Rattle.stm_txn.specs.Compares.{first_failed}
+use Rattle.stm_txn.specs.Checks.{fault_of}
+use Rattle.stm_txn.specs.Branches.{begun, carried, deletion_of, count_of, are_readable, branch_refusal, answers_after, changes_of_branch}
+use Rattle.stm_txn.specs.LookUps.{copy, read_copied, with_copied, answers_copied}
+use Rattle.stm_txn.specs.Outcome.{Done, chosen, with_changes, is_used_up, answer_of, finished, branch_outcome, outcome}
+use Rattle.stm_txn.specs.Standing.{Standing, transacted}
+use Rattle.stm_txn.specs.Numbers.{ReadFits, OpsFit, AnswerFits}
+use Rattle.stm_txn.specs.Laws.{FailsAt}
+use Rattle.stm_txn.proofs.Folding.{answers_agree}
+use Rattle.stm_txn.proofs.Running.{all_readable}
+use Rattle.stm_txn.proofs.Applying.{failed_has_its_place, of_unless, of_finished, chosen_apart, failed_case}
+
+-- the state of a key once the changes so far are made
+changed_small : (h : History) (o : Option Change) (s : Option KeyState) → now h ≤ HIGHEST_REVISION →
+    IfSome s (λ k. (k.version ≤ length h.revisions) × (k.mod_rev ≤ now h) × (k.create_rev ≤ k.mod_rev) × (h.opening + 1 ≤ k.create_rev)) →
+    IfSome (after_change (now h + 1) o s) HasSmallNumbers
+changed_small h None None bounded small = tt
+changed_small h None (Some s) bounded small =
+    record { version = omega (arith, small.0); mod_rev = omega (arith, small.1); create_rev = omega (arith, small.1, small.2) }
+changed_small h (Some (PutChange key value lease)) None bounded small = record { version = omega arith; mod_rev = omega arith; create_rev = omega arith }
+changed_small h (Some (PutChange key value lease)) (Some s) bounded small =
+    record { version = omega (arith, small.0); mod_rev = omega arith; create_rev = omega (arith, small.1, small.2) }
+changed_small h (Some (DelChange key)) s bounded small = tt
+
+abbrev IsSmallFor : History → Option KeyState → Type 0
+IsSmallFor h s =
+    IfSome s (λ k. (k.version ≤ length h.revisions) × (k.mod_rev ≤ now h) × (k.create_rev ≤ k.mod_rev) × (h.opening + 1 ≤ k.create_rev))
+
+copy_small : (h : History) (changes : List Change) (key : List ℕ) → now h ≤ HIGHEST_REVISION → IfSome (copy h changes key) HasSmallNumbers
+copy_small h changes key bounded =
+    changed_small h (change_of key changes) (key_now h key) bounded
+    (subst (IsSmallFor h) (last_revision_is_now h key (now h) (omega arith)) (numbers_stay_small h key (now h)))
+
+carried_small : (h : History) (changes : List Change) → now h ≤ HIGHEST_REVISION → carried h changes ≤ HIGHEST_NUMBER
+carried_small h [] bounded = omega arith
+carried_small h (c ∷ cs) bounded = omega arith
+
+-- what a read answers
+read_fits : (h : History) (changes : List Change) (key : List ℕ) (rev : ℕ) → now h ≤ HIGHEST_REVISION → rev ≤ now h → ReadFits (read_copied h changes key rev)
+read_fits h changes key rev bounded reached =
+    elim (nat_eq rev 0) as (λ b. ReadFits (cond b
+    (record { key = key; kv = copy h changes key; of_rev = carried h changes; revision = carried h changes })
+    (record { key = key; kv = key_at h key rev; of_rev = rev; revision = carried h changes }))) [
+      | true ↦ record { of_rev = carried_small h changes bounded; revision = carried_small h changes bounded; state = copy_small h changes key bounded }
+      | false ↦ record { of_rev = omega arith; revision = carried_small h changes bounded; state = at_small h key rev bounded }
+    ]
+
+both : (a b : Bool) → (a && b) ≡ true → (a ≡ true) × (b ≡ true)
+both true b is = (refl, is)
+both false b is = cc
+
+one_at_most : (o : Option Change) → count_of o ≤ 1
+one_at_most None = omega arith
+one_at_most (Some c) = omega arith
+
+answers_fit : (h : History) (changes : List Change) (ops : List Op) → now h ≤ HIGHEST_REVISION → are_readable (now h) ops ≡ true →
+    OpsFit (answers_copied h changes ops)
+answers_fit h changes [] bounded readable = tt
+answers_fit h changes (Get key rev ∷ ops) bounded readable =
+    let parts : (nat_le rev (now h) ≡ true) × (are_readable (now h) ops ≡ true) = both (nat_le rev (now h)) (are_readable (now h) ops) readable in
+    (read_fits h changes key rev bounded (leb-true rev (now h) parts.0), answers_fit h changes ops bounded parts.1)
+answers_fit h changes (Put key value lease ∷ ops) bounded readable =
+    (tt, answers_fit h (changes ++ PutChange key value lease ∷ []) ops bounded readable)
+answers_fit h changes (Del key ∷ ops) bounded readable = (
+  one_at_most (deletion_of key (copy h changes key)),
+  answers_fit h (with_copied changes (deletion_of key (copy h changes key))) ops bounded readable,
+)
+
+counter_fits : (h : History) (changes : List Change) → now h ≤ HIGHEST_REVISION → now (with_changes h changes) ≤ HIGHEST_NUMBER
+counter_fits h [] bounded = omega arith
+counter_fits h (c ∷ cs) bounded = omega arith
+
+failed_fits : (h : History) (cs : List Compare) (failed : Option FailedCompare) → now h ≤ HIGHEST_REVISION → first_failed (key_now h) 0 cs ≡ failed →
+    IfSome failed (λ (f : FailedCompare). f.mod_rev ≤ HIGHEST_NUMBER)
+failed_fits h cs None bounded is = tt
+failed_fits h cs (Some f) bounded is =
+    let at : FailsAt (key_now h) cs f = failed_has_its_place (key_now h) cs f is in
+    let told : f.mod_rev ≡ mod_of (key_now h at.compare.key) = at.told in
+    let reached : mod_of (key_now h at.compare.key) ≤ now h = mod_is_reached h.opening at.compare.key h.revisions in
+    omega arith
+
+done_fits : (h : History) (is_live : ℕ → Bool) (txn : Txn) (done : Done) → now h ≤ HIGHEST_REVISION → outcome h is_live txn ≡ Ok done → AnswerFits done.answer
+done_fits h is_live txn done bounded is =
+    let failed : Option FailedCompare = first_failed (key_now h) 0 txn.compares in
+    let ops : List Op = chosen failed txn in
+    let whole : (fault_of txn ≡ None) × (branch_outcome h is_live failed ops ≡ Ok done) =
+    of_unless (fault_of txn) (branch_outcome h is_live failed ops) done is in
+    let branch : (branch_refusal (now h) is_live ops ≡ None) × (finished h failed (changes_of_branch h ops) (answers_after h (begun h) ops) ≡ Ok done) =
+    of_unless (branch_refusal (now h) is_live ops) (finished h failed (changes_of_branch h ops) (answers_after h (begun h) ops)) done whole.1 in
+    let made : answer_of h failed (changes_of_branch h ops) (answers_after h (begun h) ops) ≡ done.answer =
+    ap (λ (d : Done). d.answer) (of_finished (is_used_up h (changes_of_branch h ops)) _ done branch.1) in
+    subst AnswerFits made (record {
+      revision = counter_fits h (changes_of_branch h ops) bounded;
+      answers = subst OpsFit (sym (answers_agree h ops (chosen_apart txn failed whole.0)))
+          (answers_fit h [] ops bounded (all_readable (now h) is_live ops branch.0));
+      failed = failed_fits h txn.compares failed bounded refl;
+    })
+
+pub numbers_fit : (s next : Standing) (txn : Txn) (a : TxnAnswer) → now s.history ≤ HIGHEST_REVISION →
+    transacted s txn ≡ Ok record { answer = a; next = next } → AnswerFits a
+numbers_fit s next txn a bounded is =
+    let found : (done : Done) × (outcome s.history (is_live_in s.live) txn ≡ Ok done) × (done.answer ≡ a) =
+    failed_case s (outcome s.history (is_live_in s.live) txn) a next is in
+    subst AnswerFits found.2 (done_fits s.history (is_live_in s.live) txn found.0 bounded found.1)

@@ -9,7 +9,8 @@ use Rattle.stm_program.specs.Words.{expression_word}
 use Rattle.stm_json.specs.Outcome.{Outcome, bad, ◌>>=◌}
 use Rattle.stm_json.specs.Elements.{whole_number, number_up_to}
 use Rattle.stm_program.specs.Reading.{Read, one_part, two_parts, unary_of, binary_of, expression_named, expression_body, expression_at}
-use Rattle.stm_program.specs.FirstFault.{Mark, wrong, at, first_of_marks, expression_of_one, expression_of_two, expression_inner, expression_marks}
+use Rattle.stm_program.specs.FirstFault.{Mark, wrong, at, first_of_marks}
+use Rattle.stm_program.proofs.ReaderMarks.{expression_of_one, expression_of_two, expression_inner, expression_marks}
 use Rattle.stm_program.proofs.MarkLemmas.{after, after_number, wrong_is, too_deep, too_many, one_node, whole_marked, number_marked, part_then, number_then, behind}
 
 -- one part, marked

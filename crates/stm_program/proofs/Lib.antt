@@ -12,6 +12,8 @@ pub mod ConditionComplete
 pub mod StatementComplete
 pub mod WrittenLemmas
 pub mod WriteLoop
+pub mod ReaderMarks
+pub mod TableMarks
 pub mod MarkLemmas
 pub mod ExpressionMarks
 pub mod ConditionMarks
@@ -21,3 +23,4 @@ pub mod WriteLemmas
 pub mod LatestLemmas
 pub mod TableLemmas
 pub mod SameLemmas
+pub mod WorkedExamples

@@ -11,7 +11,9 @@ use Rattle.stm_program.specs.Words.{statement_word}
 use Rattle.stm_json.specs.Outcome.{Outcome, ◌>>=◌}
 use Rattle.stm_json.specs.Elements.{worded, number_up_to}
 use Rattle.stm_program.specs.Reading.{Read, simple_of, statement_named, statement_array, statements_from, block_by, expression_at, condition_at, statement_at, program_of}
-use Rattle.stm_program.specs.FirstFault.{Mark, wrong, at, first_of_marks, number_marks, expression_marks, condition_marks, statement_of_one, statement_of_two, statement_of_three, statement_of_four, statement_inner, statement_marks, block_marks, statements_marks, first_fault}
+use Rattle.stm_program.specs.FirstFault.{Mark, wrong, at, first_of_marks, number_marks, first_fault}
+use Rattle.stm_program.proofs.ReaderMarks.{expression_marks, condition_marks, statement_of_one, statement_of_two, statement_of_three, statement_of_four, statement_inner, statement_marks, block_marks, statements_marks}
+use Rattle.stm_program.proofs.TableMarks.{block_is}
 use Rattle.stm_program.proofs.MarkLemmas.{after, wrong_is, too_deep, too_many, one_node, number_marked, part_then, number_then, behind, made}
 use Rattle.stm_program.proofs.ExpressionMarks.{one_marked, expression_marked}
 use Rattle.stm_program.proofs.ConditionMarks.{condition_marked}
@@ -146,6 +148,7 @@ told (Err f) = refl
 pub program_fault : (d : Data) → first_fault d ≡ fault_of (program_of d)
 unfolding first_fault program_of
 program_fault d =
-    ap (first_of_marks 4096) (sym (append-nil (block_marks 1 [] d)))
+    ap (first_of_marks 4096) (block_is 1 [] d)
+    ∙ ap (first_of_marks 4096) (sym (append-nil (block_marks 1 [] d)))
     ∙ block_marked 32 0 refl (statement_at 32) (statement_marked 32 1 refl) [] 4096 d []
     ∙ told (block_by (statement_at 32) 4096 d)

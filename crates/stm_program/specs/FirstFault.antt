@@ -1,6 +1,7 @@
 -- The first fault of data in a program's place, apart from reading: the marks of all the data in the order of reading, none
 -- left out behind a fault, and then the first of them that is a fault.
-use Rattle.std.specs.Prelude.{◌≡◌, ℕ, zero, suc, ℤ, pos, negsuc, List, [], ◌∷◌, ◌++◌, length, Option, Some, None, nat_le, if◌then◌else◌, option_and_then}
+use Rattle.std.specs.Prelude.{◌≡◌, ℕ, zero, suc, ℤ, pos, negsuc, Bool, true, false, bytes_eq, List, [], ◌∷◌, ◌++◌, length, Option, Some, None, nat_le, if◌then◌else◌, option_and_then, codes}
+use Rattle.std.specs.Map.{lookup}
 use Rattle.serde_json.specs.Data.{Data, number, string, array, Items, no_items, item}
 use Rattle.serde_json.specs.Find.{as_number, as_integer}
 use Rattle.stm_json.specs.declared.cause.Cause.{Cause}
@@ -8,13 +9,7 @@ use Rattle.stm_json.specs.declared.cause.Cause.TheVariants.{Shape, Range, TooDee
 use Rattle.stm_json.specs.declared.read_error.BadInput.{BadInput}
 use Rattle.stm_json.specs.declared.read_error.ReadError.{ReadError}
 use Rattle.stm_json.specs.declared.read_error.ReadError.TheVariants as error
-use Rattle.stm_program.specs.declared.words.ExprWord.{ExprWord}
-use Rattle.stm_program.specs.declared.words.ExprWord.TheVariants as expression
-use Rattle.stm_program.specs.declared.words.CondWord.{CondWord}
-use Rattle.stm_program.specs.declared.words.CondWord.TheVariants as condition
-use Rattle.stm_program.specs.declared.words.StmtWord.{StmtWord}
-use Rattle.stm_program.specs.declared.words.StmtWord.TheVariants as statement
-use Rattle.stm_program.specs.Words.{expression_word, condition_word, statement_word}
+use Rattle.stm_program.specs.declared.limits.TheConstants.{MAX_DEPTH, MAX_NODES, MAX_TEXT, MAX_TURNS, MAX_LEASE}
 use Rattle.stm_json.specs.Outcome.{step}
 use Rattle.stm_json.specs.Elements.{is_64_bit}
 
@@ -46,138 +41,105 @@ abbrev pub whole_marks : List ℕ → Option ℤ → List Mark
 whole_marks p (Some z) = if is_64_bit z then [] else wrong p Range
 whole_marks p None = wrong p Shape
 
--- ---- expressions
+-- ---- the table: which words there are, and the sorts of the parts behind each
 
--- an array of a word and one element, of which the marks are given for the case that it is an expression
-abbrev pub expression_of_one : List ℕ → Option ExprWord → Data → List Mark → List Mark
-expression_of_one p None a ms = wrong p Shape
-expression_of_one p (Some expression.Var) a ms = number_marks (at p 1) 15 a
-expression_of_one p (Some (expression.Unary u)) a ms = ms
-expression_of_one p (Some (expression.Binary b)) a ms = wrong p Shape
+-- an expression, a condition, a statement, a block, or a whole number from 0 to a limit
+pub data Sort : Type 0 where
+  Value : Sort
+  Test : Sort
+  Step : Sort
+  Block : Sort
+  Count : ℕ → Sort
 
-abbrev pub expression_of_two : List ℕ → Option ExprWord → List Mark → List Mark
-expression_of_two p None ms = wrong p Shape
-expression_of_two p (Some expression.Var) ms = wrong p Shape
-expression_of_two p (Some (expression.Unary u)) ms = wrong p Shape
-expression_of_two p (Some (expression.Binary b)) ms = ms
+abbrev pub Table : Type 0
+Table = List (List ℕ × List Sort)
 
--- what is marked in a node, behind the node itself
-abbrev pub expression_inner : ℕ → List ℕ → Data → List Mark
-expression_inner k p (string s) = if nat_le (length s) 65536 then [] else wrong p TooLong
-expression_inner k p (number n) = whole_marks p (as_integer n)
-expression_inner k p (array (item (string w) (item a no_items))) =
-    expression_of_one p (expression_word w) a (Node (suc k) (at p 1) ∷ expression_inner (suc k) (at p 1) a)
-expression_inner k p (array (item (string w) (item a (item b no_items)))) =
-    expression_of_two p (expression_word w) ((Node (suc k) (at p 1) ∷ expression_inner (suc k) (at p 1) a) ++ (Node (suc k) (at p 2) ∷ expression_inner (suc k) (at p 2) b))
-expression_inner k p _ = wrong p Shape
+abbrev pub value_words : Table
+value_words =
+    (codes "var", Count 15 ∷ [])
+    ∷ (codes "get", Value ∷ []) ∷ (codes "rev", Value ∷ []) ∷ (codes "text_of", Value ∷ []) ∷ (codes "num_of", Value ∷ [])
+    ∷ (codes "cat", Value ∷ Value ∷ [])
+    ∷ (codes "add", Value ∷ Value ∷ []) ∷ (codes "sub", Value ∷ Value ∷ []) ∷ (codes "mul", Value ∷ Value ∷ [])
+    ∷ (codes "div", Value ∷ Value ∷ []) ∷ (codes "rem", Value ∷ Value ∷ []) ∷ []
 
-abbrev pub expression_marks : ℕ → List ℕ → Data → List Mark
-expression_marks k p d = Node k p ∷ expression_inner k p d
+abbrev pub test_words : Table
+test_words =
+    (codes "eq", Value ∷ Value ∷ []) ∷ (codes "less", Value ∷ Value ∷ [])
+    ∷ (codes "not", Test ∷ []) ∷ (codes "and", Test ∷ Test ∷ []) ∷ (codes "or", Test ∷ Test ∷ []) ∷ []
 
--- ---- conditions
+abbrev pub step_words : Table
+step_words =
+    (codes "set", Count 15 ∷ Value ∷ [])
+    ∷ (codes "put", Value ∷ Value ∷ Count MAX_LEASE ∷ [])
+    ∷ (codes "if", Test ∷ Block ∷ Block ∷ [])
+    ∷ (codes "for", Count 15 ∷ Value ∷ Count MAX_TURNS ∷ Block ∷ [])
+    ∷ (codes "del", Value ∷ []) ∷ (codes "emit", Value ∷ []) ∷ (codes "abort", Value ∷ []) ∷ []
 
-abbrev pub condition_of_one : List ℕ → Option CondWord → List Mark → List Mark
-condition_of_one p None ms = wrong p Shape
-condition_of_one p (Some (condition.Comparison c)) ms = wrong p Shape
-condition_of_one p (Some condition.Not) ms = ms
-condition_of_one p (Some (condition.Connective c)) ms = wrong p Shape
+abbrev pub words_of : Sort → Table
+words_of Value = value_words
+words_of Test = test_words
+words_of Step = step_words
+words_of Block = []
+words_of (Count limit) = []
 
--- the marks of the two elements are given for the case that they are expressions, and conditions
-abbrev pub condition_of_two : List ℕ → Option CondWord → List Mark → List Mark → List Mark
-condition_of_two p None es cs = wrong p Shape
-condition_of_two p (Some (condition.Comparison c)) es cs = es
-condition_of_two p (Some condition.Not) es cs = wrong p Shape
-condition_of_two p (Some (condition.Connective c)) es cs = cs
+-- the sorts of the parts behind a word, where something of this sort begins with it
+unfoldable pub parts_behind : Sort → List ℕ → Option (List Sort)
+parts_behind sort word = lookup (bytes_eq word) (words_of sort)
 
-abbrev pub condition_inner : ℕ → List ℕ → Data → List Mark
-condition_inner k p (array (item (string w) (item a no_items))) =
-    condition_of_one p (condition_word w) (Node (suc k) (at p 1) ∷ condition_inner (suc k) (at p 1) a)
-condition_inner k p (array (item (string w) (item a (item b no_items)))) =
-    condition_of_two p (condition_word w) (expression_marks (suc k) (at p 1) a ++ expression_marks (suc k) (at p 2) b)
-    ((Node (suc k) (at p 1) ∷ condition_inner (suc k) (at p 1) a) ++ (Node (suc k) (at p 2) ∷ condition_inner (suc k) (at p 2) b))
-condition_inner k p _ = wrong p Shape
+-- there are as many elements as parts
+abbrev pub are_as_many : List Sort → Items → Bool
+are_as_many [] no_items = true
+are_as_many (s ∷ ss) (item d ds) = are_as_many ss ds
+are_as_many _ _ = false
 
-abbrev pub condition_marks : ℕ → List ℕ → Data → List Mark
-condition_marks k p d = Node k p ∷ condition_inner k p d
+-- ---- marks of data at a place
 
--- ---- statements and blocks
+-- an expression, a condition and a statement is a node
+abbrev pub as_node : Sort → ℕ → List ℕ → List Mark → List Mark
+as_node Block k p ms = ms
+as_node (Count limit) k p ms = ms
+as_node _ k p ms = Node k p ∷ ms
 
-abbrev pub statement_of_one : List ℕ → Option StmtWord → List Mark → List Mark
-statement_of_one p None ms = wrong p Shape
-statement_of_one p (Some statement.Set) ms = wrong p Shape
-statement_of_one p (Some statement.Put) ms = wrong p Shape
-statement_of_one p (Some statement.If) ms = wrong p Shape
-statement_of_one p (Some statement.For) ms = wrong p Shape
-statement_of_one p (Some (statement.Simple s)) ms = ms
+abbrev pub marks_if : List ℕ → Option (List Sort) → Items → (List Sort → List Mark) → List Mark
+marks_if p None ds parts = wrong p Shape
+marks_if p (Some sorts) ds parts = if are_as_many sorts ds then parts sorts else wrong p Shape
 
-abbrev pub statement_of_two : List ℕ → Option StmtWord → List Mark → List Mark
-statement_of_two p None ms = wrong p Shape
-statement_of_two p (Some statement.Set) ms = ms
-statement_of_two p (Some statement.Put) ms = wrong p Shape
-statement_of_two p (Some statement.If) ms = wrong p Shape
-statement_of_two p (Some statement.For) ms = wrong p Shape
-statement_of_two p (Some (statement.Simple s)) ms = wrong p Shape
-
--- the marks of the three elements are given for the case that they are those of a put, and of an if
-abbrev pub statement_of_three : List ℕ → Option StmtWord → List Mark → List Mark → List Mark
-statement_of_three p None ps is = wrong p Shape
-statement_of_three p (Some statement.Set) ps is = wrong p Shape
-statement_of_three p (Some statement.Put) ps is = ps
-statement_of_three p (Some statement.If) ps is = is
-statement_of_three p (Some statement.For) ps is = wrong p Shape
-statement_of_three p (Some (statement.Simple s)) ps is = wrong p Shape
-
-abbrev pub statement_of_four : List ℕ → Option StmtWord → List Mark → List Mark
-statement_of_four p None ms = wrong p Shape
-statement_of_four p (Some statement.Set) ms = wrong p Shape
-statement_of_four p (Some statement.Put) ms = wrong p Shape
-statement_of_four p (Some statement.If) ms = wrong p Shape
-statement_of_four p (Some statement.For) ms = ms
-statement_of_four p (Some (statement.Simple s)) ms = wrong p Shape
-
+-- what is marked in something of a sort that stands so deep, behind the node that it is
 abbrev mutual
-  pub statement_inner : ℕ → List ℕ → Data → List Mark
-  statement_inner k p (array (item (string w) (item a no_items))) =
-      statement_of_one p (statement_word w) (expression_marks (suc k) (at p 1) a)
-  statement_inner k p (array (item (string w) (item a (item b no_items)))) =
-      statement_of_two p (statement_word w) (number_marks (at p 1) 15 a ++ expression_marks (suc k) (at p 2) b)
-  statement_inner k p (array (item (string w) (item a (item b (item c no_items))))) =
-      statement_of_three p (statement_word w)
-      (expression_marks (suc k) (at p 1) a ++ (expression_marks (suc k) (at p 2) b ++ number_marks (at p 3) 9223372036854775807 c))
-      (condition_marks (suc k) (at p 1) a ++ (block_marks (suc k) (at p 2) b ++ block_marks (suc k) (at p 3) c))
-  statement_inner k p (array (item (string w) (item a (item b (item c (item e no_items)))))) =
-      statement_of_four p (statement_word w)
-      (number_marks (at p 1) 15 a ++ (expression_marks (suc k) (at p 2) b ++ (number_marks (at p 3) 1000 c ++ block_marks (suc k) (at p 4) e)))
-  statement_inner k p _ = wrong p Shape
+  pub marks_in : Sort → ℕ → List ℕ → Data → List Mark
+  marks_in Value k p (string s) = if nat_le (length s) MAX_TEXT then [] else wrong p TooLong
+  marks_in Value k p (number n) = whole_marks p (as_integer n)
+  marks_in Block k p (array ds) = marks_of_steps k p 0 ds
+  marks_in (Count limit) k p d = number_marks p limit d
+  marks_in sort k p (array (item (string word) ds)) = marks_if p (parts_behind sort word) ds (λ sorts. marks_of_parts k p 1 sorts ds)
+  marks_in sort k p _ = wrong p Shape
 
-  -- the statements of an array, at the given depth
-  pub block_marks : ℕ → List ℕ → Data → List Mark
-  block_marks k p (array ds) = statements_marks k p 0 ds
-  block_marks k p _ = wrong p Shape
+  -- the parts of a node, from an index on
+  pub marks_of_parts : ℕ → List ℕ → ℕ → List Sort → Items → List Mark
+  marks_of_parts k p index [] ds = []
+  marks_of_parts k p index (s ∷ ss) no_items = []
+  marks_of_parts k p index (s ∷ ss) (item d ds) = as_node s (suc k) (at p index) (marks_in s (suc k) (at p index) d) ++ marks_of_parts k p (suc index) ss ds
 
-  -- those from an index on
-  pub statements_marks : ℕ → List ℕ → ℕ → Items → List Mark
-  statements_marks k p index no_items = []
-  statements_marks k p index (item d ds) = (Node k (at p index) ∷ statement_inner k (at p index) d) ++ statements_marks k p (suc index) ds
-
-abbrev pub statement_marks : ℕ → List ℕ → Data → List Mark
-statement_marks k p d = Node k p ∷ statement_inner k p d
+  -- the statements of an array, from an index on
+  pub marks_of_steps : ℕ → List ℕ → ℕ → Items → List Mark
+  marks_of_steps k p index no_items = []
+  marks_of_steps k p index (item d ds) = (Node k (at p index) ∷ marks_in Step k (at p index) d) ++ marks_of_steps k p (suc index) ds
 
 -- ---- the first fault
 
 abbrev pub fault_at : List ℕ → Cause → Option BadInput
 fault_at p cause = Some (record { place = p; cause = cause })
 
--- where so many nodes more are allowed: a node deeper than 32 is a fault, then one for which no room is left
+-- where so many nodes more are allowed: a node that is too deep is a fault, then one for which no room is left
 abbrev pub first_of_marks : ℕ → List Mark → Option BadInput
 first_of_marks room [] = None
 first_of_marks room (Wrong p cause ∷ ms) = fault_at p cause
-first_of_marks zero (Node k p ∷ ms) = if nat_le k 32 then fault_at p TooManyNodes else fault_at p TooDeep
-first_of_marks (suc room) (Node k p ∷ ms) = if nat_le k 32 then first_of_marks room ms else fault_at p TooDeep
+first_of_marks zero (Node k p ∷ ms) = if nat_le k MAX_DEPTH then fault_at p TooManyNodes else fault_at p TooDeep
+first_of_marks (suc room) (Node k p ∷ ms) = if nat_le k MAX_DEPTH then first_of_marks room ms else fault_at p TooDeep
 
 -- the first fault of data in a program's place, if there is one
 unfoldable pub first_fault : Data → Option BadInput
-first_fault d = first_of_marks 4096 (block_marks 1 [] d)
+first_fault d = first_of_marks MAX_NODES (marks_in Block 1 [] d)
 
 -- the error is the first fault, or want of memory
 abbrev pub IsFirstFault : Data → ReadError → Type 0

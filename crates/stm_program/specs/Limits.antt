@@ -2,6 +2,7 @@
 use Rattle.std.specs.Prelude.{ℕ, ◌+◌, ◌<◌, ◌≤◌, max, length, FitsSigned}
 use Rattle.std.specs.Int.{w64}
 use Rattle.stm_program.specs.Syntax.{Expression, Text, Number, Variable, Get, Rev, Arithmetic, Cat, TextOf, NumOf, Condition, Equal, Less, Not, And, Or, Statement, Set, Put, Del, If, For, Emit, Abort, Block, End, Then, ProgramTree}
+use Rattle.stm_program.specs.declared.limits.TheConstants.{MAX_DEPTH, MAX_NODES, MAX_TEXT, MAX_TURNS, MAX_LEASE}
 use Rattle.stm_program.specs.Size.{expression_nodes, condition_nodes, statement_nodes, block_nodes}
 
 -- ---- depth: a node stands one deeper than the node that it is a part of
@@ -39,11 +40,10 @@ abbrev mutual
   block_depth End = 0
   block_depth (Then s b) = max (statement_depth s) (block_depth b)
 
--- ---- ranges: a text has at most 65536 bytes, a number 64 bits, a variable is one of sixteen, a loop's limit is at most
--- 1000, and a lease at most 9223372036854775807
+-- ---- ranges: a number has 64 bits, and a variable is one of sixteen
 
 abbrev pub ExpressionInRange : Expression → Type 0
-ExpressionInRange (Text s) = length s ≤ 65536
+ExpressionInRange (Text s) = length s ≤ MAX_TEXT
 ExpressionInRange (Number z) = FitsSigned w64 z
 ExpressionInRange (Variable v) = v < 16
 ExpressionInRange (Get e) = ExpressionInRange e
@@ -63,10 +63,10 @@ ConditionInRange (Or c d) = ConditionInRange c × ConditionInRange d
 abbrev mutual
   pub StatementInRange : Statement → Type 0
   StatementInRange (Set v e) = (v < 16) × ExpressionInRange e
-  StatementInRange (Put k e l) = ExpressionInRange k × ExpressionInRange e × (l ≤ 9223372036854775807)
+  StatementInRange (Put k e l) = ExpressionInRange k × ExpressionInRange e × (l ≤ MAX_LEASE)
   StatementInRange (Del k) = ExpressionInRange k
   StatementInRange (If c t e) = ConditionInRange c × BlockInRange t × BlockInRange e
-  StatementInRange (For v e n b) = (v < 16) × ExpressionInRange e × (n ≤ 1000) × BlockInRange b
+  StatementInRange (For v e n b) = (v < 16) × ExpressionInRange e × (n ≤ MAX_TURNS) × BlockInRange b
   StatementInRange (Emit e) = ExpressionInRange e
   StatementInRange (Abort e) = ExpressionInRange e
 
@@ -96,6 +96,6 @@ pub record BlockFits (levels room : ℕ) (b : Block) : Type 0 where
   pub nodes : block_nodes b ≤ room
   pub ranges : BlockInRange b
 
--- a program has at most 4096 nodes, at most 32 deep
+-- a program has at most so many nodes, at most so deep
 abbrev pub Fits : ProgramTree → Type 0
-Fits p = BlockFits 32 4096 p.statements
+Fits p = BlockFits MAX_DEPTH MAX_NODES p.statements

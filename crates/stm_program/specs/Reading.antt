@@ -21,6 +21,7 @@ use Rattle.stm_program.specs.declared.words.StmtWord.{StmtWord}
 use Rattle.stm_program.specs.declared.words.StmtWord.TheVariants as statement
 use Rattle.stm_program.specs.declared.words.Simple.{Simple}
 use Rattle.stm_program.specs.declared.words.Simple.TheVariants as simple
+use Rattle.stm_program.specs.declared.limits.TheConstants.{MAX_DEPTH, MAX_NODES, MAX_TEXT, MAX_TURNS, MAX_LEASE}
 use Rattle.stm_program.specs.Syntax.{Expression, Text, Number, Variable, Get, Rev, Arithmetic, Cat, TextOf, NumOf, Condition, Equal, Less, Not, And, Or, Statement, Set, Put, Del, If, For, Emit, Abort, Block, End, Then, ProgramTree, of_statements}
 use Rattle.stm_program.specs.Words.{expression_word, condition_word, statement_word}
 use Rattle.stm_json.specs.Outcome.{Outcome, bad, ◌>>=◌, within}
@@ -52,7 +53,7 @@ binary_of (binary.Arithmetic o) l r = Arithmetic o l r
 binary_of binary.Cat l r = Cat l r
 
 abbrev pub literal : ℕ → List ℕ → Read Expression
-literal room s = if nat_le (length s) 65536 then Ok (Text s, room) else bad TooLong
+literal room s = if nat_le (length s) MAX_TEXT then Ok (Text s, room) else bad TooLong
 
 abbrev pub variable : ℕ → Option Data → Read Expression
 variable room None = bad Shape
@@ -122,7 +123,7 @@ set_of expression room (Some p) =
 abbrev pub put_of : (ℕ → Data → Read Expression) → ℕ → Option (Data × Data × Data) → Read Statement
 put_of expression room None = bad Shape
 put_of expression room (Some p) =
-    within 1 (expression room p.0) >>= λ k. within 2 (expression k.1 p.1) >>= λ e. within 3 (number_up_to 9223372036854775807 p.2) >>= λ l. Ok (Put k.0 e.0 l, e.1)
+    within 1 (expression room p.0) >>= λ k. within 2 (expression k.1 p.1) >>= λ e. within 3 (number_up_to MAX_LEASE p.2) >>= λ l. Ok (Put k.0 e.0 l, e.1)
 
 abbrev pub if_of : (ℕ → Data → Read Condition) → (ℕ → Data → Read Block) → ℕ → Option (Data × Data × Data) → Read Statement
 if_of condition block room None = bad Shape
@@ -132,7 +133,7 @@ if_of condition block room (Some p) =
 abbrev pub for_of : (ℕ → Data → Read Expression) → (ℕ → Data → Read Block) → ℕ → Option (Data × Data × Data × Data) → Read Statement
 for_of expression block room None = bad Shape
 for_of expression block room (Some p) =
-    within 1 (number_up_to 15 p.0) >>= λ v. within 2 (expression room p.1) >>= λ e. within 3 (number_up_to 1000 p.2) >>= λ n. within 4 (block e.1 p.3) >>= λ b. Ok (For v e.0 n b.0, b.1)
+    within 1 (number_up_to 15 p.0) >>= λ v. within 2 (expression room p.1) >>= λ e. within 3 (number_up_to MAX_TURNS p.2) >>= λ n. within 4 (block e.1 p.3) >>= λ b. Ok (For v e.0 n b.0, b.1)
 
 abbrev pub statement_named : (ℕ → Data → Read Expression) → (ℕ → Data → Read Condition) → (ℕ → Data → Read Block) → ℕ → Option StmtWord → Items → Read Statement
 statement_named expression condition block room None ds = bad Shape
@@ -170,4 +171,4 @@ statement_at (suc levels) (suc room) d =
 
 -- the program that data spell, or the first fault
 unfoldable pub program_of : Data → Outcome ProgramTree
-program_of d = block_by (statement_at 32) 4096 d >>= λ b. Ok (of_statements b.0)
+program_of d = block_by (statement_at MAX_DEPTH) MAX_NODES d >>= λ b. Ok (of_statements b.0)

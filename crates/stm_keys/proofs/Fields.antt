@@ -1,5 +1,6 @@
 -- The fields of a key store, the recorded revisions being the oldest first.
-use Rattle.std.proofs.Common.{◌≡◌, ℕ, ◌+◌, ◌-◌, ◌≤◌, ◌<◌, false, List, [], ◌∷◌, ◌++◌, length, map, reverse, take, drop, get_or, Option, Some, None, suc, refl, sym, ◌∙◌, ap, subst, arith, cond, IfSome}
+use Rattle.std.proofs.Common.{◌≡◌, ℕ, ◌+◌, ◌-◌, ◌≤◌, ◌<◌, false, List, [], ◌∷◌, ◌++◌, length, map, reverse, take, drop, get_or, Option, Some, None, suc, refl}
+use Rattle.std.proofs.Common.{sym, ◌∙◌, ap, subst, arith, cond, IfSome}
 use Rattle.std.specs.Prelude.{bytes_eq, min}
 use Rattle.std.specs.List.{IsDistinct, AllByRecursion}
 use Rattle.std.specs.Map.{lookup, keys_of}
@@ -65,7 +66,8 @@ pub versions_fit : (opening : ℕ) (recorded : List (List Event)) (table : List 
     IsKept opening recorded table → version_of (table key) + 1 < 18446744073709551616
 versions_fit opening recorded table key kept =
     let revisions : List (List Change) = changes_of recorded in
-    let few : version_of (key_after opening key revisions) ≤ length revisions = version_bound opening (length revisions) (key_after opening key revisions) (are_small opening key revisions) in
+    let few : version_of (key_after opening key revisions) ≤ length revisions =
+    version_bound opening (length revisions) (key_after opening key revisions) (are_small opening key revisions) in
     let same : version_of (table key) ≡ version_of (key_after opening key revisions) = ap version_of (kept.states key) in
     omega (arith, length-map recorded (map change_of_event), kept.bounded)
 
@@ -92,7 +94,8 @@ lookup-texts text key (e ∷ es) = ap (cond (bytes_eq key (text e.0)) (Some e.1)
 
 -- keys that differ by their bytes have texts that differ
 apart-texts : {K V : Type 0} (text : K → List ℕ) (k : K) (es : List (K × V)) →
-    AllByRecursion (λ l. bytes_eq (text k) (text l) ≡ false) (keys_of es) → AllByRecursion (λ l. bytes_eq (text k) l ≡ false) (keys_of (map (λ e. (text e.0, e.1)) es))
+    AllByRecursion (λ l. bytes_eq (text k) (text l) ≡ false) (keys_of es)
+    → AllByRecursion (λ l. bytes_eq (text k) l ≡ false) (keys_of (map (λ e. (text e.0, e.1)) es))
 apart-texts text k [] h = tt
 apart-texts text k (e ∷ es) h = (h.0, apart-texts text k es h.1)
 

@@ -10,20 +10,25 @@ use Rattle.stm_keys.specs.Events.{change_of_event}
 use Rattle.stm_keys.specs.Keys.{HasSmallNumbers, IsKept, changes_of, key_read}
 
 small_case : (h : History) (o : Option KeyState) → now h ≤ HIGHEST_REVISION →
-    IfSome o (λ s. (s.version ≤ length h.revisions) × (s.mod_rev ≤ now h) × (s.create_rev ≤ s.mod_rev) × (h.opening + 1 ≤ s.create_rev)) → IfSome o HasSmallNumbers
+    IfSome o (λ s. (s.version ≤ length h.revisions) × (s.mod_rev ≤ now h) × (s.create_rev ≤ s.mod_rev) × (h.opening + 1 ≤ s.create_rev))
+    → IfSome o HasSmallNumbers
 small_case h None bounded small = tt
-small_case h (Some s) bounded small = record { version = omega (arith, small.0); mod_rev = omega (arith, small.1); create_rev = omega (arith, small.1, small.2) }
+small_case h (Some s) bounded small =
+    record { version = omega (arith, small.0); mod_rev = omega (arith, small.1); create_rev = omega (arith, small.1, small.2) }
 
 -- the counter of the fields fits
-pub now_fits : (opening : ℕ) (recorded : List (List Event)) (table : List ℕ → Option KeyState) → IsKept opening recorded table → opening + length (changes_of recorded) ≤ HIGHEST_REVISION
+pub now_fits : (opening : ℕ) (recorded : List (List Event)) (table : List ℕ → Option KeyState) → IsKept opening recorded table
+    → opening + length (changes_of recorded) ≤ HIGHEST_REVISION
 now_fits opening recorded table kept = omega (arith, kept.bounded, length-map recorded (map change_of_event))
 
 pub at_small : (h : History) (key : List ℕ) (r : ℕ) → now h ≤ HIGHEST_REVISION → IfSome (key_at h key r) HasSmallNumbers
 at_small h key r bounded = small_case h (key_at h key r) bounded (numbers_stay_small h key r)
 
 pub now_small : (h : History) (key : List ℕ) → now h ≤ HIGHEST_REVISION → IfSome (key_now h key) HasSmallNumbers
-now_small h key bounded = subst (λ (o : Option KeyState). IfSome o HasSmallNumbers) (last_revision_is_now h key (now h) (omega arith)) (at_small h key (now h) bounded)
+now_small h key bounded =
+    subst (λ (o : Option KeyState). IfSome o HasSmallNumbers) (last_revision_is_now h key (now h) (omega arith)) (at_small h key (now h) bounded)
 
 pub read_small : (h : History) (key : List ℕ) (r : ℕ) → now h ≤ HIGHEST_REVISION → IfSome (key_read h key r) HasSmallNumbers
 read_small h key r bounded =
-    elim (nat_eq r 0) as (λ b. IfSome (cond b (key_now h key) (key_at h key r)) HasSmallNumbers) [ true ↦ now_small h key bounded | false ↦ at_small h key r bounded ]
+    elim (nat_eq r 0) as (λ b. IfSome (cond b (key_now h key) (key_at h key r)) HasSmallNumbers)
+    [ true ↦ now_small h key bounded | false ↦ at_small h key r bounded ]

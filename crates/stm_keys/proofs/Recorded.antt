@@ -1,5 +1,6 @@
 -- Recorded events against the history that they record.
-use Rattle.std.proofs.Common.{◌≡◌, ℕ, ◌+◌, ◌≤◌, ◌<◌, Bool, true, false, List, [], ◌∷◌, ◌++◌, length, map, Option, Some, None, suc, refl, sym, ◌∙◌, ap, subst, arith, cond, ne_eqb, eq-eqb}
+use Rattle.std.proofs.Common.{◌≡◌, ℕ, ◌+◌, ◌≤◌, ◌<◌, Bool, true, false, List, [], ◌∷◌, ◌++◌, length, map, Option, Some, None, suc, refl, sym, ◌∙◌, ap, subst}
+use Rattle.std.proofs.Common.{arith, cond, ne_eqb, eq-eqb}
 use Rattle.std.specs.Prelude.{bytes_eq, nat_eq}
 use Rattle.std.proofs.lemmas.List.{length-map, length-append}
 use Rattle.std.proofs.lemmas.Slice.Eq.{bytes_eq-Decides}
@@ -24,7 +25,8 @@ key_of_event-event_of : (n : ℕ) (before : List ℕ → Option KeyState) (c : C
 key_of_event-event_of n before (Put key value lease) = refl
 key_of_event-event_of n before (Del key) = refl
 
-shows_put : (n : ℕ) (key value : List ℕ) (lease : ℕ) (s : Option KeyState) → change_of_event (PutEvent key (state_after_put n value lease s)) ≡ Put key value lease
+shows_put : (n : ℕ) (key value : List ℕ) (lease : ℕ) (s : Option KeyState)
+    → change_of_event (PutEvent key (state_after_put n value lease s)) ≡ Put key value lease
 shows_put n key value lease None = refl
 shows_put n key value lease (Some s) = refl
 
@@ -53,7 +55,8 @@ shown_of : (n : ℕ) (before : List ℕ → Option KeyState) (key : List ℕ) (c
 shown_of n before key (Put k value lease) s same = ap (λ q. Some (state_after_put n value lease (before q))) same
 shown_of n before key (Del k) s same = refl
 
-about_case : (b : Bool) (n : ℕ) (before : List ℕ → Option KeyState) (key : List ℕ) (c : Change) (e : Option Event) (d : Option Change) → (b ≡ true → key_of c ≡ key) →
+about_case : (b : Bool) (n : ℕ) (before : List ℕ → Option KeyState) (key : List ℕ) (c : Change) (e : Option Event) (d : Option Change)
+    → (b ≡ true → key_of c ≡ key) →
     after_event e (before key) ≡ after_change n d (before key) →
     after_event (cond b (Some (event_of n before c)) e) (before key) ≡ after_change n (cond b (Some c) d) (before key)
 about_case true n before key c e d same rest = shown_of n before key c (before key) (same refl)
@@ -64,7 +67,8 @@ pub after_about : (n : ℕ) (before : List ℕ → Option KeyState) (key : List 
     after_event (event_about key (map (event_of n before) cs)) (before key) ≡ after_change n (change_of key cs) (before key)
 after_about n before key [] = refl
 after_about n before key (c ∷ cs) =
-    ap (λ k. after_event (cond (bytes_eq k key) (Some (event_of n before c)) (event_about key (map (event_of n before) cs))) (before key)) (key_of_event-event_of n before c)
+    ap (λ k. after_event (cond (bytes_eq k key) (Some (event_of n before c)) (event_about key (map (event_of n before) cs))) (before key))
+    (key_of_event-event_of n before c)
     ∙ about_case (bytes_eq (key_of c) key) n before key c (event_about key (map (event_of n before) cs)) (change_of key cs) (same_text (key_of c) key)
     (after_about n before key cs)
 
@@ -95,7 +99,8 @@ later_case false events rest x fails same = same
 length-changes_of : (recorded : List (List Event)) → length (changes_of recorded) ≡ length recorded
 length-changes_of recorded = length-map recorded (map change_of_event)
 
-pub numbered : (opening r : ℕ) (newer : List (List Event)) (x : List Event) (older : List (List Event)) → newer ++ x ∷ older ≡ all_events opening (changes_of (newer ++ x ∷ older)) →
+pub numbered : (opening r : ℕ) (newer : List (List Event)) (x : List Event) (older : List (List Event))
+    → newer ++ x ∷ older ≡ all_events opening (changes_of (newer ++ x ∷ older)) →
     r ≡ opening + suc (length older) → events_numbered opening r (changes_of (newer ++ x ∷ older)) ≡ x
 numbered opening r [] x older is place =
     number_case (nat_eq (opening + suc (length (changes_of older))) r) (events_above opening (map change_of_event x) (changes_of older))
@@ -103,7 +108,8 @@ numbered opening r [] x older is place =
     (eq-eqb _ _ (omega (arith, length-changes_of older)))
     (cc)
 numbered opening r (y ∷ newer) x older is place =
-    later_case (nat_eq (opening + suc (length (changes_of (newer ++ x ∷ older)))) r) (events_above opening (map change_of_event y) (changes_of (newer ++ x ∷ older)))
+    later_case (nat_eq (opening + suc (length (changes_of (newer ++ x ∷ older)))) r)
+    (events_above opening (map change_of_event y) (changes_of (newer ++ x ∷ older)))
     (events_numbered opening r (changes_of (newer ++ x ∷ older))) x
     (ne_eqb _ _ (λ e. absurd (omega (arith, length-changes_of (newer ++ x ∷ older), length-append newer (x ∷ older)))))
     (numbered opening r newer x older (cc) place)
@@ -126,7 +132,8 @@ untouched : (n : ℕ) (before : List ℕ → Option KeyState) (key : List ℕ) (
 untouched n before key [] s none = refl
 untouched n before key (c ∷ cs) s none =
     let others : (bytes_eq (key_of c) key ≡ false) × (change_of key cs ≡ None) = untouched_case (bytes_eq (key_of c) key) c (change_of key cs) none in
-    ap (λ k. after_all (map (event_of n before) cs) key (cond (bytes_eq k key) (after_event (Some (event_of n before c)) s) s)) (key_of_event-event_of n before c)
+    ap (λ k. after_all (map (event_of n before) cs) key (cond (bytes_eq k key) (after_event (Some (event_of n before c)) s) s))
+    (key_of_event-event_of n before c)
     ∙ ap (λ b. after_all (map (event_of n before) cs) key (cond b (after_event (Some (event_of n before c)) s) s)) others.0
     ∙ untouched n before key cs s others.1
 
@@ -134,7 +141,8 @@ untouched n before key (c ∷ cs) s none =
 all_case : (b : Bool) (n : ℕ) (before : List ℕ → Option KeyState) (key : List ℕ) (c : Change) (cs : List Change) →
     (b ≡ true → key_of c ≡ key) → change_of (key_of c) cs ≡ None →
     after_all (map (event_of n before) cs) key (before key) ≡ after_change n (change_of key cs) (before key) →
-    after_all (map (event_of n before) cs) key (cond b (after_event (Some (event_of n before c)) (before key)) (before key)) ≡ after_change n (cond b (Some c) (change_of key cs)) (before key)
+    after_all (map (event_of n before) cs) key (cond b (after_event (Some (event_of n before c)) (before key)) (before key)) ≡ after_change n
+    (cond b (Some c) (change_of key cs)) (before key)
 all_case true n before key c cs same apart rest =
     untouched n before key cs (after_event (Some (event_of n before c)) (before key)) (subst (λ k. change_of k cs ≡ None) (same refl) apart)
     ∙ shown_of n before key c (before key) (same refl)
@@ -144,11 +152,13 @@ pub all_written : (n : ℕ) (before : List ℕ → Option KeyState) (key : List 
     after_all (map (event_of n before) cs) key (before key) ≡ after_change n (change_of key cs) (before key)
 all_written n before key [] apart = refl
 all_written n before key (c ∷ cs) apart =
-    ap (λ k. after_all (map (event_of n before) cs) key (cond (bytes_eq k key) (after_event (Some (event_of n before c)) (before key)) (before key))) (key_of_event-event_of n before c)
+    ap (λ k. after_all (map (event_of n before) cs) key (cond (bytes_eq k key) (after_event (Some (event_of n before c)) (before key)) (before key)))
+    (key_of_event-event_of n before c)
     ∙ all_case (bytes_eq (key_of c) key) n before key c cs (same_text (key_of c) key) apart.0 (all_written n before key cs apart.1)
 
 -- one more revision keeps what a key store keeps
-pub kept_after : (opening : ℕ) (recorded : List (List Event)) (table : List ℕ → Option KeyState) (next : List ℕ → Option KeyState) (changes : List Change) (events : List Event) →
+pub kept_after : (opening : ℕ) (recorded : List (List Event)) (table : List ℕ → Option KeyState) (next : List ℕ → Option KeyState) (changes : List Change)
+    (events : List Event) →
     IsKept opening recorded table → opening + length recorded < HIGHEST_REVISION → IsRevision changes →
     events ≡ map (event_of (opening + suc (length recorded)) table) changes →
     ((key : List ℕ) → next key ≡ after_all events key (table key)) →

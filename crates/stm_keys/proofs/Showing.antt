@@ -1,5 +1,6 @@
 -- Each event of a revision shows its key at that revision.
-use Rattle.std.proofs.Common.{◌≡◌, ℕ, ◌<◌, Bool, true, false, List, [], ◌∷◌, map, Option, Some, None, refl, sym, ◌∙◌, ap, subst, arith, cond, eqb-true, inl, inr}
+use Rattle.std.proofs.Common.{◌≡◌, ℕ, ◌<◌, Bool, true, false, List, [], ◌∷◌, map, Option, Some, None, refl, sym, ◌∙◌, ap, subst, arith, cond, eqb-true, inl}
+use Rattle.std.proofs.Common.{inr}
 use Rattle.std.specs.Prelude.{bytes_eq, nat_eq}
 use Rattle.std.specs.List.{AllByRecursion}
 use Rattle.std.proofs.lemmas.Bool.{cases_lt, eqb-false}
@@ -19,7 +20,8 @@ each : {X : Type 0} (P Q : X → Type 0) (xs : List X) → ((x : X) → P x → 
 each P Q [] from all = tt
 each P Q (x ∷ xs) from all = (from x all.0, each P Q xs from all.1)
 
-each_mapped : {X Y : Type 0} (f : X → Y) (P : X → Type 0) (Q : Y → Type 0) (xs : List X) → ((x : X) → P x → Q (f x)) → AllByRecursion P xs → AllByRecursion Q (map f xs)
+each_mapped : {X Y : Type 0} (f : X → Y) (P : X → Type 0) (Q : Y → Type 0) (xs : List X) → ((x : X) → P x → Q (f x)) → AllByRecursion P xs
+    → AllByRecursion Q (map f xs)
 each_mapped f P Q [] from all = tt
 each_mapped f P Q (x ∷ xs) from all = (from x all.0, each_mapped f P Q xs from all.1)
 
@@ -48,7 +50,8 @@ shows_change h n before (Put key value lease) is = is
 shows_change h n before (Del key) is = (refl, is)
 
 -- the last revision's events
-last_shows : (opening : ℕ) (changes : List Change) (older : List (List Change)) (number : ℕ) → HasDistinctKeys changes → number_of_last opening (changes ∷ older) ≡ number →
+last_shows : (opening : ℕ) (changes : List Change) (older : List (List Change)) (number : ℕ) → HasDistinctKeys changes
+    → number_of_last opening (changes ∷ older) ≡ number →
     AllByRecursion (Shows (record { opening = opening; revisions = changes ∷ older }) number) (events_above opening changes older)
 last_shows opening changes older number apart same =
     let h : History = record { opening = opening; revisions = changes ∷ older } in
@@ -65,14 +68,17 @@ last_shows opening changes older number apart same =
 -- there are no events above the last revision
 none_above : (opening number : ℕ) (revisions : List (List Change)) → number_of_last opening revisions < number → events_numbered opening number revisions ≡ []
 none_above opening number [] above = refl
-none_above opening number (changes ∷ older) above = by_test (nat_eq (number_of_last opening (changes ∷ older)) number) refl (none_above opening number older (omega arith))
+none_above opening number (changes ∷ older) above =
+    by_test (nat_eq (number_of_last opening (changes ∷ older)) number) refl (none_above opening number older (omega arith))
   where
-    by_test : (b : Bool) → nat_eq (number_of_last opening (changes ∷ older)) number ≡ b → events_numbered opening number older ≡ [] → cond b (events_above opening changes older) (events_numbered opening number older) ≡ []
+    by_test : (b : Bool) → nat_eq (number_of_last opening (changes ∷ older)) number ≡ b → events_numbered opening number older ≡ []
+        → cond b (events_above opening changes older) (events_numbered opening number older) ≡ []
     by_test true same rest = let equal = eqb-true (number_of_last opening (changes ∷ older)) number same in absurd (omega arith)
     by_test false differs rest = rest
 
 -- an event goes on to show its key under a newer revision
-still_shows : (h newer : History) (number : ℕ) → ((key : List ℕ) → key_at newer key number ≡ key_at h key number) → (e : Event) → Shows h number e → Shows newer number e
+still_shows : (h newer : History) (number : ℕ) → ((key : List ℕ) → key_at newer key number ≡ key_at h key number) → (e : Event) → Shows h number e
+    → Shows newer number e
 still_shows h newer number same (PutEvent key state) is = same key ∙ is
 still_shows h newer number same (DeleteEvent key revision) is = (is.0, same key ∙ is.1)
 
@@ -81,20 +87,26 @@ shows : (opening number : ℕ) (revisions : List (List Change)) → AreRevisions
 shows opening number [] are = tt
 shows opening number (changes ∷ older) are = by_test (nat_eq (number_of_last opening (changes ∷ older)) number) refl (shows opening number older are.1)
   where
-    below : AllByRecursion (Shows (record { opening = opening; revisions = older }) number) (events_numbered opening number older) → number < number_of_last opening (changes ∷ older) →
+    below : AllByRecursion (Shows (record { opening = opening; revisions = older }) number) (events_numbered opening number older)
+        → number < number_of_last opening (changes ∷ older) →
         AllByRecursion (Shows (record { opening = opening; revisions = changes ∷ older }) number) (events_numbered opening number older)
     below rest less =
-        each (Shows (record { opening = opening; revisions = older }) number) (Shows (record { opening = opening; revisions = changes ∷ older }) number) (events_numbered opening number older)
-        (still_shows (record { opening = opening; revisions = older }) (record { opening = opening; revisions = changes ∷ older }) number (λ key. ap (key_after opening key) (last_is_above opening number changes older less))) rest
+        each (Shows (record { opening = opening; revisions = older }) number) (Shows (record { opening = opening; revisions = changes ∷ older }) number)
+        (events_numbered opening number older)
+        (still_shows (record { opening = opening; revisions = older }) (record { opening = opening; revisions = changes ∷ older }) number
+        (λ key. ap (key_after opening key) (last_is_above opening number changes older less))) rest
 
-    by_test : (b : Bool) → nat_eq (number_of_last opening (changes ∷ older)) number ≡ b → AllByRecursion (Shows (record { opening = opening; revisions = older }) number) (events_numbered opening number older) →
-        AllByRecursion (Shows (record { opening = opening; revisions = changes ∷ older }) number) (cond b (events_above opening changes older) (events_numbered opening number older))
+    by_test : (b : Bool) → nat_eq (number_of_last opening (changes ∷ older)) number ≡ b
+        → AllByRecursion (Shows (record { opening = opening; revisions = older }) number) (events_numbered opening number older) →
+        AllByRecursion (Shows (record { opening = opening; revisions = changes ∷ older }) number)
+        (cond b (events_above opening changes older) (events_numbered opening number older))
     by_test true same rest = last_shows opening changes older number are.0.1 (eqb-true (number_of_last opening (changes ∷ older)) number same)
     by_test false differs rest = elim (cases_lt number (number_of_last opening (changes ∷ older))) [
       | inl less ↦ below rest less
       | inr more ↦
           let apart = eqb-false (number_of_last opening (changes ∷ older)) number differs in
-          subst (λ (es : List Event). AllByRecursion (Shows (record { opening = opening; revisions = changes ∷ older }) number) es) (sym (none_above opening number older (omega arith))) tt
+          subst (λ (es : List Event). AllByRecursion (Shows (record { opening = opening; revisions = changes ∷ older }) number) es)
+          (sym (none_above opening number older (omega arith))) tt
     ]
 
 pub events_show : EventsShow

@@ -12,7 +12,8 @@ use Rattle.stm_lists.proofs.Segments.{get-changed_same, get-changed_other, first
 
 module _ {T : Type 0} where
   -- one list is made anew: its head, its entries, and which nodes stand on it; whatever names another list stays
-  pub record Rebuilds (nodes : Slab (Node T)) (heads : Slab Head) (new_nodes : Slab (Node T)) (new_heads : Slab Head) (list : ℕ) (h : Head) (entries : List (ℕ × T)) : Type 0 where
+  pub record Rebuilds (nodes : Slab (Node T)) (heads : Slab Head) (new_nodes : Slab (Node T)) (new_heads : Slab Head) (list : ℕ) (h : Head)
+      (entries : List (ℕ × T)) : Type 0 where
     pub head : get new_heads list ≡ Some h
     pub other_heads : (other : ℕ) → other ≢ list → get new_heads other ≡ get heads other
     pub made : IsList new_nodes list h entries
@@ -21,21 +22,26 @@ module _ {T : Type 0} where
     pub here : (node : ℕ) → owner_at new_nodes node ≡ Some list → IsOn node entries
 
   -- a segment of another list stays
-  segment_kept : (nodes new_nodes : Slab (Node T)) (other : ℕ) (before : Option ℕ) (xs : List (ℕ × T)) (after : Option ℕ) → ((node : ℕ) → owner_at nodes node ≡ Some other → get new_nodes node ≡ get nodes node) → IsSegment nodes other before xs after → IsSegment new_nodes other before xs after
+  segment_kept : (nodes new_nodes : Slab (Node T)) (other : ℕ) (before : Option ℕ) (xs : List (ℕ × T)) (after : Option ℕ)
+      → ((node : ℕ) → owner_at nodes node ≡ Some other → get new_nodes node ≡ get nodes node) → IsSegment nodes other before xs after
+      → IsSegment new_nodes other before xs after
   unfolding IsSegment
   segment_kept nodes new_nodes other before [] after kept p = tt
   segment_kept nodes new_nodes other before (entry ∷ rest) after kept p =
       (kept entry.0 (ap (option_map (λ (x : Node T). x.list)) p.0) ∙ p.0, segment_kept nodes new_nodes other (Some entry.0) rest after kept p.1)
 
-  pub list_kept : (nodes new_nodes : Slab (Node T)) (other : ℕ) (h : Head) (xs : List (ℕ × T)) → ((node : ℕ) → owner_at nodes node ≡ Some other → get new_nodes node ≡ get nodes node) → IsList nodes other h xs → IsList new_nodes other h xs
+  pub list_kept : (nodes new_nodes : Slab (Node T)) (other : ℕ) (h : Head) (xs : List (ℕ × T))
+      → ((node : ℕ) → owner_at nodes node ≡ Some other → get new_nodes node ≡ get nodes node) → IsList nodes other h xs → IsList new_nodes other h xs
   list_kept nodes new_nodes other h xs kept p =
       record { first = p.first; last = p.last; len = p.len; linked = segment_kept nodes new_nodes other None xs None kept p.linked }
 
   module _ (nodes : Slab (Node T)) (heads : Slab Head) (new_nodes : Slab (Node T)) (new_heads : Slab Head) (list : ℕ) (h : Head) (entries : List (ℕ × T)) where
     -- a list that stays is walked as before
-    same_walk : IsSound nodes heads → Rebuilds nodes heads new_nodes new_heads list h entries → (other : ℕ) (k : Head) → other ≢ list → get heads other ≡ Some k → entries_of new_nodes k ≡ entries_of nodes k
+    same_walk : IsSound nodes heads → Rebuilds nodes heads new_nodes new_heads list h entries → (other : ℕ) (k : Head) → other ≢ list → get heads other ≡ Some k
+        → entries_of new_nodes k ≡ entries_of nodes k
     same_walk sound p other k differs found =
-        walk-list new_nodes other k (entries_of nodes k) (list_kept nodes new_nodes other k (entries_of nodes k) (λ node. p.kept node other differs) (sound.linked other k found))
+        walk-list new_nodes other k (entries_of nodes k)
+        (list_kept nodes new_nodes other k (entries_of nodes k) (λ node. p.kept node other differs) (sound.linked other k found))
 
     pub rebuilt-sound : IsSound nodes heads → Rebuilds nodes heads new_nodes new_heads list h entries → IsSound new_nodes new_heads
     rebuilt-sound sound p =
@@ -47,7 +53,8 @@ module _ {T : Type 0} where
                 rw (walked, same, here) p.made
             | inr differs ↦
                 let before : get heads other ≡ Some k = sym (p.other_heads other differs) ∙ found in
-                rw (same_walk sound p other k differs before) (list_kept nodes new_nodes other k (entries_of nodes k) (λ node. p.kept node other differs) (sound.linked other k before))
+                rw (same_walk sound p other k differs before)
+                (list_kept nodes new_nodes other k (entries_of nodes k) (λ node. p.kept node other differs) (sound.linked other k before))
           ];
           owned = λ node other owns. elim (cases_eq other list) [
             | inl same ↦
@@ -66,12 +73,14 @@ module _ {T : Type 0} where
           others = λ other differs. ap (option_map (entries_of new_nodes)) (p.other_heads other differs) ∙ same_entries other differs (get heads other) refl;
         }
       where
-        same_entries : (other : ℕ) → other ≢ list → (o : Option Head) → get heads other ≡ o → option_map (entries_of new_nodes) o ≡ option_map (entries_of nodes) o
+        same_entries : (other : ℕ) → other ≢ list → (o : Option Head) → get heads other ≡ o
+            → option_map (entries_of new_nodes) o ≡ option_map (entries_of nodes) o
         same_entries other differs None found = refl
         same_entries other differs (Some k) found = ap Some (same_walk sound p other k differs found)
 
   -- a change that keeps what a node's list is
-  owner-changed : (s : Slab (Node T)) (key : ℕ) (f : Node T → Node T) → ((x : Node T) → (f x).list ≡ x.list) → (node : ℕ) → owner_at (changed s key f) node ≡ owner_at s node
+  owner-changed : (s : Slab (Node T)) (key : ℕ) (f : Node T → Node T) → ((x : Node T) → (f x).list ≡ x.list) → (node : ℕ)
+      → owner_at (changed s key f) node ≡ owner_at s node
   owner-changed s key f keeps node =
       elim (cases_eq node key) [
         | inl same ↦ rw same (ap (option_map (λ (x : Node T). x.list)) (get-changed_same s key f) ∙ twice (get s key))
@@ -91,30 +100,38 @@ module _ {T : Type 0} where
   owner-previous_set s (Some key) to node = owner-changed s key _ (λ x. refl) node
 
   -- a node that the link does not name stays
-  pub get-next_set : (s : Slab (Node T)) (link to : Option ℕ) (node : ℕ) → ((key : ℕ) → link ≡ Some key → node ≢ key) → get (next_set s link to) node ≡ get s node
+  pub get-next_set : (s : Slab (Node T)) (link to : Option ℕ) (node : ℕ) → ((key : ℕ) → link ≡ Some key → node ≢ key)
+      → get (next_set s link to) node ≡ get s node
   get-next_set s None to node differs = refl
   get-next_set s (Some key) to node differs = get-changed_other s key node _ (differs key refl)
 
-  pub get-previous_set : (s : Slab (Node T)) (link to : Option ℕ) (node : ℕ) → ((key : ℕ) → link ≡ Some key → node ≢ key) → get (previous_set s link to) node ≡ get s node
+  pub get-previous_set : (s : Slab (Node T)) (link to : Option ℕ) (node : ℕ) → ((key : ℕ) → link ≡ Some key → node ≢ key)
+      → get (previous_set s link to) node ≡ get s node
   get-previous_set s None to node differs = refl
   get-previous_set s (Some key) to node differs = get-changed_other s key node _ (differs key refl)
 
   -- a segment that does not hold the named node stays
-  pub segment-next_set : (s : Slab (Node T)) (link to : Option ℕ) (list : ℕ) (before : Option ℕ) (xs : List (ℕ × T)) (after : Option ℕ) → ((key : ℕ) → link ≡ Some key → IsOff key xs) → IsSegment s list before xs after → IsSegment (next_set s link to) list before xs after
+  pub segment-next_set : (s : Slab (Node T)) (link to : Option ℕ) (list : ℕ) (before : Option ℕ) (xs : List (ℕ × T)) (after : Option ℕ)
+      → ((key : ℕ) → link ≡ Some key → IsOff key xs) → IsSegment s list before xs after → IsSegment (next_set s link to) list before xs after
   segment-next_set s None to list before xs after off p = p
-  segment-next_set s (Some key) to list before xs after off p = segment_off s _ list before xs after key (λ m differs. get-changed_other s key m _ differs) (off key refl) p
+  segment-next_set s (Some key) to list before xs after off p =
+      segment_off s _ list before xs after key (λ m differs. get-changed_other s key m _ differs) (off key refl) p
 
-  pub segment-previous_set : (s : Slab (Node T)) (link to : Option ℕ) (list : ℕ) (before : Option ℕ) (xs : List (ℕ × T)) (after : Option ℕ) → ((key : ℕ) → link ≡ Some key → IsOff key xs) → IsSegment s list before xs after → IsSegment (previous_set s link to) list before xs after
+  pub segment-previous_set : (s : Slab (Node T)) (link to : Option ℕ) (list : ℕ) (before : Option ℕ) (xs : List (ℕ × T)) (after : Option ℕ)
+      → ((key : ℕ) → link ≡ Some key → IsOff key xs) → IsSegment s list before xs after → IsSegment (previous_set s link to) list before xs after
   segment-previous_set s None to list before xs after off p = p
-  segment-previous_set s (Some key) to list before xs after off p = segment_off s _ list before xs after key (λ m differs. get-changed_other s key m _ differs) (off key refl) p
+  segment-previous_set s (Some key) to list before xs after off p =
+      segment_off s _ list before xs after key (λ m differs. get-changed_other s key m _ differs) (off key refl) p
 
   -- the last node of a segment gets another follower
-  relast : (s : Slab (Node T)) (list : ℕ) (before : Option ℕ) (front : List (ℕ × T)) (node : ℕ) (value : T) (after to : Option ℕ) → IsOff node front → IsSegment s list before (front ++ (node, value) ∷ []) after → IsSegment (next_set s (Some node) to) list before (front ++ (node, value) ∷ []) to
+  relast : (s : Slab (Node T)) (list : ℕ) (before : Option ℕ) (front : List (ℕ × T)) (node : ℕ) (value : T) (after to : Option ℕ) → IsOff node front
+      → IsSegment s list before (front ++ (node, value) ∷ []) after → IsSegment (next_set s (Some node) to) list before (front ++ (node, value) ∷ []) to
   unfolding IsSegment
   relast s list before [] node value after to off p =
       (get-changed_same s node _ ∙ ap (option_map (λ (x : Node T). record x { next = to })) p.0, tt)
   relast s list before (entry ∷ rest) node value after to off p =
-      let same : first_or (rest ++ (node, value) ∷ []) after ≡ first_or (rest ++ (node, value) ∷ []) to = first_or-append rest _ after ∙ sym (first_or-append rest _ to) in
+      let same : first_or (rest ++ (node, value) ∷ []) after ≡ first_or (rest ++ (node, value) ∷ []) to = first_or-append rest _ after
+      ∙ sym (first_or-append rest _ to) in
       (get-changed_other s node entry.0 _ off.0 ∙ rw same at p.0, relast s list (Some entry.0) rest node value after to off.1 p.1)
 
   -- a list is empty or has a last node
@@ -127,7 +144,8 @@ module _ {T : Type 0} where
       ]
 
   -- so does the last node of a whole front part, or nothing where it is empty
-  pub segment-relast : (s : Slab (Node T)) (list : ℕ) (xs : List (ℕ × T)) (after to : Option ℕ) → IsApart xs → IsSegment s list None xs after → IsSegment (next_set s (last_or None xs) to) list None xs to
+  pub segment-relast : (s : Slab (Node T)) (list : ℕ) (xs : List (ℕ × T)) (after to : Option ℕ) → IsApart xs → IsSegment s list None xs after
+      → IsSegment (next_set s (last_or None xs) to) list None xs to
   unfolding IsSegment
   segment-relast s list xs after to distinct p =
       elim (snoc_cases xs) [
@@ -135,14 +153,17 @@ module _ {T : Type 0} where
         | inr split ↦
             let last : last_or None xs ≡ Some split.1.0 = ap (last_or None) split.2 ∙ last_or-append None split.0 (split.1 ∷ []) in
             let off = parted split.0 [] split.1.0 split.1.1 (subst IsApart split.2 distinct) in
-            rw (last, split.2) (relast s list None split.0 split.1.0 split.1.1 after to off.off_before (subst (λ (ys : List (ℕ × T)). IsSegment s list None ys after) split.2 p))
+            rw (last, split.2) (relast s list None split.0 split.1.0 split.1.1 after to off.off_before
+            (subst (λ (ys : List (ℕ × T)). IsSegment s list None ys after) split.2 p))
       ]
 
   -- the first node of a back part gets another predecessor
-  pub segment-refirst : (s : Slab (Node T)) (list : ℕ) (before to : Option ℕ) (xs : List (ℕ × T)) → IsApart xs → IsSegment s list before xs None → IsSegment (previous_set s (first_or xs None) to) list to xs None
+  pub segment-refirst : (s : Slab (Node T)) (list : ℕ) (before to : Option ℕ) (xs : List (ℕ × T)) → IsApart xs → IsSegment s list before xs None
+      → IsSegment (previous_set s (first_or xs None) to) list to xs None
   unfolding IsSegment
   segment-refirst s list before to [] distinct p = tt
   segment-refirst s list before to (entry ∷ rest) distinct p = (
     get-changed_same s entry.0 _ ∙ ap (option_map (λ (x : Node T). record x { previous = to })) p.0,
-    segment_off s (previous_set s (Some entry.0) to) list (Some entry.0) rest None entry.0 (λ m differs. get-changed_other s entry.0 m _ differs) distinct.0 p.1,
+    segment_off s (previous_set s (Some entry.0) to) list (Some entry.0) rest None entry.0
+        (λ m differs. get-changed_other s entry.0 m _ differs) distinct.0 p.1,
   )

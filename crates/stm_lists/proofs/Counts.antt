@@ -1,5 +1,6 @@
 -- How many nodes there are: a change of a node's links keeps the number, and no list is longer.
-use Rattle.std.proofs.Common.{◌≡◌, ℕ, ◌≤◌, List, [], ◌∷◌, length, Option, Some, None, option_map, is_some, get_or, set, cond, count_by, refl, ap, ◌∙◌, inl, inr, arith}
+use Rattle.std.proofs.Common.{◌≡◌, ℕ, ◌≤◌, List, [], ◌∷◌, length, Option, Some, None, option_map, is_some, get_or, set, cond, count_by, refl, ap, ◌∙◌, inl, inr}
+use Rattle.std.proofs.Common.{arith}
 use Rattle.std.proofs.lemmas.Bool.{cases_lt}
 use Rattle.std.proofs.lemmas.List.{get_or-set_other, get_or_past, set_past}
 use Rattle.std.proofs.lemmas.List.Sums.{sum_by-set}

@@ -1,5 +1,6 @@
 -- What `unlink` and `push` need on their way, and what they leave.
-use Rattle.std.proofs.Common.{◌≡◌, ◌≢◌, ℕ, ◌+◌, ◌-◌, ◌<◌, ◌≤◌, List, [], ◌∷◌, ◌++◌, Option, Some, None, IsSome, option_map, refl, sym, ap, subst, ◌∙◌, inl, inr, arith, length-append}
+use Rattle.std.proofs.Common.{◌≡◌, ◌≢◌, ℕ, ◌+◌, ◌-◌, ◌<◌, ◌≤◌, List, [], ◌∷◌, ◌++◌, Option, Some, None, IsSome, option_map, refl, sym, ap, subst, ◌∙◌, inl, inr}
+use Rattle.std.proofs.Common.{arith, length-append}
 use Rattle.std.proofs.lemmas.Option.{same_Some}
 use Rattle.slab.specs.Slab.{Slab, get, ContainsKey, Updates, slab_len}
 use Rattle.stm_lists.specs.Lists.{Place}
@@ -29,7 +30,8 @@ module _ {T : Type 0} where
       by_node (Some x) owned = refl
 
   -- a link is there, where the node that it names stands on the list
-  link_there : (s : Slab (Node T)) (heads : Slab Head) (list : ℕ) (h : Head) (link : Option ℕ) → get heads list ≡ Some h → ((key : ℕ) → link ≡ Some key → owner_at s key ≡ Some list) → IsThere s heads list link
+  link_there : (s : Slab (Node T)) (heads : Slab Head) (list : ℕ) (h : Head) (link : Option ℕ) → get heads list ≡ Some h
+      → ((key : ℕ) → link ≡ Some key → owner_at s key ≡ Some list) → IsThere s heads list link
   link_there s heads list h None found named = some_is (get heads list) h found
   link_there s heads list h (Some key) found named = owner_there s key list (named key refl)
 
@@ -53,11 +55,14 @@ module _ {T : Type 0} where
     pub head : ContainsKey (heads_between heads x) x.list
     pub filled : (h : Head) → get (heads_between heads x) x.list ≡ Some h → 0 < h.len
 
-  module _ (nodes : Slab (Node T)) (heads : Slab Head) (bare : Slab (Node T)) (node : ℕ) (sound : IsSound nodes heads) (gone : Updates nodes bare node None) where
+  module _ (nodes : Slab (Node T)) (heads : Slab Head) (bare : Slab (Node T)) (node : ℕ) (sound : IsSound nodes heads)
+      (gone : Updates nodes bare node None) where
     -- the node's slot is vacant afterwards
     pub unlink-gone : (x : Node T) → get (nodes_after bare x) node ≡ None
     unlink-gone x =
-        nothing (get (nodes_after bare x) node) (owner-previous_set (next_set bare x.previous x.next) x.next x.previous node ∙ owner-next_set bare x.previous x.next node ∙ ap (option_map (λ (y : Node T). y.list)) gone.changed)
+        nothing (get (nodes_after bare x) node)
+        (owner-previous_set (next_set bare x.previous x.next) x.next x.previous node ∙ owner-next_set bare x.previous x.next node
+        ∙ ap (option_map (λ (y : Node T). y.list)) gone.changed)
       where
         nothing : (o : Option (Node T)) → option_map (λ (y : Node T). y.list) o ≡ None → o ≡ None
         nothing None is = refl
@@ -67,17 +72,29 @@ module _ {T : Type 0} where
     unfolding IsSegment
     can_unlink_at place at =
         let h = head_of nodes heads place.list _ at in
-        let was : IsList nodes place.list h.0 (place.before ++ (node, place.value) ∷ place.after) = subst (IsList nodes place.list h.0) h.2 (sound.linked place.list h.0 h.1) in
+        let was : IsList nodes place.list h.0 (place.before ++ (node, place.value) ∷ place.after) =
+        subst (IsList nodes place.list h.0) h.2 (sound.linked place.list h.0 h.1) in
         let parts = segment-append nodes place.list None place.before ((node, place.value) ∷ place.after) None was.linked in
-        let distinct = parted place.before place.after node place.value (apart nodes place.list None (place.before ++ (node, place.value) ∷ place.after) was.linked) in
-        let bare_owner : (key : ℕ) → key ≢ node → owner_at nodes key ≡ Some place.list → owner_at bare key ≡ Some place.list = λ (key : ℕ) differs owned. ap (option_map (λ (x : Node T). x.list)) (gone.others key differs) ∙ owned in
-        let before_named : (key : ℕ) → last_or None place.before ≡ Some key → owner_at bare key ≡ Some place.list = λ (key : ℕ) is. bare_owner key (λ same. off-on node place.before distinct.off_before (subst (λ (k : ℕ). IsOn k place.before) same (last_on place.before key is))) (segment_owner nodes place.list None place.before (Some node) key parts.0 (last_on place.before key is)) in
-        let after_named : (key : ℕ) → first_or place.after None ≡ Some key → owner_at bare key ≡ Some place.list = λ (key : ℕ) is. bare_owner key (λ same. off-on node place.after distinct.off_after (subst (λ (k : ℕ). IsOn k place.after) same (first_is_on place.after key is))) (segment_owner nodes place.list (Some node) place.after None key parts.1.1 (first_is_on place.after key is)) in
+        let distinct = parted place.before place.after node place.value
+        (apart nodes place.list None (place.before ++ (node, place.value) ∷ place.after) was.linked) in
+        let bare_owner : (key : ℕ) → key ≢ node → owner_at nodes key ≡ Some place.list → owner_at bare key ≡ Some place.list =
+        λ (key : ℕ) differs owned. ap (option_map (λ (x : Node T). x.list)) (gone.others key differs) ∙ owned in
+        let before_named : (key : ℕ) → last_or None place.before ≡ Some key → owner_at bare key ≡ Some place.list =
+        λ (key : ℕ) is. bare_owner key
+        (λ same. off-on node place.before distinct.off_before (subst (λ (k : ℕ). IsOn k place.before) same (last_on place.before key is)))
+        (segment_owner nodes place.list None place.before (Some node) key parts.0 (last_on place.before key is)) in
+        let after_named : (key : ℕ) → first_or place.after None ≡ Some key → owner_at bare key ≡ Some place.list =
+        λ (key : ℕ) is. bare_owner key
+        (λ same. off-on node place.after distinct.off_after (subst (λ (k : ℕ). IsOn k place.after) same (first_is_on place.after key is)))
+        (segment_owner nodes place.list (Some node) place.after None key parts.1.1 (first_is_on place.after key is)) in
         let once = get-first_set heads place.list (last_or None place.before) (first_or place.after None) h.0 h.1 in
-        let twice = get-last_set (first_set heads place.list (last_or None place.before) (first_or place.after None)) place.list (first_or place.after None) (last_or None place.before) _ once in
+        let twice = get-last_set (first_set heads place.list (last_or None place.before) (first_or place.after None)) place.list (first_or place.after None)
+        (last_or None place.before) _ once in
         record {
           previous = link_there bare heads place.list h.0 (last_or None place.before) h.1 before_named;
-          next = link_there (next_set bare (last_or None place.before) (first_or place.after None)) (first_set heads place.list (last_or None place.before) (first_or place.after None)) place.list _ (first_or place.after None) once (λ key is. owner-next_set bare (last_or None place.before) (first_or place.after None) key ∙ after_named key is);
+          next = link_there (next_set bare (last_or None place.before) (first_or place.after None))
+              (first_set heads place.list (last_or None place.before) (first_or place.after None)) place.list _ (first_or place.after None) once
+              (λ key is. owner-next_set bare (last_or None place.before) (first_or place.after None) key ∙ after_named key is);
           head = some_is _ _ twice;
           filled = λ k found.
               let lengths = ap (λ (k : Head). k.len) (same_Some _ _ (sym found ∙ twice)) in
@@ -93,10 +110,12 @@ module _ {T : Type 0} where
           let place = place_of nodes heads node x sound found in
           subst (CanUnlink bare heads) (same_record place.0 place.1) (can_unlink_at place.0 place.1)
 
-      rebuilds_at : (place : Place T) (at : IsPlaceOf nodes heads node place) → (h : Head) × Rebuilds nodes heads (nodes_after bare x) (heads_after heads x) place.list h (place.before ++ place.after)
+      rebuilds_at : (place : Place T) (at : IsPlaceOf nodes heads node place)
+          → (h : Head) × Rebuilds nodes heads (nodes_after bare x) (heads_after heads x) place.list h (place.before ++ place.after)
       rebuilds_at place at =
           let h = head_of nodes heads place.list _ at in
-          subst (λ (y : Node T). (k : Head) × Rebuilds nodes heads (nodes_after bare y) (heads_after heads y) place.list k (place.before ++ place.after)) (same_record place at)
+          subst (λ (y : Node T). (k : Head) × Rebuilds nodes heads (nodes_after bare y) (heads_after heads y) place.list k (place.before ++ place.after))
+          (same_record place at)
           (_, unlinked-rebuilds nodes heads place.list h.0 node place.value bare place.before place.after sound h.1 h.2 gone)
 
       pub unlink-sound : IsSound (nodes_after bare x) (heads_after heads x)
@@ -108,7 +127,8 @@ module _ {T : Type 0} where
       pub unlink-value : (place : Place T) → IsPlaceOf nodes heads node place → x.value ≡ place.value
       unlink-value place at = sym (ap (λ (y : Node T). y.value) (same_record place at))
 
-      pub unlink-shows : (place : Place T) → IsPlaceOf nodes heads node place → Shows nodes heads (nodes_after bare x) (heads_after heads x) place.list (place.before ++ place.after)
+      pub unlink-shows : (place : Place T) → IsPlaceOf nodes heads node place
+          → Shows nodes heads (nodes_after bare x) (heads_after heads x) place.list (place.before ++ place.after)
       unlink-shows place at = let made = rebuilds_at place at in rebuilt-shows nodes heads _ _ place.list made.0 _ sound made.1
 
   module _ (nodes : Slab (Node T)) (heads : Slab Head) (list : ℕ) (h : Head) (sound : IsSound nodes heads) (found : get heads list ≡ Some h) where
@@ -118,7 +138,8 @@ module _ {T : Type 0} where
         let was = sound.linked list h found in
         omega (arith, was.len, length-segment nodes list None (entries_of nodes h) was.linked)
 
-    module _ (full : Slab (Node T)) (node : ℕ) (value : T) (vacant : get nodes node ≡ None) (added : Updates nodes full node (Some (record { list = list; previous = h.last; next = None; value = value }))) where
+    module _ (full : Slab (Node T)) (node : ℕ) (value : T) (vacant : get nodes node ≡ None)
+        (added : Updates nodes full node (Some (record { list = list; previous = h.last; next = None; value = value }))) where
       pub push_there : IsThere full heads list h.last
       push_there =
           let was = sound.linked list h found in
@@ -137,9 +158,11 @@ module _ {T : Type 0} where
       push-head_there = some_is _ _ (get-first_set heads list h.last (Some node) h found)
 
       pub push-sound : IsSound (next_set full h.last (Some node)) heads_pushed
-      push-sound = rebuilt-sound nodes heads _ _ list _ _ sound (pushed-rebuilds nodes heads list h node value full (entries_of nodes h) sound found refl vacant added)
+      push-sound = rebuilt-sound nodes heads _ _ list _ _ sound
+          (pushed-rebuilds nodes heads list h node value full (entries_of nodes h) sound found refl vacant added)
 
-      pub push-shows : (entries : List (ℕ × T)) → shown nodes heads list ≡ Some entries → Shows nodes heads (next_set full h.last (Some node)) heads_pushed list (entries ++ (node, value) ∷ [])
+      pub push-shows : (entries : List (ℕ × T)) → shown nodes heads list ≡ Some entries
+          → Shows nodes heads (next_set full h.last (Some node)) heads_pushed list (entries ++ (node, value) ∷ [])
       push-shows entries at =
           let same : entries_of nodes h ≡ entries = same_Some _ _ (sym (ap (option_map (entries_of nodes)) found) ∙ at) in
           rebuilt-shows nodes heads _ _ list _ _ sound (pushed-rebuilds nodes heads list h node value full entries sound found same vacant added)

@@ -1,5 +1,6 @@
 -- Lemmas on the parts of a list: how they join and divide, that no node stands twice, and which changes they survive.
-use Rattle.std.proofs.Common.{◌≡◌, ◌≢◌, ◌⊎◌, ℕ, suc, ◌≤◌, List, [], ◌∷◌, ◌++◌, length, Option, Some, None, option_map, set, refl, sym, ap, subst, ◌∙◌, inl, inr, arith}
+use Rattle.std.proofs.Common.{◌≡◌, ◌≢◌, ◌⊎◌, ℕ, suc, ◌≤◌, List, [], ◌∷◌, ◌++◌, length, Option, Some, None, option_map, set, refl, sym, ap, subst, ◌∙◌, inl, inr}
+use Rattle.std.proofs.Common.{arith}
 use Rattle.std.proofs.lemmas.Bool.{cases_lt}
 use Rattle.std.proofs.lemmas.List.{get_or-set_same, get_or-set_other, get_or_past, length-set}
 use Rattle.std.proofs.lemmas.Option.{same_Some}
@@ -17,7 +18,8 @@ get-changed_same s key f =
       | inl within ↦ get_or-set_same s.slots key (option_map f (get s key)) None within
       | inr past ↦
           let nothing : get s key ≡ None = get_or_past s.slots key None past in
-          get_or_past (set s.slots key (option_map f (get s key))) key None (omega (arith, length-set s.slots key (option_map f (get s key)))) ∙ ap (option_map f) (sym nothing)
+          get_or_past (set s.slots key (option_map f (get s key))) key None (omega (arith, length-set s.slots key (option_map f (get s key))))
+          ∙ ap (option_map f) (sym nothing)
     ]
 
 -- every other key keeps what it had
@@ -59,7 +61,8 @@ module _ {T : Type 0} where
   first_is_on (entry ∷ rest) m is = inl (same_Some entry.0 m is)
 
   -- a segment divides
-  pub segment-append : (s : Slab (Node T)) (list : ℕ) (before : Option ℕ) (xs ys : List (ℕ × T)) (after : Option ℕ) → IsSegment s list before (xs ++ ys) after → IsSegment s list before xs (first_or ys after) × IsSegment s list (last_or before xs) ys after
+  pub segment-append : (s : Slab (Node T)) (list : ℕ) (before : Option ℕ) (xs ys : List (ℕ × T)) (after : Option ℕ) → IsSegment s list before (xs ++ ys) after
+      → IsSegment s list before xs (first_or ys after) × IsSegment s list (last_or before xs) ys after
   unfolding IsSegment
   segment-append s list before [] ys after p = (tt, p)
   segment-append s list before (entry ∷ rest) ys after p =
@@ -67,7 +70,8 @@ module _ {T : Type 0} where
       ((rw (first_or-append rest ys after) at p.0, more.0), more.1)
 
   -- two segments that fit join
-  pub append-segment : (s : Slab (Node T)) (list : ℕ) (before : Option ℕ) (xs ys : List (ℕ × T)) (after : Option ℕ) → IsSegment s list before xs (first_or ys after) → IsSegment s list (last_or before xs) ys after → IsSegment s list before (xs ++ ys) after
+  pub append-segment : (s : Slab (Node T)) (list : ℕ) (before : Option ℕ) (xs ys : List (ℕ × T)) (after : Option ℕ)
+      → IsSegment s list before xs (first_or ys after) → IsSegment s list (last_or before xs) ys after → IsSegment s list before (xs ++ ys) after
   unfolding IsSegment
   append-segment s list before [] ys after p q = q
   append-segment s list before (entry ∷ rest) ys after p q =
@@ -76,10 +80,12 @@ module _ {T : Type 0} where
   -- one step of a walk
   walk-step : (s : Slab (Node T)) (count node : ℕ) (x : Node T) → get s node ≡ Some x → walk s (suc count) (Some node) ≡ (node, x.value) ∷ walk s count x.next
   unfolding walk
-  walk-step s count node x found = ap (λ (o : Option (Node T)). elim o as (λ _. List (ℕ × T)) [ None ↦ [] | Some y ↦ (node, y.value) ∷ walk s count y.next ]) found
+  walk-step s count node x found =
+      ap (λ (o : Option (Node T)). elim o as (λ _. List (ℕ × T)) [ None ↦ [] | Some y ↦ (node, y.value) ∷ walk s count y.next ]) found
 
   -- a walk along a list finds its entries
-  pub walk-segment : (s : Slab (Node T)) (list : ℕ) (before : Option ℕ) (xs : List (ℕ × T)) → IsSegment s list before xs None → walk s (length xs) (first_or xs None) ≡ xs
+  pub walk-segment : (s : Slab (Node T)) (list : ℕ) (before : Option ℕ) (xs : List (ℕ × T)) → IsSegment s list before xs None
+      → walk s (length xs) (first_or xs None) ≡ xs
   unfolding IsSegment walk
   walk-segment s list before [] p = refl
   walk-segment s list before (entry ∷ rest) p =
@@ -89,7 +95,8 @@ module _ {T : Type 0} where
   walk-list s list h xs p = rw (p.len, p.first) (walk-segment s list None xs p.linked)
 
   -- each node of a segment names its list
-  pub segment_owner : (s : Slab (Node T)) (list : ℕ) (before : Option ℕ) (xs : List (ℕ × T)) (after : Option ℕ) (node : ℕ) → IsSegment s list before xs after → IsOn node xs → owner_at s node ≡ Some list
+  pub segment_owner : (s : Slab (Node T)) (list : ℕ) (before : Option ℕ) (xs : List (ℕ × T)) (after : Option ℕ) (node : ℕ) → IsSegment s list before xs after
+      → IsOn node xs → owner_at s node ≡ Some list
   unfolding IsSegment
   segment_owner s list before [] after node p on = absurd on
   segment_owner s list before (entry ∷ rest) after node p on =
@@ -99,7 +106,8 @@ module _ {T : Type 0} where
       ]
 
   -- from one node on there is one way to the end
-  pub same_way : (s : Slab (Node T)) (list : ℕ) (b c : Option ℕ) (xs ys : List (ℕ × T)) → IsSegment s list b xs None → IsSegment s list c ys None → first_or xs None ≡ first_or ys None → length xs ≡ length ys
+  pub same_way : (s : Slab (Node T)) (list : ℕ) (b c : Option ℕ) (xs ys : List (ℕ × T)) → IsSegment s list b xs None → IsSegment s list c ys None
+      → first_or xs None ≡ first_or ys None → length xs ≡ length ys
   unfolding IsSegment
   same_way s list b c [] [] p q same = refl
   same_way s list b c [] (y ∷ ys) p q same = absurd (cc)
@@ -107,11 +115,13 @@ module _ {T : Type 0} where
   same_way s list b c (x ∷ xs) (y ∷ ys) p q same =
       let node = same_Some x.0 y.0 same in
       let links : ◌≡◌ {A = Option (Option ℕ)} (Some (first_or xs None)) (Some (first_or ys None)) =
-      sym (ap (option_map (λ (x : Node T). x.next)) p.0) ∙ ap (λ n. option_map (λ (x : Node T). x.next) (get s n)) node ∙ ap (option_map (λ (x : Node T). x.next)) q.0 in
+      sym (ap (option_map (λ (x : Node T). x.next)) p.0) ∙ ap (λ n. option_map (λ (x : Node T). x.next) (get s n)) node
+      ∙ ap (option_map (λ (x : Node T). x.next)) q.0 in
       ap suc (same_way s list (Some x.0) (Some y.0) xs ys p.1 q.1 (same_Some _ _ links))
 
   -- a node is not among those behind it
-  off_later : (s : Slab (Node T)) (list : ℕ) (b c : Option ℕ) (entry : ℕ × T) (rest post : List (ℕ × T)) → IsSegment s list b (entry ∷ rest) None → IsSegment s list c post None → length post ≤ length rest → IsOff entry.0 post
+  off_later : (s : Slab (Node T)) (list : ℕ) (b c : Option ℕ) (entry : ℕ × T) (rest post : List (ℕ × T)) → IsSegment s list b (entry ∷ rest) None
+      → IsSegment s list c post None → length post ≤ length rest → IsOff entry.0 post
   unfolding IsSegment
   off_later s list b c entry rest [] p q shorter = tt
   off_later s list b c entry rest (x ∷ post) p q shorter = (
@@ -163,7 +173,8 @@ module _ {T : Type 0} where
       }
 
   -- a segment survives a change that is made at another node
-  pub segment_off : (s t : Slab (Node T)) (list : ℕ) (before : Option ℕ) (xs : List (ℕ × T)) (after : Option ℕ) (node : ℕ) → ((m : ℕ) → m ≢ node → get t m ≡ get s m) → IsOff node xs → IsSegment s list before xs after → IsSegment t list before xs after
+  pub segment_off : (s t : Slab (Node T)) (list : ℕ) (before : Option ℕ) (xs : List (ℕ × T)) (after : Option ℕ) (node : ℕ)
+      → ((m : ℕ) → m ≢ node → get t m ≡ get s m) → IsOff node xs → IsSegment s list before xs after → IsSegment t list before xs after
   unfolding IsSegment
   segment_off s t list before [] after node same off p = tt
   segment_off s t list before (entry ∷ rest) after node same off p =

@@ -1,10 +1,12 @@
 -- From heads and nodes to what contracts see.
-use Rattle.std.proofs.Common.{◌≡◌, ◌⊎◌, ℕ, zero, suc, ◌<◌, ◌≤◌, List, [], ◌∷◌, ◌++◌, length, map, get_or, Option, Some, None, IsSome, option_map, unwrap_or, refl, sym, ap, subst, ◌∙◌, inl, inr}
+use Rattle.std.proofs.Common.{◌≡◌, ◌⊎◌, ℕ, zero, suc, ◌<◌, ◌≤◌, List, [], ◌∷◌, ◌++◌, length, map, get_or, Option, Some, None, IsSome, option_map, unwrap_or}
+use Rattle.std.proofs.Common.{refl, sym, ap, subst, ◌∙◌, inl, inr}
 use Rattle.std.proofs.lemmas.Bool.{cases_eq, cases_lt}
 use Rattle.std.proofs.lemmas.List.{get_or-set_same, get_or-set_other, get_or_past}
 use Rattle.std.proofs.lemmas.Option.{same_Some}
 use Rattle.slab.specs.Slab.{Slab, get, ContainsKey, Updates as Changes}
-use Rattle.stm_lists.specs.Lists.{Lists, Place, list_at, entries_at, HasList, HasNode, StandsAt, first_node, last_node, with_entries, Updates, MovesToBack, IsApart}
+use Rattle.stm_lists.specs.Lists.{Lists, Place, list_at, entries_at, HasList, HasNode, StandsAt, first_node, last_node, with_entries, Updates, MovesToBack}
+use Rattle.stm_lists.specs.Lists.{IsApart}
 use Rattle.stm_lists.specs.declared.links.Node.{Node}
 use Rattle.stm_lists.specs.declared.links.Head.{Head}
 use Rattle.stm_lists.specs.Chain.{first_or, last_or, walk, IsSegment, IsOn, entries_of, shown, IsSound, IsPlaceOf, Shows, view_of}
@@ -63,7 +65,8 @@ module _ {T : Type 0} where
         by_head (Some h) some = refl
 
     -- the record of a node tells its place
-    pub node-now : IsSound nodes heads → (node : ℕ) (x : Node T) → get nodes node ≡ Some x → (place : Place T) → StandsAt now node place → x ≡ record_at nodes heads place
+    pub node-now : IsSound nodes heads → (node : ℕ) (x : Node T) → get nodes node ≡ Some x → (place : Place T) → StandsAt now node place
+        → x ≡ record_at nodes heads place
     node-now sound node x found place at = same_Some _ _ (sym found ∙ place-names nodes heads node place sound (place-now node place at))
 
     -- the head of a list tells its entries
@@ -86,7 +89,8 @@ module _ {T : Type 0} where
         by_list (Some xs) some = refl
 
     -- one changed list, as callers see it
-    pub updates-now : (new_nodes : Slab (Node T)) (new_heads : Slab Head) (new_spare list : ℕ) (entries : List (ℕ × T)) → Shows nodes heads new_nodes new_heads list entries → Updates now (view_of new_nodes new_heads new_spare) list (Some entries)
+    pub updates-now : (new_nodes : Slab (Node T)) (new_heads : Slab Head) (new_spare list : ℕ) (entries : List (ℕ × T))
+        → Shows nodes heads new_nodes new_heads list entries → Updates now (view_of new_nodes new_heads new_spare) list (Some entries)
     updates-now new_nodes new_heads new_spare list entries shows =
         record {
           changed = list_at-view new_nodes new_heads new_spare list ∙ shows.changed;
@@ -94,12 +98,15 @@ module _ {T : Type 0} where
         }
 
     -- a node that leaves its place and comes to the back of a list
-    module _ (node : ℕ) (place : Place T) (at : StandsAt now node place) (left_nodes : Slab (Node T)) (left_heads : Slab Head) (left : Shows nodes heads left_nodes left_heads place.list (place.before ++ place.after)) where
+    module _ (node : ℕ) (place : Place T) (at : StandsAt now node place) (left_nodes : Slab (Node T)) (left_heads : Slab Head)
+        (left : Shows nodes heads left_nodes left_heads place.list (place.before ++ place.after)) where
       list_at-left : (list : ℕ) → list_at (with_entries now place.list (place.before ++ place.after)) list ≡ shown left_nodes left_heads list
       list_at-left list =
           elim (cases_eq list place.list) [
-            | inl same ↦ rw same (get_or-set_same now.lists place.list (Some (place.before ++ place.after)) None (within (cases_lt place.list (length now.lists))) ∙ sym left.changed)
-            | inr differs ↦ get_or-set_other now.lists place.list list (Some (place.before ++ place.after)) None differs ∙ list_at-now list ∙ sym (left.others list differs)
+            | inl same ↦ rw same (get_or-set_same now.lists place.list (Some (place.before ++ place.after)) None
+                (within (cases_lt place.list (length now.lists))) ∙ sym left.changed)
+            | inr differs ↦ get_or-set_other now.lists place.list list (Some (place.before ++ place.after)) None differs ∙ list_at-now list
+                ∙ sym (left.others list differs)
           ]
         where
           within : (place.list < length now.lists) ⊎ (length now.lists ≤ place.list) → place.list < length now.lists
@@ -117,10 +124,14 @@ module _ {T : Type 0} where
           by_head None some = some
           by_head (Some h) some = refl
 
-      pub moves-now : (new_nodes : Slab (Node T)) (new_heads : Slab Head) (new_spare list moved : ℕ) (value : T) → HasList now list → moved ≡ node → value ≡ place.value → ((entries : List (ℕ × T)) → shown left_nodes left_heads list ≡ Some entries → Shows left_nodes left_heads new_nodes new_heads list (entries ++ (moved, value) ∷ [])) → MovesToBack now (view_of new_nodes new_heads new_spare) node place list
+      pub moves-now : (new_nodes : Slab (Node T)) (new_heads : Slab Head) (new_spare list moved : ℕ) (value : T) → HasList now list → moved ≡ node
+          → value ≡ place.value → ((entries : List (ℕ × T)) → shown left_nodes left_heads list ≡ Some entries
+          → Shows left_nodes left_heads new_nodes new_heads list (entries ++ (moved, value) ∷ []))
+          → MovesToBack now (view_of new_nodes new_heads new_spare) node place list
       moves-now new_nodes new_heads new_spare list moved value has same_node same_value pushed =
           let head = left_head (get left_heads list) refl (left_contains list has) in
-          let entries : entries_at (with_entries now place.list (place.before ++ place.after)) list ≡ entries_of left_nodes head.0 = ap (λ o. unwrap_or o []) (list_at-left list ∙ ap (option_map (entries_of left_nodes)) head.1) in
+          let entries : entries_at (with_entries now place.list (place.before ++ place.after)) list ≡ entries_of left_nodes head.0 =
+          ap (λ o. unwrap_or o []) (list_at-left list ∙ ap (option_map (entries_of left_nodes)) head.1) in
           let shows = pushed (entries_of left_nodes head.0) (ap (option_map (entries_of left_nodes)) head.1) in
           record {
             changed = list_at-view new_nodes new_heads new_spare list ∙ shows.changed ∙ rw (entries, same_node, same_value) refl;
@@ -143,7 +154,9 @@ module _ {T : Type 0} where
 
   -- slabs that hold the same under each key
   module _ (nodes new_nodes : Slab (Node T)) (same : (node : ℕ) → get new_nodes node ≡ get nodes node) where
-    by_node : (count node : ℕ) (o : Option (Node T)) → ((link : Option ℕ) → walk new_nodes count link ≡ walk nodes count link) → (elim o as (λ _. List (ℕ × T)) [ None ↦ [] | Some y ↦ (node, y.value) ∷ walk new_nodes count y.next ]) ≡ (elim o as (λ _. List (ℕ × T)) [ None ↦ [] | Some y ↦ (node, y.value) ∷ walk nodes count y.next ])
+    by_node : (count node : ℕ) (o : Option (Node T)) → ((link : Option ℕ) → walk new_nodes count link ≡ walk nodes count link)
+        → (elim o as (λ _. List (ℕ × T)) [ None ↦ [] | Some y ↦ (node, y.value) ∷ walk new_nodes count y.next ]) ≡
+        (elim o as (λ _. List (ℕ × T)) [ None ↦ [] | Some y ↦ (node, y.value) ∷ walk nodes count y.next ])
     by_node count node None rest = refl
     by_node count node (Some y) rest = ap (λ more. (node, y.value) ∷ more) (rest y.next)
 
@@ -166,14 +179,16 @@ module _ {T : Type 0} where
     pub sound-same : (heads : Slab Head) → IsSound nodes heads → IsSound new_nodes heads
     sound-same heads sound =
         record {
-          linked = λ list h found. rw (walk-same h.len h.first) (list_kept nodes new_nodes list h (entries_of nodes h) (λ node owned. same node) (sound.linked list h found));
+          linked = λ list h found. rw (walk-same h.len h.first)
+              (list_kept nodes new_nodes list h (entries_of nodes h) (λ node owned. same node) (sound.linked list h found));
           owned = λ node list owns.
               let found = sound.owned node list (ap (option_map (λ (x : Node T). x.list)) (sym (same node)) ∙ owns) in
               (found.0, found.1, subst (IsOn node) (sym (walk-same found.0.len found.0.first)) found.2);
         }
 
   -- no node stands twice on one list, so an entry has one place
-  one_split : (node : ℕ) (v w : T) (b c a d : List (ℕ × T)) → IsApart (b ++ (node, v) ∷ a) → b ++ (node, v) ∷ a ≡ c ++ (node, w) ∷ d → (b ≡ c) × (v ≡ w) × (a ≡ d)
+  one_split : (node : ℕ) (v w : T) (b c a d : List (ℕ × T)) → IsApart (b ++ (node, v) ∷ a) → b ++ (node, v) ∷ a ≡ c ++ (node, w) ∷ d
+      → (b ≡ c) × (v ≡ w) × (a ≡ d)
   one_split node v w [] [] a d distinct same =
       let first : ◌≡◌ {A = ℕ × T} (node, v) (node, w) = cc in
       (refl, ap (λ (e : ℕ × T). e.1) first, (cc))
@@ -198,7 +213,8 @@ module _ {T : Type 0} where
       (rw (first, more.0) refl, more.1, more.2)
 
   -- two places of one node are one place
-  pub one_place : (nodes : Slab (Node T)) (heads : Slab Head) → IsSound nodes heads → (node : ℕ) (one other : Place T) → IsPlaceOf nodes heads node one → IsPlaceOf nodes heads node other → one ≡ other
+  pub one_place : (nodes : Slab (Node T)) (heads : Slab Head) → IsSound nodes heads → (node : ℕ) (one other : Place T) → IsPlaceOf nodes heads node one
+      → IsPlaceOf nodes heads node other → one ≡ other
   one_place nodes heads sound node one other at there =
       let first = place-names nodes heads node one sound at in
       let second = place-names nodes heads node other sound there in
@@ -207,15 +223,19 @@ module _ {T : Type 0} where
       let h = head_of nodes heads one.list _ at in
       let linked = (sound.linked one.list h.0 h.1).linked in
       let distinct = subst IsApart h.2 (apart nodes one.list None (entries_of nodes h.0) linked) in
-      let entries : one.before ++ (node, one.value) ∷ one.after ≡ other.before ++ (node, other.value) ∷ other.after = same_Some _ _ (sym at ∙ ap (shown nodes heads) list ∙ there) in
+      let entries : one.before ++ (node, one.value) ∷ one.after ≡ other.before ++ (node, other.value) ∷ other.after =
+      same_Some _ _ (sym at ∙ ap (shown nodes heads) list ∙ there) in
       let parts = one_split node one.value other.value one.before other.before one.after other.after distinct entries in
       rebuild one.list other.list one.before other.before one.value other.value one.after other.after list parts.0 parts.1 parts.2
     where
-      rebuild : (l m : ℕ) (b c : List (ℕ × T)) (v w : T) (a d : List (ℕ × T)) → l ≡ m → b ≡ c → v ≡ w → a ≡ d → ◌≡◌ {A = Place T} (record { list = l; before = b; value = v; after = a }) (record { list = m; before = c; value = w; after = d })
+      rebuild : (l m : ℕ) (b c : List (ℕ × T)) (v w : T) (a d : List (ℕ × T)) → l ≡ m → b ≡ c → v ≡ w → a ≡ d
+          → ◌≡◌ {A = Place T} (record { list = l; before = b; value = v; after = a }) (record { list = m; before = c; value = w; after = d })
       rebuild l m b c v w a d p q r s = rw (p, q, r, s) refl
 
   -- a new list has no nodes
-  pub new_list-rebuilds : (nodes : Slab (Node T)) (heads new_heads : Slab Head) (list : ℕ) → IsSound nodes heads → get heads list ≡ None → Changes heads new_heads list (Some (record { first = None; last = None; len = 0 })) → Rebuilds nodes heads nodes new_heads list (record { first = None; last = None; len = 0 }) []
+  pub new_list-rebuilds : (nodes : Slab (Node T)) (heads new_heads : Slab Head) (list : ℕ) → IsSound nodes heads → get heads list ≡ None
+      → Changes heads new_heads list (Some (record { first = None; last = None; len = 0 }))
+      → Rebuilds nodes heads nodes new_heads list (record { first = None; last = None; len = 0 }) []
   unfolding IsSegment
   new_list-rebuilds nodes heads new_heads list sound vacant made =
       record {
@@ -228,7 +248,8 @@ module _ {T : Type 0} where
       }
 
   -- an empty list that goes leaves the others
-  pub dropped-sound : (nodes : Slab (Node T)) (heads new_heads : Slab Head) (list : ℕ) → IsSound nodes heads → shown nodes heads list ≡ Some [] → Changes heads new_heads list None → IsSound nodes new_heads
+  pub dropped-sound : (nodes : Slab (Node T)) (heads new_heads : Slab Head) (list : ℕ) → IsSound nodes heads → shown nodes heads list ≡ Some []
+      → Changes heads new_heads list None → IsSound nodes new_heads
   dropped-sound nodes heads new_heads list sound empty gone =
       record {
         linked = λ other h found. elim (cases_eq other list) [
@@ -239,15 +260,18 @@ module _ {T : Type 0} where
             let found = sound.owned node other owns in
             elim (cases_eq other list) [
               | inl same ↦
-                  let nothing : entries_of nodes found.0 ≡ [] = same_Some _ _ (sym (ap (option_map (entries_of nodes)) (ap (get heads) (sym same) ∙ found.1)) ∙ empty) in
+                  let nothing : entries_of nodes found.0 ≡ [] =
+                  same_Some _ _ (sym (ap (option_map (entries_of nodes)) (ap (get heads) (sym same) ∙ found.1)) ∙ empty) in
                   absurd (subst (IsOn node) nothing found.2)
               | inr differs ↦ (found.0, gone.others other differs ∙ found.1, found.2)
             ];
       }
 
-  pub dropped-updates : (nodes : Slab (Node T)) (heads new_heads : Slab Head) (spare list : ℕ) (now : Lists T) → view_of nodes heads spare ≡ now → Changes heads new_heads list None → Updates now (view_of nodes new_heads spare) list None
+  pub dropped-updates : (nodes : Slab (Node T)) (heads new_heads : Slab Head) (spare list : ℕ) (now : Lists T) → view_of nodes heads spare ≡ now
+      → Changes heads new_heads list None → Updates now (view_of nodes new_heads spare) list None
   dropped-updates nodes heads new_heads spare list now seen gone =
       record {
         changed = list_at-view nodes new_heads spare list ∙ ap (option_map (entries_of nodes)) gone.changed;
-        others = λ other differs. list_at-view nodes new_heads spare other ∙ ap (option_map (entries_of nodes)) (gone.others other differs) ∙ sym (list_at-now nodes heads spare now seen other);
+        others = λ other differs. list_at-view nodes new_heads spare other ∙ ap (option_map (entries_of nodes)) (gone.others other differs)
+            ∙ sym (list_at-now nodes heads spare now seen other);
       }

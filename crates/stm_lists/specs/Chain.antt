@@ -67,7 +67,8 @@ module _ {T : Type 0} where
         → (h : Head) × (get heads list ≡ Some h) × IsOn node (entries_of nodes h)
 
   -- one list has these entries now, and every other what it had
-  pub record Shows (old_nodes : Slab (Node T)) (old_heads : Slab Head) (nodes : Slab (Node T)) (heads : Slab Head) (list : ℕ) (entries : List (ℕ × T)) : Type 0 where
+  pub record Shows (old_nodes : Slab (Node T)) (old_heads : Slab Head) (nodes : Slab (Node T)) (heads : Slab Head) (list : ℕ)
+      (entries : List (ℕ × T)) : Type 0 where
     pub changed : shown nodes heads list ≡ Some entries
     pub others : (other : ℕ) → other ≢ list → shown nodes heads other ≡ shown old_nodes old_heads other
 

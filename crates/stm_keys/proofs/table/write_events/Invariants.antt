@@ -10,5 +10,6 @@ invariant-loop-event l = record {
   can_next : (goal.iterator-loop-event).can_next l.event-iterator;
   ends : (goal.iterator-loop-event).is_finite l.event-iterator;
   room : length (into_iter_items l.event-iterator) ≤ spare l.table;
-  told : (key : List ℕ) → after_all (into_iter_items l.event-iterator) key (get_by_text l.table key) ≡ after_all l.fn.events.items key (get_by_text l.fn.table key);
+  told : (key : List ℕ) → after_all (into_iter_items l.event-iterator) key (get_by_text l.table key) ≡ after_all l.fn.events.items key
+      (get_by_text l.fn.table key);
 }

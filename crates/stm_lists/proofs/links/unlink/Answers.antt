@@ -30,7 +30,8 @@ pub returns-clause-sound : goal.returns-clause-sound
 returns-clause-sound g c =
     let found = rw c.index.ensures at c.remove-list.ensures.value in
     let gone = rw c.index.ensures at c.remove-list.ensures.updates in
-    rw (c.shorten.ensures, c.set_previous.ensures.nodes, c.set_previous.ensures.heads, c.set_next.ensures.nodes, c.set_next.ensures.heads) (unlink-sound _ _ _ _ c.requires.sound gone _ found)
+    rw (c.shorten.ensures, c.set_previous.ensures.nodes, c.set_previous.ensures.heads, c.set_next.ensures.nodes, c.set_next.ensures.heads)
+    (unlink-sound _ _ _ _ c.requires.sound gone _ found)
 
 pub returns-clause-value : goal.returns-clause-value
 returns-clause-value g c =
@@ -42,7 +43,8 @@ pub returns-clause-shows : goal.returns-clause-shows
 returns-clause-shows g c =
     let found = rw c.index.ensures at c.remove-list.ensures.value in
     let gone = rw c.index.ensures at c.remove-list.ensures.updates in
-    rw (c.shorten.ensures, c.set_previous.ensures.nodes, c.set_previous.ensures.heads, c.set_next.ensures.nodes, c.set_next.ensures.heads) (unlink-shows _ _ _ _ c.requires.sound gone _ found)
+    rw (c.shorten.ensures, c.set_previous.ensures.nodes, c.set_previous.ensures.heads, c.set_next.ensures.nodes, c.set_next.ensures.heads)
+    (unlink-shows _ _ _ _ c.requires.sound gone _ found)
 
 pub returns-clause-len : goal.returns-clause-len
 returns-clause-len g c =

@@ -13,10 +13,12 @@ use Rattle.stm_keys.proofs.Fields.{versions_fit, pushed}
 use Rattle.stm_keys.proofs.keys.Keys.apply.Goals as goal
 
 pub record_changes-requires : goal.record_changes-requires
-record_changes-requires c = λ key. versions_fit c.self.inside.opening (reverse c.self.inside.revisions.items) (get_by_text c.self.inside.table) key c.self.invariant
+record_changes-requires c =
+    λ key. versions_fit c.self.inside.opening (reverse c.self.inside.revisions.items) (get_by_text c.self.inside.table) key c.self.invariant
 
 pub record_changes-requires-2 : goal.record_changes-requires-2
-record_changes-requires-2 c = λ key. versions_fit c.self.inside.opening (reverse c.self.inside.revisions.items) (get_by_text c.self.inside.table) key c.self.invariant
+record_changes-requires-2 c =
+    λ key. versions_fit c.self.inside.opening (reverse c.self.inside.revisions.items) (get_by_text c.self.inside.table) key c.self.invariant
 
 -- the fields after the push, and the history that they show
 kept_pushed : (c : goal.After-write_events) →

@@ -9,4 +9,5 @@ pub returns : goal.returns
 returns g c =
     let found = rw c.index.ensures at c.index-2.ensures in
     λ place at.
-    c.of_link.ensures ∙ ap (λ x. x.next) (node-now _ c.self.inside.heads _ _ c.self.view_is c.self.invariant.sound _ _ found place at) ∙ first_or-node place.after
+    c.of_link.ensures ∙ ap (λ x. x.next) (node-now _ c.self.inside.heads _ _ c.self.view_is c.self.invariant.sound _ _ found place at)
+    ∙ first_or-node place.after

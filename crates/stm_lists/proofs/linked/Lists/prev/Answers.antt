@@ -9,4 +9,5 @@ pub returns : goal.returns
 returns g c =
     let found = rw c.index.ensures at c.index-2.ensures in
     λ place at.
-    c.of_link.ensures ∙ ap (λ x. x.previous) (node-now _ c.self.inside.heads _ _ c.self.view_is c.self.invariant.sound _ _ found place at) ∙ last_or-node place.before
+    c.of_link.ensures ∙ ap (λ x. x.previous) (node-now _ c.self.inside.heads _ _ c.self.view_is c.self.invariant.sound _ _ found place at)
+    ∙ last_or-node place.before

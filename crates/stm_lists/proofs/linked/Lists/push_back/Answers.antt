@@ -14,7 +14,8 @@ invariant_of-self g c =
 
 pub returns-then-is_err-clause-err : goal.returns-then-is_err-clause-err
 returns-then-is_err-clause-err g c =
-    view_of-same c.self.inside.nodes c.reserve.new.self (λ n. ap (λ s. get s n) c.reserve.ensures.rest_kept) c.self.inside.heads c.self.inside.spare ∙ c.self.view_is
+    view_of-same c.self.inside.nodes c.reserve.new.self (λ n. ap (λ s. get s n) c.reserve.ensures.rest_kept) c.self.inside.heads c.self.inside.spare
+    ∙ c.self.view_is
 
 pub push-node-requires-clause-sound : goal.push-node-requires-clause-sound
 push-node-requires-clause-sound g c =
@@ -23,12 +24,15 @@ push-node-requires-clause-sound g c =
 pub returns-clause-ok : goal.returns-clause-ok
 returns-clause-ok g c =
     let seen : view_of c.reserve.new.self c.self.inside.heads c.self.inside.spare ≡ c.args.self.now =
-    view_of-same c.self.inside.nodes c.reserve.new.self (λ n. ap (λ s. get s n) c.reserve.ensures.rest_kept) c.self.inside.heads c.self.inside.spare ∙ c.self.view_is in
+    view_of-same c.self.inside.nodes c.reserve.new.self (λ n. ap (λ s. get s n) c.reserve.ensures.rest_kept) c.self.inside.heads c.self.inside.spare
+    ∙ c.self.view_is in
     updates-now _ _ _ _ seen _ _ _ _ _ (c.push-node.ensures.shows _ (shown-now _ c.self.inside.heads _ _ seen c.args.list c.requires))
 
 pub returns-clause-fresh : goal.returns-clause-fresh
 returns-clause-fresh g c =
     let seen : view_of c.reserve.new.self c.self.inside.heads c.self.inside.spare ≡ c.args.self.now =
-    view_of-same c.self.inside.nodes c.reserve.new.self (λ n. ap (λ s. get s n) c.reserve.ensures.rest_kept) c.self.inside.heads c.self.inside.spare ∙ c.self.view_is in
-    let sound = sound-same c.self.inside.nodes c.reserve.new.self (λ n. ap (λ s. get s n) c.reserve.ensures.rest_kept) c.self.inside.heads c.self.invariant.sound in
+    view_of-same c.self.inside.nodes c.reserve.new.self (λ n. ap (λ s. get s n) c.reserve.ensures.rest_kept) c.self.inside.heads c.self.inside.spare
+    ∙ c.self.view_is in
+    let sound = sound-same c.self.inside.nodes c.reserve.new.self
+    (λ n. ap (λ s. get s n) c.reserve.ensures.rest_kept) c.self.inside.heads c.self.invariant.sound in
     fresh-now _ _ _ _ seen sound _ c.push-node.ensures.vacant

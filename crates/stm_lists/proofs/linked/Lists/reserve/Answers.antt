@@ -18,11 +18,14 @@ invariant_of-self g c =
 
 pub returns-in_err-reserve-clause-lists : goal.returns-in_err-reserve-clause-lists
 returns-in_err-reserve-clause-lists g c =
-    ap (λ s. s.lists) (view_of-same c.self.inside.nodes c.reserve.new.self (λ n. ap (λ s. get s n) c.reserve.ensures.rest_kept) c.self.inside.heads c.self.inside.spare ∙ c.self.view_is)
+    ap (λ s. s.lists) (view_of-same c.self.inside.nodes c.reserve.new.self
+    (λ n. ap (λ s. get s n) c.reserve.ensures.rest_kept) c.self.inside.heads c.self.inside.spare ∙ c.self.view_is)
 
 pub returns-in_err-reserve-clause-err : goal.returns-in_err-reserve-clause-err
 returns-in_err-reserve-clause-err g c =
-    on_err c.from_residual.result (view_of-same c.self.inside.nodes c.reserve.new.self (λ n. ap (λ s. get s n) c.reserve.ensures.rest_kept) c.self.inside.heads c.self.inside.spare ∙ c.self.view_is)
+    on_err c.from_residual.result
+    (view_of-same c.self.inside.nodes c.reserve.new.self (λ n. ap (λ s. get s n) c.reserve.ensures.rest_kept) c.self.inside.heads c.self.inside.spare
+    ∙ c.self.view_is)
 
 pub invariant_of-self-then-additional-self : goal.invariant_of-self-then-additional-self
 invariant_of-self-then-additional-self g c =
@@ -33,4 +36,5 @@ invariant_of-self-then-additional-self g c =
 
 pub returns-in_ok-reserve-clause-lists : goal.returns-in_ok-reserve-clause-lists
 returns-in_ok-reserve-clause-lists g c =
-    ap (λ s. s.lists) (view_of-same c.self.inside.nodes c.reserve.new.self (λ n. ap (λ s. get s n) c.reserve.ensures.rest_kept) c.self.inside.heads c.self.inside.spare ∙ c.self.view_is)
+    ap (λ s. s.lists) (view_of-same c.self.inside.nodes c.reserve.new.self
+    (λ n. ap (λ s. get s n) c.reserve.ensures.rest_kept) c.self.inside.heads c.self.inside.spare ∙ c.self.view_is)

@@ -64,6 +64,7 @@ fn a_lease_without_keys_ends(rt: HostRuntime) -> Result<(), Fail> {
     let mut leases = Leases::new(rt.alloc());
     leases.grant(2, 5, 0)?;
     assert!(rt; leases.is_live(2));
+    assert!(rt; !leases.has_keys(2));
     leases.remove(2);
     assert!(rt; !leases.is_live(2));
     Ok(())

@@ -29,7 +29,8 @@ block_after-snoc (t ∷ ss) s b = ap (Then t) (block_after-snoc ss s b)
 abbrev pub with_front : List Statement → Read Block → Read Block
 with_front front reading = reading >>= λ b. Ok (block_after front b.0, b.1)
 
-regroup : (front : List Statement) (s : Statement) (reading : Read Block) → with_front front (reading >>= λ b. Ok (Then s b.0, b.1)) ≡ with_front (front ++ s ∷ []) reading
+regroup : (front : List Statement) (s : Statement) (reading : Read Block)
+    → with_front front (reading >>= λ b. Ok (Then s b.0, b.1)) ≡ with_front (front ++ s ∷ []) reading
 regroup front s (Ok b) = ap (λ (c : Block). Ok (c, b.1)) (sym (block_after-snoc front s b.0))
 regroup front s (Err f) = refl
 
@@ -43,8 +44,10 @@ pub goes_on : (read : ℕ → Data → Read Statement) (front : List Statement) 
 unfolding statements_from
 goes_on read front vs i room rest v s total lt at is so_far =
     let k : i + 1 ≡ suc i = omega arith in
-    let one : with_front front (statements_from read i room (items_view (drop i vs))) ≡ with_front (front ++ s ∷ []) (statements_from read (i + 1) rest (items_view (drop (i + 1) vs))) =
-    ap (λ (ws : List Value). with_front front (statements_from read i room (items_view ws))) (one_more vs i v lt at) ∙ rw (is, k) (regroup front s (statements_from read (suc i) rest (items_view (drop (suc i) vs)))) in
+    let one : with_front front (statements_from read i room (items_view (drop i vs)))
+    ≡ with_front (front ++ s ∷ []) (statements_from read (i + 1) rest (items_view (drop (i + 1) vs))) =
+    ap (λ (ws : List Value). with_front front (statements_from read i room (items_view ws))) (one_more vs i v lt at)
+    ∙ rw (is, k) (regroup front s (statements_from read (suc i) rest (items_view (drop (suc i) vs)))) in
     sym one ∙ so_far
 
 pub ends : (e : ReadError) (read : ℕ → Data → Read Statement) (front : List Statement) (vs : List Value) (i room : ℕ) (v : Value) (total : Read Block)

@@ -26,25 +26,49 @@ pub record ConditionRead (levels room : ℕ) (d : Data) (x : Condition × ℕ) :
   pub fits : ConditionFits levels room x.0
   pub left : x.1 + condition_nodes x.0 ≡ room
 
-comparison_spelled : (o : Comparison) (d a b : Data) (e f : Expression) → d ≡ spelled (comparison_text o) (a ∷ b ∷ []) → SpellsExpression a e → SpellsExpression b f → SpellsCondition d (comparison_of o e f)
+comparison_spelled : (o : Comparison) (d a b : Data) (e f : Expression) → d ≡ spelled (comparison_text o) (a ∷ b ∷ []) → SpellsExpression a e
+    → SpellsExpression b f → SpellsCondition d (comparison_of o e f)
 comparison_spelled comparison.Equal d a b e f h s t = (a, b, h, s, t)
 comparison_spelled comparison.Less d a b e f h s t = (a, b, h, s, t)
 
-comparison_fits : (o : Comparison) (l r m : ℕ) (e f : Expression) → ExpressionFits l r e → m + expression_nodes e ≡ r → ExpressionFits l m f → ConditionFits (suc l) (suc r) (comparison_of o e f)
-comparison_fits comparison.Equal l r m e f p h q = record { depth = omega (arith, p.depth, q.depth); nodes = omega (arith, h, q.nodes); ranges = (p.ranges, q.ranges) }
-comparison_fits comparison.Less l r m e f p h q = record { depth = omega (arith, p.depth, q.depth); nodes = omega (arith, h, q.nodes); ranges = (p.ranges, q.ranges) }
+comparison_fits : (o : Comparison) (l r m : ℕ) (e f : Expression) → ExpressionFits l r e → m + expression_nodes e ≡ r → ExpressionFits l m f
+    → ConditionFits (suc l) (suc r) (comparison_of o e f)
+comparison_fits comparison.Equal l r m e f p h q = record {
+  depth = omega (arith, p.depth, q.depth);
+  nodes = omega (arith, h, q.nodes);
+  ranges =
+      (p.ranges, q.ranges);
+}
+comparison_fits comparison.Less l r m e f p h q = record {
+  depth = omega (arith, p.depth, q.depth);
+  nodes = omega (arith, h, q.nodes);
+  ranges =
+      (p.ranges, q.ranges);
+}
 
 comparison_nodes : (o : Comparison) (e f : Expression) → condition_nodes (comparison_of o e f) ≡ 1 + expression_nodes e + expression_nodes f
 comparison_nodes comparison.Equal e f = refl
 comparison_nodes comparison.Less e f = refl
 
-connective_spelled : (o : Connective) (d a b : Data) (e f : Condition) → d ≡ spelled (connective_text o) (a ∷ b ∷ []) → SpellsCondition a e → SpellsCondition b f → SpellsCondition d (connective_of o e f)
+connective_spelled : (o : Connective) (d a b : Data) (e f : Condition) → d ≡ spelled (connective_text o) (a ∷ b ∷ []) → SpellsCondition a e
+    → SpellsCondition b f → SpellsCondition d (connective_of o e f)
 connective_spelled connective.And d a b e f h s t = (a, b, h, s, t)
 connective_spelled connective.Or d a b e f h s t = (a, b, h, s, t)
 
-connective_fits : (o : Connective) (l r m : ℕ) (e f : Condition) → ConditionFits l r e → m + condition_nodes e ≡ r → ConditionFits l m f → ConditionFits (suc l) (suc r) (connective_of o e f)
-connective_fits connective.And l r m e f p h q = record { depth = omega (arith, p.depth, q.depth); nodes = omega (arith, h, q.nodes); ranges = (p.ranges, q.ranges) }
-connective_fits connective.Or l r m e f p h q = record { depth = omega (arith, p.depth, q.depth); nodes = omega (arith, h, q.nodes); ranges = (p.ranges, q.ranges) }
+connective_fits : (o : Connective) (l r m : ℕ) (e f : Condition) → ConditionFits l r e → m + condition_nodes e ≡ r → ConditionFits l m f
+    → ConditionFits (suc l) (suc r) (connective_of o e f)
+connective_fits connective.And l r m e f p h q = record {
+  depth = omega (arith, p.depth, q.depth);
+  nodes = omega (arith, h, q.nodes);
+  ranges =
+      (p.ranges, q.ranges);
+}
+connective_fits connective.Or l r m e f p h q = record {
+  depth = omega (arith, p.depth, q.depth);
+  nodes = omega (arith, h, q.nodes);
+  ranges =
+      (p.ranges, q.ranges);
+}
 
 connective_nodes : (o : Connective) (e f : Condition) → condition_nodes (connective_of o e f) ≡ 1 + condition_nodes e + condition_nodes f
 connective_nodes connective.And e f = refl
@@ -62,7 +86,8 @@ module _ (l : ℕ) (read : ℕ → Data → Read Condition) (sound : (r : ℕ) (
       let u = expression_sound l q.1.1 q.0.1 q.2 q.5 in
       along (suc l) (suc r) d (comparison_of o q.1.0 q.2.0, q.2.1) y q.6
       record {
-        spelled = comparison_spelled o d q.0.0 q.0.1 q.1.0 q.2.0 (words_and d p (comparison_text o) (q.0.0 ∷ q.0.1 ∷ []) w t (two_of-is p.1 q.0 q.3)) s.spelled u.spelled;
+        spelled = comparison_spelled o d q.0.0 q.0.1 q.1.0 q.2.0
+            (words_and d p (comparison_text o) (q.0.0 ∷ q.0.1 ∷ []) w t (two_of-is p.1 q.0 q.3)) s.spelled u.spelled;
         fits = comparison_fits o l r q.1.1 q.1.0 q.2.0 s.fits s.left u.fits;
         left = omega (arith, comparison_nodes o q.1.0 q.2.0, s.left, u.left);
       }
@@ -87,7 +112,8 @@ module _ (l : ℕ) (read : ℕ → Data → Read Condition) (sound : (r : ℕ) (
       let u = sound q.1.1 q.0.1 q.2 q.5 in
       along (suc l) (suc r) d (connective_of o q.1.0 q.2.0, q.2.1) y q.6
       record {
-        spelled = connective_spelled o d q.0.0 q.0.1 q.1.0 q.2.0 (words_and d p (connective_text o) (q.0.0 ∷ q.0.1 ∷ []) w t (two_of-is p.1 q.0 q.3)) s.spelled u.spelled;
+        spelled = connective_spelled o d q.0.0 q.0.1 q.1.0 q.2.0
+            (words_and d p (connective_text o) (q.0.0 ∷ q.0.1 ∷ []) w t (two_of-is p.1 q.0 q.3)) s.spelled u.spelled;
         fits = connective_fits o l r q.1.1 q.1.0 q.2.0 s.fits s.left u.fits;
         left = omega (arith, connective_nodes o q.1.0 q.2.0, s.left, u.left);
       }
@@ -99,7 +125,8 @@ module _ (l : ℕ) (read : ℕ → Data → Read Condition) (sound : (r : ℕ) (
   named_sound r d p (Some word.Not) y w e h = negation_sound r d p y w (condition_word-is p.0 word.Not e) h
   named_sound r d p (Some (word.Connective o)) y w e h = connective_sound r d p o y w (condition_word-is p.0 (word.Connective o) e) h
 
-  array_sound : (r : ℕ) (d : Data) (o : Option (List ℕ × Items)) (y : Condition × ℕ) → worded d ≡ o → condition_array (expression_at l) read r o ≡ Ok y → ConditionRead (suc l) (suc r) d y
+  array_sound : (r : ℕ) (d : Data) (o : Option (List ℕ × Items)) (y : Condition × ℕ) → worded d ≡ o → condition_array (expression_at l) read r o ≡ Ok y
+      → ConditionRead (suc l) (suc r) d y
   array_sound r d None y e h = cc
   array_sound r d (Some p) y e h = named_sound r d p (condition_word p.0) y e refl h
 

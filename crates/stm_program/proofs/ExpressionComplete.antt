@@ -19,20 +19,25 @@ use Rattle.stm_program.proofs.LimitLemmas.{expression_nodes-positive, expression
 use Rattle.stm_program.proofs.WordLemmas.{expression_word-text}
 use Rattle.stm_json.proofs.ElementLemmas.{number_up_to-reads, whole_number-reads}
 
-pub one_part-reads : {A B : Type 0} (read : ℕ → Data → Read A) (make : A → B) (room m : ℕ) (d : Data) (x : A) → read room d ≡ Ok (x, m) → one_part read make room (Some d) ≡ Ok (make x, m)
+pub one_part-reads : {A B : Type 0} (read : ℕ → Data → Read A) (make : A → B) (room m : ℕ) (d : Data) (x : A) → read room d ≡ Ok (x, m)
+    → one_part read make room (Some d) ≡ Ok (make x, m)
 one_part-reads read make room m d x h = rw h refl
 
-pub two_parts-reads : {A B : Type 0} (read : ℕ → Data → Read A) (make : A → A → B) (room k m : ℕ) (a b : Data) (x y : A) → read room a ≡ Ok (x, k) → read k b ≡ Ok (y, m)
+pub two_parts-reads : {A B : Type 0} (read : ℕ → Data → Read A) (make : A → A → B) (room k m : ℕ) (a b : Data) (x y : A) → read room a ≡ Ok (x, k)
+    → read k b ≡ Ok (y, m)
     → two_parts read make room (Some (a, b)) ≡ Ok (make x y, m)
 two_parts-reads read make room k m a b x y h i = rw h (rw i refl)
 
 module _ (l : ℕ) (read : ℕ → Data → Read Expression)
-    (reads : (r m : ℕ) (d : Data) (e : Expression) → SpellsExpression d e → expression_depth e ≤ l → ExpressionInRange e → r ≡ m + expression_nodes e → read r d ≡ Ok (e, m)) where
-  named : (r : ℕ) (w : List ℕ) (parts : List Data) (x : ExprWord) → w ≡ expression_text x → expression_body read r (spelled w parts) ≡ expression_named read r (Some x) (items_of parts)
+    (reads : (r m : ℕ) (d : Data) (e : Expression) → SpellsExpression d e → expression_depth e ≤ l → ExpressionInRange e → r ≡ m + expression_nodes e
+    → read r d ≡ Ok (e, m)) where
+  named : (r : ℕ) (w : List ℕ) (parts : List Data) (x : ExprWord) → w ≡ expression_text x
+      → expression_body read r (spelled w parts) ≡ expression_named read r (Some x) (items_of parts)
   unfolding expression_body
   named r w parts x h = ap (λ (o : Option ExprWord). expression_named read r o (items_of parts)) (ap expression_word h ∙ expression_word-text x)
 
-  one : (u : Unary) (r m : ℕ) (d a : Data) (e : Expression) → d ≡ spelled (unary_text u) (a ∷ []) → SpellsExpression a e → expression_depth e ≤ l → ExpressionInRange e → r ≡ m + expression_nodes e
+  one : (u : Unary) (r m : ℕ) (d a : Data) (e : Expression) → d ≡ spelled (unary_text u) (a ∷ []) → SpellsExpression a e → expression_depth e ≤ l
+      → ExpressionInRange e → r ≡ m + expression_nodes e
       → expression_body read r d ≡ Ok (unary_of u e, m)
   one u r m d a e is s f g h =
       ap (expression_body read r) is ∙ named r (unary_text u) (a ∷ []) (word.Unary u) refl ∙ one_part-reads read (unary_of u) r m a e (reads r m a e s f g h)
@@ -42,9 +47,11 @@ module _ (l : ℕ) (read : ℕ → Data → Read Expression)
       → expression_body read r d ≡ Ok (binary_of o e f, m)
   two o r m d a b e f is s t p q g i h =
       ap (expression_body read r) is ∙ named r (binary_text o) (a ∷ b ∷ []) (word.Binary o) refl
-      ∙ two_parts-reads read (binary_of o) r (m + expression_nodes f) m a b e f (reads r (m + expression_nodes f) a e s p g (omega arith)) (reads (m + expression_nodes f) m b f t q i refl)
+      ∙ two_parts-reads read (binary_of o) r (m + expression_nodes f) m a b e f (reads r (m + expression_nodes f) a e s p g (omega arith))
+      (reads (m + expression_nodes f) m b f t q i refl)
 
-  body_reads : (r m : ℕ) (d : Data) (e : Expression) → SpellsExpression d e → expression_depth e ≤ suc l → ExpressionInRange e → suc r ≡ m + expression_nodes e → expression_body read r d ≡ Ok (e, m)
+  body_reads : (r m : ℕ) (d : Data) (e : Expression) → SpellsExpression d e → expression_depth e ≤ suc l → ExpressionInRange e
+      → suc r ≡ m + expression_nodes e → expression_body read r d ≡ Ok (e, m)
   unfolding expression_body
   body_reads r m d (Text s) is f g h =
       let room : r ≡ m = omega arith in
@@ -65,7 +72,8 @@ module _ (l : ℕ) (read : ℕ → Data → Read Expression)
   body_reads r m d (TextOf e) (a, is, s) f g h = one unary.TextOf r m d a e is s (omega arith) g (omega arith)
   body_reads r m d (NumOf e) (a, is, s) f g h = one unary.NumOf r m d a e is s (omega arith) g (omega arith)
 
-pub expression_reads : (l r m : ℕ) (d : Data) (e : Expression) → SpellsExpression d e → expression_depth e ≤ l → ExpressionInRange e → r ≡ m + expression_nodes e → expression_at l r d ≡ Ok (e, m)
+pub expression_reads : (l r m : ℕ) (d : Data) (e : Expression) → SpellsExpression d e → expression_depth e ≤ l → ExpressionInRange e
+    → r ≡ m + expression_nodes e → expression_at l r d ≡ Ok (e, m)
 unfolding expression_at
 expression_reads zero r m d e s f g h = absurd (omega (arith, expression_depth-positive e))
 expression_reads (suc l) zero m d e s f g h = absurd (omega (arith, expression_nodes-positive e))

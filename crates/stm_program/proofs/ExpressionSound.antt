@@ -50,13 +50,20 @@ unary_nodes unary.Rev e = refl
 unary_nodes unary.TextOf e = refl
 unary_nodes unary.NumOf e = refl
 
-binary_spelled : (o : Binary) (d a b : Data) (e f : Expression) → d ≡ spelled (binary_text o) (a ∷ b ∷ []) → SpellsExpression a e → SpellsExpression b f → SpellsExpression d (binary_of o e f)
+binary_spelled : (o : Binary) (d a b : Data) (e f : Expression) → d ≡ spelled (binary_text o) (a ∷ b ∷ []) → SpellsExpression a e → SpellsExpression b f
+    → SpellsExpression d (binary_of o e f)
 binary_spelled (binary.Arithmetic o) d a b e f h s t = (a, b, h, s, t)
 binary_spelled binary.Cat d a b e f h s t = (a, b, h, s, t)
 
 -- two parts, the second in the room that the first leaves
-binary_fits : (o : Binary) (l r m : ℕ) (e f : Expression) → ExpressionFits l r e → m + expression_nodes e ≡ r → ExpressionFits l m f → ExpressionFits (suc l) (suc r) (binary_of o e f)
-binary_fits (binary.Arithmetic o) l r m e f p h q = record { depth = omega (arith, p.depth, q.depth); nodes = omega (arith, h, q.nodes); ranges = (p.ranges, q.ranges) }
+binary_fits : (o : Binary) (l r m : ℕ) (e f : Expression) → ExpressionFits l r e → m + expression_nodes e ≡ r → ExpressionFits l m f
+    → ExpressionFits (suc l) (suc r) (binary_of o e f)
+binary_fits (binary.Arithmetic o) l r m e f p h q = record {
+  depth = omega (arith, p.depth, q.depth);
+  nodes = omega (arith, h, q.nodes);
+  ranges =
+      (p.ranges, q.ranges);
+}
 binary_fits binary.Cat l r m e f p h q = record { depth = omega (arith, p.depth, q.depth); nodes = omega (arith, h, q.nodes); ranges = (p.ranges, q.ranges) }
 
 binary_nodes : (o : Binary) (e f : Expression) → expression_nodes (binary_of o e f) ≡ 1 + expression_nodes e + expression_nodes f
@@ -87,7 +94,8 @@ module _ (l : ℕ) (read : ℕ → Data → Read Expression) (sound : (r : ℕ) 
       let u = sound q.1.1 q.0.1 q.2 q.5 in
       along (suc l) (suc r) d (binary_of b q.1.0 q.2.0, q.2.1) y q.6
       record {
-        spelled = binary_spelled b d q.0.0 q.0.1 q.1.0 q.2.0 (words_and d p (binary_text b) (q.0.0 ∷ q.0.1 ∷ []) w t (two_of-is p.1 q.0 q.3)) s.spelled u.spelled;
+        spelled = binary_spelled b d q.0.0 q.0.1 q.1.0 q.2.0
+            (words_and d p (binary_text b) (q.0.0 ∷ q.0.1 ∷ []) w t (two_of-is p.1 q.0 q.3)) s.spelled u.spelled;
         fits = binary_fits b l r q.1.1 q.1.0 q.2.0 s.fits s.left u.fits;
         left = omega (arith, binary_nodes b q.1.0 q.2.0, s.left, u.left);
       }
@@ -113,7 +121,8 @@ module _ (l : ℕ) (read : ℕ → Data → Read Expression) (sound : (r : ℕ) 
   named_sound r d p (Some (word.Unary u)) y w e h = unary_sound r d p u y w (expression_word-is p.0 (word.Unary u) e) h
   named_sound r d p (Some (word.Binary b)) y w e h = binary_sound r d p b y w (expression_word-is p.0 (word.Binary b) e) h
 
-  array_sound : (r : ℕ) (d : Data) (o : Option (List ℕ × Items)) (y : Expression × ℕ) → worded d ≡ o → expression_array read r o ≡ Ok y → ExpressionRead (suc l) (suc r) d y
+  array_sound : (r : ℕ) (d : Data) (o : Option (List ℕ × Items)) (y : Expression × ℕ) → worded d ≡ o → expression_array read r o ≡ Ok y
+      → ExpressionRead (suc l) (suc r) d y
   array_sound r d None y e h = cc
   array_sound r d (Some p) y e h = named_sound r d p (expression_word p.0) y e refl h
 

@@ -4,8 +4,10 @@ use Rattle.std.specs.Prelude.{bytes_eq, is_some, not, ◌||◌, ◌&&◌}
 use Rattle.std.proofs.lemmas.List.{map-append}
 use Rattle.std.specs.List.{IsDistinct, AllByRecursion}
 use Rattle.stm_program.specs.declared.write.Write.{Write}
-use Rattle.stm_program.specs.Writes.{key_of, last_write, is_written, latest_of, latest_after, latest_writes, each_once, LatestWritesAreLast, LatestWritesAreInOrder, LatestWritesAreDistinct}
-use Rattle.stm_program.proofs.WriteLemmas.{bytes_eq-self, bytes_eq-same, bytes_eq-flip, last_write-is_of, last_write-none, last_write-more, last_write-append, last_write-one, is_written-more, or_else}
+use Rattle.stm_program.specs.Writes.{key_of, last_write, is_written, latest_of, latest_after, latest_writes, each_once, LatestWritesAreLast}
+use Rattle.stm_program.specs.Writes.{LatestWritesAreInOrder, LatestWritesAreDistinct}
+use Rattle.stm_program.proofs.WriteLemmas.{bytes_eq-self, bytes_eq-same, bytes_eq-flip, last_write-is_of, last_write-none, last_write-more, last_write-append}
+use Rattle.stm_program.proofs.WriteLemmas.{last_write-one, is_written-more, or_else}
 
 -- ---- what stands for one write
 
@@ -38,10 +40,11 @@ latest_of-first : (w : Write) (earlier later : List Write) → is_written (key_o
 latest_of-first w earlier later h = latest_of-last w (last_write (key_of w) later) earlier later h refl
 
 latest_of-is : (w : Write) (earlier later : List Write) → latest_of earlier w later ≡ cond (is_written (key_of w) earlier) [] (last_in w later ∷ [])
-latest_of-is w earlier later = elim (is_written (key_of w) earlier) as (λ b. is_written (key_of w) earlier ≡ b → latest_of earlier w later ≡ cond b [] (last_in w later ∷ [])) [
-  | true ↦ λ e. latest_of-written w earlier later e
-  | false ↦ λ e. latest_of-first w earlier later e
-] refl
+latest_of-is w earlier later = elim (is_written (key_of w) earlier) as
+    (λ b. is_written (key_of w) earlier ≡ b → latest_of earlier w later ≡ cond b [] (last_in w later ∷ [])) [
+      | true ↦ λ e. latest_of-written w earlier later e
+      | false ↦ λ e. latest_of-first w earlier later e
+    ] refl
 
 -- ---- a write more
 
@@ -52,7 +55,8 @@ with_write w (x ∷ xs) = cond (bytes_eq (key_of w) (key_of x)) (w ∷ xs) (x �
 
 -- the writes of a list of which the front is replaced
 replaced : (w y : Write) (rest : List Write) → key_of y ≡ key_of w → with_write w (y ∷ rest) ≡ w ∷ rest
-replaced w y rest same = ap (λ k. cond (bytes_eq (key_of w) k) (w ∷ rest) (y ∷ with_write w rest)) same ∙ ap (λ b. cond b (w ∷ rest) (y ∷ with_write w rest)) (bytes_eq-self (key_of w))
+replaced w y rest same = ap (λ k. cond (bytes_eq (key_of w) k) (w ∷ rest) (y ∷ with_write w rest)) same
+    ∙ ap (λ b. cond b (w ∷ rest) (y ∷ with_write w rest)) (bytes_eq-self (key_of w))
 
 -- a write of another key goes behind what stands for this one
 passed : (b : Bool) (w y : Write) (rest : List Write) → bytes_eq (key_of w) (key_of y) ≡ false →
@@ -70,23 +74,28 @@ AddedTo w x earlier later rest =
     latest_of earlier x (later ++ w ∷ []) ++ cond (is_written (key_of w) (earlier ++ x ∷ [])) rest (with_write w rest)
     ≡ cond (is_written (key_of w) earlier) (latest_of earlier x later ++ rest) (with_write w (latest_of earlier x later ++ rest))
 
-added_same : (w x : Write) (earlier later rest : List Write) (b : Bool) → key_of x ≡ key_of w → is_written (key_of w) earlier ≡ b → AddedTo w x earlier later rest
+added_same : (w x : Write) (earlier later rest : List Write) (b : Bool) → key_of x ≡ key_of w → is_written (key_of w) earlier ≡ b
+    → AddedTo w x earlier later rest
 unfolding AddedTo
 added_same w x earlier later rest true same written =
     let x_written : is_written (key_of x) earlier ≡ true = ap (λ k. is_written k earlier) same ∙ written in
     let more : is_written (key_of w) (earlier ++ x ∷ []) ≡ true =
-    is_written-more (key_of w) earlier x ∙ ap (λ k. bytes_eq k (key_of w) || is_written (key_of w) earlier) same ∙ ap (λ b. b || is_written (key_of w) earlier) (bytes_eq-self (key_of w)) in
+    is_written-more (key_of w) earlier x ∙ ap (λ k. bytes_eq k (key_of w) || is_written (key_of w) earlier) same
+    ∙ ap (λ b. b || is_written (key_of w) earlier) (bytes_eq-self (key_of w)) in
     rw (latest_of-written x earlier (later ++ w ∷ []) x_written, latest_of-written x earlier later x_written, more, written) refl
 added_same w x earlier later rest false same written =
     let x_written : is_written (key_of x) earlier ≡ false = ap (λ k. is_written k earlier) same ∙ written in
     let more : is_written (key_of w) (earlier ++ x ∷ []) ≡ true =
-    is_written-more (key_of w) earlier x ∙ ap (λ k. bytes_eq k (key_of w) || is_written (key_of w) earlier) same ∙ ap (λ b. b || is_written (key_of w) earlier) (bytes_eq-self (key_of w)) in
+    is_written-more (key_of w) earlier x ∙ ap (λ k. bytes_eq k (key_of w) || is_written (key_of w) earlier) same
+    ∙ ap (λ b. b || is_written (key_of w) earlier) (bytes_eq-self (key_of w)) in
     let last : last_write (key_of x) (later ++ w ∷ []) ≡ Some w =
-    last_write-more (key_of x) later w ∙ ap (λ k. cond (bytes_eq (key_of w) k) (Some w) (last_write (key_of x) later)) same ∙ ap (λ b. cond b (Some w) (last_write (key_of x) later)) (bytes_eq-self (key_of w)) in
+    last_write-more (key_of x) later w ∙ ap (λ k. cond (bytes_eq (key_of w) k) (Some w) (last_write (key_of x) later)) same
+    ∙ ap (λ b. cond b (Some w) (last_write (key_of x) later)) (bytes_eq-self (key_of w)) in
     rw (latest_of-last x (Some w) earlier (later ++ w ∷ []) x_written last, latest_of-first x earlier later x_written, more, written)
     (sym (replaced w (last_in x later) rest (last_in-is_of x later ∙ same)))
 
-added_other : (w x : Write) (earlier later rest : List Write) (b : Bool) → bytes_eq (key_of x) (key_of w) ≡ false → is_written (key_of w) earlier ≡ b → AddedTo w x earlier later rest
+added_other : (w x : Write) (earlier later rest : List Write) (b : Bool) → bytes_eq (key_of x) (key_of w) ≡ false → is_written (key_of w) earlier ≡ b
+    → AddedTo w x earlier later rest
 unfolding AddedTo
 added_other w x earlier later rest b other written =
     let back : bytes_eq (key_of w) (key_of x) ≡ false = bytes_eq-flip (key_of w) (key_of x) ∙ other in
@@ -95,17 +104,20 @@ added_other w x earlier later rest b other written =
     let last : last_write (key_of x) (later ++ w ∷ []) ≡ last_write (key_of x) later =
     last_write-more (key_of x) later w ∙ ap (λ c. cond c (Some w) (last_write (key_of x) later)) back in
     let front : latest_of earlier x (later ++ w ∷ []) ≡ latest_of earlier x later =
-    latest_of-is x earlier (later ++ w ∷ []) ∙ ap (λ f. cond (is_written (key_of x) earlier) [] (last_among x f ∷ [])) last ∙ sym (latest_of-is x earlier later) in
+    latest_of-is x earlier (later ++ w ∷ []) ∙ ap (λ f. cond (is_written (key_of x) earlier) [] (last_among x f ∷ [])) last
+    ∙ sym (latest_of-is x earlier later) in
     let y = last_in x later in
     let y_other : bytes_eq (key_of w) (key_of y) ≡ false = ap (bytes_eq (key_of w)) (last_in-is_of x later) ∙ back in
     let behind : latest_of earlier x later ++ with_write w rest ≡ with_write w (latest_of earlier x later ++ rest) =
-    ap (λ l. l ++ with_write w rest) (latest_of-is x earlier later) ∙ passed (is_written (key_of x) earlier) w y rest y_other ∙ ap (λ l. with_write w (l ++ rest)) (sym (latest_of-is x earlier later)) in
+    ap (λ l. l ++ with_write w rest) (latest_of-is x earlier later) ∙ passed (is_written (key_of x) earlier) w y rest y_other
+    ∙ ap (λ l. with_write w (l ++ rest)) (sym (latest_of-is x earlier later)) in
     ap (λ l. l ++ cond (is_written (key_of w) (earlier ++ x ∷ [])) rest (with_write w rest)) front
     ∙ ap (λ c. latest_of earlier x later ++ cond c rest (with_write w rest)) more
     ∙ by (is_written (key_of w) earlier) behind
   where
     by : (c : Bool) → latest_of earlier x later ++ with_write w rest ≡ with_write w (latest_of earlier x later ++ rest) →
-        latest_of earlier x later ++ cond c rest (with_write w rest) ≡ cond c (latest_of earlier x later ++ rest) (with_write w (latest_of earlier x later ++ rest))
+        latest_of earlier x later ++ cond c rest (with_write w rest)
+        ≡ cond c (latest_of earlier x later ++ rest) (with_write w (latest_of earlier x later ++ rest))
     by true e = refl
     by false e = e
 
@@ -132,7 +144,8 @@ latest_writes-none = refl
 -- one write more replaces its key's latest write, or is a new one at the end
 pub latest_writes-more : (ws : List Write) (w : Write) → latest_writes (ws ++ w ∷ []) ≡ with_write w (latest_writes ws)
 unfolding latest_writes
-latest_writes-more ws w = added w [] ws ∙ ap (λ (o : Option Write). cond (is_some o) (latest_after [] ws) (with_write w (latest_after [] ws))) (last_write-none (key_of w))
+latest_writes-more ws w = added w [] ws ∙ ap (λ (o : Option Write). cond (is_some o) (latest_after [] ws) (with_write w (latest_after [] ws)))
+    (last_write-none (key_of w))
 
 -- ---- the last of each key
 
@@ -202,7 +215,8 @@ is_last key w earlier later = elim (bytes_eq (key_of w) key) as (λ b. bytes_eq 
   | false ↦ λ e. last_other key w earlier later e
 ] refl
 
-last_of_latest : (key : List ℕ) (earlier later : List Write) → last_write key (latest_after earlier later) ≡ cond (is_written key earlier) None (last_write key later)
+last_of_latest : (key : List ℕ) (earlier later : List Write)
+    → last_write key (latest_after earlier later) ≡ cond (is_written key earlier) None (last_write key later)
 unfolding IsLast
 last_of_latest key earlier [] = none_of_none (is_written key earlier) (last_write key []) (last_write-none key)
 last_of_latest key earlier (w ∷ later) =
@@ -231,7 +245,8 @@ neither true b = refl
 neither false b = refl
 
 -- the keys of what stands for a write
-key_in_front : (b : Bool) (w y : Write) (rest : List (List ℕ)) → key_of y ≡ key_of w → map key_of (cond b [] (y ∷ [])) ++ rest ≡ cond (not b) (key_of w ∷ rest) rest
+key_in_front : (b : Bool) (w y : Write) (rest : List (List ℕ)) → key_of y ≡ key_of w
+    → map key_of (cond b [] (y ∷ [])) ++ rest ≡ cond (not b) (key_of w ∷ rest) rest
 key_in_front true w y rest same = refl
 key_in_front false w y rest same = ap (λ k. k ∷ rest) same
 
@@ -250,7 +265,8 @@ keys_of_latest earlier (w ∷ later) =
     let others = λ (k : List ℕ). not (bytes_eq (key_of w) k) in
     let ks = each_once (map key_of later) in
     map-append key_of (latest_of earlier w later) (latest_after (earlier ++ w ∷ []) later)
-    ∙ ap (λ l. map key_of (latest_of earlier w later) ++ l) (keys_of_latest (earlier ++ w ∷ []) later ∙ filter-both new others (is_new (earlier ++ w ∷ [])) (new_after earlier w) ks)
+    ∙ ap (λ l. map key_of (latest_of earlier w later) ++ l) (keys_of_latest (earlier ++ w ∷ []) later
+    ∙ filter-both new others (is_new (earlier ++ w ∷ [])) (new_after earlier w) ks)
     ∙ ap (λ l. map key_of l ++ filter new (filter others ks)) (latest_of-is w earlier later)
     ∙ key_in_front (is_written (key_of w) earlier) w (last_in w later) (filter new (filter others ks)) (last_in-is_of w later)
 

@@ -1,6 +1,7 @@
 -- The marks of data beside what is read of them: the first fault of the marks is the reader's, and without a fault the
 -- search goes on behind the marks in the room that the reader leaves.
-use Rattle.std.proofs.Common.{◌≡◌, ℕ, zero, suc, ◌^◌, ◌<◌, ◌≤◌, ℤ, pos, negsuc, List, [], ◌∷◌, ◌++◌, Bool, true, false, cond, Option, Some, None, Ok, Err, refl, sym, ap, ◌∙◌, append_assoc, arith, leb, ltb, leb-true, le-leb, lt-ltb, option_and_then}
+use Rattle.std.proofs.Common.{◌≡◌, ℕ, zero, suc, ◌^◌, ◌<◌, ◌≤◌, ℤ, pos, negsuc, List, [], ◌∷◌, ◌++◌, Bool, true, false, cond, Option, Some, None, Ok, Err}
+use Rattle.std.proofs.Common.{refl, sym, ap, ◌∙◌, append_assoc, arith, leb, ltb, leb-true, le-leb, lt-ltb, option_and_then}
 use Rattle.std.proofs.lemmas.List.{append-nil}
 use Rattle.serde_json.specs.Data.{Num, unsigned, negative, float, Data, null, boolean, number, string, array, object}
 use Rattle.serde_json.specs.Find.{as_number, as_integer}
@@ -66,15 +67,18 @@ whole_as (string s) = refl
 whole_as (array ds) = refl
 whole_as (object ms) = refl
 
-tested : (p : List ℕ) (room : ℕ) (b : Bool) (z : ℤ) (rest : List Mark) → first_of_marks room (cond b [] (wrong p Range) ++ rest) ≡ after_number p room (cond b (Ok z) (bad Range)) rest
+tested : (p : List ℕ) (room : ℕ) (b : Bool) (z : ℤ) (rest : List Mark)
+    → first_of_marks room (cond b [] (wrong p Range) ++ rest) ≡ after_number p room (cond b (Ok z) (bad Range)) rest
 tested p room true z rest = refl
 tested p room false z rest = wrong_is p Range room rest
 
-whole_of_marked : (p : List ℕ) (room : ℕ) (o : Option ℤ) (rest : List Mark) → first_of_marks room (whole_marks p o ++ rest) ≡ after_number p room (whole_of o) rest
+whole_of_marked : (p : List ℕ) (room : ℕ) (o : Option ℤ) (rest : List Mark)
+    → first_of_marks room (whole_marks p o ++ rest) ≡ after_number p room (whole_of o) rest
 whole_of_marked p room (Some z) rest = tested p room (is_64_bit z) z rest
 whole_of_marked p room None rest = wrong_is p Shape room rest
 
-pub whole_marked : (p : List ℕ) (room : ℕ) (n : Num) (rest : List Mark) → first_of_marks room (whole_marks p (as_integer n) ++ rest) ≡ after_number p room (whole_number (number n)) rest
+pub whole_marked : (p : List ℕ) (room : ℕ) (n : Num) (rest : List Mark)
+    → first_of_marks room (whole_marks p (as_integer n) ++ rest) ≡ after_number p room (whole_number (number n)) rest
 whole_marked p room n rest = whole_of_marked p room (as_integer n) rest ∙ ap (λ (o : Outcome ℤ). after_number p room o rest) (sym (whole_as (number n)))
 
 pos_marked : (p : List ℕ) (room n : ℕ) (b c : Bool) (f : ℤ → Outcome ℕ) (rest : List Mark) → (c ≡ true → b ≡ true) → f (pos n) ≡ cond c (Ok n) (bad Range)
@@ -92,7 +96,8 @@ neg_marked p room n false f rest e = wrong_is p Range room rest
 range_marked : (p : List ℕ) (limit room : ℕ) (o : Option ℤ) (rest : List Mark) → limit < 2 ^ 63
     → first_of_marks room (range_marks p limit o ++ rest) ≡ after_number p room (whole_of o >>= in_range limit) rest
 range_marked p limit room (Some (pos n)) rest h =
-    pos_marked p room n (ltb n (2 ^ 63)) (leb n limit) (in_range limit) rest (λ (e : leb n limit ≡ true). lt-ltb n (2 ^ 63) (omega (arith, leb-true n limit e))) refl
+    pos_marked p room n (ltb n (2 ^ 63)) (leb n limit) (in_range limit) rest
+    (λ (e : leb n limit ≡ true). lt-ltb n (2 ^ 63) (omega (arith, leb-true n limit e))) refl
 range_marked p limit room (Some (negsuc n)) rest h = neg_marked p room n (is_64_bit (negsuc n)) (in_range limit) rest refl
 range_marked p limit room None rest h = wrong_is p Shape room rest
 
@@ -110,13 +115,15 @@ deeper p i f = ap (λ (q : List ℕ). fault_at q f.cause) (append_assoc p (step 
 
 -- a part that takes room, and then the rest
 pub part_then : {A B : Type 0} (p : List ℕ) (i : ℕ) (reading : Read A) (f : A × ℕ → Read B) (first : Option BadInput) (next rest : List Mark)
-    → first ≡ after (at p i) reading next → ((x : A × ℕ) → reading ≡ Ok x → first_of_marks x.1 next ≡ after p (f x) rest) → first ≡ after p (within i reading >>= f) rest
+    → first ≡ after (at p i) reading next → ((x : A × ℕ) → reading ≡ Ok x → first_of_marks x.1 next ≡ after p (f x) rest)
+    → first ≡ after p (within i reading >>= f) rest
 part_then p i (Ok x) f first next rest h k = h ∙ k x refl
 part_then p i (Err g) f first next rest h k = h ∙ deeper p i g
 
 -- a number, and then the rest
 pub number_then : {A B : Type 0} (p : List ℕ) (i room : ℕ) (reading : Outcome A) (f : A → Read B) (first : Option BadInput) (next rest : List Mark)
-    → first ≡ after_number (at p i) room reading next → ((x : A) → reading ≡ Ok x → first_of_marks room next ≡ after p (f x) rest) → first ≡ after p (within i reading >>= f) rest
+    → first ≡ after_number (at p i) room reading next → ((x : A) → reading ≡ Ok x → first_of_marks room next ≡ after p (f x) rest)
+    → first ≡ after p (within i reading >>= f) rest
 number_then p i room (Ok x) f first next rest h k = h ∙ k x refl
 number_then p i room (Err g) f first next rest h k = h ∙ deeper p i g
 
@@ -124,6 +131,7 @@ pub behind : (room : ℕ) (ms ns rest : List Mark) → first_of_marks room ((ms 
 behind room ms ns rest = ap (first_of_marks room) (append_assoc ms ns rest)
 
 -- a tree made of what was read
-pub made : {A B : Type 0} (p : List ℕ) (reading : Read A) (make : A → B) (rest : List Mark) → after p reading rest ≡ after p (reading >>= λ x. Ok (make x.0, x.1)) rest
+pub made : {A B : Type 0} (p : List ℕ) (reading : Read A) (make : A → B) (rest : List Mark)
+    → after p reading rest ≡ after p (reading >>= λ x. Ok (make x.0, x.1)) rest
 made p (Ok x) make rest = refl
 made p (Err f) make rest = refl

@@ -12,7 +12,8 @@ one_part_ok read make room (Some d) y h =
     let p = bind_ok (within 1 (read room d)) _ y h in
     (d, p.0, refl, within_ok 1 _ _ p.1, cc p.2)
 
-pub two_parts_ok : {A B : Type 0} (read : ℕ → Data → Read A) (make : A → A → B) (room : ℕ) (o : Option (Data × Data)) (z : B × ℕ) → two_parts read make room o ≡ Ok z
+pub two_parts_ok : {A B : Type 0} (read : ℕ → Data → Read A) (make : A → A → B) (room : ℕ) (o : Option (Data × Data)) (z : B × ℕ)
+    → two_parts read make room o ≡ Ok z
     → (p : Data × Data) × (x : A × ℕ) × (y : A × ℕ) × (o ≡ Some p) × (read room p.0 ≡ Ok x) × (read x.1 p.1 ≡ Ok y) × (z ≡ (make x.0 y.0, y.1))
 two_parts_ok read make room None z h = cc
 two_parts_ok read make room (Some p) z h =

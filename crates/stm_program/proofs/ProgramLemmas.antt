@@ -26,7 +26,8 @@ pub spelled_by : (d : Data) (r : Result ProgramTree ReadError) → Tells (λ p. 
 spelled_by d (Ok p) h = (program_sound d p h).0
 spelled_by d (Err e) h = tt
 
-pub accepted : (d : Data) (r : Result ProgramTree ReadError) → Tells (λ p. p) r (program_of d) → (p : ProgramTree) → SpellsProgram d p → Fits p → Tells (λ q. q) r (Ok p)
+pub accepted : (d : Data) (r : Result ProgramTree ReadError) → Tells (λ p. p) r (program_of d) → (p : ProgramTree) → SpellsProgram d p → Fits p
+    → Tells (λ q. q) r (Ok p)
 accepted d r h p s f = subst (λ (o : Outcome ProgramTree). Tells (λ (q : ProgramTree). q) r o) (program_reads d p s f) h
 
 pub faulted : (d : Data) (r : Result ProgramTree ReadError) → Tells (λ p. p) r (program_of d) → MatchResult r (λ p. first_fault d ≡ None) (IsFirstFault d)

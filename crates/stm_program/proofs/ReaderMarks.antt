@@ -36,7 +36,8 @@ expression_inner k p (number n) = whole_marks p (as_integer n)
 expression_inner k p (array (item (string w) (item a no_items))) =
     expression_of_one p (expression_word w) a (Node (suc k) (at p 1) ∷ expression_inner (suc k) (at p 1) a)
 expression_inner k p (array (item (string w) (item a (item b no_items)))) =
-    expression_of_two p (expression_word w) ((Node (suc k) (at p 1) ∷ expression_inner (suc k) (at p 1) a) ++ (Node (suc k) (at p 2) ∷ expression_inner (suc k) (at p 2) b))
+    expression_of_two p (expression_word w) ((Node (suc k) (at p 1) ∷ expression_inner (suc k) (at p 1) a) ++
+    (Node (suc k) (at p 2) ∷ expression_inner (suc k) (at p 2) b))
 expression_inner k p _ = wrong p Shape
 
 abbrev pub expression_marks : ℕ → List ℕ → Data → List Mark

@@ -17,7 +17,8 @@ both_empty (l ∷ ls) rs b below is_empty = absurd (omega arith)
 
 -- a test that holds exactly where two programs are the same is `==`
 pub same_program-is : (b : Bool) (p q : ProgramTree) → IsTrue b ↔ p ≡ q → b ≡ same_program p q
-same_program-is b p q exact = agree b (same_program p q) (λ holds. (same_program-equal p q).1 (exact.0 holds)) (λ holds. exact.1 ((same_program-equal p q).0 holds))
+same_program-is b p q exact = agree b (same_program p q) (λ holds. (same_program-equal p q).1 (exact.0 holds))
+    (λ holds. exact.1 ((same_program-equal p q).0 holds))
   where
     agree : (a c : Bool) → (IsTrue a → IsTrue c) → (IsTrue c → IsTrue a) → a ≡ c
     agree true true there back = refl

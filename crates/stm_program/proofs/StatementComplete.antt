@@ -12,7 +12,8 @@ use Rattle.stm_program.specs.Limits.{expression_depth, statement_depth, block_de
 use Rattle.stm_program.specs.Words.{statement_word}
 use Rattle.stm_program.specs.WordTexts.{simple_text, statement_text}
 use Rattle.stm_json.specs.Elements.{worded}
-use Rattle.stm_program.specs.Reading.{Read, simple_of, statement_named, statement_array, statements_from, block_by, expression_at, condition_at, statement_at, program_of}
+use Rattle.stm_program.specs.Reading.{Read, simple_of, statement_named, statement_array, statements_from, block_by, expression_at, condition_at, statement_at}
+use Rattle.stm_program.specs.Reading.{program_of}
 use Rattle.stm_program.specs.Grammar.{spelled, SpellsExpression, SpellsStatement, SpellsStatements, SpellsProgram}
 use Rattle.stm_program.proofs.LimitLemmas.{statement_nodes-positive, statement_depth-positive}
 use Rattle.stm_program.proofs.WordLemmas.{statement_word-text}
@@ -21,8 +22,10 @@ use Rattle.stm_program.proofs.ExpressionComplete.{one_part-reads, expression_rea
 use Rattle.stm_program.proofs.ConditionComplete.{condition_reads}
 
 module _ (l : ℕ) (read : ℕ → Data → Read Statement)
-    (reads : (r m : ℕ) (d : Data) (s : Statement) → SpellsStatement d s → statement_depth s ≤ l → StatementInRange s → r ≡ m + statement_nodes s → read r d ≡ Ok (s, m)) where
-  pub statements_read : (i r m : ℕ) (ds : Items) (b : Block) → SpellsStatements ds b → block_depth b ≤ l → BlockInRange b → r ≡ m + block_nodes b → statements_from read i r ds ≡ Ok (b, m)
+    (reads : (r m : ℕ) (d : Data) (s : Statement) → SpellsStatement d s → statement_depth s ≤ l → StatementInRange s → r ≡ m + statement_nodes s
+    → read r d ≡ Ok (s, m)) where
+  pub statements_read : (i r m : ℕ) (ds : Items) (b : Block) → SpellsStatements ds b → block_depth b ≤ l → BlockInRange b → r ≡ m + block_nodes b
+      → statements_from read i r ds ≡ Ok (b, m)
   unfolding statements_from
   statements_read i r m ds End is f g h =
       let room : r ≡ m = omega arith in
@@ -32,21 +35,27 @@ module _ (l : ℕ) (read : ℕ → Data → Read Statement)
       let others = statements_read (suc i) (m + block_nodes b) m rest b u (omega arith) g.1 refl in
       rw (is, first) (rw others refl)
 
-  pub block_reads : (r m : ℕ) (ds : Items) (b : Block) → SpellsStatements ds b → block_depth b ≤ l → BlockInRange b → r ≡ m + block_nodes b → block_by read r (array ds) ≡ Ok (b, m)
+  pub block_reads : (r m : ℕ) (ds : Items) (b : Block) → SpellsStatements ds b → block_depth b ≤ l → BlockInRange b → r ≡ m + block_nodes b
+      → block_by read r (array ds) ≡ Ok (b, m)
   unfolding block_by
   block_reads r m ds b s f g h = statements_read 0 r m ds b s f g h
 
   named : (r : ℕ) (w : List ℕ) (parts : List Data) (x : StmtWord) → w ≡ statement_text x
-      → statement_array (expression_at l) (condition_at l) (block_by read) r (worded (spelled w parts)) ≡ statement_named (expression_at l) (condition_at l) (block_by read) r (Some x) (items_of parts)
-  named r w parts x h = ap (λ (o : Option StmtWord). statement_named (expression_at l) (condition_at l) (block_by read) r o (items_of parts)) (ap statement_word h ∙ statement_word-text x)
+      → statement_array (expression_at l) (condition_at l) (block_by read) r (worded (spelled w parts))
+      ≡ statement_named (expression_at l) (condition_at l) (block_by read) r (Some x) (items_of parts)
+  named r w parts x h = ap (λ (o : Option StmtWord). statement_named (expression_at l) (condition_at l) (block_by read) r o (items_of parts))
+      (ap statement_word h ∙ statement_word-text x)
 
   opened : (r : ℕ) (d : Data) (w : List ℕ) (parts : List Data) (x : StmtWord) → d ≡ spelled w parts → w ≡ statement_text x
-      → statement_array (expression_at l) (condition_at l) (block_by read) r (worded d) ≡ statement_named (expression_at l) (condition_at l) (block_by read) r (Some x) (items_of parts)
+      → statement_array (expression_at l) (condition_at l) (block_by read) r (worded d)
+      ≡ statement_named (expression_at l) (condition_at l) (block_by read) r (Some x) (items_of parts)
   opened r d w parts x is h = ap (λ (e : Data). statement_array (expression_at l) (condition_at l) (block_by read) r (worded e)) is ∙ named r w parts x h
 
-  simple_reads : (o : Simple) (r m : ℕ) (d a : Data) (e : Expression) → d ≡ spelled (simple_text o) (a ∷ []) → SpellsExpression a e → expression_depth e ≤ l → ExpressionInRange e → r ≡ m + expression_nodes e
+  simple_reads : (o : Simple) (r m : ℕ) (d a : Data) (e : Expression) → d ≡ spelled (simple_text o) (a ∷ []) → SpellsExpression a e → expression_depth e ≤ l
+      → ExpressionInRange e → r ≡ m + expression_nodes e
       → statement_array (expression_at l) (condition_at l) (block_by read) r (worded d) ≡ Ok (simple_of o e, m)
-  simple_reads o r m d a e is s f g h = opened r d (simple_text o) (a ∷ []) (word.Simple o) is refl ∙ one_part-reads (expression_at l) (simple_of o) r m a e (expression_reads l r m a e s f g h)
+  simple_reads o r m d a e is s f g h = opened r d (simple_text o) (a ∷ []) (word.Simple o) is refl
+      ∙ one_part-reads (expression_at l) (simple_of o) r m a e (expression_reads l r m a e s f g h)
 
   array_reads : (r m : ℕ) (d : Data) (s : Statement) → SpellsStatement d s → statement_depth s ≤ suc l → StatementInRange s → suc r ≡ m + statement_nodes s
       → statement_array (expression_at l) (condition_at l) (block_by read) r (worded d) ≡ Ok (s, m)
@@ -74,7 +83,8 @@ module _ (l : ℕ) (read : ℕ → Data → Read Statement)
   array_reads r m d (Emit e) (a, is, s) f g h = simple_reads simple.Emit r m d a e is s (omega arith) g (omega arith)
   array_reads r m d (Abort e) (a, is, s) f g h = simple_reads simple.Abort r m d a e is s (omega arith) g (omega arith)
 
-pub statement_reads : (l r m : ℕ) (d : Data) (s : Statement) → SpellsStatement d s → statement_depth s ≤ l → StatementInRange s → r ≡ m + statement_nodes s → statement_at l r d ≡ Ok (s, m)
+pub statement_reads : (l r m : ℕ) (d : Data) (s : Statement) → SpellsStatement d s → statement_depth s ≤ l → StatementInRange s → r ≡ m + statement_nodes s
+    → statement_at l r d ≡ Ok (s, m)
 unfolding statement_at
 statement_reads zero r m d s t f g h = absurd (omega (arith, statement_depth-positive s))
 statement_reads (suc l) zero m d s t f g h = absurd (omega (arith, statement_nodes-positive s))

@@ -10,9 +10,11 @@ use Rattle.stm_program.specs.Syntax.{Statement, Block, Then, of_statements}
 use Rattle.stm_program.specs.Words.{statement_word}
 use Rattle.stm_json.specs.Outcome.{Outcome, ◌>>=◌}
 use Rattle.stm_json.specs.Elements.{worded, number_up_to}
-use Rattle.stm_program.specs.Reading.{Read, simple_of, statement_named, statement_array, statements_from, block_by, expression_at, condition_at, statement_at, program_of}
+use Rattle.stm_program.specs.Reading.{Read, simple_of, statement_named, statement_array, statements_from, block_by, expression_at, condition_at, statement_at}
+use Rattle.stm_program.specs.Reading.{program_of}
 use Rattle.stm_program.specs.FirstFault.{Mark, wrong, at, first_of_marks, number_marks, first_fault}
-use Rattle.stm_program.proofs.ReaderMarks.{expression_marks, condition_marks, statement_of_one, statement_of_two, statement_of_three, statement_of_four, statement_inner, statement_marks, block_marks, statements_marks}
+use Rattle.stm_program.proofs.ReaderMarks.{expression_marks, condition_marks, statement_of_one, statement_of_two, statement_of_three, statement_of_four}
+use Rattle.stm_program.proofs.ReaderMarks.{statement_inner, statement_marks, block_marks, statements_marks}
 use Rattle.stm_program.proofs.TableMarks.{block_is}
 use Rattle.stm_program.proofs.MarkLemmas.{after, wrong_is, too_deep, too_many, one_node, number_marked, part_then, number_then, behind, made}
 use Rattle.stm_program.proofs.ExpressionMarks.{one_marked, expression_marked}
@@ -20,7 +22,8 @@ use Rattle.stm_program.proofs.ConditionMarks.{condition_marked}
 
 module _ (l k : ℕ) (depth : l + suc k ≡ 33) (read : ℕ → Data → Read Statement)
     (sub : (q : List ℕ) (s : ℕ) (d : Data) (next : List Mark) → first_of_marks s (statement_marks (suc k) q d ++ next) ≡ after q (read s d) next) where
-  statements_marked : (p : List ℕ) (i r : ℕ) (ds : Items) (rest : List Mark) → first_of_marks r (statements_marks (suc k) p i ds ++ rest) ≡ after p (statements_from read i r ds) rest
+  statements_marked : (p : List ℕ) (i r : ℕ) (ds : Items) (rest : List Mark)
+      → first_of_marks r (statements_marks (suc k) p i ds ++ rest) ≡ after p (statements_from read i r ds) rest
   unfolding statements_from
   statements_marked p i r no_items rest = refl
   statements_marked p i r (item d ds) rest =
@@ -43,13 +46,15 @@ module _ (l k : ℕ) (depth : l + suc k ≡ 33) (read : ℕ → Data → Read St
   none_marked p r (Some (word.Simple s)) rest = wrong_is p Shape r rest
 
   of_one : (p : List ℕ) (r : ℕ) (o : Option StmtWord) (a : Data) (rest : List Mark)
-      → first_of_marks r (statement_of_one p o (expression_marks (suc k) (at p 1) a) ++ rest) ≡ after p (statement_named (expression_at l) (condition_at l) (block_by read) r o (item a no_items)) rest
+      → first_of_marks r (statement_of_one p o (expression_marks (suc k) (at p 1) a) ++ rest)
+      ≡ after p (statement_named (expression_at l) (condition_at l) (block_by read) r o (item a no_items)) rest
   of_one p r None a rest = wrong_is p Shape r rest
   of_one p r (Some word.Set) a rest = wrong_is p Shape r rest
   of_one p r (Some word.Put) a rest = wrong_is p Shape r rest
   of_one p r (Some word.If) a rest = wrong_is p Shape r rest
   of_one p r (Some word.For) a rest = wrong_is p Shape r rest
-  of_one p r (Some (word.Simple s)) a rest = one_marked (expression_at l) (expression_marks (suc k)) (simple_of s) p r a rest (expression_marked l (suc k) depth)
+  of_one p r (Some (word.Simple s)) a rest = one_marked (expression_at l) (expression_marks (suc k)) (simple_of s) p r a rest
+      (expression_marked l (suc k) depth)
 
   of_two : (p : List ℕ) (r : ℕ) (o : Option StmtWord) (a b : Data) (rest : List Mark)
       → first_of_marks r (statement_of_two p o (number_marks (at p 1) 15 a ++ expression_marks (suc k) (at p 2) b) ++ rest)
@@ -57,7 +62,8 @@ module _ (l k : ℕ) (depth : l + suc k ≡ 33) (read : ℕ → Data → Read St
   of_two p r None a b rest = wrong_is p Shape r rest
   of_two p r (Some word.Set) a b rest =
       behind r (number_marks (at p 1) 15 a) (expression_marks (suc k) (at p 2) b) rest
-      ∙ number_then p 1 r (number_up_to 15 a) _ _ (expression_marks (suc k) (at p 2) b ++ rest) rest (number_marked (at p 1) 15 r a (expression_marks (suc k) (at p 2) b ++ rest) (lit< tt))
+      ∙ number_then p 1 r (number_up_to 15 a) _ _ (expression_marks (suc k) (at p 2) b ++ rest) rest
+      (number_marked (at p 1) 15 r a (expression_marks (suc k) (at p 2) b ++ rest) (lit< tt))
       (λ v e. part_then p 2 (expression_at l r b) _ _ rest rest (expression_marked l (suc k) depth (at p 2) r b rest) (λ x f. refl))
   of_two p r (Some word.Put) a b rest = wrong_is p Shape r rest
   of_two p r (Some word.If) a b rest = wrong_is p Shape r rest
@@ -74,14 +80,17 @@ module _ (l k : ℕ) (depth : l + suc k ≡ 33) (read : ℕ → Data → Read St
   of_three p r (Some word.Put) a b c rest =
       let ms = number_marks (at p 3) 9223372036854775807 c in
       behind r (expression_marks (suc k) (at p 1) a) (expression_marks (suc k) (at p 2) b ++ ms) rest
-      ∙ part_then p 1 (expression_at l r a) _ _ ((expression_marks (suc k) (at p 2) b ++ ms) ++ rest) rest (expression_marked l (suc k) depth (at p 1) r a ((expression_marks (suc k) (at p 2) b ++ ms) ++ rest))
+      ∙ part_then p 1 (expression_at l r a) _ _ ((expression_marks (suc k) (at p 2) b ++ ms) ++ rest) rest
+      (expression_marked l (suc k) depth (at p 1) r a ((expression_marks (suc k) (at p 2) b ++ ms) ++ rest))
       (λ x e. behind x.1 (expression_marks (suc k) (at p 2) b) ms rest
       ∙ part_then p 2 (expression_at l x.1 b) _ _ (ms ++ rest) rest (expression_marked l (suc k) depth (at p 2) x.1 b (ms ++ rest))
-      (λ y f. number_then p 3 y.1 (number_up_to 9223372036854775807 c) _ _ rest rest (number_marked (at p 3) 9223372036854775807 y.1 c rest (lit< tt)) (λ n g. refl)))
+      (λ y f. number_then p 3 y.1 (number_up_to 9223372036854775807 c) _ _ rest rest (number_marked (at p 3) 9223372036854775807 y.1 c rest (lit< tt))
+      (λ n g. refl)))
   of_three p r (Some word.If) a b c rest =
       let ms = block_marks (suc k) (at p 3) c in
       behind r (condition_marks (suc k) (at p 1) a) (block_marks (suc k) (at p 2) b ++ ms) rest
-      ∙ part_then p 1 (condition_at l r a) _ _ ((block_marks (suc k) (at p 2) b ++ ms) ++ rest) rest (condition_marked l (suc k) depth (at p 1) r a ((block_marks (suc k) (at p 2) b ++ ms) ++ rest))
+      ∙ part_then p 1 (condition_at l r a) _ _ ((block_marks (suc k) (at p 2) b ++ ms) ++ rest) rest
+      (condition_marked l (suc k) depth (at p 1) r a ((block_marks (suc k) (at p 2) b ++ ms) ++ rest))
       (λ x e. behind x.1 (block_marks (suc k) (at p 2) b) ms rest
       ∙ part_then p 2 (block_by read x.1 b) _ _ (ms ++ rest) rest (block_marked (at p 2) x.1 b (ms ++ rest))
       (λ y f. part_then p 3 (block_by read y.1 c) _ _ rest rest (block_marked (at p 3) y.1 c rest) (λ z g. refl)))
@@ -110,7 +119,8 @@ module _ (l k : ℕ) (depth : l + suc k ≡ 33) (read : ℕ → Data → Read St
   of_four p r (Some (word.Simple s)) a b c f rest = wrong_is p Shape r rest
 
   of_more : (p : List ℕ) (r : ℕ) (o : Option StmtWord) (a b c f g : Data) (ds : Items) (rest : List Mark)
-      → first_of_marks r (wrong p Shape ++ rest) ≡ after p (statement_named (expression_at l) (condition_at l) (block_by read) r o (item a (item b (item c (item f (item g ds)))))) rest
+      → first_of_marks r (wrong p Shape ++ rest) ≡ after p (statement_named (expression_at l) (condition_at l) (block_by read) r o
+      (item a (item b (item c (item f (item g ds)))))) rest
   of_more p r None a b c f g ds rest = wrong_is p Shape r rest
   of_more p r (Some word.Set) a b c f g ds rest = wrong_is p Shape r rest
   of_more p r (Some word.Put) a b c f g ds rest = wrong_is p Shape r rest
@@ -128,7 +138,8 @@ module _ (l k : ℕ) (depth : l + suc k ≡ 33) (read : ℕ → Data → Read St
   inner_marked p r (array (item (string w) (item a (item b (item c (item f (item g ds))))))) rest = of_more p r (statement_word w) a b c f g ds rest
   inner_marked p r _ rest = wrong_is p Shape r rest
 
-pub statement_marked : (l k : ℕ) → l + k ≡ 33 → (p : List ℕ) (r : ℕ) (d : Data) (rest : List Mark) → first_of_marks r (statement_marks k p d ++ rest) ≡ after p (statement_at l r d) rest
+pub statement_marked : (l k : ℕ) → l + k ≡ 33 → (p : List ℕ) (r : ℕ) (d : Data) (rest : List Mark)
+    → first_of_marks r (statement_marks k p d ++ rest) ≡ after p (statement_at l r d) rest
 unfolding statement_at
 statement_marked zero k h p r d rest = too_deep k r p (statement_inner k p d) rest (omega arith)
 statement_marked (suc l) k h p zero d rest = too_many k p (statement_inner k p d) rest (omega arith)

@@ -12,7 +12,8 @@ use Rattle.stm_program.specs.Words.{statement_word}
 use Rattle.stm_program.specs.WordTexts.{simple_text}
 use Rattle.stm_json.specs.Outcome.{within}
 use Rattle.stm_json.specs.Elements.{worded, one_of, two_of, three_of, four_of, number_up_to}
-use Rattle.stm_program.specs.Reading.{Read, simple_of, set_of, put_of, if_of, for_of, statement_named, statement_array, statements_from, block_by, expression_at, condition_at, statement_at}
+use Rattle.stm_program.specs.Reading.{Read, simple_of, set_of, put_of, if_of, for_of, statement_named, statement_array, statements_from, block_by}
+use Rattle.stm_program.specs.Reading.{expression_at, condition_at, statement_at}
 use Rattle.stm_program.specs.Grammar.{spelled, SpellsExpression, SpellsStatement, SpellsStatements, SpellsProgram}
 use Rattle.stm_json.proofs.OutcomeLemmas.{bind_ok, within_ok}
 use Rattle.stm_program.proofs.OutcomeLemmas.{one_part_ok}
@@ -73,7 +74,12 @@ module _ (l : ℕ) (read : ℕ → Data → Read Statement) (sound : (r : ℕ) (
       subst (λ (z : Block × ℕ). StatementsRead l r (item d ds) z) (sym is)
       record {
         spelled = (d, ds, refl, s.spelled, b.spelled);
-        fits = record { depth = omega (arith, s.fits.depth, b.fits.depth); nodes = omega (arith, s.left, b.fits.nodes); ranges = (s.fits.ranges, b.fits.ranges) };
+        fits = record {
+          depth = omega (arith, s.fits.depth, b.fits.depth);
+          nodes = omega (arith, s.left, b.fits.nodes);
+          ranges =
+              (s.fits.ranges, b.fits.ranges);
+        };
         left = omega (arith, s.left, b.left);
       }
 
@@ -114,7 +120,8 @@ module _ (l : ℕ) (read : ℕ → Data → Read Statement) (sound : (r : ℕ) (
         left = omega (arith, f.left);
       }
 
-  put_sound : (r : ℕ) (d : Data) (p : List ℕ × Items) (o : Option (Data × Data × Data)) (y : Statement × ℕ) → worded d ≡ Some p → p.0 ≡ codes "put" → three_of p.1 ≡ o
+  put_sound : (r : ℕ) (d : Data) (p : List ℕ × Items) (o : Option (Data × Data × Data)) (y : Statement × ℕ) → worded d ≡ Some p → p.0 ≡ codes "put"
+      → three_of p.1 ≡ o
       → put_of (expression_at l) r o ≡ Ok y → StatementRead (suc l) (suc r) d y
   put_sound r d p None y w t e h = cc
   put_sound r d p (Some a) y w t e h =
@@ -128,11 +135,17 @@ module _ (l : ℕ) (read : ℕ → Data → Read Statement) (sound : (r : ℕ) (
       along (suc l) (suc r) d (Put k.0.0 x.0.0 m.0, x.0.1) y is
       record {
         spelled = (a.0, a.1, a.2, words_and d p (codes "put") (a.0 ∷ a.1 ∷ a.2 ∷ []) w t (three_of-is p.1 a e), g.spelled, f.spelled, n.0);
-        fits = record { depth = omega (arith, g.fits.depth, f.fits.depth); nodes = omega (arith, g.left, f.fits.nodes); ranges = (g.fits.ranges, f.fits.ranges, n.1) };
+        fits = record {
+          depth = omega (arith, g.fits.depth, f.fits.depth);
+          nodes = omega (arith, g.left, f.fits.nodes);
+          ranges =
+              (g.fits.ranges, f.fits.ranges, n.1);
+        };
         left = omega (arith, g.left, f.left);
       }
 
-  if_sound : (r : ℕ) (d : Data) (p : List ℕ × Items) (o : Option (Data × Data × Data)) (y : Statement × ℕ) → worded d ≡ Some p → p.0 ≡ codes "if" → three_of p.1 ≡ o
+  if_sound : (r : ℕ) (d : Data) (p : List ℕ × Items) (o : Option (Data × Data × Data)) (y : Statement × ℕ) → worded d ≡ Some p → p.0 ≡ codes "if"
+      → three_of p.1 ≡ o
       → if_of (condition_at l) (block_by read) r o ≡ Ok y → StatementRead (suc l) (suc r) d y
   if_sound r d p None y w t e h = cc
   if_sound r d p (Some a) y w t e h =
@@ -149,7 +162,8 @@ module _ (l : ℕ) (read : ℕ → Data → Read Statement) (sound : (r : ℕ) (
           a.0,
           b.items,
           c.items,
-          words_and d p (codes "if") (a.0 ∷ a.1 ∷ a.2 ∷ []) w t (three_of-is p.1 a e) ∙ ap (λ (f : Data). spelled (codes "if") (a.0 ∷ f ∷ a.2 ∷ [])) b.is ∙ ap (λ (f : Data). spelled (codes "if") (a.0 ∷ array b.items ∷ f ∷ [])) c.is,
+          words_and d p (codes "if") (a.0 ∷ a.1 ∷ a.2 ∷ []) w t (three_of-is p.1 a e) ∙ ap (λ (f : Data). spelled (codes "if") (a.0 ∷ f ∷ a.2 ∷ [])) b.is
+              ∙ ap (λ (f : Data). spelled (codes "if") (a.0 ∷ array b.items ∷ f ∷ [])) c.is,
           g.spelled,
           b.read.spelled,
           c.read.spelled,
@@ -162,7 +176,8 @@ module _ (l : ℕ) (read : ℕ → Data → Read Statement) (sound : (r : ℕ) (
         left = omega (arith, g.left, b.read.left, c.read.left);
       }
 
-  for_sound : (r : ℕ) (d : Data) (p : List ℕ × Items) (o : Option (Data × Data × Data × Data)) (y : Statement × ℕ) → worded d ≡ Some p → p.0 ≡ codes "for" → four_of p.1 ≡ o
+  for_sound : (r : ℕ) (d : Data) (p : List ℕ × Items) (o : Option (Data × Data × Data × Data)) (y : Statement × ℕ) → worded d ≡ Some p → p.0 ≡ codes "for"
+      → four_of p.1 ≡ o
       → for_of (expression_at l) (block_by read) r o ≡ Ok y → StatementRead (suc l) (suc r) d y
   for_sound r d p None y w t e h = cc
   for_sound r d p (Some a) y w t e h =
@@ -182,7 +197,8 @@ module _ (l : ℕ) (read : ℕ → Data → Read Statement) (sound : (r : ℕ) (
           a.1,
           a.2,
           b.items,
-          words_and d p (codes "for") (a.0 ∷ a.1 ∷ a.2 ∷ a.3 ∷ []) w t (four_of-is p.1 a e) ∙ ap (λ (g : Data). spelled (codes "for") (a.0 ∷ a.1 ∷ a.2 ∷ g ∷ [])) b.is,
+          words_and d p (codes "for") (a.0 ∷ a.1 ∷ a.2 ∷ a.3 ∷ []) w t (four_of-is p.1 a e)
+              ∙ ap (λ (g : Data). spelled (codes "for") (a.0 ∷ a.1 ∷ a.2 ∷ g ∷ [])) b.is,
           n.0,
           f.spelled,
           k.0,

@@ -1,5 +1,6 @@
 -- A table of the last write of each key, to which writes are added in turn.
-use Rattle.std.proofs.Common.{◌≡◌, List, [], ◌∷◌, ◌++◌, ℕ, suc, ◌+◌, ◌<◌, Bool, true, false, cond, map, length, take, get_or, refl, sym, ◌∙◌, ap, subst, arith, Bor}
+use Rattle.std.proofs.Common.{◌≡◌, List, [], ◌∷◌, ◌++◌, ℕ, suc, ◌+◌, ◌<◌, Bool, true, false, cond, map, length, take, get_or, refl, sym, ◌∙◌, ap, subst}
+use Rattle.std.proofs.Common.{arith, Bor}
 use Rattle.std.specs.Prelude.{bytes_eq}
 use Rattle.std.specs.Map.{values_of}
 use Rattle.std.proofs.Math.Seq.{take-suc}
@@ -64,5 +65,6 @@ has_more ws i w k v es fs below at shows is_key inserted so_far =
     subst (λ gs. HasLatest gs (take (i + 1) ws)) (sym inserted) (record {
       keyed = keyed-inserted es k v is_key so_far.keyed;
       latest =
-          writes-inserted es k v is_key so_far.keyed ∙ ap (with_write v.now) so_far.latest ∙ sym (latest_writes-more (take i ws) v.now) ∙ ap latest_writes (sym taken);
+          writes-inserted es k v is_key so_far.keyed ∙ ap (with_write v.now) so_far.latest ∙ sym (latest_writes-more (take i ws) v.now)
+          ∙ ap latest_writes (sym taken);
     })

@@ -16,8 +16,11 @@ use Rattle.stm_program.specs.declared.words.Comparison.TheVariants as comparison
 use Rattle.stm_program.specs.declared.words.Connective.TheVariants as connective
 use Rattle.stm_program.specs.declared.words.Simple.TheVariants as simple
 use Rattle.stm_program.specs.Words.{same, expression_word, condition_word, statement_word}
-use Rattle.stm_program.specs.FirstFault.{Mark, Node, Sort, Value, Test, Step, Block, Count, wrong, at, number_marks, parts_behind, marks_if, marks_in, marks_of_parts, marks_of_steps}
-use Rattle.stm_program.proofs.ReaderMarks.{expression_of_one, expression_of_two, expression_inner, condition_of_one, condition_of_two, condition_inner, statement_of_one, statement_of_two, statement_of_three, statement_of_four, statement_inner, block_marks, statements_marks}
+use Rattle.stm_program.specs.FirstFault.{Mark, Node, Sort, Value, Test, Step, Block, Count, wrong, at, number_marks, parts_behind, marks_if, marks_in}
+use Rattle.stm_program.specs.FirstFault.{marks_of_parts, marks_of_steps}
+use Rattle.stm_program.proofs.ReaderMarks.{expression_of_one, expression_of_two, expression_inner, condition_of_one, condition_of_two, condition_inner}
+use Rattle.stm_program.proofs.ReaderMarks.{statement_of_one, statement_of_two, statement_of_three, statement_of_four, statement_inner, block_marks}
+use Rattle.stm_program.proofs.ReaderMarks.{statements_marks}
 
 -- what the first of these tests that holds picks
 abbrev pick : {A : Type 0} → List Bool → List A → A → A
@@ -93,7 +96,8 @@ value_none k p (Some (expression.Unary u)) = refl
 value_none k p (Some (expression.Binary b)) = refl
 
 value_one : (k : ℕ) (p : List ℕ) (o : Option ExprWord) (a : Data) → marks_in Value (suc k) (at p 1) a ≡ expression_inner (suc k) (at p 1) a →
-    marks_if p (expression_parts o) (item a no_items) (λ ss. marks_of_parts k p 1 ss (item a no_items)) ≡ expression_of_one p o a (Node (suc k) (at p 1) ∷ expression_inner (suc k) (at p 1) a)
+    marks_if p (expression_parts o) (item a no_items) (λ ss. marks_of_parts k p 1 ss (item a no_items))
+    ≡ expression_of_one p o a (Node (suc k) (at p 1) ∷ expression_inner (suc k) (at p 1) a)
 value_one k p None a e = refl
 value_one k p (Some expression.Var) a e = append-nil (number_marks (at p 1) 15 a)
 value_one k p (Some (expression.Unary u)) a e = append-nil (Node (suc k) (at p 1) ∷ marks_in Value (suc k) (at p 1) a) ∙ ap (λ ms. Node (suc k) (at p 1) ∷ ms) e
@@ -156,7 +160,8 @@ test_none k p (Some condition.Not) = refl
 test_none k p (Some (condition.Connective c)) = refl
 
 test_one : (k : ℕ) (p : List ℕ) (o : Option CondWord) (a : Data) → marks_in Test (suc k) (at p 1) a ≡ condition_inner (suc k) (at p 1) a →
-    marks_if p (condition_parts o) (item a no_items) (λ ss. marks_of_parts k p 1 ss (item a no_items)) ≡ condition_of_one p o (Node (suc k) (at p 1) ∷ condition_inner (suc k) (at p 1) a)
+    marks_if p (condition_parts o) (item a no_items) (λ ss. marks_of_parts k p 1 ss (item a no_items))
+    ≡ condition_of_one p o (Node (suc k) (at p 1) ∷ condition_inner (suc k) (at p 1) a)
 test_one k p None a e = refl
 test_one k p (Some (condition.Comparison c)) a e = refl
 test_one k p (Some condition.Not) a e = last (suc k) (at p 1) _ _ e
@@ -202,7 +207,8 @@ step_none k p (Some statement.For) = refl
 step_none k p (Some (statement.Simple s)) = refl
 
 step_one : (k : ℕ) (p : List ℕ) (o : Option StmtWord) (a : Data) →
-    marks_if p (statement_parts o) (item a no_items) (λ ss. marks_of_parts k p 1 ss (item a no_items)) ≡ statement_of_one p o (Node (suc k) (at p 1) ∷ expression_inner (suc k) (at p 1) a)
+    marks_if p (statement_parts o) (item a no_items) (λ ss. marks_of_parts k p 1 ss (item a no_items))
+    ≡ statement_of_one p o (Node (suc k) (at p 1) ∷ expression_inner (suc k) (at p 1) a)
 step_one k p None a = refl
 step_one k p (Some statement.Set) a = refl
 step_one k p (Some statement.Put) a = refl
@@ -224,7 +230,8 @@ step_three : (k : ℕ) (p : List ℕ) (o : Option StmtWord) (a b c : Data) →
     marks_in Block (suc k) (at p 2) b ≡ block_marks (suc k) (at p 2) b → marks_in Block (suc k) (at p 3) c ≡ block_marks (suc k) (at p 3) c →
     marks_if p (statement_parts o) (item a (item b (item c no_items))) (λ ss. marks_of_parts k p 1 ss (item a (item b (item c no_items))))
     ≡ statement_of_three p o
-    ((Node (suc k) (at p 1) ∷ expression_inner (suc k) (at p 1) a) ++ ((Node (suc k) (at p 2) ∷ expression_inner (suc k) (at p 2) b) ++ number_marks (at p 3) 9223372036854775807 c))
+    ((Node (suc k) (at p 1) ∷ expression_inner (suc k) (at p 1) a) ++
+    ((Node (suc k) (at p 2) ∷ expression_inner (suc k) (at p 2) b) ++ number_marks (at p 3) 9223372036854775807 c))
     ((Node (suc k) (at p 1) ∷ condition_inner (suc k) (at p 1) a) ++ (block_marks (suc k) (at p 2) b ++ block_marks (suc k) (at p 3) c))
 step_three k p None a b c e f = refl
 step_three k p (Some statement.Set) a b c e f = refl
@@ -239,7 +246,8 @@ step_three k p (Some (statement.Simple s)) a b c e f = refl
 step_four : (k : ℕ) (p : List ℕ) (o : Option StmtWord) (a b c d : Data) → marks_in Block (suc k) (at p 4) d ≡ block_marks (suc k) (at p 4) d →
     marks_if p (statement_parts o) (item a (item b (item c (item d no_items)))) (λ ss. marks_of_parts k p 1 ss (item a (item b (item c (item d no_items)))))
     ≡ statement_of_four p o
-    (number_marks (at p 1) 15 a ++ ((Node (suc k) (at p 2) ∷ expression_inner (suc k) (at p 2) b) ++ (number_marks (at p 3) 1000 c ++ block_marks (suc k) (at p 4) d)))
+    (number_marks (at p 1) 15 a ++ ((Node (suc k) (at p 2) ∷ expression_inner (suc k) (at p 2) b) ++
+    (number_marks (at p 3) 1000 c ++ block_marks (suc k) (at p 4) d)))
 step_four k p None a b c d e = refl
 step_four k p (Some statement.Set) a b c d e = refl
 step_four k p (Some statement.Put) a b c d e = refl
@@ -251,7 +259,8 @@ step_four k p (Some statement.For) a b c d e =
 step_four k p (Some (statement.Simple s)) a b c d e = refl
 
 step_more : (k : ℕ) (p : List ℕ) (o : Option StmtWord) (a b c d f : Data) (ds : Items) →
-    marks_if p (statement_parts o) (item a (item b (item c (item d (item f ds))))) (λ ss. marks_of_parts k p 1 ss (item a (item b (item c (item d (item f ds)))))) ≡ wrong p Shape
+    marks_if p (statement_parts o) (item a (item b (item c (item d (item f ds)))))
+    (λ ss. marks_of_parts k p 1 ss (item a (item b (item c (item d (item f ds)))))) ≡ wrong p Shape
 step_more k p None a b c d f ds = refl
 step_more k p (Some statement.Set) a b c d f ds = refl
 step_more k p (Some statement.Put) a b c d f ds = refl
@@ -263,7 +272,8 @@ mutual
   step_is : (k : ℕ) (p : List ℕ) (d : Data) → marks_in Step k p d ≡ statement_inner k p d
   step_is k p (array (item (string w) no_items)) = by_table k p no_items _ _ (statement_table w) ∙ step_none k p (statement_word w)
   step_is k p (array (item (string w) (item a no_items))) = by_table k p (item a no_items) _ _ (statement_table w) ∙ step_one k p (statement_word w) a
-  step_is k p (array (item (string w) (item a (item b no_items)))) = by_table k p (item a (item b no_items)) _ _ (statement_table w) ∙ step_two k p (statement_word w) a b
+  step_is k p (array (item (string w) (item a (item b no_items)))) = by_table k p (item a (item b no_items)) _ _ (statement_table w)
+      ∙ step_two k p (statement_word w) a b
   step_is k p (array (item (string w) (item a (item b (item c no_items))))) =
       by_table k p (item a (item b (item c no_items))) _ _ (statement_table w)
       ∙ step_three k p (statement_word w) a b c (block_is (suc k) (at p 2) b) (block_is (suc k) (at p 3) c)

@@ -17,13 +17,15 @@ use Rattle.stm_program.specs.Words.{same, expression_word, condition_word, state
 use Rattle.stm_program.specs.WordTexts.{expression_text, condition_text, statement_text}
 
 -- the answer of one test, or of the tests behind it
-chosen_by : {W : Type 0} (text : W → List ℕ) (w t : List ℕ) (b : Bool) (y x : W) (rest : Option W) → (b ≡ true → w ≡ t) → text y ≡ t → (rest ≡ Some x → w ≡ text x) → cond b (Some y) rest ≡ Some x → w ≡ text x
+chosen_by : {W : Type 0} (text : W → List ℕ) (w t : List ℕ) (b : Bool) (y x : W) (rest : Option W) → (b ≡ true → w ≡ t) → text y ≡ t
+    → (rest ≡ Some x → w ≡ text x) → cond b (Some y) rest ≡ Some x → w ≡ text x
 chosen_by text w t true y x rest found named others h =
     let e : y ≡ x = cc in
     found refl ∙ sym named ∙ ap text e
 chosen_by text w t false y x rest found named others h = others h
 
-chosen : {W : Type 0} (text : W → List ℕ) (w t : List ℕ) (y x : W) (rest : Option W) → text y ≡ t → (rest ≡ Some x → w ≡ text x) → cond (same w t) (Some y) rest ≡ Some x → w ≡ text x
+chosen : {W : Type 0} (text : W → List ℕ) (w t : List ℕ) (y x : W) (rest : Option W) → text y ≡ t → (rest ≡ Some x → w ≡ text x)
+    → cond (same w t) (Some y) rest ≡ Some x → w ≡ text x
 chosen text w t y x rest named others h = chosen_by text w t (same w t) y x rest (bytes_eq-Decides w t).0 named others h
 
 pub expression_word-is : (w : List ℕ) (x : ExprWord) → expression_word w ≡ Some x → w ≡ expression_text x

@@ -35,12 +35,14 @@ variable_out_of_range = refl
 
 -- two faults inside one statement, of which the first element's is answered: [["put",["nope"],["get"],9223372036854775808]]
 pub first_element_first : first_fault (array (item (spelled (codes "put")
-    (array (item (string (codes "nope")) no_items) ∷ array (item (string (codes "get")) no_items) ∷ number (unsigned (suc 9223372036854775807)) ∷ [])) no_items))
+    (array (item (string (codes "nope")) no_items) ∷ array (item (string (codes "get")) no_items) ∷ number (unsigned (suc 9223372036854775807)) ∷
+    [])) no_items))
     ≡ fault_at (codes "/0/1") Shape
 unfolding first_fault parts_behind digits
 first_element_first = refl
 
 -- a word with an element too many is a fault of the whole array: [["emit",1,2]]
-pub element_too_many : first_fault (array (item (spelled (codes "emit") (number (unsigned 1) ∷ number (unsigned 2) ∷ [])) no_items)) ≡ fault_at (codes "/0") Shape
+pub element_too_many : first_fault (array (item (spelled (codes "emit") (number (unsigned 1) ∷ number (unsigned 2) ∷ [])) no_items))
+    ≡ fault_at (codes "/0") Shape
 unfolding first_fault parts_behind digits
 element_too_many = refl

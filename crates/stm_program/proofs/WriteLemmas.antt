@@ -64,7 +64,8 @@ find-append : (p : Write → Bool) (xs ys : List Write) → find p (xs ++ ys) �
 find-append p [] ys = refl
 find-append p (x ∷ xs) ys = by (p x) (find-append p xs ys)
   where
-    by : (b : Bool) → find p (xs ++ ys) ≡ or_else (find p xs) (find p ys) → cond b (Some x) (find p (xs ++ ys)) ≡ or_else (cond b (Some x) (find p xs)) (find p ys)
+    by : (b : Bool) → find p (xs ++ ys) ≡ or_else (find p xs) (find p ys)
+        → cond b (Some x) (find p (xs ++ ys)) ≡ or_else (cond b (Some x) (find p xs)) (find p ys)
     by true e = refl
     by false e = e
 

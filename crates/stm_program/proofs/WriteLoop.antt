@@ -31,11 +31,13 @@ pub goes_on : (vs ws : List Value) (ss : List Statement) (i : ℕ) (s : Statemen
     → view v ≡ written_statement s → ws ≡ vs ++ v ∷ [] → items_after (map view vs) (written_statements (block_of (drop i ss))) ≡ total
     → items_after (map view ws) (written_statements (block_of (drop (i + 1) ss))) ≡ total
 goes_on vs ws ss i s v total lt at w e so_far =
-    let one : items_after (map view vs) (written_statements (block_of (drop i ss))) ≡ items_after (map view vs) (item (written_statement s) (written_statements (block_of (drop (i + 1) ss)))) =
+    let one : items_after (map view vs) (written_statements (block_of (drop i ss)))
+    ≡ items_after (map view vs) (item (written_statement s) (written_statements (block_of (drop (i + 1) ss)))) =
     ap (λ (ts : List Statement). items_after (map view vs) (written_statements (block_of ts))) (one_more ss i s lt at) in
     rw (e, map_push view vs v, w) (items_after-snoc (map view vs) (written_statement s) (written_statements (block_of (drop (i + 1) ss))) ∙ sym one ∙ so_far)
 
-pub is_done : (vs : List Value) (ss : List Statement) (i : ℕ) (total : Items) → length ss ≤ i → items_after (map view vs) (written_statements (block_of (drop i ss))) ≡ total → items_view vs ≡ total
+pub is_done : (vs : List Value) (ss : List Statement) (i : ℕ) (total : Items) → length ss ≤ i
+    → items_after (map view vs) (written_statements (block_of (drop i ss))) ≡ total → items_view vs ≡ total
 is_done vs ss i total h so_far =
     let e = drop_all i ss h in
     sym (items_after-none (map view vs)) ∙ sym (ap (λ (ts : List Statement). items_after (map view vs) (written_statements (block_of ts))) e) ∙ so_far

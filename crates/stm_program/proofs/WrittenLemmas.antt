@@ -2,12 +2,14 @@
 use Rattle.std.proofs.Common.{◌≡◌, ℤ, pos, negsuc, Ok, refl, sym, ap, ◌∙◌, subst}
 use Rattle.serde_json.specs.Data.{Data, number, unsigned, negative}
 use Rattle.serde_json.specs.Find.{of_integer}
-use Rattle.stm_program.specs.Syntax.{Expression, Text, Number, Variable, Get, Rev, Arithmetic, Cat, TextOf, NumOf, Condition, Equal, Less, Not, And, Or, Statement, Set, Put, Del, If, For, Emit, Abort, Block, End, Then, ProgramTree}
+use Rattle.stm_program.specs.Syntax.{Expression, Text, Number, Variable, Get, Rev, Arithmetic, Cat, TextOf, NumOf, Condition, Equal, Less, Not, And, Or}
+use Rattle.stm_program.specs.Syntax.{Statement, Set, Put, Del, If, For, Emit, Abort, Block, End, Then, ProgramTree}
 use Rattle.stm_program.specs.Limits.{Fits}
 use Rattle.stm_program.specs.Grammar.{SpellsExpression, SpellsCondition, SpellsStatement, SpellsStatements, SpellsProgram}
 use Rattle.stm_json.specs.Elements.{SpellsNumber}
 use Rattle.stm_program.specs.Reading.{program_of}
-use Rattle.stm_program.specs.Writing.{written_number, written_expression, written_condition, written_statement, written_statements, written_program, written_block}
+use Rattle.stm_program.specs.Writing.{written_number, written_expression, written_condition, written_statement, written_statements, written_program}
+use Rattle.stm_program.specs.Writing.{written_block}
 use Rattle.stm_program.proofs.StatementComplete.{program_reads}
 
 number_spells : (z : ℤ) → SpellsNumber (number (of_integer z)) z
@@ -35,10 +37,31 @@ condition_spells (Or c d) = (written_condition c, written_condition d, refl, con
 mutual
   statement_spells : (s : Statement) → SpellsStatement (written_statement s) s
   statement_spells (Set v e) = (written_number v, written_expression e, refl, number_spells (pos v), expression_spells e)
-  statement_spells (Put k e l) = (written_expression k, written_expression e, written_number l, refl, expression_spells k, expression_spells e, number_spells (pos l))
+  statement_spells (Put k e l) = (
+    written_expression k,
+    written_expression e,
+    written_number l,
+    refl,
+    expression_spells k,
+    expression_spells e,
+    number_spells
+        (pos l),
+  )
   statement_spells (Del k) = (written_expression k, refl, expression_spells k)
-  statement_spells (If c t e) = (written_condition c, written_statements t, written_statements e, refl, condition_spells c, statements_spell t, statements_spell e)
-  statement_spells (For v e n b) = (written_number v, written_expression e, written_number n, written_statements b, refl, number_spells (pos v), expression_spells e, number_spells (pos n), statements_spell b)
+  statement_spells (If c t e) =
+      (written_condition c, written_statements t, written_statements e, refl, condition_spells c, statements_spell t, statements_spell e)
+  statement_spells (For v e n b) = (
+    written_number v,
+    written_expression e,
+    written_number n,
+    written_statements b,
+    refl,
+    number_spells
+        (pos v),
+    expression_spells e,
+    number_spells (pos n),
+    statements_spell b,
+  )
   statement_spells (Emit e) = (written_expression e, refl, expression_spells e)
   statement_spells (Abort e) = (written_expression e, refl, expression_spells e)
 

@@ -6,7 +6,8 @@ use Rattle.std.proofs.Common.{ap}
 use base.Stored.{Gv, gnil, gnum, gcons}
 use Rattle.stm_program.specs.declared.operator.Operator.{Operator}
 use Rattle.stm_program.specs.declared.operator.Operator.TheVariants.{Add, Sub, Mul, Div, Rem}
-use Rattle.stm_program.specs.Syntax.{Expression, Text, Number, Variable, Get, Rev, Arithmetic, Cat, TextOf, NumOf, Condition, Equal, Less, Not, And, Or, Statement, Set, Put, Del, If, For, Emit, Abort, Block, End, Then, ProgramTree, of_statements}
+use Rattle.stm_program.specs.Syntax.{Expression, Text, Number, Variable, Get, Rev, Arithmetic, Cat, TextOf, NumOf, Condition, Equal, Less, Not, And, Or}
+use Rattle.stm_program.specs.Syntax.{Statement, Set, Put, Del, If, For, Emit, Abort, Block, End, Then, ProgramTree, of_statements}
 
 abbrev pub coded_tree : Coded Gv
 coded_tree = record { code = λ g. g; inj = λ x y p. p }

@@ -1,6 +1,7 @@
 -- The first fault of data in a program's place, apart from reading: the marks of all the data in the order of reading, none
 -- left out behind a fault, and then the first of them that is a fault.
-use Rattle.std.specs.Prelude.{◌≡◌, ℕ, zero, suc, ℤ, pos, negsuc, Bool, true, false, bytes_eq, List, [], ◌∷◌, ◌++◌, length, Option, Some, None, nat_le, if◌then◌else◌, option_and_then, codes}
+use Rattle.std.specs.Prelude.{◌≡◌, ℕ, zero, suc, ℤ, pos, negsuc, Bool, true, false, bytes_eq, List, [], ◌∷◌, ◌++◌, length, Option, Some, None, nat_le}
+use Rattle.std.specs.Prelude.{if◌then◌else◌, option_and_then, codes}
 use Rattle.std.specs.Map.{lookup}
 use Rattle.serde_json.specs.Data.{Data, number, string, array, Items, no_items, item}
 use Rattle.serde_json.specs.Find.{as_number, as_integer}

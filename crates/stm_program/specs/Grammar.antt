@@ -5,7 +5,8 @@ use Rattle.serde_json.specs.View.{items_of}
 use Rattle.stm_json.specs.Elements.{SpellsNumber}
 use Rattle.stm_program.specs.declared.operator.Operator.{Operator}
 use Rattle.stm_program.specs.declared.operator.Operator.TheVariants.{Add, Sub, Mul, Div, Rem}
-use Rattle.stm_program.specs.Syntax.{Expression, Text, Number, Variable, Get, Rev, Arithmetic, Cat, TextOf, NumOf, Condition, Equal, Less, Not, And, Or, Statement, Set, Put, Del, If, For, Emit, Abort, Block, End, Then, ProgramTree}
+use Rattle.stm_program.specs.Syntax.{Expression, Text, Number, Variable, Get, Rev, Arithmetic, Cat, TextOf, NumOf, Condition, Equal, Less, Not, And, Or}
+use Rattle.stm_program.specs.Syntax.{Statement, Set, Put, Del, If, For, Emit, Abort, Block, End, Then, ProgramTree}
 
 -- an array of a word and the parts behind it
 abbrev pub spelled : List ℕ → List Data → Data
@@ -40,10 +41,13 @@ SpellsCondition d (Or l r) = (a : Data) × (b : Data) × (d ≡ spelled (codes "
 abbrev mutual
   pub SpellsStatement : Data → Statement → Type 0
   SpellsStatement d (Set v e) = (a : Data) × (b : Data) × (d ≡ spelled (codes "set") (a ∷ b ∷ [])) × SpellsNumber a (pos v) × SpellsExpression b e
-  SpellsStatement d (Put k e l) = (a : Data) × (b : Data) × (c : Data) × (d ≡ spelled (codes "put") (a ∷ b ∷ c ∷ [])) × SpellsExpression a k × SpellsExpression b e × SpellsNumber c (pos l)
+  SpellsStatement d (Put k e l) = (a : Data) × (b : Data) × (c : Data) × (d ≡ spelled (codes "put") (a ∷ b ∷ c ∷ [])) × SpellsExpression a k
+      × SpellsExpression b e × SpellsNumber c (pos l)
   SpellsStatement d (Del k) = (a : Data) × (d ≡ spelled (codes "del") (a ∷ [])) × SpellsExpression a k
-  SpellsStatement d (If i t e) = (a : Data) × (b : Items) × (c : Items) × (d ≡ spelled (codes "if") (a ∷ array b ∷ array c ∷ [])) × SpellsCondition a i × SpellsStatements b t × SpellsStatements c e
-  SpellsStatement d (For v e n s) = (a : Data) × (b : Data) × (c : Data) × (f : Items) × (d ≡ spelled (codes "for") (a ∷ b ∷ c ∷ array f ∷ [])) × SpellsNumber a (pos v) × SpellsExpression b e × SpellsNumber c (pos n) × SpellsStatements f s
+  SpellsStatement d (If i t e) = (a : Data) × (b : Items) × (c : Items) × (d ≡ spelled (codes "if") (a ∷ array b ∷ array c ∷ [])) × SpellsCondition a i
+      × SpellsStatements b t × SpellsStatements c e
+  SpellsStatement d (For v e n s) = (a : Data) × (b : Data) × (c : Data) × (f : Items) × (d ≡ spelled (codes "for") (a ∷ b ∷ c ∷ array f ∷ []))
+      × SpellsNumber a (pos v) × SpellsExpression b e × SpellsNumber c (pos n) × SpellsStatements f s
   SpellsStatement d (Emit e) = (a : Data) × (d ≡ spelled (codes "emit") (a ∷ [])) × SpellsExpression a e
   SpellsStatement d (Abort e) = (a : Data) × (d ≡ spelled (codes "abort") (a ∷ [])) × SpellsExpression a e
 

@@ -22,7 +22,8 @@ use Rattle.stm_program.specs.declared.words.StmtWord.TheVariants as statement
 use Rattle.stm_program.specs.declared.words.Simple.{Simple}
 use Rattle.stm_program.specs.declared.words.Simple.TheVariants as simple
 use Rattle.stm_program.specs.declared.limits.TheConstants.{MAX_DEPTH, MAX_NODES, MAX_TEXT, MAX_TURNS, MAX_LEASE}
-use Rattle.stm_program.specs.Syntax.{Expression, Text, Number, Variable, Get, Rev, Arithmetic, Cat, TextOf, NumOf, Condition, Equal, Less, Not, And, Or, Statement, Set, Put, Del, If, For, Emit, Abort, Block, End, Then, ProgramTree, of_statements}
+use Rattle.stm_program.specs.Syntax.{Expression, Text, Number, Variable, Get, Rev, Arithmetic, Cat, TextOf, NumOf, Condition, Equal, Less, Not, And, Or}
+use Rattle.stm_program.specs.Syntax.{Statement, Set, Put, Del, If, For, Emit, Abort, Block, End, Then, ProgramTree, of_statements}
 use Rattle.stm_program.specs.Words.{expression_word, condition_word, statement_word}
 use Rattle.stm_json.specs.Outcome.{Outcome, bad, ◌>>=◌, within}
 use Rattle.stm_json.specs.Elements.{worded, one_of, two_of, three_of, four_of, number_up_to, whole_number}
@@ -133,7 +134,8 @@ if_of condition block room (Some p) =
 abbrev pub for_of : (ℕ → Data → Read Expression) → (ℕ → Data → Read Block) → ℕ → Option (Data × Data × Data × Data) → Read Statement
 for_of expression block room None = bad Shape
 for_of expression block room (Some p) =
-    within 1 (number_up_to 15 p.0) >>= λ v. within 2 (expression room p.1) >>= λ e. within 3 (number_up_to MAX_TURNS p.2) >>= λ n. within 4 (block e.1 p.3) >>= λ b. Ok (For v e.0 n b.0, b.1)
+    within 1 (number_up_to 15 p.0) >>= λ v. within 2 (expression room p.1) >>= λ e. within 3 (number_up_to MAX_TURNS p.2) >>= λ n. within 4
+    (block e.1 p.3) >>= λ b. Ok (For v e.0 n b.0, b.1)
 
 abbrev pub statement_named : (ℕ → Data → Read Expression) → (ℕ → Data → Read Condition) → (ℕ → Data → Read Block) → ℕ → Option StmtWord → Items → Read Statement
 statement_named expression condition block room None ds = bad Shape

@@ -1,6 +1,7 @@
 -- How many nodes a tree has. An expression, a condition and a statement is a node.
 use Rattle.std.specs.Prelude.{ℕ, ◌+◌}
-use Rattle.stm_program.specs.Syntax.{Expression, Text, Number, Variable, Get, Rev, Arithmetic, Cat, TextOf, NumOf, Condition, Equal, Less, Not, And, Or, Statement, Set, Put, Del, If, For, Emit, Abort, Block, End, Then}
+use Rattle.stm_program.specs.Syntax.{Expression, Text, Number, Variable, Get, Rev, Arithmetic, Cat, TextOf, NumOf, Condition, Equal, Less, Not, And, Or}
+use Rattle.stm_program.specs.Syntax.{Statement, Set, Put, Del, If, For, Emit, Abort, Block, End, Then}
 
 abbrev pub expression_nodes : Expression → ℕ
 expression_nodes (Text s) = 1

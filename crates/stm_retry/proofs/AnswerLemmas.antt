@@ -1,5 +1,5 @@
 -- Lemmas on the answers of a run.
-use Rattle.std.proofs.Common.{◌≡◌, ℕ, List, [], ◌∷◌, Option, Some, None, Bool, true, false, cond, IfSome, All}
+use Rattle.std.proofs.Common.{ℕ, List, [], ◌∷◌, Option, Some, Bool, true, false, cond, IfSome, All}
 use Rattle.std.specs.Prelude.{bytes_eq}
 use Rattle.std.specs.List.{AllByRecursion}
 use Rattle.std.proofs.lemmas.List.Elements.{recursion_from_All}

@@ -1,6 +1,6 @@
 -- Each step keeps a world sound, and its reply means what it should.
-use Rattle.std.proofs.Common.{◌≡◌, ◌≢◌, ℕ, ◌+◌, ◌-◌, ◌≤◌, ◌<◌, ◌⊎◌, zero, suc, List, [], ◌∷◌, ◌++◌, length, Option, Some, None, Result, Ok}
-use Rattle.std.proofs.Common.{Err, Bool, true, false, cond, refl, sym, ◌∙◌, ap, subst, arith, append_assoc}
+use Rattle.std.proofs.Common.{◌≡◌, ◌≢◌, ℕ, ◌+◌, ◌-◌, ◌≤◌, zero, suc, List, [], ◌∷◌, ◌++◌, length, Option, Some, None, Ok}
+use Rattle.std.proofs.Common.{Bool, true, false, cond, refl, sym, ◌∙◌, ap, subst, arith}
 use Rattle.std.specs.Prelude.{slice_get, slice_set, ◌==◌}
 use Rattle.stm_history.specs.declared.change.Change.{Change}
 use Rattle.stm_history.specs.declared.key_state.ReadAnswer.{ReadAnswer}
@@ -18,8 +18,7 @@ use Rattle.stm_meaning.specs.Writes.{latest_writes}
 use Rattle.stm_retry.specs.declared.event.WorldEvent.{WorldEvent}
 use Rattle.stm_retry.specs.declared.event.WorldEvent.TheVariants.{Start, Step}
 use Rattle.stm_retry.specs.declared.reply.Reply.{Reply}
-use Rattle.stm_retry.specs.declared.reply.Reply.TheVariants.{Started, Fetched, Committed, Aborted, Faulted, Ended}
-use Rattle.stm_retry.specs.declared.refusal.Denied.{Denied}
+use Rattle.stm_retry.specs.declared.reply.Reply.TheVariants.{Started, Fetched, Aborted, Faulted, Ended}
 use Rattle.stm_retry.specs.declared.refusal.Refusal.{Refusal}
 use Rattle.stm_retry.specs.declared.refusal.Refusal.TheVariants.{BadLimit, TooManyOps, LeaseNotFound, RevisionsUsedUp}
 use Rattle.std.specs.Prelude.{nat_lt, not, ◌&&◌}
@@ -29,7 +28,6 @@ use Rattle.stm_retry.specs.declared.commit.TheConstants.{MOST_WRITES}
 use Rattle.stm_retry.specs.World.{refusal_at, is_empty, names_lease}
 use Rattle.stm_meaning.specs.declared.trace_item.TraceItem.{TraceItem}
 use Rattle.stm_retry.specs.declared.entry.Entry.{Entry}
-use Rattle.stm_retry.specs.declared.entry.Entry.TheVariants.{Program}
 use Rattle.stm_retry.specs.declared.runner.Runner.{Runner}
 use Rattle.stm_retry.specs.declared.runner.Slot.{Slot}
 use Rattle.stm_retry.specs.declared.runner.Slot.TheVariants.{Over, Live}
@@ -39,7 +37,7 @@ use Rattle.stm_retry.specs.World.{with_changes, changes_of_writes, commit_refusa
 use Rattle.stm_retry.specs.Replay.{AreTrue, CommitsAnswers, replay, replay_entry, writes_of, IsLegal, AreLegal}
 use Rattle.stm_retry.specs.Sound.{SlotIsTrue, SlotsAreTrue, IsSound}
 use Rattle.stm_retry.proofs.EffectLemmas.{changes_are_distinct}
-use Rattle.stm_retry.specs.Means.{SameStore, IsCommit, EndsAs, StepMeans, StartMeans, Means, AllMean, ReadCommittedHeadline}
+use Rattle.stm_retry.specs.Means.{EndsAs, StepMeans, Means, AllMean, ReadCommittedHeadline}
 
 -- ---- answers stay true ----
 

@@ -1,6 +1,6 @@
 -- Which events the step takes. A commit that the store refuses, an abort and a fault are replies; what the step refuses is
 -- a start that may send no commit and a step of a runner that is not there.
-use Rattle.std.proofs.Common.{◌≡◌, ◌≢◌, ℕ, ◌⊎◌, inl, inr, List, [], Option, Some, None, Result, Ok, Err, Bool, true, false, cond, refl, sym, ap, ◌∙◌}
+use Rattle.std.proofs.Common.{◌≡◌, ℕ, ◌⊎◌, inl, inr, List, Option, Some, None, Result, Ok, Err, Bool, true, false, cond, refl}
 use Rattle.std.specs.Prelude.{◌==◌, IsOk}
 use Rattle.stm_program.specs.Syntax.{ProgramTree}
 use Rattle.stm_program.specs.declared.level.Level.{Level}

@@ -1,26 +1,16 @@
 -- What the calls of a world keep and tell.
-use Rattle.std.proofs.Common.{◌≡◌, ◌≢◌, ℕ, ◌+◌, ◌⊎◌, inl, inr, List, [], ◌∷◌, ◌++◌, length, Option, Some, None, Result, Ok, Err, Bool, true}
-use Rattle.std.proofs.Common.{false, cond, refl, sym, ◌∙◌, ap, subst, OnOk, OnErr}
-use Rattle.std.specs.Prelude.{◌==◌}
+use Rattle.std.proofs.Common.{◌≡◌, ℕ, ◌+◌, inl, inr, List, [], ◌∷◌, ◌++◌, length, Result, Ok, Err}
+use Rattle.std.proofs.Common.{false, refl, sym, ◌∙◌, ap, subst, OnOk, OnErr}
 use Rattle.std.specs.declared.alloc.AllocError.{AllocError}
 use Rattle.stm_program.specs.Syntax.{ProgramTree}
 use Rattle.stm_program.specs.declared.level.Level.{Level}
-use Rattle.stm_meaning.specs.declared.run.End.{End}
-use Rattle.stm_meaning.specs.declared.run.End.TheVariants.{Done, Aborted as AbortedEnd, Faulted as FaultedEnd}
-use Rattle.stm_meaning.specs.declared.run.Run.{Run}
-use Rattle.stm_meaning.specs.declared.run.Answered.{Answered}
-use Rattle.stm_meaning.specs.declared.run.Answered.TheVariants.{Ended as EndedRun, Wants}
-use Rattle.stm_meaning.specs.Writes.{latest_writes}
-use Rattle.stm_history.specs.declared.change.Change.{Change}
 use Rattle.stm_retry.specs.declared.event.WorldEvent.{WorldEvent}
 use Rattle.stm_retry.specs.declared.event.WorldEvent.TheVariants.{Start, Step}
 use Rattle.stm_retry.specs.declared.reply.Reply.{Reply}
 use Rattle.stm_retry.specs.declared.refusal.Denied.{Denied}
 use Rattle.stm_retry.specs.declared.refusal.Refusal.{Refusal}
 use Rattle.stm_retry.specs.declared.refusal.Refusal.TheVariants.{OutOfMemory, TooManyOps, LeaseNotFound, RevisionsUsedUp, BadLimit, NoRunner}
-use Rattle.stm_retry.specs.declared.runner.Runner.{Runner}
-use Rattle.stm_retry.specs.World.{World, Stepped, step, step_runner, step_live, step_on, start_runner, fetch, finish, commit, judged}
-use Rattle.stm_retry.specs.World.{evaluated, refused, runner_at, changes_of_writes, commit_refusal}
+use Rattle.stm_retry.specs.World.{World, Stepped, step, start_runner}
 use Rattle.stm_retry.specs.MachineTells.{Tells as MachineTells, as_reply}
 use Rattle.stm_retry.specs.Sound.{IsSound}
 use Rattle.stm_retry.specs.Means.{Means}

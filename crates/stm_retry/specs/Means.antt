@@ -11,13 +11,10 @@ use Rattle.stm_retry.specs.declared.event.WorldEvent.TheVariants.{Start, Step}
 use Rattle.stm_retry.specs.declared.reply.Reply.{Reply}
 use Rattle.stm_retry.specs.declared.reply.Reply.TheVariants.{Started, Fetched, Committed, Aborted, Faulted, Ended}
 use Rattle.stm_retry.specs.declared.refusal.Denied.{Denied}
-use Rattle.stm_retry.specs.declared.refusal.Refusal.{Refusal}
-use Rattle.stm_retry.specs.declared.refusal.Refusal.TheVariants.{OutOfMemory}
-use Rattle.stm_retry.specs.declared.entry.Entry.{Entry}
 use Rattle.stm_retry.specs.declared.entry.Entry.TheVariants.{Program}
 use Rattle.stm_retry.specs.declared.runner.Runner.{Runner}
-use Rattle.stm_retry.specs.World.{World, Stepped, step, world_after, opened, runner_at, evaluated, commit_refusal, changes_of_writes}
-use Rattle.stm_retry.specs.Replay.{CommitsAnswers, replay, AreLegal, AreTrue}
+use Rattle.stm_retry.specs.World.{World, step, world_after, opened, runner_at, evaluated, commit_refusal, changes_of_writes}
+use Rattle.stm_retry.specs.Replay.{CommitsAnswers, replay, AreLegal}
 
 -- the store and its entries are as they were
 pub record SameStore (old new : World) : Type 0 where

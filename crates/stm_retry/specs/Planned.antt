@@ -1,5 +1,5 @@
 -- What a store finds for a commit before it makes it.
-use Rattle.std.specs.Prelude.{◌≡◌, ℕ, List, Option, None, Some, Result, Ok, Err}
+use Rattle.std.specs.Prelude.{◌≡◌, ℕ, List, None, Some, Result, Ok, Err}
 use Rattle.stm_history.specs.declared.change.Change.{Change}
 use Rattle.stm_program.specs.declared.write.Write.{Write}
 use Rattle.stm_retry.specs.declared.refusal.Refusal.{Refusal}

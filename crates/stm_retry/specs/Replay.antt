@@ -1,9 +1,9 @@
 -- The replay of a world's entries, and what makes an entry legal at its point.
-use Rattle.std.specs.Prelude.{◌≡◌, ◌==◌, ◌&&◌, not, false, ℕ, List, [], ◌∷◌}
+use Rattle.std.specs.Prelude.{◌≡◌, ◌==◌, ◌&&◌, not, false, List, [], ◌∷◌}
 use Rattle.std.specs.List.{list_any}
 use Rattle.stm_meaning.specs.Writes.{latest_writes}
 use Rattle.stm_history.specs.declared.key_state.ReadAnswer.{ReadAnswer}
-use Rattle.stm_history.specs.History.{History, now, opened_at, IsTrueAnswer}
+use Rattle.stm_history.specs.History.{History, now, IsTrueAnswer}
 use Rattle.stm_history.specs.declared.revisions.TheConstants.{HIGHEST_REVISION}
 use Rattle.stm_program.specs.Syntax.{ProgramTree}
 use Rattle.stm_program.specs.declared.write.Write.{Write}

@@ -1,5 +1,5 @@
 -- What is true of every world.
-use Rattle.std.specs.Prelude.{◌≡◌, ℕ, List, [], ◌∷◌}
+use Rattle.std.specs.Prelude.{◌≡◌, List, [], ◌∷◌}
 use Rattle.stm_history.specs.History.{History, opened_at, AreRevisions}
 use Rattle.stm_retry.specs.declared.runner.Slot.{Slot}
 use Rattle.stm_retry.specs.declared.runner.Slot.TheVariants.{Over, Live}

@@ -1,6 +1,6 @@
 -- The world's step: from a world and one event to the reply and the next world.
-use Rattle.std.specs.Prelude.{◌≡◌, ℕ, ◌+◌, ◌-◌, ◌<◌, ◌==◌, nat_lt, Bool, true, false, ◌&&◌, not, if◌then◌else◌, List, [], ◌∷◌, ◌++◌, length}
-use Rattle.std.specs.Prelude.{map, Option, None, Some, is_some, slice_get, slice_set, Result, Ok, Err, suc}
+use Rattle.std.specs.Prelude.{ℕ, ◌+◌, ◌-◌, ◌==◌, nat_lt, Bool, true, false, ◌&&◌, not, if◌then◌else◌, List, [], ◌∷◌, ◌++◌, length}
+use Rattle.std.specs.Prelude.{map, Option, None, Some, is_some, slice_get, slice_set, Result, Ok, Err}
 use Rattle.std.specs.List.{list_any}
 use Rattle.stm_history.specs.declared.change.Change.{Change}
 use Rattle.stm_history.specs.declared.change.Change.TheVariants.{Put as PutChange, Del as DelChange}

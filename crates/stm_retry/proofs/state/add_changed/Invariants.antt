@@ -1,4 +1,4 @@
-use Rattle.std.proofs.Common.{◌≡◌, ◌||◌, Bool, List, ℕ, take}
+use Rattle.std.proofs.Common.{◌||◌, Bool, List, ℕ, take}
 use Rattle.std.specs.Prelude.{is_some}
 use Rattle.stm_history.specs.History.{change_of}
 use Rattle.stm_retry.specs.StateOf.{IsStateOfSeen}

@@ -1,4 +1,4 @@
-use Rattle.std.proofs.Common.{◌≡◌, sym, ◌∙◌, ap, Option, Some, List, ℕ, true}
+use Rattle.std.proofs.Common.{◌≡◌, sym, ◌∙◌, ap, Some, List, ℕ, true}
 use Rattle.std.proofs.lemmas.Result.{on_ok_weaker}
 use Rattle.stm_history.specs.declared.key_state.KeyState.{KeyState}
 use Rattle.stm_history.specs.History.{key_now}

@@ -1,4 +1,4 @@
-use Rattle.std.proofs.Common.{◌≡◌, ◌||◌, ◌+◌, ◌<◌, Bool, List, ℕ, take, length, ap, ◌∙◌, arith}
+use Rattle.std.proofs.Common.{◌||◌, ◌+◌, ◌<◌, Bool, List, ℕ, take, length, ap, ◌∙◌, arith}
 use Rattle.std.specs.Prelude.{is_some}
 use Rattle.std.proofs.lemmas.List.{take_all}
 use Rattle.stm_history.specs.declared.change.Change.{Change}

@@ -3,6 +3,7 @@
 use crate::arguments::{Asked, read_arguments};
 use crate::script_to;
 use std::alloc::Global;
+use std::cell::Cell;
 use std::env::FillError;
 use std::fmt::Display;
 use std::io;
@@ -322,45 +323,54 @@ fn a_message_that_fails(rt: HostRuntime) -> Result<(), Fail> {
     Ok(())
 }
 
-/// A command line, whose texts are printed or not.
+/// A command line, whose texts are printed or not. It notes on which of the two a text with all the wanted words came.
 #[derive(Clone, Copy)]
 struct Line<'a> {
     words: &'a [&'a [u8]],
+    wanted: &'a [&'a str],
     prints: bool,
+    alloc: Global,
+    out: &'a Cell<bool>,
+    err: &'a Cell<bool>,
 }
 
 impl Line<'_> {
-    /// What printing anything answers.
-    fn printed(&self) -> io::Result<()> {
-        if self.prints {
-            Ok(())
-        } else {
-            Err(io::Error::from(ErrorKind::BrokenPipe))
+    /// Notes whether a text has all the wanted words.
+    fn note<D: Display + Drop>(&self, value: D, has_all: &Cell<bool>) -> io::Result<()> {
+        if !self.prints {
+            return Err(io::Error::from(ErrorKind::BrokenPipe));
         }
+        let text = format!(in self.alloc; "{value}")?;
+        let mut all = true;
+        for word in self.wanted {
+            all = all && text.as_str().contains(*word);
+        }
+        has_all.set(all);
+        Ok(())
     }
 }
 
 impl Print for Line<'_> {
-    fn print<D: Display + Drop>(&self, _value: D) -> io::Result<()> {
-        self.printed()
+    fn print<D: Display + Drop>(&self, value: D) -> io::Result<()> {
+        self.note(value, self.out)
     }
 
-    fn println<D: Display + Drop>(&self, _value: D) -> io::Result<()> {
-        self.printed()
+    fn println<D: Display + Drop>(&self, value: D) -> io::Result<()> {
+        self.note(value, self.out)
     }
 
     fn write_all(&self, _bytes: &[u8]) -> io::Result<()> {
-        self.printed()
+        Err(io::Error::from(ErrorKind::Unsupported))
     }
 }
 
 impl Eprint for Line<'_> {
-    fn eprint<D: Display + Drop>(&self, _value: D) -> io::Result<()> {
-        self.printed()
+    fn eprint<D: Display + Drop>(&self, value: D) -> io::Result<()> {
+        self.note(value, self.err)
     }
 
-    fn eprintln<D: Display + Drop>(&self, _value: D) -> io::Result<()> {
-        self.printed()
+    fn eprintln<D: Display + Drop>(&self, value: D) -> io::Result<()> {
+        self.note(value, self.err)
     }
 }
 
@@ -386,17 +396,30 @@ impl Env for Line<'_> {
     }
 }
 
-/// A command line asks for this where its texts are printed, and for that where they cannot be.
+/// A command line asks for this where its texts are printed, and for that where they cannot be. Where one is printed, it
+/// has the wanted words and stands on standard output for help, and else on standard error.
 fn asks<'a>(
     rt: &impl Abort,
     alloc: Global,
     words: &'a [&'a [u8]],
+    wanted: &'a [&'a str],
     printed: Asked,
     unprinted: Asked,
 ) {
-    for (prints, wanted) in [(true, printed), (false, unprinted)] {
-        let line = (Line { words, prints }, alloc);
-        assert_eq!(rt; read_arguments(&line), wanted);
+    for (prints, asked) in [(true, printed), (false, unprinted)] {
+        let out = Cell::new(false);
+        let err = Cell::new(false);
+        let line = Line {
+            words,
+            wanted,
+            prints,
+            alloc,
+            out: &out,
+            err: &err,
+        };
+        assert_eq!(rt; read_arguments(&(line, alloc)), asked);
+        assert_eq!(rt; out.get(), prints && asked == Asked::Nothing(0));
+        assert_eq!(rt; err.get(), prints && asked == Asked::Nothing(2));
     }
 }
 
@@ -411,11 +434,27 @@ fn command_lines(rt: HostRuntime) {
     let usage = Asked::Nothing(2);
     let shown = Asked::Nothing(0);
     let failed = Asked::Nothing(3);
-    asks(&rt, alloc, &[name, script], Asked::Script, Asked::Script);
-    asks(&rt, alloc, &[name, help], shown, failed);
-    asks(&rt, alloc, &[name, script, help], shown, failed);
-    asks(&rt, alloc, &[name], usage, usage);
-    asks(&rt, alloc, &[name, other], usage, usage);
-    asks(&rt, alloc, &[name, script, other], usage, usage);
-    asks(&rt, alloc, &[name, script, not_text], usage, usage);
+    let whole = ["script", "[\"step\",1]]", "Statuses: 0 done, 2 bad input"];
+    let hint = ["Usage: stmrun", "--help"];
+    asks(
+        &rt,
+        alloc,
+        &[name, script],
+        &[],
+        Asked::Script,
+        Asked::Script,
+    );
+    asks(&rt, alloc, &[name, help], &whole, shown, failed);
+    asks(
+        &rt,
+        alloc,
+        &[name, script, help],
+        &["report"],
+        shown,
+        failed,
+    );
+    asks(&rt, alloc, &[name], &hint, usage, usage);
+    asks(&rt, alloc, &[name, other], &hint, usage, usage);
+    asks(&rt, alloc, &[name, script, other], &hint, usage, usage);
+    asks(&rt, alloc, &[name, script, not_text], &hint, usage, usage);
 }

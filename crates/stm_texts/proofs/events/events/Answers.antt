@@ -14,7 +14,8 @@ returns-in_err-event c =
 
 pub loop-before-preserved : goal.loop-before-preserved
 loop-before-preserved c =
-    rw c.in_ok-push.ensures.items (goes_on c.args.first c.loop-before.events.items c.args.values.now c.loop-before.before c.index-values-before.result c.in_ok-event.event
+    rw c.in_ok-push.ensures.items (goes_on c.args.first c.loop-before.events.items c.args.values.now c.loop-before.before
+    c.index-values-before.result c.in_ok-event.event
     (events_from c.args.first 0 (items_view c.args.values.now)) c.loop-before-test.true c.index-values-before.is c.in_ok-event.ensures c.loop-before.invariant)
 
 pub returns : goal.returns

@@ -8,6 +8,7 @@ use Rattle.std.specs.Cmp.Lexicographic.{nat_list_cmp_total, texts_ties, same_tex
 use Rattle.std.proofs.lemmas.List.Sorted.{searchable_from_sorted}
 use Rattle.std.specs.declared.cmp.Ordering.{Ordering}
 use Rattle.std.specs.declared.cmp.Ordering.TheVariants.{Less, Equal, Greater}
+use Rattle.stm_history.specs.declared.revisions.TheConstants.{HIGHEST_NUMBER}
 use Rattle.stm_meaning.specs.declared.state.StateEntry.{StateEntry}
 use Rattle.stm_meaning.specs.States.{key_order, find_entry, with_entry, place_by, IsBelowAll, IsAscending, AreInRange}
 use Rattle.stm_meaning.specs.Places.{IsAt, IsGapFor}
@@ -113,18 +114,18 @@ with_entry-ascending entry (e ∷ es) up =
 
 -- ---- ranges ----
 
-place_by-in_range : (o : Ordering) (entry e : StateEntry) (es placed : List StateEntry) → entry.mod_rev ≤ 9223372036854775807 → AreInRange (e ∷ es) →
+place_by-in_range : (o : Ordering) (entry e : StateEntry) (es placed : List StateEntry) → entry.mod_rev ≤ HIGHEST_NUMBER → AreInRange (e ∷ es) →
     AreInRange placed → AreInRange (place_by o entry e es placed)
 place_by-in_range Less entry e es placed h fits rest = (fits.0, rest)
 place_by-in_range Equal entry e es placed h fits rest = (h, fits.1)
 place_by-in_range Greater entry e es placed h fits rest = (h, fits)
 
-pub with_entry-in_range : (entry : StateEntry) (es : List StateEntry) → entry.mod_rev ≤ 9223372036854775807 → AreInRange es → AreInRange (with_entry entry es)
+pub with_entry-in_range : (entry : StateEntry) (es : List StateEntry) → entry.mod_rev ≤ HIGHEST_NUMBER → AreInRange es → AreInRange (with_entry entry es)
 with_entry-in_range entry [] h fits = (h, tt)
 with_entry-in_range entry (e ∷ es) h fits =
     place_by-in_range (key_order e.key entry.key) entry e es (with_entry entry es) h fits (with_entry-in_range entry es h fits.1)
 
-pub in_range_at : (es : List StateEntry) (i : ℕ) (d : StateEntry) → AreInRange es → i < length es → (get_or es i d).mod_rev ≤ 9223372036854775807
+pub in_range_at : (es : List StateEntry) (i : ℕ) (d : StateEntry) → AreInRange es → i < length es → (get_or es i d).mod_rev ≤ HIGHEST_NUMBER
 in_range_at [] i d fits h = absurd (omega arith)
 in_range_at (e ∷ es) zero d fits h = fits.0
 in_range_at (e ∷ es) (suc i) d fits h = in_range_at es i d fits.1 (omega arith)

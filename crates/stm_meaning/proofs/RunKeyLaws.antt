@@ -1,11 +1,13 @@
 -- The keys of a run are not empty, and those that it read are known to its look-up and stand once.
-use Rattle.std.proofs.Common.{◌≡◌, ℕ, ◌<◌, Bool, true, false, cond, List, [], ◌∷◌, ◌++◌, length, refl, ◌∙◌, ap, subst, All}
+use Rattle.std.proofs.Common.{◌≡◌, ℕ, ◌<◌, Bool, true, false, not, cond, List, [], ◌∷◌, ◌++◌, length, map, filter, refl, sym, ◌∙◌, ap, subst, All}
 use Rattle.std.specs.Prelude.{bytes_eq, Option, None, Some, IsSome, is_some, ◌||◌}
 use Rattle.std.specs.List.{IsDistinct, AllByRecursion, list_any}
-use Rattle.std.proofs.lemmas.List.Elements.{All-nil, All-push, All-weaker}
+use Rattle.std.proofs.lemmas.List.Elements.{All-nil, All-push, All-weaker, All-from_recursion, recursion_from_All}
 use Rattle.stm_program.specs.Syntax.{Block}
 use Rattle.stm_program.specs.declared.write.Write.{Write}
+use Rattle.stm_program.specs.Writes.{latest_writes, each_once}
 use Rattle.stm_program.proofs.WriteLemmas.{bytes_eq-flip}
+use Rattle.stm_program.proofs.LatestLemmas.{latest_writes-in_order}
 use Rattle.stm_meaning.specs.Answer.{Answer, Lookup}
 use Rattle.stm_meaning.specs.Writes.{key_of, last_write}
 use Rattle.stm_meaning.specs.Session.{Session, fresh, with_key}
@@ -112,10 +114,44 @@ module _ (look : Lookup) where
   unfolding run_over
   right program run e = ended_right (run_block look program fresh) run e (kept_by_run look IsRight steps_right program fresh_right)
 
+-- ---- the keys of the latest writes
+
+module _ (Q : List ℕ → Type 0) where
+  kept_if : (b : Bool) (k : List ℕ) (ks : List (List ℕ)) → Q k → AllByRecursion Q ks → AllByRecursion Q (cond b (k ∷ ks) ks)
+  kept_if true k ks first rest = (first, rest)
+  kept_if false k ks first rest = rest
+
+  filtered : (test : List ℕ → Bool) (ks : List (List ℕ)) → AllByRecursion Q ks → AllByRecursion Q (filter test ks)
+  filtered test [] all = tt
+  filtered test (k ∷ ks) all = kept_if (test k) k (filter test ks) all.0 (filtered test ks all.1)
+
+  once : (ks : List (List ℕ)) → AllByRecursion Q ks → AllByRecursion Q (each_once ks)
+  once [] all = tt
+  once (k ∷ ks) all = (all.0, filtered (λ other. not (bytes_eq k other)) (each_once ks) (once ks all.1))
+
+  keys_of_all : (ws : List Write) → AllByRecursion (λ w. Q (key_of w)) ws → AllByRecursion Q (map key_of ws)
+  keys_of_all [] all = tt
+  keys_of_all (w ∷ ws) all = (all.0, keys_of_all ws all.1)
+
+  all_of_keys : (ws : List Write) → AllByRecursion Q (map key_of ws) → AllByRecursion (λ w. Q (key_of w)) ws
+  all_of_keys [] all = tt
+  all_of_keys (w ∷ ws) all = (all.0, all_of_keys ws all.1)
+
+  -- what holds of all written keys holds of those of the latest writes
+  latest_keys : (ws : List Write) → All (λ w. Q (key_of w)) ws → All (λ w. Q (key_of w)) (latest_writes ws)
+  latest_keys ws all =
+      All-from_recursion (λ w. Q (key_of w)) (latest_writes ws)
+      (all_of_keys (latest_writes ws)
+      (subst (λ ks. AllByRecursion Q ks) (sym (latest_writes-in_order ws))
+      (once (map key_of ws) (keys_of_all ws (recursion_from_All (λ w. Q (key_of w)) ws all)))))
+
+-- ---- the laws
+
 pub keys_are_not_empty : KeysAreNotEmpty
 keys_are_not_empty look program run e =
     let h = right look program run e in
-    (h.0, All-weaker (IsReadable look) (λ key. 0 < length key) (λ key r. r.0) run.reads h.1.0)
+    let read = All-weaker (IsReadable look) (λ key. 0 < length key) (λ key r. r.0) run.reads h.1.0 in
+    (h.0, read, latest_keys (λ key. 0 < length key) run.writes h.0)
 
 pub reads_are_known : ReadsAreKnown
 reads_are_known look program run e =

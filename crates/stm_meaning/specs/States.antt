@@ -4,6 +4,7 @@ use Rattle.std.specs.Ordering.{nat_cmp}
 use Rattle.std.specs.Cmp.Lexicographic.{slice_cmp}
 use Rattle.std.specs.declared.cmp.Ordering.{Ordering}
 use Rattle.std.specs.declared.cmp.Ordering.TheVariants.{Less, Equal, Greater}
+use Rattle.stm_history.specs.declared.revisions.TheConstants.{HIGHEST_NUMBER}
 use Rattle.stm_meaning.specs.Answer.{Answer, Lookup}
 use Rattle.stm_meaning.specs.declared.state.StateEntry.{StateEntry}
 
@@ -37,10 +38,10 @@ abbrev pub IsAscending : List StateEntry → Type 0
 IsAscending [] = Unit {0}
 IsAscending (e ∷ es) = IsBelowAll e.key es × IsAscending es
 
--- revisions are at most 9223372036854775807
+-- revisions are at most 9223372036854775807, as every number that is told
 abbrev pub AreInRange : List StateEntry → Type 0
 AreInRange [] = Unit {0}
-AreInRange (e ∷ es) = (e.mod_rev ≤ 9223372036854775807) × AreInRange es
+AreInRange (e ∷ es) = (e.mod_rev ≤ HIGHEST_NUMBER) × AreInRange es
 
 -- an entry in its place: it replaces the one of its key
 abbrev pub place_by : Ordering → StateEntry → StateEntry → List StateEntry → List StateEntry → List StateEntry

@@ -23,7 +23,7 @@ pub fn wanted_keys_are_unknown()
     ensures { WantedKeysAreUnknown }
 {}
 
-/// No key that a run writes or reads is empty.
+/// No key that a run writes or reads is empty, and none of its latest writes is of the empty key.
 pub fn keys_are_not_empty()
     ensures { KeysAreNotEmpty }
 {}

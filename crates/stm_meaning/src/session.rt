@@ -26,7 +26,7 @@ const TURN_LIMIT: u64 = 10_000;
 ///
 /// A run is a row of these steps over a new session: those below, and what is computed of values between
 /// them. Where a growth is refused, a step leaves the session as it was, so that it can be taken again.
-#[derive(Drop)]
+#[derive(Debug, Drop)]
 pub struct Session {
     variables: Variables,
     turns: u64,

@@ -1,6 +1,7 @@
 //! A state that programs run on.
 ghost use Rattle.std.specs.Prelude.{◌≡◌, ◌<◌, ◌≤◌, ℕ, List, [], length, bytes_eq, if◌then◌else◌, slice_get, Some, IfSome, IfOk, IfErr, OnOk, OnErr};
 ghost use Rattle.std.specs.Option.{option_copied};
+ghost use Rattle.stm_history.specs.declared.revisions.TheConstants.{HIGHEST_NUMBER};
 
 use crate::lookup::Lookup;
 use std::alloc::{AllocError, Global};
@@ -14,7 +15,7 @@ pub struct StateEntry {
     pub key: Text,
     /// Its value.
     pub value: Text,
-    /// Its modification revision, at most 9223372036854775807.
+    /// Its modification revision, at most `HIGHEST_NUMBER`.
     pub mod_rev: u64,
 }
 
@@ -69,7 +70,7 @@ impl State {
     /// What the state has under a key.
     pub fn get(&self, key: &str) -> Option<&StateEntry>
         ensures entry { option_copied result ≡ find_entry key.now self.now }
-        ensures in_range { IfSome result (λ entry. entry.now.mod_rev ≤ 9223372036854775807) }
+        ensures in_range { IfSome result (λ entry. entry.now.mod_rev ≤ HIGHEST_NUMBER) }
     {
         match self.search(key) {
             Ok(at) => Some(&self.entries[at]),
@@ -80,7 +81,7 @@ impl State {
     /// Puts a key with a value and a modification revision, in place of what stood under the key. What stands
     /// under every other key stays. Want of memory leaves the state as it was.
     pub fn insert(&mut self, key: Text, value: Text, mod_rev: u64) -> Result<(), AllocError>
-        requires { mod_rev ≤ 9223372036854775807 }
+        requires { mod_rev ≤ HIGHEST_NUMBER }
         ensures ok { OnOk result (self.new ≡ with_entry (record { key = key; value = value; mod_rev = mod_rev }) self.old) }
         ensures entry { OnOk result ((other : List ℕ) → find_entry other self.new
             ≡ (if bytes_eq key other then Some (record { key = key; value = value; mod_rev = mod_rev }) else find_entry other self.old)) }

@@ -11,7 +11,7 @@ use stm_program::Variable;
 const COUNT: usize = 16;
 
 /// The values of the sixteen variables. Contracts see them as a list.
-#[derive(Drop)]
+#[derive(Debug, Drop)]
 pub(crate) struct Variables {
     values: Vec<Value>,
 }

@@ -14,7 +14,7 @@ use stm_program::Write;
 ///
 /// Beside it stands an index from each written key to the place of its last write, so that a run's work
 /// grows with its steps alone.
-#[derive(Drop)]
+#[derive(Debug, Drop)]
 pub(crate) struct WriteLog {
     writes: Vec<Write>,
     last_places: IndexMap<String, usize>,

@@ -7,13 +7,22 @@ use Rattle.stm_program.proofs.WriteLoop.{goes_on, is_done, item_weight}
 use Rattle.stm_program.proofs.spell.statements.+write_statements.Goals as goal
 
 pub statements_value-statement_value-requires : goal.statements_value-statement_value-requires
-statements_value-statement_value-requires t c =
-    (omega (arith, c.decreases, item_weight c.args.statements.now c.loop-statement.statement-index c.statement-item.result c.loop-statement-test.true c.statement-item.is), tt)
+statements_value-statement_value-requires t c = (
+  omega (
+    arith,
+    c.decreases,
+    item_weight c.args.statements.now c.loop-statement.statement-index c.statement-item.result c.loop-statement-test.true
+        c.statement-item.is,
+  ),
+  tt,
+)
 
 pub statements_value-loop-statement-preserved : goal.statements_value-loop-statement-preserved
 statements_value-loop-statement-preserved t c =
-    goes_on c.loop-statement.values.items c.push.new.self.items c.args.statements.now c.loop-statement.statement-index c.statement-item.result c.in_ok-value.value
-    (written_statements (block_of c.args.statements.now)) c.loop-statement-test.true c.statement-item.is c.in_ok-value.ensures c.in_ok-push.ensures.items c.loop-statement.invariant
+    goes_on c.loop-statement.values.items c.push.new.self.items c.args.statements.now c.loop-statement.statement-index c.statement-item.result
+    c.in_ok-value.value
+    (written_statements (block_of c.args.statements.now)) c.loop-statement-test.true c.statement-item.is c.in_ok-value.ensures c.in_ok-push.ensures.items
+    c.loop-statement.invariant
 
 pub statements_value-returns : goal.statements_value-returns
 statements_value-returns t c =

@@ -1,5 +1,6 @@
 -- The lease that is due first, as a function, is the next due one.
-use Rattle.std.proofs.Common.{◌≡◌, ◌⊎◌, ℕ, ◌<◌, ◌≤◌, Bool, true, false, cond, ◌&&◌, ◌||◌, is_some, nat_eq, nat_le, nat_lt, List, [], ◌∷◌, Option, Some, None, option_map, refl, sym, ap, subst, ◌∙◌, inl, inr, arith}
+use Rattle.std.proofs.Common.{◌≡◌, ◌⊎◌, ℕ, ◌<◌, ◌≤◌, Bool, true, false, cond, ◌&&◌, ◌||◌, is_some, nat_eq, nat_le, nat_lt, List, [], ◌∷◌, Option, Some, None}
+use Rattle.std.proofs.Common.{option_map, refl, sym, ap, subst, ◌∙◌, inl, inr, arith}
 use Rattle.std.proofs.lemmas.Bool.{eqb-true, ltb-true, ltb-false, leb-true, leb-false, eqb-false}
 use Rattle.std.proofs.lemmas.Option.{same_Some}
 use Rattle.std.specs.List.{list_any}
@@ -21,17 +22,25 @@ chosen : (one other : DueLease) → IsChosen one other (earlier_of one other)
 chosen one other =
     by_tests (nat_lt other.since one.since) (nat_eq other.since one.since) (nat_lt other.id one.id) refl refl refl
   where
-    by_tests : (less equal lower : Bool) → nat_lt other.since one.since ≡ less → nat_eq other.since one.since ≡ equal → nat_lt other.id one.id ≡ lower → IsChosen one other (cond (less || (equal && lower)) other one)
-    by_tests true equal lower l e w = let lt = ltb-true other.since one.since l in record { among = inr refl; over_one = (omega arith, λ same. omega arith); over_other = (omega arith, λ same. omega arith) }
-    by_tests false true true l e w = let eq = eqb-true other.since one.since e in let lt = ltb-true other.id one.id w in record { among = inr refl; over_one = (omega arith, λ same. omega arith); over_other = (omega arith, λ same. omega arith) }
-    by_tests false true false l e w = let eq = eqb-true other.since one.since e in let ge = ltb-false other.id one.id w in record { among = inl refl; over_one = (omega arith, λ same. omega arith); over_other = (omega arith, λ same. omega arith) }
+    by_tests : (less equal lower : Bool) → nat_lt other.since one.since ≡ less → nat_eq other.since one.since ≡ equal → nat_lt other.id one.id ≡ lower
+        → IsChosen one other (cond (less || (equal && lower)) other one)
+    by_tests true equal lower l e w = let lt = ltb-true other.since one.since l in
+        record { among = inr refl; over_one = (omega arith, λ same. omega arith); over_other = (omega arith, λ same. omega arith) }
+    by_tests false true true l e w = let eq = eqb-true other.since one.since e in let lt = ltb-true other.id one.id w in
+        record { among = inr refl; over_one = (omega arith, λ same. omega arith); over_other = (omega arith, λ same. omega arith) }
+    by_tests false true false l e w = let eq = eqb-true other.since one.since e in let ge = ltb-false other.id one.id w in
+        record { among = inl refl; over_one = (omega arith, λ same. omega arith); over_other = (omega arith, λ same. omega arith) }
     by_tests false false lower l e w =
         let ge = ltb-false other.since one.since l in
         let ne = eqb-false other.since one.since e in
         record { among = inl refl; over_one = (omega arith, λ same. omega arith); over_other = (ge, λ same. absurd (ne (sym same))) }
 
 no_later-trans : (a b c : DueLease) → ComesNoLater a.since a.id b.since b.id → ComesNoLater b.since b.id c.since c.id → ComesNoLater a.since a.id c.since c.id
-no_later-trans a b c p q = (omega arith, λ same. let first : a.since ≡ b.since = omega arith in let second : b.since ≡ c.since = omega arith in let x = p.1 first in let y = q.1 second in omega arith)
+no_later-trans a b c p q = (
+  omega arith,
+  λ same. let first : a.since ≡ b.since = omega arith in let second : b.since ≡ c.since = omega arith in let x = p.1 first in let y =
+      q.1 second in omega arith,
+)
 
 abbrev pub IsAmong : {X : Type 0} → X → List X → Type 0
 IsAmong x [] = ⊥
@@ -48,7 +57,8 @@ module _ (live : Live) (now : ℕ) where
   -- what is told of these ids: a due one that comes no later than any, or that none is due
   abbrev IsTold : List ℕ → Option DueLease → Type 0
   IsTold ids None = (id : ℕ) (term : Term) → IsAmong id ids → finmap.get live id ≡ Some term → now < due term
-  IsTold ids (Some d) = StandsDue d × ((id : ℕ) (term : Term) → IsAmong id ids → finmap.get live id ≡ Some term → due term ≤ now → ComesNoLater d.since d.id (due term) id)
+  IsTold ids (Some d) = StandsDue d
+      × ((id : ℕ) (term : Term) → IsAmong id ids → finmap.get live id ≡ Some term → due term ≤ now → ComesNoLater d.since d.id (due term) id)
 
   -- a lease by itself
   abbrev IsOne : ℕ → Option DueLease → Type 0
@@ -61,7 +71,8 @@ module _ (live : Live) (now : ℕ) where
     where
       by_test : (b : Bool) → nat_le (due t) now ≡ b → IsOne id (cond b (Some (record { since = due t; id = id })) None)
       by_test true le = (refl, record { term = t; stands = is; since = refl; is_due = leb-true (due t) now le })
-      by_test false le = λ term same. let terms : t ≡ term = same_Some t term (sym is ∙ same) in subst (λ (x : Term). now < due x) terms (leb-false (due t) now le)
+      by_test false le = λ term same. let terms : t ≡ term = same_Some t term (sym is ∙ same) in
+          subst (λ (x : Term). now < due x) terms (leb-false (due t) now le)
 
   -- what is found of one id is no later than that id
   over_itself : (id : ℕ) (d : DueLease) → d.id ≡ id → StandsDue d → (term : Term) → finmap.get live id ≡ Some term → ComesNoLater d.since d.id (due term) id
@@ -97,7 +108,8 @@ module _ (live : Live) (now : ℕ) where
           | inr is_b ↦ subst (λ (x : DueLease). StandsDue x) (sym is_b) rest.0
         ],
         λ other term among is is_due. elim among [
-          | inl here ↦ no_later-trans (earlier_of a b) a (record { since = due term; id = other }) c.over_one (subst (λ (x : ℕ). ComesNoLater a.since a.id (due term) x) here (over_itself id a first.0 first.1 term (ap (finmap.get live) here ∙ is)))
+          | inl here ↦ no_later-trans (earlier_of a b) a (record { since = due term; id = other }) c.over_one
+              (subst (λ (x : ℕ). ComesNoLater a.since a.id (due term) x) here (over_itself id a first.0 first.1 term (ap (finmap.get live) here ∙ is)))
           | inr there ↦ no_later-trans (earlier_of a b) b (record { since = due term; id = other }) c.over_other (rest.1 other term there is is_due)
         ],
       )
@@ -111,7 +123,8 @@ module _ (live : Live) (now : ℕ) where
   among-any id [] any = absurd (cc)
   among-any id (x ∷ xs) any = by_test (eq_by_cmp nat_cmp id x) refl any (among-any id xs)
     where
-      by_test : (b : Bool) → eq_by_cmp nat_cmp id x ≡ b → (b || list_any (eq_by_cmp nat_cmp id) xs) ≡ true → (list_any (eq_by_cmp nat_cmp id) xs ≡ true → IsAmong id xs) → IsAmong id (x ∷ xs)
+      by_test : (b : Bool) → eq_by_cmp nat_cmp id x ≡ b → (b || list_any (eq_by_cmp nat_cmp id) xs) ≡ true
+          → (list_any (eq_by_cmp nat_cmp id) xs ≡ true → IsAmong id xs) → IsAmong id (x ∷ xs)
       by_test true is a rest = inl (sym (eqb-true id x (sym (test_number id x) ∙ is)))
       by_test false is a rest = inr (rest a)
 

@@ -1,5 +1,6 @@
 -- The keys on a lease are those that hang on it, and a lease has one list of keys.
-use Rattle.std.proofs.Common.{◌≡◌, ℕ, zero, suc, ◌<◌, Bool, true, false, cond, ◌&&◌, T, is_some, nat_eq, List, [], ◌∷◌, length, map, get_or, Option, Some, None, Contains, refl, sym, ap, subst, ◌∙◌, inl, inr, arith}
+use Rattle.std.proofs.Common.{◌≡◌, ℕ, zero, suc, ◌<◌, Bool, true, false, cond, ◌&&◌, T, is_some, nat_eq, List, [], ◌∷◌, length, map, get_or, Option, Some, None}
+use Rattle.std.proofs.Common.{Contains, refl, sym, ap, subst, ◌∙◌, inl, inr, arith}
 use Rattle.std.proofs.lemmas.Bool.{eqb-true}
 use Rattle.std.proofs.lemmas.Cmp.{nat_list_cmp_total, nat_eq_equiv}
 use Rattle.std.proofs.lemmas.Map.Views.{list_any-from_Contains, Contains-from_any}
@@ -43,8 +44,10 @@ same_text x y is = finmap.slice_cmp-IsAntisymmetric finmap.nat_cmp-IsAntisymmetr
 
 module _ (attached : Attached) (id : ℕ) where
   -- what the kept keys hang on
-  kept : (key : List ℕ) → finmap.get (finmap.retain_keys attached (λ k. is_on id (finmap.get attached k))) key ≡ cond (is_on id (finmap.get attached key)) (finmap.get attached key) None
-  kept key = finmap.get-retain_keys attached (λ k. is_on id (finmap.get attached k)) key (λ x tie. ap (λ (k : List ℕ). is_on id (finmap.get attached k)) (sym (finmap.slice_cmp-IsAntisymmetric finmap.nat_cmp-IsAntisymmetric key x tie)))
+  kept : (key : List ℕ) → finmap.get (finmap.retain_keys attached (λ k. is_on id (finmap.get attached k))) key ≡ cond (is_on id (finmap.get attached key))
+      (finmap.get attached key) None
+  kept key = finmap.get-retain_keys attached (λ k. is_on id (finmap.get attached k)) key
+      (λ x tie. ap (λ (k : List ℕ). is_on id (finmap.get attached k)) (sym (finmap.slice_cmp-IsAntisymmetric finmap.nat_cmp-IsAntisymmetric key x tie)))
 
   hangs : (o : Option ℕ) → is_some (cond (is_on id o) o None) ≡ true → o ≡ Some id
   hangs None is = absurd (cc)
@@ -57,12 +60,14 @@ module _ (attached : Attached) (id : ℕ) where
   hung : (o : Option ℕ) → o ≡ Some id → is_some (cond (is_on id o) o None) ≡ true
   hung o is = subst (λ (p : Option ℕ). is_some (cond (is_on id p) p None) ≡ true) (sym is) (ap (λ b. is_some (cond b (Some id) None)) (nat_eq_equiv.refl id))
 
-  is_member : (key : List ℕ) → is_some (cond (is_on id (finmap.get attached key)) (finmap.get attached key) None) ≡ list_any (eq_by_cmp (slice_cmp nat_cmp) key) (keys_on attached id)
+  is_member : (key : List ℕ)
+      → is_some (cond (is_on id (finmap.get attached key)) (finmap.get attached key) None) ≡ list_any (eq_by_cmp (slice_cmp nat_cmp) key) (keys_on attached id)
   is_member key = ap is_some (sym (kept key)) ∙ finmap.contains_key-keys (finmap.retain_keys attached (λ k. is_on id (finmap.get attached k))) key
 
   are_keys : AreKeysOf (finmap.get attached) id (keys_on attached id)
   are_keys = record {
-    ascending = sorted-ascends (finmap.entries (finmap.retain_keys attached (λ k. is_on id (finmap.get attached k)))) (finmap.entries_sorted (finmap.retain_keys attached (λ k. is_on id (finmap.get attached k))));
+    ascending = sorted-ascends (finmap.entries (finmap.retain_keys attached (λ k. is_on id (finmap.get attached k))))
+        (finmap.entries_sorted (finmap.retain_keys attached (λ k. is_on id (finmap.get attached k))));
     each = λ key. (
       λ among. hangs (finmap.get attached key) (is_member key ∙ list_any-from_Contains (eq_by_cmp_equiv nat_list_cmp_total) key (keys_on attached id) among),
       λ is. Contains-from_any same_text key (keys_on attached id) (sym (is_member key) ∙ hung (finmap.get attached key) is),
@@ -86,7 +91,8 @@ among-contains (x ∷ xs) key among = elim among [
 ]
 
 irreflexive : (key : List ℕ) → slice_cmp nat_cmp key key ≡ Less → ⊥
-irreflexive key less = let same : eq_by_cmp (slice_cmp nat_cmp) key key ≡ true = (eq_by_cmp_equiv nat_list_cmp_total).refl key in let differs : eq_by_cmp (slice_cmp nat_cmp) key key ≡ false = ap is_eq less in absurd (cc)
+irreflexive key less = let same : eq_by_cmp (slice_cmp nat_cmp) key key ≡ true = (eq_by_cmp_equiv nat_list_cmp_total).refl key in
+    let differs : eq_by_cmp (slice_cmp nat_cmp) key key ≡ false = ap is_eq less in absurd (cc)
 
 rest_ascends : (x : List ℕ) (xs : List (List ℕ)) → IsAscending (x ∷ xs) → IsAscending xs
 rest_ascends x [] ascending = tt
@@ -110,13 +116,15 @@ same_first x y xs ys up_x up_y x_in y_in = elim x_in [
 ]
 
 -- members of the rest are members of the other rest, where the first ones are the same
-in_rest : (x y : List ℕ) (xs ys : List (List ℕ)) → x ≡ y → IsAscending (x ∷ xs) → ((key : List ℕ) → IsAmong key (x ∷ xs) → IsAmong key (y ∷ ys)) → (key : List ℕ) → IsAmong key xs → IsAmong key ys
+in_rest : (x y : List ℕ) (xs ys : List (List ℕ)) → x ≡ y → IsAscending (x ∷ xs) → ((key : List ℕ) → IsAmong key (x ∷ xs) → IsAmong key (y ∷ ys))
+    → (key : List ℕ) → IsAmong key xs → IsAmong key ys
 in_rest x y xs ys same up into key among = elim (into key (inr among)) [
   | inl here ↦ absurd (irreflexive key (subst (λ (k : List ℕ). slice_cmp nat_cmp k key ≡ Less) (same ∙ here) (below_rest x xs key up among)))
   | inr there ↦ there
 ]
 
-unique : (xs ys : List (List ℕ)) → IsAscending xs → IsAscending ys → ((key : List ℕ) → IsAmong key xs → IsAmong key ys) → ((key : List ℕ) → IsAmong key ys → IsAmong key xs) → xs ≡ ys
+unique : (xs ys : List (List ℕ)) → IsAscending xs → IsAscending ys → ((key : List ℕ) → IsAmong key xs → IsAmong key ys)
+    → ((key : List ℕ) → IsAmong key ys → IsAmong key xs) → xs ≡ ys
 unique [] [] up_x up_y into back = refl
 unique [] (y ∷ ys) up_x up_y into back = absurd (back y (inl refl))
 unique (x ∷ xs) [] up_x up_y into back = absurd (into x (inl refl))
@@ -133,4 +141,5 @@ ascending_is_unique one other up_one up_other members =
 
 pub one_list_of_keys : OneListOfKeys
 one_list_of_keys lease_of id one other are are_too =
-    ascending_is_unique one other are.ascending are_too.ascending (λ key. (λ c. (are_too.each key).1 ((are.each key).0 c), λ c. (are.each key).1 ((are_too.each key).0 c)))
+    ascending_is_unique one other are.ascending are_too.ascending
+    (λ key. (λ c. (are_too.each key).1 ((are.each key).0 c), λ c. (are.each key).1 ((are_too.each key).0 c)))

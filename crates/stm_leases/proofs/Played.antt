@@ -1,5 +1,6 @@
 -- What the root of a played tournament holds.
-use Rattle.std.proofs.Common.{◌≡◌, ◌≢◌, ◌⊎◌, ℕ, zero, suc, ◌+◌, ◌-◌, ◌*◌, ◌/◌, ◌<◌, ◌≤◌, Bool, true, false, cond, ◌&&◌, ◌||◌, nat_eq, nat_lt, List, Option, Some, None, refl, sym, ap, subst, ◌∙◌, inl, inr, arith}
+use Rattle.std.proofs.Common.{◌≡◌, ◌≢◌, ◌⊎◌, ℕ, zero, suc, ◌+◌, ◌-◌, ◌*◌, ◌/◌, ◌<◌, ◌≤◌, Bool, true, false, cond, ◌&&◌, ◌||◌, nat_eq, nat_lt, List, Option}
+use Rattle.std.proofs.Common.{Some, None, refl, sym, ap, subst, ◌∙◌, inl, inr, arith}
 use Rattle.std.proofs.lemmas.Bool.{cases_lt, cases_eq, eqb-true, eqb-false, ltb-true, ltb-false}
 use Rattle.std.proofs.lemmas.List.{get_or_past}
 use Rattle.std.proofs.lemmas.Option.{same_Some}
@@ -62,7 +63,8 @@ won_left (Some a) (Some b) d is = record { lead = first_of a b; is = refl; no_la
 won_right : (o r : Option DueAt) (d : DueAt) → r ≡ Some d → HasLead (winner o r) d
 won_right None r d is = record { lead = d; is = is; no_later = (omega arith, λ same. omega arith) }
 won_right (Some a) None d is = absurd (cc)
-won_right (Some a) (Some b) d is = record { lead = first_of a b; is = refl; no_later = subst (NoLater (first_of a b)) (same_Some b d is) (chosen a b).over_other }
+won_right (Some a) (Some b) d is =
+    record { lead = first_of a b; is = refl; no_later = subst (NoLater (first_of a b)) (same_Some b d is) (chosen a b).over_other }
 
 -- the winner is one of the two
 won_from : (o r : Option DueAt) (d : DueAt) → winner o r ≡ Some d → (o ≡ Some d) ⊎ (r ≡ Some d)
@@ -82,17 +84,20 @@ module _ (xs : Nodes) (slots : ℕ) (played : ArePlayedBut xs slots 0) where
       parent = played.won (k / 2) (omega arith) (omega arith) (omega arith)
 
       by_side : (k ≡ 2 * (k / 2)) ⊎ (k ≢ 2 * (k / 2)) → HasLead (node_in xs (k / 2)) d
-      by_side (inl even) = subst (λ (o : Option DueAt). HasLead o d) (sym parent) (won_left (node_in xs (2 * (k / 2))) (node_in xs (2 * (k / 2) + 1)) d (ap (node_in xs) (sym even) ∙ is))
+      by_side (inl even) = subst (λ (o : Option DueAt). HasLead o d) (sym parent)
+          (won_left (node_in xs (2 * (k / 2))) (node_in xs (2 * (k / 2) + 1)) d (ap (node_in xs) (sym even) ∙ is))
       by_side (inr odd) =
           let place : k ≡ 2 * (k / 2) + 1 = omega arith in
-          subst (λ (o : Option DueAt). HasLead o d) (sym parent) (won_right (node_in xs (2 * (k / 2))) (node_in xs (2 * (k / 2) + 1)) d (ap (node_in xs) (sym place) ∙ is))
+          subst (λ (o : Option DueAt). HasLead o d) (sym parent)
+          (won_right (node_in xs (2 * (k / 2))) (node_in xs (2 * (k / 2) + 1)) d (ap (node_in xs) (sym place) ∙ is))
 
   -- the root has a lead over what any node holds
   root_leads : (fuel k : ℕ) (d : DueAt) → k ≤ fuel → 1 ≤ k → k < 2 * slots → node_in xs k ≡ Some d → HasLead (node_in xs 1) d
   root_leads zero k d enough inner within is = absurd (omega arith)
   root_leads (suc fuel) k d enough inner within is = by_place (cases_lt 1 k) (root_leads fuel)
     where
-      by_place : (1 < k) ⊎ (k ≤ 1) → ((j : ℕ) (e : DueAt) → j ≤ fuel → 1 ≤ j → j < 2 * slots → node_in xs j ≡ Some e → HasLead (node_in xs 1) e) → HasLead (node_in xs 1) d
+      by_place : (1 < k) ⊎ (k ≤ 1) → ((j : ℕ) (e : DueAt) → j ≤ fuel → 1 ≤ j → j < 2 * slots → node_in xs j ≡ Some e → HasLead (node_in xs 1) e)
+          → HasLead (node_in xs 1) d
       by_place (inr root) rest =
           let place : k ≡ 1 = omega arith in
           record { lead = d; is = ap (node_in xs) (sym place) ∙ is; no_later = (omega arith, λ same. omega arith) }
@@ -106,7 +111,8 @@ module _ (xs : Nodes) (slots : ℕ) (played : ArePlayedBut xs slots 0) where
   stands zero k d enough inner within is = absurd (omega arith)
   stands (suc fuel) k d enough inner within is = by_place (cases_lt k slots) (stands fuel)
     where
-      by_place : (k < slots) ⊎ (slots ≤ k) → ((j : ℕ) (e : DueAt) → 2 * slots ≤ j + fuel → 1 ≤ j → j < 2 * slots → node_in xs j ≡ Some e → (slot : ℕ) × (node_in xs (slots + slot) ≡ Some e)) →
+      by_place : (k < slots) ⊎ (slots ≤ k)
+          → ((j : ℕ) (e : DueAt) → 2 * slots ≤ j + fuel → 1 ≤ j → j < 2 * slots → node_in xs j ≡ Some e → (slot : ℕ) × (node_in xs (slots + slot) ≡ Some e)) →
           (slot : ℕ) × (node_in xs (slots + slot) ≡ Some d)
       by_place (inr leaf) rest = (k - slots, let place : slots + (k - slots) ≡ k = omega arith in ap (node_in xs) place ∙ is)
       by_place (inl inside) rest = elim (won_from (node_in xs (2 * k)) (node_in xs (2 * k + 1)) d (sym (played.won k inner inside (omega arith)) ∙ is)) [

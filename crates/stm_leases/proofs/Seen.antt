@@ -1,5 +1,6 @@
 -- What callers see of the tables, and what each change of a table makes of it.
-use Rattle.std.proofs.Common.{◌≡◌, ◌≢◌, ℕ, ◌-◌, ◌≤◌, Bool, true, false, cond, is_some, ◌&&◌, nat_le, IsTrue, List, length, Option, Some, None, option_map, String, nat_eq, refl, sym, ap, subst, ◌∙◌, arith}
+use Rattle.std.proofs.Common.{◌≡◌, ◌≢◌, ℕ, ◌-◌, ◌≤◌, Bool, true, false, cond, is_some, ◌&&◌, nat_le, IsTrue, List, length, Option, Some, None, option_map}
+use Rattle.std.proofs.Common.{String, nat_eq, refl, sym, ap, subst, ◌∙◌, arith}
 use Rattle.std.proofs.lemmas.Bool.{true≢false, eqb-true, leb-false}
 use Rattle.std.proofs.lemmas.Cmp.{nat_list_cmp_total}
 use Rattle.std.proofs.lemmas.Option.{same_Some}
@@ -16,15 +17,19 @@ use Rattle.stm_leases.specs.declared.lease.Lease.{Lease}
 use Rattle.stm_leases.specs.declared.lease.Attachment.{Attachment}
 use Rattle.stm_leases.specs.Live.{is_id, is_ttl, AreInRange}
 use Rattle.stm_leases.specs.Kept.{term_in, view_of, list_in, AllInRange, AreInStep, Holds}
-use Rattle.stm_leases.proofs.Tables.{get-live, get-attached, live-insert, live-remove, attached-insert, attached-remove, log-insert, log-remove, log-renew, len-entries}
+use Rattle.stm_leases.proofs.Tables.{get-live, get-attached, live-insert, live-remove, attached-insert, attached-remove, log-insert, log-remove, log-renew}
+use Rattle.stm_leases.proofs.Tables.{len-entries}
 use Rattle.stm_leases.proofs.Ordered.{placed_at}
 
-through_list : (b : Bool) (o p : Option Lease) → option_map (λ (l : Lease). l.keys) (cond b o p) ≡ cond b (option_map (λ (l : Lease). l.keys) o) (option_map (λ (l : Lease). l.keys) p)
+through_list : (b : Bool) (o p : Option Lease)
+    → option_map (λ (l : Lease). l.keys) (cond b o p) ≡ cond b (option_map (λ (l : Lease). l.keys) o) (option_map (λ (l : Lease). l.keys) p)
 through_list true o p = refl
 through_list false o p = refl
 
 -- a change of the table at one id changes the list of that id
-pub list-updates : {S : Type 0} (old new : IndexMap ℕ Lease S) (id : ℕ) (o : Option Lease) → ((q : ℕ) → get nat_eq new q ≡ cond (nat_eq id q) o (get nat_eq old q)) → (q : ℕ) → list_in new q ≡ cond (nat_eq id q) (option_map (λ (l : Lease). l.keys) o) (list_in old q)
+pub list-updates : {S : Type 0} (old new : IndexMap ℕ Lease S) (id : ℕ) (o : Option Lease)
+    → ((q : ℕ) → get nat_eq new q ≡ cond (nat_eq id q) o (get nat_eq old q)) → (q : ℕ)
+    → list_in new q ≡ cond (nat_eq id q) (option_map (λ (l : Lease). l.keys) o) (list_in old q)
 list-updates old new id o updates q = ap (option_map (λ (l : Lease). l.keys)) (updates q) ∙ through_list (nat_eq id q) o (get nat_eq old q)
 
 -- an id and a time to live that pass the tests of a grant are in range
@@ -45,7 +50,8 @@ ttl-fits ttl positive within = by_tests (nat_le 1 ttl) (nat_le ttl 9000000000) r
     by_tests false b x y = let below = leb-false 1 ttl x in absurd (positive (omega arith))
 
 -- what holds of each lease of the table, and of one more, holds of each lease after it
-pub one-more : {S : Type 0} (old new : IndexMap ℕ Lease S) (id : ℕ) (now : Lease) → ((q : ℕ) → get nat_eq new q ≡ cond (nat_eq id q) (Some now) (get nat_eq old q))
+pub one-more : {S : Type 0} (old new : IndexMap ℕ Lease S) (id : ℕ) (now : Lease)
+    → ((q : ℕ) → get nat_eq new q ≡ cond (nat_eq id q) (Some now) (get nat_eq old q))
     → AllInRange old → IsTrue (is_id id) × IsTrue (is_ttl now.ttl) → AllInRange new
 one-more old new id now updates kept more q l is = by_test (nat_eq id q) refl (sym (updates q) ∙ is)
   where
@@ -60,7 +66,8 @@ pub same-range : {S : Type 0} (old new : IndexMap ℕ Lease S) → new.entries �
 same-range old new same all id lease is = all id lease (ap (lookup (nat_eq id)) (sym same) ∙ is)
 
 -- what is left after a removal was there before
-pub left-lease : {S : Type 0} (old new : IndexMap ℕ Lease S) (id q : ℕ) (l : Lease) → ((n : ℕ) → get nat_eq new n ≡ cond (nat_eq id n) None (get nat_eq old n)) → get nat_eq new q ≡ Some l → get nat_eq old q ≡ Some l
+pub left-lease : {S : Type 0} (old new : IndexMap ℕ Lease S) (id q : ℕ) (l : Lease) → ((n : ℕ) → get nat_eq new n ≡ cond (nat_eq id n) None (get nat_eq old n))
+    → get nat_eq new q ≡ Some l → get nat_eq old q ≡ Some l
 left-lease old new id q l updates is = by_test (nat_eq id q) (sym (updates q) ∙ is)
   where
     by_test : (b : Bool) → cond b None (get nat_eq old q) ≡ Some l → get nat_eq old q ≡ Some l
@@ -68,14 +75,16 @@ left-lease old new id q l updates is = by_test (nat_eq id q) (sym (updates q) �
     by_test false found = found
 
 -- a renewal keeps the list of each id
-pub list-renewed : {S : Type 0} (old new : IndexMap ℕ Lease S) (id : ℕ) (was now : Lease) → get nat_eq old id ≡ Some was → now.keys ≡ was.keys → ((q : ℕ) → get nat_eq new q ≡ cond (nat_eq id q) (Some now) (get nat_eq old q)) → (q : ℕ) → list_in new q ≡ list_in old q
+pub list-renewed : {S : Type 0} (old new : IndexMap ℕ Lease S) (id : ℕ) (was now : Lease) → get nat_eq old id ≡ Some was → now.keys ≡ was.keys
+    → ((q : ℕ) → get nat_eq new q ≡ cond (nat_eq id q) (Some now) (get nat_eq old q)) → (q : ℕ) → list_in new q ≡ list_in old q
 list-renewed old new id was now found same updates q = list-updates old new id (Some now) updates q ∙ by_test (nat_eq id q) refl
   where
     by_test : (b : Bool) → nat_eq id q ≡ b → cond b (Some now.keys) (list_in old q) ≡ list_in old q
     by_test false is = refl
     by_test true is = ap Some same ∙ sym (ap (option_map (λ (l : Lease). l.keys)) (ap (get nat_eq old) (sym (eqb-true id q is)) ∙ found))
 
-module _ {A S R : Type 0} (leases : IndexMap ℕ Lease S) (attached : IndexMap (String A) Attachment R) (spare : ℕ) (now : Leases) (seen : view_of leases attached spare ≡ now) where
+module _ {A S R : Type 0} (leases : IndexMap ℕ Lease S) (attached : IndexMap (String A) Attachment R) (spare : ℕ) (now : Leases)
+    (seen : view_of leases attached spare ≡ now) where
   pub live-now : (id : ℕ) → finmap.get now.live id ≡ option_map term_in (get nat_eq leases id)
   live-now id = ap (λ (s : Leases). finmap.get s.live id) (sym seen) ∙ get-live leases attached spare id
 
@@ -124,49 +133,64 @@ module _ {A S R : Type 0} (leases : IndexMap ℕ Lease S) (attached : IndexMap (
       by_lease (Some l) found same = subst (λ (n : ℕ). IsLive now n) place.2 (live-found place.0.lease l found)
 
   -- the leases after a change of their table
-  pub inserted-view : (new : IndexMap ℕ Lease S) (id : ℕ) (l : Lease) → ((q : ℕ) → get nat_eq new q ≡ cond (nat_eq id q) (Some l) (get nat_eq leases q)) → view_of new attached spare ≡ record now { live = finmap.insert now.live id (term_in l) }
+  pub inserted-view : (new : IndexMap ℕ Lease S) (id : ℕ) (l : Lease) → ((q : ℕ) → get nat_eq new q ≡ cond (nat_eq id q) (Some l) (get nat_eq leases q))
+      → view_of new attached spare ≡ record now { live = finmap.insert now.live id (term_in l) }
   inserted-view new id l updates =
       ap (λ live. record (view_of leases attached spare) { live = live }) (live-insert leases attached spare new id l updates)
       ∙ ap (λ (s : Leases). record s { live = finmap.insert s.live id (term_in l) }) seen
 
-  pub removed-view : (new : IndexMap ℕ Lease S) (id : ℕ) → ((q : ℕ) → get nat_eq new q ≡ cond (nat_eq id q) None (get nat_eq leases q)) → view_of new attached spare ≡ record now { live = finmap.remove now.live id }
+  pub removed-view : (new : IndexMap ℕ Lease S) (id : ℕ) → ((q : ℕ) → get nat_eq new q ≡ cond (nat_eq id q) None (get nat_eq leases q))
+      → view_of new attached spare ≡ record now { live = finmap.remove now.live id }
   removed-view new id updates =
       ap (λ live. record (view_of leases attached spare) { live = live }) (live-remove leases attached spare new id updates)
       ∙ ap (λ (s : Leases). record s { live = finmap.remove s.live id }) seen
 
   -- the attached keys after a change of theirs
-  pub attached-view : (new : IndexMap (String A) Attachment R) (key : List ℕ) (p : Attachment) → ((q : List ℕ) → get_by_text new q ≡ cond (bytes_eq key q) (Some p) (get_by_text attached q)) → view_of leases new (spare - 1) ≡ record now { attached = finmap.insert now.attached key p.lease; spare = now.spare - 1 }
+  pub attached-view : (new : IndexMap (String A) Attachment R) (key : List ℕ) (p : Attachment)
+      → ((q : List ℕ) → get_by_text new q ≡ cond (bytes_eq key q) (Some p) (get_by_text attached q))
+      → view_of leases new (spare - 1) ≡ record now { attached = finmap.insert now.attached key p.lease; spare = now.spare - 1 }
   attached-view new key p updates =
       ap (λ keys. record (view_of leases attached spare) { attached = keys; spare = spare - 1 }) (attached-insert leases attached spare new key p updates)
       ∙ ap (λ (s : Leases). record s { attached = finmap.insert s.attached key p.lease; spare = s.spare - 1 }) seen
 
-  pub detached-view : (new : IndexMap (String A) Attachment R) (key : List ℕ) → ((q : List ℕ) → get_by_text new q ≡ cond (bytes_eq key q) None (get_by_text attached q)) → view_of leases new spare ≡ record now { attached = finmap.remove now.attached key }
+  pub detached-view : (new : IndexMap (String A) Attachment R) (key : List ℕ)
+      → ((q : List ℕ) → get_by_text new q ≡ cond (bytes_eq key q) None (get_by_text attached q))
+      → view_of leases new spare ≡ record now { attached = finmap.remove now.attached key }
   detached-view new key updates =
       ap (λ keys. record (view_of leases attached spare) { attached = keys }) (attached-remove leases attached spare new key updates)
       ∙ ap (λ (s : Leases). record s { attached = finmap.remove s.attached key }) seen
 
   -- a detached key hangs on no lease
-  pub detached-loose : (new : IndexMap (String A) Attachment R) (key : List ℕ) → ((q : List ℕ) → get_by_text new q ≡ cond (bytes_eq key q) None (get_by_text attached q)) → lease_of (view_of leases new spare) key ≡ None
+  pub detached-loose : (new : IndexMap (String A) Attachment R) (key : List ℕ)
+      → ((q : List ℕ) → get_by_text new q ≡ cond (bytes_eq key q) None (get_by_text attached q)) → lease_of (view_of leases new spare) key ≡ None
   detached-loose new key updates =
       ap (λ (s : Leases). finmap.get s.attached key) (detached-view new key updates) ∙ finmap.get-remove nat_list_cmp_total now.attached key key
       ∙ ap (λ b. cond b None (finmap.get now.attached key)) ((eq_by_cmp_equiv nat_list_cmp_total).refl key)
 
   -- what the leases stand for after a change
-  pub granted-log : (new : IndexMap ℕ Lease S) (id : ℕ) (l : Lease) → ((q : ℕ) → get nat_eq new q ≡ cond (nat_eq id q) (Some l) (get nat_eq leases q)) → (log : List LogItem) → StandsFor now.live log → (q : ℕ) → finmap.get (view_of new attached spare).live q ≡ cond (nat_eq id q) (Some (term_in l)) (term_of log q)
+  pub granted-log : (new : IndexMap ℕ Lease S) (id : ℕ) (l : Lease) → ((q : ℕ) → get nat_eq new q ≡ cond (nat_eq id q) (Some l) (get nat_eq leases q))
+      → (log : List LogItem) → StandsFor now.live log → (q : ℕ)
+      → finmap.get (view_of new attached spare).live q ≡ cond (nat_eq id q) (Some (term_in l)) (term_of log q)
   granted-log new id l updates log stands q =
       ap (λ (s : Leases). finmap.get s.live q) (inserted-view new id l updates) ∙ log-insert now log id (term_in l) stands q
 
-  pub renewed-log : (new : IndexMap ℕ Lease S) (id at : ℕ) (l old : Lease) → get nat_eq leases id ≡ Some old → term_in l ≡ record { ttl = old.ttl; renewed = at } → ((q : ℕ) → get nat_eq new q ≡ cond (nat_eq id q) (Some l) (get nat_eq leases q)) → (log : List LogItem) → StandsFor now.live log → (q : ℕ) → finmap.get (view_of new attached spare).live q ≡ cond (nat_eq id q) (option_map (λ (t : Term). record t { renewed = at }) (term_of log q)) (term_of log q)
+  pub renewed-log : (new : IndexMap ℕ Lease S) (id at : ℕ) (l old : Lease) → get nat_eq leases id ≡ Some old
+      → term_in l ≡ record { ttl = old.ttl; renewed = at } → ((q : ℕ) → get nat_eq new q ≡ cond (nat_eq id q) (Some l) (get nat_eq leases q))
+      → (log : List LogItem) → StandsFor now.live log → (q : ℕ)
+      → finmap.get (view_of new attached spare).live q ≡ cond (nat_eq id q) (option_map (λ (t : Term). record t { renewed = at }) (term_of log q))
+      (term_of log q)
   renewed-log new id at l old found is updates log stands q =
       ap (λ (s : Leases). finmap.get s.live q) (inserted-view new id l updates) ∙ ap (λ (t : Term). finmap.get (finmap.insert now.live id t) q) is
       ∙ log-renew now log id at (term_in old) (live-now id ∙ ap (option_map term_in) found) stands q
 
-  pub removed-log : (new : IndexMap ℕ Lease S) (id : ℕ) → ((q : ℕ) → get nat_eq new q ≡ cond (nat_eq id q) None (get nat_eq leases q)) → (log : List LogItem) → StandsFor now.live log → (q : ℕ) → finmap.get (view_of new attached spare).live q ≡ cond (nat_eq id q) None (term_of log q)
+  pub removed-log : (new : IndexMap ℕ Lease S) (id : ℕ) → ((q : ℕ) → get nat_eq new q ≡ cond (nat_eq id q) None (get nat_eq leases q)) → (log : List LogItem)
+      → StandsFor now.live log → (q : ℕ) → finmap.get (view_of new attached spare).live q ≡ cond (nat_eq id q) None (term_of log q)
   removed-log new id updates log stands q =
       ap (λ (s : Leases). finmap.get s.live q) (removed-view new id updates) ∙ log-remove now log id stands q
 
   -- no key hangs on a lease, in the table
-  pub none-placed : (id : ℕ) → ((key : List ℕ) → lease_of now key ≢ Some id) → (key : List ℕ) (place : Attachment) → get_by_text attached key ≡ Some place → place.lease ≢ id
+  pub none-placed : (id : ℕ) → ((key : List ℕ) → lease_of now key ≢ Some id) → (key : List ℕ) (place : Attachment) → get_by_text attached key ≡ Some place
+      → place.lease ≢ id
   none-placed id none key place found same =
       none key (lease_of-now key ∙ ap (option_map (λ (p : Attachment). p.lease)) found ∙ ap Some same)
 

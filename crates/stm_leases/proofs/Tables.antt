@@ -1,5 +1,6 @@
 -- From the tables to what contracts see of them.
-use Rattle.std.proofs.Common.{◌≡◌, ℕ, ◌+◌, Bool, true, false, cond, is_some, List, [], ◌∷◌, map, length, Option, Some, None, option_map, String, string_bytes, nat_eq, refl, sym, ap, subst, ◌∙◌, arith}
+use Rattle.std.proofs.Common.{◌≡◌, ℕ, ◌+◌, Bool, true, false, cond, is_some, List, [], ◌∷◌, map, length, Option, Some, None, option_map, String, string_bytes}
+use Rattle.std.proofs.Common.{nat_eq, refl, sym, ap, subst, ◌∙◌, arith}
 use Rattle.std.proofs.lemmas.Bool.{eqb-true, eq-eqb}
 use Rattle.std.proofs.lemmas.Cmp.{nat_cmp_total, nat_eq_equiv, nat_list_cmp_total}
 use Rattle.std.proofs.lemmas.Map.Text.{is_eq-slice_cmp}
@@ -37,23 +38,31 @@ module _ {X Y : Type 0} (f : X → Y) where
       ap (λ b. cond b (Some (f e.1)) (finmap.find nat_cmp q (map (λ (e : ℕ × X). (e.0, f e.1)) es))) (test_number q e.0)
       ∙ by_test (nat_eq q e.0) (find-numbers es q)
     where
-      by_test : (b : Bool) → finmap.find nat_cmp q (map (λ (e : ℕ × X). (e.0, f e.1)) es) ≡ option_map f (lookup (nat_eq q) es) → cond b (Some (f e.1)) (finmap.find nat_cmp q (map (λ (e : ℕ × X). (e.0, f e.1)) es)) ≡ option_map f (cond b (Some e.1) (lookup (nat_eq q) es))
+      by_test : (b : Bool) → finmap.find nat_cmp q (map (λ (e : ℕ × X). (e.0, f e.1)) es) ≡ option_map f (lookup (nat_eq q) es)
+          → cond b (Some (f e.1)) (finmap.find nat_cmp q (map (λ (e : ℕ × X). (e.0, f e.1)) es)) ≡ option_map f (cond b (Some e.1) (lookup (nat_eq q) es))
       by_test true rest = refl
       by_test false rest = rest
 
-  pub find-texts : {A : Type 0} (es : List (String A × X)) (q : List ℕ) → finmap.find (slice_cmp nat_cmp) q (map (λ (e : String A × X). (string_bytes e.0, f e.1)) es) ≡ option_map f (lookup (λ k. bytes_eq q (string_bytes k)) es)
+  pub find-texts : {A : Type 0} (es : List (String A × X)) (q : List ℕ)
+      → finmap.find (slice_cmp nat_cmp) q (map (λ (e : String A × X). (string_bytes e.0, f e.1)) es) ≡ option_map f
+      (lookup (λ k. bytes_eq q (string_bytes k)) es)
   find-texts [] q = refl
   find-texts {A} (e ∷ es) q =
-      ap (λ b. cond b (Some (f e.1)) (finmap.find (slice_cmp nat_cmp) q (map (λ (e : String A × X). (string_bytes e.0, f e.1)) es))) (is_eq-slice_cmp q (string_bytes e.0))
+      ap (λ b. cond b (Some (f e.1)) (finmap.find (slice_cmp nat_cmp) q (map (λ (e : String A × X). (string_bytes e.0, f e.1)) es)))
+      (is_eq-slice_cmp q (string_bytes e.0))
       ∙ by_test (bytes_eq q (string_bytes e.0)) (find-texts es q)
     where
-      by_test : (b : Bool) → finmap.find (slice_cmp nat_cmp) q (map (λ (e : String A × X). (string_bytes e.0, f e.1)) es) ≡ option_map f (lookup (λ k. bytes_eq q (string_bytes k)) es) → cond b (Some (f e.1)) (finmap.find (slice_cmp nat_cmp) q (map (λ (e : String A × X). (string_bytes e.0, f e.1)) es)) ≡ option_map f (cond b (Some e.1) (lookup (λ k. bytes_eq q (string_bytes k)) es))
+      by_test : (b : Bool) → finmap.find (slice_cmp nat_cmp) q (map (λ (e : String A × X). (string_bytes e.0, f e.1)) es) ≡ option_map f
+          (lookup (λ k. bytes_eq q (string_bytes k)) es)
+          → cond b (Some (f e.1)) (finmap.find (slice_cmp nat_cmp) q (map (λ (e : String A × X). (string_bytes e.0, f e.1)) es)) ≡ option_map f
+          (cond b (Some e.1) (lookup (λ k. bytes_eq q (string_bytes k)) es))
       by_test true rest = refl
       by_test false rest = rest
 
 -- a map that answers as another does after an insertion or a removal is that map
 module _ {K X : Type 0} {R : K → K → Ordering} (o : IsTotalOrder R) (same : finmap.IsAntisymmetric R) where
-  is_insert : (m n : finmap.FinMap R X) (k : K) (v : X) → ((q : K) → finmap.get n q ≡ cond (eq_by_cmp R q k) (Some v) (finmap.get m q)) → n ≡ finmap.insert m k v
+  is_insert : (m n : finmap.FinMap R X) (k : K) (v : X) → ((q : K) → finmap.get n q ≡ cond (eq_by_cmp R q k) (Some v) (finmap.get m q))
+      → n ≡ finmap.insert m k v
   is_insert m n k v answers = finmap.same_map o same n (finmap.insert m k v) (λ q. answers q ∙ sym (finmap.get-insert o m k v q))
 
   is_remove : (m n : finmap.FinMap R X) (k : K) → ((q : K) → finmap.get n q ≡ cond (eq_by_cmp R q k) None (finmap.get m q)) → n ≡ finmap.remove m k
@@ -78,18 +87,22 @@ module _ {A S R : Type 0} (leases : IndexMap ℕ Lease S) (attached : IndexMap (
   get-live id = finmap.get-from_entries nat_cmp_total (map (λ (e : ℕ × Lease). (e.0, term_in e.1)) leases.entries) id ∙ find-numbers term_in leases.entries id
 
   pub get-attached : (key : List ℕ) → finmap.get (view_of leases attached spare).attached key ≡ option_map (λ p. p.lease) (get_by_text attached key)
-  get-attached key = finmap.get-from_entries nat_list_cmp_total (map (λ (e : String A × Attachment). (string_bytes e.0, e.1.lease)) attached.entries) key ∙ find-texts (λ (p : Attachment). p.lease) attached.entries key
+  get-attached key = finmap.get-from_entries nat_list_cmp_total (map (λ (e : String A × Attachment). (string_bytes e.0, e.1.lease)) attached.entries) key
+      ∙ find-texts (λ (p : Attachment). p.lease) attached.entries key
 
-  pub live-insert : (new : IndexMap ℕ Lease S) (id : ℕ) (l : Lease) → ((q : ℕ) → get nat_eq new q ≡ cond (nat_eq id q) (Some l) (get nat_eq leases q)) → (view_of new attached spare).live ≡ finmap.insert (view_of leases attached spare).live id (term_in l)
+  pub live-insert : (new : IndexMap ℕ Lease S) (id : ℕ) (l : Lease) → ((q : ℕ) → get nat_eq new q ≡ cond (nat_eq id q) (Some l) (get nat_eq leases q))
+      → (view_of new attached spare).live ≡ finmap.insert (view_of leases attached spare).live id (term_in l)
   live-insert new id l updates =
       is_insert nat_cmp_total finmap.nat_cmp-IsAntisymmetric _ (view_of new attached spare).live id (term_in l) (λ q.
       new_live q ∙ ap (option_map term_in) (updates q) ∙ through term_in (nat_eq id q) (Some l) (get nat_eq leases q)
-      ∙ ap (λ b. cond b (Some (term_in l)) (option_map term_in (get nat_eq leases q))) (flipped id q) ∙ ap (cond (eq_by_cmp nat_cmp q id) (Some (term_in l))) (sym (get-live q)))
+      ∙ ap (λ b. cond b (Some (term_in l)) (option_map term_in (get nat_eq leases q))) (flipped id q)
+      ∙ ap (cond (eq_by_cmp nat_cmp q id) (Some (term_in l))) (sym (get-live q)))
     where
       new_live : (q : ℕ) → finmap.get (view_of new attached spare).live q ≡ option_map term_in (get nat_eq new q)
       new_live q = finmap.get-from_entries nat_cmp_total (map (λ (e : ℕ × Lease). (e.0, term_in e.1)) new.entries) q ∙ find-numbers term_in new.entries q
 
-  pub live-remove : (new : IndexMap ℕ Lease S) (id : ℕ) → ((q : ℕ) → get nat_eq new q ≡ cond (nat_eq id q) None (get nat_eq leases q)) → (view_of new attached spare).live ≡ finmap.remove (view_of leases attached spare).live id
+  pub live-remove : (new : IndexMap ℕ Lease S) (id : ℕ) → ((q : ℕ) → get nat_eq new q ≡ cond (nat_eq id q) None (get nat_eq leases q))
+      → (view_of new attached spare).live ≡ finmap.remove (view_of leases attached spare).live id
   live-remove new id updates =
       is_remove nat_cmp_total finmap.nat_cmp-IsAntisymmetric _ (view_of new attached spare).live id (λ q.
       new_live q ∙ ap (option_map term_in) (updates q) ∙ through term_in (nat_eq id q) None (get nat_eq leases q)
@@ -98,38 +111,55 @@ module _ {A S R : Type 0} (leases : IndexMap ℕ Lease S) (attached : IndexMap (
       new_live : (q : ℕ) → finmap.get (view_of new attached spare).live q ≡ option_map term_in (get nat_eq new q)
       new_live q = finmap.get-from_entries nat_cmp_total (map (λ (e : ℕ × Lease). (e.0, term_in e.1)) new.entries) q ∙ find-numbers term_in new.entries q
 
-  pub attached-insert : (new : IndexMap (String A) Attachment R) (key : List ℕ) (p : Attachment) → ((q : List ℕ) → get_by_text new q ≡ cond (bytes_eq key q) (Some p) (get_by_text attached q)) → (view_of leases new spare).attached ≡ finmap.insert (view_of leases attached spare).attached key p.lease
+  pub attached-insert : (new : IndexMap (String A) Attachment R) (key : List ℕ) (p : Attachment)
+      → ((q : List ℕ) → get_by_text new q ≡ cond (bytes_eq key q) (Some p) (get_by_text attached q))
+      → (view_of leases new spare).attached ≡ finmap.insert (view_of leases attached spare).attached key p.lease
   attached-insert new key p updates =
       is_insert nat_list_cmp_total (finmap.slice_cmp-IsAntisymmetric finmap.nat_cmp-IsAntisymmetric) _ (view_of leases new spare).attached key p.lease (λ q.
-      new_attached q ∙ ap (option_map (λ (x : Attachment). x.lease)) (updates q) ∙ through (λ (x : Attachment). x.lease) (bytes_eq key q) (Some p) (get_by_text attached q)
-      ∙ ap (λ b. cond b (Some p.lease) (option_map (λ (x : Attachment). x.lease) (get_by_text attached q))) (bytes_flipped key q) ∙ ap (cond (eq_by_cmp (slice_cmp nat_cmp) q key) (Some p.lease)) (sym (get-attached q)))
+      new_attached q ∙ ap (option_map (λ (x : Attachment). x.lease)) (updates q)
+      ∙ through (λ (x : Attachment). x.lease) (bytes_eq key q) (Some p) (get_by_text attached q)
+      ∙ ap (λ b. cond b (Some p.lease) (option_map (λ (x : Attachment). x.lease) (get_by_text attached q))) (bytes_flipped key q)
+      ∙ ap (cond (eq_by_cmp (slice_cmp nat_cmp) q key) (Some p.lease)) (sym (get-attached q)))
     where
       new_attached : (q : List ℕ) → finmap.get (view_of leases new spare).attached q ≡ option_map (λ (x : Attachment). x.lease) (get_by_text new q)
-      new_attached q = finmap.get-from_entries nat_list_cmp_total (map (λ (e : String A × Attachment). (string_bytes e.0, e.1.lease)) new.entries) q ∙ find-texts (λ (x : Attachment). x.lease) new.entries q
+      new_attached q = finmap.get-from_entries nat_list_cmp_total (map (λ (e : String A × Attachment). (string_bytes e.0, e.1.lease)) new.entries) q
+          ∙ find-texts (λ (x : Attachment). x.lease) new.entries q
 
-  pub attached-remove : (new : IndexMap (String A) Attachment R) (key : List ℕ) → ((q : List ℕ) → get_by_text new q ≡ cond (bytes_eq key q) None (get_by_text attached q)) → (view_of leases new spare).attached ≡ finmap.remove (view_of leases attached spare).attached key
+  pub attached-remove : (new : IndexMap (String A) Attachment R) (key : List ℕ)
+      → ((q : List ℕ) → get_by_text new q ≡ cond (bytes_eq key q) None (get_by_text attached q))
+      → (view_of leases new spare).attached ≡ finmap.remove (view_of leases attached spare).attached key
   attached-remove new key updates =
       is_remove nat_list_cmp_total (finmap.slice_cmp-IsAntisymmetric finmap.nat_cmp-IsAntisymmetric) _ (view_of leases new spare).attached key (λ q.
-      new_attached q ∙ ap (option_map (λ (x : Attachment). x.lease)) (updates q) ∙ through (λ (x : Attachment). x.lease) (bytes_eq key q) None (get_by_text attached q)
-      ∙ ap (λ b. cond b None (option_map (λ (x : Attachment). x.lease) (get_by_text attached q))) (bytes_flipped key q) ∙ ap (cond (eq_by_cmp (slice_cmp nat_cmp) q key) None) (sym (get-attached q)))
+      new_attached q ∙ ap (option_map (λ (x : Attachment). x.lease)) (updates q)
+      ∙ through (λ (x : Attachment). x.lease) (bytes_eq key q) None (get_by_text attached q)
+      ∙ ap (λ b. cond b None (option_map (λ (x : Attachment). x.lease) (get_by_text attached q))) (bytes_flipped key q)
+      ∙ ap (cond (eq_by_cmp (slice_cmp nat_cmp) q key) None) (sym (get-attached q)))
     where
       new_attached : (q : List ℕ) → finmap.get (view_of leases new spare).attached q ≡ option_map (λ (x : Attachment). x.lease) (get_by_text new q)
-      new_attached q = finmap.get-from_entries nat_list_cmp_total (map (λ (e : String A × Attachment). (string_bytes e.0, e.1.lease)) new.entries) q ∙ find-texts (λ (x : Attachment). x.lease) new.entries q
+      new_attached q = finmap.get-from_entries nat_list_cmp_total (map (λ (e : String A × Attachment). (string_bytes e.0, e.1.lease)) new.entries) q
+          ∙ find-texts (λ (x : Attachment). x.lease) new.entries q
 
 -- what a log says after one more item
-pub log-insert : (s : Leases) (log : List LogItem) (id : ℕ) (term : Term) → StandsFor s.live log → (q : ℕ) → finmap.get (finmap.insert s.live id term) q ≡ cond (nat_eq id q) (Some term) (term_of log q)
+pub log-insert : (s : Leases) (log : List LogItem) (id : ℕ) (term : Term) → StandsFor s.live log → (q : ℕ)
+    → finmap.get (finmap.insert s.live id term) q ≡ cond (nat_eq id q) (Some term) (term_of log q)
 log-insert s log id term stands q =
-    finmap.get-insert nat_cmp_total s.live id term q ∙ ap (λ b. cond b (Some term) (finmap.get s.live q)) (sym (flipped id q)) ∙ ap (cond (nat_eq id q) (Some term)) (stands q)
+    finmap.get-insert nat_cmp_total s.live id term q ∙ ap (λ b. cond b (Some term) (finmap.get s.live q)) (sym (flipped id q))
+    ∙ ap (cond (nat_eq id q) (Some term)) (stands q)
 
-pub log-remove : (s : Leases) (log : List LogItem) (id : ℕ) → StandsFor s.live log → (q : ℕ) → finmap.get (finmap.remove s.live id) q ≡ cond (nat_eq id q) None (term_of log q)
+pub log-remove : (s : Leases) (log : List LogItem) (id : ℕ) → StandsFor s.live log → (q : ℕ)
+    → finmap.get (finmap.remove s.live id) q ≡ cond (nat_eq id q) None (term_of log q)
 log-remove s log id stands q =
     finmap.get-remove nat_cmp_total s.live id q ∙ ap (λ b. cond b None (finmap.get s.live q)) (sym (flipped id q)) ∙ ap (cond (nat_eq id q) None) (stands q)
 
-pub log-renew : (s : Leases) (log : List LogItem) (id at : ℕ) (term : Term) → finmap.get s.live id ≡ Some term → StandsFor s.live log → (q : ℕ) → finmap.get (finmap.insert s.live id (record term { renewed = at })) q ≡ cond (nat_eq id q) (option_map (λ (t : Term). record t { renewed = at }) (term_of log q)) (term_of log q)
+pub log-renew : (s : Leases) (log : List LogItem) (id at : ℕ) (term : Term) → finmap.get s.live id ≡ Some term → StandsFor s.live log → (q : ℕ)
+    → finmap.get (finmap.insert s.live id (record term { renewed = at })) q ≡ cond (nat_eq id q)
+    (option_map (λ (t : Term). record t { renewed = at }) (term_of log q)) (term_of log q)
 log-renew s log id at term found stands q =
     log-insert s log id (record term { renewed = at }) stands q ∙ by_test (nat_eq id q) refl
   where
-    by_test : (b : Bool) → nat_eq id q ≡ b → cond b (Some (record term { renewed = at })) (term_of log q) ≡ cond b (option_map (λ (t : Term). record t { renewed = at }) (term_of log q)) (term_of log q)
+    by_test : (b : Bool) → nat_eq id q ≡ b
+        → cond b (Some (record term { renewed = at })) (term_of log q) ≡ cond b (option_map (λ (t : Term). record t { renewed = at }) (term_of log q))
+        (term_of log q)
     by_test false is = refl
     by_test true is =
         let same : id ≡ q = eqb-true id q is in
@@ -142,11 +172,14 @@ absent id [] all = refl
 absent id (e ∷ es) all = ap (λ b. cond b (Some e.1) (lookup (nat_eq id) es)) all.0 ∙ absent id es all.1
 
 -- each entry counts once
-pub len-entries : {X Y : Type 0} (f : X → Y) (es : List (ℕ × X)) → IsDistinct nat_eq (keys_of es) → finmap.len (finmap.from_entries {R = nat_cmp} (map (λ (e : ℕ × X). (e.0, f e.1)) es)) ≡ length es
+pub len-entries : {X Y : Type 0} (f : X → Y) (es : List (ℕ × X)) → IsDistinct nat_eq (keys_of es)
+    → finmap.len (finmap.from_entries {R = nat_cmp} (map (λ (e : ℕ × X). (e.0, f e.1)) es)) ≡ length es
 len-entries {X} {Y} f [] distinct = finmap.len-empty nat_cmp Y
 len-entries {X} {Y} f (e ∷ es) distinct =
     let rest = finmap.from_entries {R = nat_cmp} (map (λ (e : ℕ × X). (e.0, f e.1)) es) in
-    let none : finmap.contains_key rest e.0 ≡ false = ap is_some (finmap.get-from_entries nat_cmp_total (map (λ (e : ℕ × X). (e.0, f e.1)) es) e.0 ∙ find-numbers f es e.0 ∙ ap (option_map f) (absent e.0 es (IsDistinct-head nat_eq e.0 (keys_of es) distinct))) in
+    let none : finmap.contains_key rest e.0 ≡ false =
+    ap is_some (finmap.get-from_entries nat_cmp_total (map (λ (e : ℕ × X). (e.0, f e.1)) es) e.0 ∙ find-numbers f es e.0
+    ∙ ap (option_map f) (absent e.0 es (IsDistinct-head nat_eq e.0 (keys_of es) distinct))) in
     let longer = finmap.len-insert nat_cmp_total rest e.0 (f e.1) ∙ ap (λ b. cond b (finmap.len rest) (finmap.len rest + 1)) none in
     let counted = len-entries f es (IsDistinct-tail nat_eq e.0 (keys_of es) distinct) in
     omega arith

@@ -1,5 +1,6 @@
 -- How each change of the table keeps the tournament in time with it, and what its first is.
-use Rattle.std.proofs.Common.{◌≡◌, ◌≢◌, ◌⊎◌, ℕ, ◌+◌, ◌<◌, ◌≤◌, Bool, true, false, cond, nat_eq, nat_lt, is_some, List, String, Option, Some, None, option_map, refl, sym, ap, ◌∙◌, inl, inr, arith}
+use Rattle.std.proofs.Common.{◌≡◌, ◌≢◌, ◌⊎◌, ℕ, ◌+◌, ◌<◌, ◌≤◌, Bool, true, false, cond, nat_eq, nat_lt, is_some, List, String, Option, Some, None, option_map}
+use Rattle.std.proofs.Common.{refl, sym, ap, ◌∙◌, inl, inr, arith}
 use Rattle.std.proofs.lemmas.Bool.{cases_eq, cases_lt, eqb-true, eqb-false, eq-eqb, ne_eqb, ltb-false}
 use Rattle.std.proofs.lemmas.Option.{same_Some}
 use Rattle.std.specs.FinMap as finmap
@@ -36,7 +37,8 @@ says id lease d is = by_test (nat_lt (lease.renewed + lease.ttl) 184467440737095
         let entries : entry_of id lease ≡ d = same_Some (entry_of id lease) d same in
         record { same_id = sym (ap (λ (x : DueAt). x.id) entries); moment = sym (ap (λ (x : DueAt). x.moment) entries) }
 
-said : (id : ℕ) (lease : Lease) → lease.renewed + lease.ttl < 18446744073709551616 → due_in id lease ≡ Some (record { moment = lease.renewed + lease.ttl; id = id })
+said : (id : ℕ) (lease : Lease) → lease.renewed + lease.ttl < 18446744073709551616
+    → due_in id lease ≡ Some (record { moment = lease.renewed + lease.ttl; id = id })
 said id lease fits = by_test (nat_lt (lease.renewed + lease.ttl) 18446744073709551616) refl
   where
     by_test : (b : Bool) → nat_lt (lease.renewed + lease.ttl) 18446744073709551616 ≡ b →
@@ -73,7 +75,8 @@ retimed table new before after id slot left timed played fits more updates mine 
     entered_case q lease false test is =
         kept lease.keys (λ same. eqb-false id q test ((apart q lease is).0 same)) ∙ timed.entered q lease is
 
-    here : (d : DueAt) (o : Option Lease) → left ≡ o → due_left id o ≡ Some d → (lease : Lease) × (new d.id ≡ Some lease) × (due_in d.id lease ≡ Some d) × (lease.keys ≡ slot)
+    here : (d : DueAt) (o : Option Lease) → left ≡ o → due_left id o ≡ Some d
+        → (lease : Lease) × (new d.id ≡ Some lease) × (due_in d.id lease ≡ Some d) × (lease.keys ≡ slot)
     here d None is same = absurd (cc)
     here d (Some lease) is same =
         let ids : d.id ≡ id = (says id lease d same).same_id in (
@@ -83,7 +86,8 @@ retimed table new before after id slot left timed played fits more updates mine 
           mine lease is,
         )
 
-    only_case : (s : ℕ) (d : DueAt) → slot_of after s ≡ Some d → (s ≡ slot) ⊎ (s ≢ slot) → (lease : Lease) × (new d.id ≡ Some lease) × (due_in d.id lease ≡ Some d) × (lease.keys ≡ s)
+    only_case : (s : ℕ) (d : DueAt) → slot_of after s ≡ Some d → (s ≡ slot) ⊎ (s ≢ slot)
+        → (lease : Lease) × (new d.id ≡ Some lease) × (due_in d.id lease ≡ Some d) × (lease.keys ≡ s)
     only_case s d is (inl same) =
         let found = here d left refl (sym written ∙ ap (slot_of after) (sym same) ∙ is) in
         (found.0, found.1, found.2, found.3 ∙ sym same)
@@ -134,10 +138,12 @@ fresh_slot leases place_of keys id list in_step unknown fresh q lease is = (
       let has : HasList keys lease.keys = in_step.listed q lease.keys (ap (option_map (λ (l : Lease). l.keys)) is) in
       let none = ap (list_at keys) same ∙ fresh in
       absurd (cc),
-  λ same. let known : is_some (get nat_eq leases q) ≡ true = ap is_some is in let not : is_some (get nat_eq leases q) ≡ false = ap (λ (n : ℕ). is_some (get nat_eq leases n)) (sym same) ∙ unknown in absurd (cc),
+  λ same. let known : is_some (get nat_eq leases q) ≡ true = ap is_some is in let not : is_some (get nat_eq leases q) ≡ false =
+      ap (λ (n : ℕ). is_some (get nat_eq leases n)) (sym same) ∙ unknown in absurd (cc),
 )
 
-module _ (live : Live) (table : ℕ → Option Lease) (times : Tournament) (timed : IsTimed table times) (seen : (id : ℕ) → finmap.get live id ≡ option_map term_in (table id)) (now : ℕ) (fits : now < 18446744073709551616) where
+module _ (live : Live) (table : ℕ → Option Lease) (times : Tournament) (timed : IsTimed table times)
+    (seen : (id : ℕ) → finmap.get live id ≡ option_map term_in (table id)) (now : ℕ) (fits : now < 18446744073709551616) where
   -- the slot of a lease that is due
   pub record IsInSlot (id : ℕ) (term : Term) : Type 0 where
     pub slot : ℕ

@@ -1,5 +1,6 @@
 -- A walk along a list that takes each text with it.
-use Rattle.std.proofs.Common.{◌≡◌, ℕ, ◌<◌, List, [], ◌∷◌, ◌++◌, length, map, Option, Some, None, IsSome, unwrap_or, String, string_bytes, refl, sym, ap, ◌∙◌, arith, length-append}
+use Rattle.std.proofs.Common.{◌≡◌, ℕ, ◌<◌, List, [], ◌∷◌, ◌++◌, length, map, Option, Some, None, IsSome, unwrap_or, String, string_bytes, refl, sym, ap, ◌∙◌}
+use Rattle.std.proofs.Common.{arith, length-append}
 use Rattle.std.proofs.lemmas.List.{append-nil, append_assoc, map-append, length-map}
 use Rattle.std.proofs.lemmas.Option.{same_Some}
 use Rattle.stm_lists.specs.Lists.{Lists, Place, list_at, entries_at, HasList, HasNode, StandsAt, first_node}
@@ -13,7 +14,8 @@ module _ {A : Type 0} where
     pub taken : map string_bytes texts ≡ map (λ e. string_bytes e.1) passed
     pub next_is : next ≡ first_node rest
 
-  pub walk-start : (lists : Lists (String A)) (list : ℕ) (texts : List (String A)) (next : Option ℕ) → texts ≡ [] → next ≡ first_node (entries_at lists list) → IsWalked lists list texts next
+  pub walk-start : (lists : Lists (String A)) (list : ℕ) (texts : List (String A)) (next : Option ℕ) → texts ≡ [] → next ≡ first_node (entries_at lists list)
+      → IsWalked lists list texts next
   walk-start lists list texts next none first =
       record { passed = []; rest = entries_at lists list; split = refl; taken = ap (map string_bytes) none; next_is = first }
 
@@ -29,7 +31,8 @@ module _ {A : Type 0} where
     pub here : place.list ≡ list
     pub taken : map string_bytes texts ≡ map (λ e. string_bytes e.1) place.before
 
-  pub walk-place : (lists : Lists (String A)) (list : ℕ) (texts : List (String A)) (next : Option ℕ) (node : ℕ) → HasList lists list → IsWalked lists list texts next → next ≡ Some node → IsNextPlace lists list texts node
+  pub walk-place : (lists : Lists (String A)) (list : ℕ) (texts : List (String A)) (next : Option ℕ) (node : ℕ) → HasList lists list
+      → IsWalked lists list texts next → next ≡ Some node → IsNextPlace lists list texts node
   walk-place lists list texts next node has walked is = by_rest walked.rest walked.split (sym walked.next_is ∙ is)
     where
       by_rest : (rest : List (ℕ × String A)) → entries_at lists list ≡ walked.passed ++ rest → first_node rest ≡ Some node → IsNextPlace lists list texts node
@@ -43,38 +46,48 @@ module _ {A : Type 0} where
             taken = walked.taken;
           }
 
-  pub walk-node : (lists : Lists (String A)) (list : ℕ) (texts : List (String A)) (next : Option ℕ) (node : ℕ) → HasList lists list → IsWalked lists list texts next → next ≡ Some node → HasNode lists node
+  pub walk-node : (lists : Lists (String A)) (list : ℕ) (texts : List (String A)) (next : Option ℕ) (node : ℕ) → HasList lists list
+      → IsWalked lists list texts next → next ≡ Some node → HasNode lists node
   walk-node lists list texts next node has walked is =
       let found = walk-place lists list texts next node has walked is in (found.place, found.stands)
 
   -- one node further
-  pub walk-more : (lists : Lists (String A)) (list : ℕ) (texts : List (String A)) (node : ℕ) (text value : String A) (after : Option ℕ) → IsNextPlace lists list texts node → ((place : Place (String A)) → StandsAt lists node place → value ≡ place.value) → string_bytes text ≡ string_bytes value → ((place : Place (String A)) → StandsAt lists node place → after ≡ first_node place.after) → IsWalked lists list (texts ++ text ∷ []) after
+  pub walk-more : (lists : Lists (String A)) (list : ℕ) (texts : List (String A)) (node : ℕ) (text value : String A) (after : Option ℕ)
+      → IsNextPlace lists list texts node → ((place : Place (String A)) → StandsAt lists node place → value ≡ place.value)
+      → string_bytes text ≡ string_bytes value → ((place : Place (String A)) → StandsAt lists node place → after ≡ first_node place.after)
+      → IsWalked lists list (texts ++ text ∷ []) after
   walk-more lists list texts node text value after found got cloned follows =
       let place = found.place in
       let at = found.stands.stands in
-      let entries : entries_at lists list ≡ place.before ++ (node, place.value) ∷ place.after = ap (λ (l : ℕ). entries_at lists l) (sym found.here) ∙ ap (λ o. unwrap_or o []) at in
+      let entries : entries_at lists list ≡ place.before ++ (node, place.value) ∷ place.after = ap (λ (l : ℕ). entries_at lists l) (sym found.here)
+      ∙ ap (λ o. unwrap_or o []) at in
       let bytes : string_bytes text ≡ string_bytes place.value = cloned ∙ ap string_bytes (got place found.stands) in
       record {
         passed = place.before ++ (node, place.value) ∷ [];
         rest = place.after;
         split = entries ∙ sym (append_assoc place.before ((node, place.value) ∷ []) place.after);
-        taken = map-append string_bytes texts (text ∷ []) ∙ rw (found.taken, bytes) (sym (map-append (λ e. string_bytes e.1) place.before ((node, place.value) ∷ [])));
+        taken = map-append string_bytes texts (text ∷ [])
+            ∙ rw (found.taken, bytes) (sym (map-append (λ e. string_bytes e.1) place.before ((node, place.value) ∷ [])));
         next_is = follows place found.stands;
       }
 
   -- the texts that are left to take
-  pub walk-length : (lists : Lists (String A)) (list : ℕ) (texts : List (String A)) (node : ℕ) → IsNextPlace lists list texts node → length texts < length (entries_at lists list)
+  pub walk-length : (lists : Lists (String A)) (list : ℕ) (texts : List (String A)) (node : ℕ) → IsNextPlace lists list texts node
+      → length texts < length (entries_at lists list)
   walk-length lists list texts node found =
       let place = found.place in
-      let entries : entries_at lists list ≡ place.before ++ (node, place.value) ∷ place.after = ap (λ (l : ℕ). entries_at lists l) (sym found.here) ∙ ap (λ o. unwrap_or o []) found.stands.stands in
+      let entries : entries_at lists list ≡ place.before ++ (node, place.value) ∷ place.after = ap (λ (l : ℕ). entries_at lists l) (sym found.here)
+      ∙ ap (λ o. unwrap_or o []) found.stands.stands in
       let lengths = ap length entries ∙ length-append place.before ((node, place.value) ∷ place.after) in
       let counts = sym (length-map texts string_bytes) ∙ ap length found.taken ∙ length-map place.before (λ e. string_bytes e.1) in
       omega arith
 
   -- at the end all texts are taken
-  pub walk-end : (lists : Lists (String A)) (list : ℕ) (texts : List (String A)) (next : Option ℕ) → IsWalked lists list texts next → next ≡ None → map string_bytes texts ≡ map (λ e. string_bytes e.1) (entries_at lists list)
+  pub walk-end : (lists : Lists (String A)) (list : ℕ) (texts : List (String A)) (next : Option ℕ) → IsWalked lists list texts next → next ≡ None
+      → map string_bytes texts ≡ map (λ e. string_bytes e.1) (entries_at lists list)
   walk-end lists list texts next walked is = by_rest walked.rest walked.split (sym walked.next_is ∙ is)
     where
-      by_rest : (rest : List (ℕ × String A)) → entries_at lists list ≡ walked.passed ++ rest → first_node rest ≡ None → map string_bytes texts ≡ map (λ e. string_bytes e.1) (entries_at lists list)
+      by_rest : (rest : List (ℕ × String A)) → entries_at lists list ≡ walked.passed ++ rest → first_node rest ≡ None
+          → map string_bytes texts ≡ map (λ e. string_bytes e.1) (entries_at lists list)
       by_rest [] split none = walked.taken ∙ ap (map (λ e. string_bytes e.1)) (sym (split ∙ append-nil walked.passed))
       by_rest (entry ∷ rest) split none = absurd (cc)

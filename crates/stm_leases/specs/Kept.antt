@@ -45,7 +45,8 @@ pub record AreInStep {A : Type 0} (list_of : ℕ → Option ℕ) (place_of : Lis
 abbrev pub AllInRange : {S : Type 0} → IndexMap ℕ Lease S → Type 0
 AllInRange leases = (id : ℕ) (lease : Lease) → get nat_eq leases id ≡ Some lease → IsTrue (is_id id) × IsTrue (is_ttl lease.ttl)
 
--- the tables and the lists agree, ids and times to live are in range, the tournament has when each lease falls due, and the attaches that are certain have room in both
+-- the tables and the lists agree, ids and times to live are in range, the tournament has when each lease falls due, and the
+-- attaches that are certain have room in both
 pub record AreKept {A S R : Type 0} (leases : IndexMap ℕ Lease S) (attached : IndexMap (String A) Attachment R) (keys : Lists (String A))
     (due : Tournament) (room : ℕ) : Type 0 where
   pub in_step : AreInStep (list_in leases) (get_by_text attached) keys

@@ -1,4 +1,5 @@
-use Rattle.std.proofs.Common.{◌≡◌, Option, Some, None, true, false, cond, is_some, ℕ, List, String, Global, nat_eq, option_map, subst, rules, arith, refl, ap, sym, ◌∙◌}
+use Rattle.std.proofs.Common.{◌≡◌, Option, Some, None, true, false, cond, is_some, ℕ, List, String, Global, nat_eq, option_map, subst, rules, arith, refl, ap}
+use Rattle.std.proofs.Common.{sym, ◌∙◌}
 use Rattle.std.proofs.lemmas.Grind.{common_steps}
 use Rattle.std.specs.FinMap as finmap
 use Rattle.std.specs.Map.{lookup}
@@ -20,23 +21,28 @@ no_list (Some l) none = absurd (cc)
 
 pub returns-then-contains_key-clause-refusal : goal.returns-then-contains_key-clause-refusal
 returns-then-contains_key-clause-refusal c =
-    let known : finmap.contains_key c.args.self.now.live c.args.id ≡ true = contains-now c.self.inside.leases c.self.inside.attached _ _ c.self.view_is c.args.id ∙ sym c.contains_key.ensures ∙ c.if-contains_key.true in
+    let known : finmap.contains_key c.args.self.now.live c.args.id ≡ true =
+    contains-now c.self.inside.leases c.self.inside.attached _ _ c.self.view_is c.args.id ∙ sym c.contains_key.ensures ∙ c.if-contains_key.true in
     first_of (search rules, grind (arith, common_steps))
 
 pub returns-then-is_err-clause-refusal : goal.returns-then-is_err-clause-refusal
 returns-then-is_err-clause-refusal c =
-    let known : finmap.contains_key c.args.self.now.live c.args.id ≡ false = contains-now c.self.inside.leases c.self.inside.attached _ _ c.self.view_is c.args.id ∙ sym c.contains_key.ensures ∙ c.if-contains_key.false in
+    let known : finmap.contains_key c.args.self.now.live c.args.id ≡ false =
+    contains-now c.self.inside.leases c.self.inside.attached _ _ c.self.view_is c.args.id ∙ sym c.contains_key.ensures ∙ c.if-contains_key.false in
     first_of (search rules, grind (arith, common_steps))
 
 pub returns-in_default-clause-refusal : goal.returns-in_default-clause-refusal
 returns-in_default-clause-refusal c =
-    let known : finmap.contains_key c.args.self.now.live c.args.id ≡ false = contains-now c.self.inside.leases c.self.inside.attached _ _ c.self.view_is c.args.id ∙ sym c.contains_key.ensures ∙ c.if-contains_key.false in
+    let known : finmap.contains_key c.args.self.now.live c.args.id ≡ false =
+    contains-now c.self.inside.leases c.self.inside.attached _ _ c.self.view_is c.args.id ∙ sym c.contains_key.ensures ∙ c.if-contains_key.false in
     first_of (search rules, grind (arith, common_steps))
 
 pub invariant_of-self : goal.invariant_of-self
 invariant_of-self c = record {
-  in_step = subst (λ (es : List (ℕ × Lease)). AreInStep (λ q. option_map (λ (l : Lease). l.keys) (lookup (nat_eq q) es)) (get_by_text c.self.inside.attached) c.self.inside.keys) (sym c.reserve.ensures.entries) c.self.invariant.in_step;
-  timed = same_timed (get nat_eq c.self.inside.leases) (get nat_eq c.reserve.new.self) _ (λ q. ap (lookup (nat_eq q)) c.reserve.ensures.entries) c.self.invariant.timed;
+  in_step = subst (λ (es : List (ℕ × Lease)). AreInStep (λ q. option_map (λ (l : Lease). l.keys) (lookup (nat_eq q) es))
+      (get_by_text c.self.inside.attached) c.self.inside.keys) (sym c.reserve.ensures.entries) c.self.invariant.in_step;
+  timed = same_timed (get nat_eq c.self.inside.leases) (get nat_eq c.reserve.new.self) _
+      (λ q. ap (lookup (nat_eq q)) c.reserve.ensures.entries) c.self.invariant.timed;
   in_range = same-range c.self.inside.leases c.reserve.new.self c.reserve.ensures.entries c.self.invariant.in_range;
   table_room = c.self.invariant.table_room;
   list_room = c.self.invariant.list_room;
@@ -46,8 +52,11 @@ pub invariant_of-self-in_default : goal.invariant_of-self-in_default
 invariant_of-self-in_default c =
     let same = c.in_default.ensures.err in
     record {
-      in_step = subst (λ (k : Lists (String Global)). AreInStep (list_in c.reserve.new.self) (get_by_text c.self.inside.attached) k) (sym same) (subst (λ (es : List (ℕ × Lease)). AreInStep (λ q. option_map (λ (l : Lease). l.keys) (lookup (nat_eq q) es)) (get_by_text c.self.inside.attached) c.self.inside.keys) (sym c.reserve.ensures.entries) c.self.invariant.in_step);
-      timed = same_timed (get nat_eq c.self.inside.leases) (get nat_eq c.reserve.new.self) _ (λ q. ap (lookup (nat_eq q)) c.reserve.ensures.entries) c.self.invariant.timed;
+      in_step = subst (λ (k : Lists (String Global)). AreInStep (list_in c.reserve.new.self) (get_by_text c.self.inside.attached) k) (sym same)
+          (subst (λ (es : List (ℕ × Lease)). AreInStep (λ q. option_map (λ (l : Lease). l.keys) (lookup (nat_eq q) es))
+          (get_by_text c.self.inside.attached) c.self.inside.keys) (sym c.reserve.ensures.entries) c.self.invariant.in_step);
+      timed = same_timed (get nat_eq c.self.inside.leases) (get nat_eq c.reserve.new.self) _
+          (λ q. ap (lookup (nat_eq q)) c.reserve.ensures.entries) c.self.invariant.timed;
       in_range = same-range c.self.inside.leases c.reserve.new.self c.reserve.ensures.entries c.self.invariant.in_range;
       table_room = c.self.invariant.table_room;
       list_room = omega (arith, c.self.invariant.list_room, ap (λ (k : Lists (String Global)). k.spare) same);
@@ -56,15 +65,18 @@ invariant_of-self-in_default c =
 pub invariant_of-self-then-is_err-2 : goal.invariant_of-self-then-is_err-2
 invariant_of-self-then-is_err-2 c =
     let kept : AreInStep (list_in c.reserve.new.self) (get_by_text c.self.inside.attached) c.self.inside.keys =
-    subst (λ (es : List (ℕ × Lease)). AreInStep (λ q. option_map (λ (l : Lease). l.keys) (lookup (nat_eq q) es)) (get_by_text c.self.inside.attached) c.self.inside.keys)
+    subst (λ (es : List (ℕ × Lease)). AreInStep (λ q. option_map (λ (l : Lease). l.keys) (lookup (nat_eq q) es))
+    (get_by_text c.self.inside.attached) c.self.inside.keys)
     (sym c.reserve.ensures.entries) c.self.invariant.in_step in
     record {
       in_step = lists_stay (list_in c.reserve.new.self) (list_in c.reserve.new.self) (get_by_text c.self.inside.attached) (get_by_text c.self.inside.attached)
           c.self.inside.keys c.drop_list.new.self kept
-          (dropped_again c.self.inside.keys c.new_list.new.self c.drop_list.new.self c.in-Ok.keys c.in-Ok.ensures.fresh c.in-Ok.ensures.ok c.drop_list.ensures.dropped);
+          (dropped_again c.self.inside.keys c.new_list.new.self c.drop_list.new.self c.in-Ok.keys c.in-Ok.ensures.fresh c.in-Ok.ensures.ok
+          c.drop_list.ensures.dropped);
       in_range = same-range c.self.inside.leases c.reserve.new.self c.reserve.ensures.entries c.self.invariant.in_range;
       timed = still_timed (get nat_eq c.reserve.new.self) c.self.inside.due c.reserve-2.new.self
-          (same_timed (get nat_eq c.self.inside.leases) (get nat_eq c.reserve.new.self) _ (λ q. ap (lookup (nat_eq q)) c.reserve.ensures.entries) c.self.invariant.timed)
+          (same_timed (get nat_eq c.self.inside.leases) (get nat_eq c.reserve.new.self) _
+          (λ q. ap (lookup (nat_eq q)) c.reserve.ensures.entries) c.self.invariant.timed)
           c.reserve-2.ensures.played c.reserve-2.ensures.more c.reserve-2.ensures.kept;
       table_room = c.self.invariant.table_room;
       list_room = omega (arith, c.self.invariant.list_room, c.in-Ok.ensures.spare, c.drop_list.ensures.spare);
@@ -72,38 +84,66 @@ invariant_of-self-then-is_err-2 c =
 
 pub returns-then-is_err-2-clause-refusal : goal.returns-then-is_err-2-clause-refusal
 returns-then-is_err-2-clause-refusal c =
-    let known : finmap.contains_key c.args.self.now.live c.args.id ≡ false = contains-now c.self.inside.leases c.self.inside.attached _ _ c.self.view_is c.args.id ∙ sym c.contains_key.ensures ∙ c.if-contains_key.false in
+    let known : finmap.contains_key c.args.self.now.live c.args.id ≡ false =
+    contains-now c.self.inside.leases c.self.inside.attached _ _ c.self.view_is c.args.id ∙ sym c.contains_key.ensures ∙ c.if-contains_key.false in
     first_of (search rules, grind (arith, common_steps))
 
 pub invariant_of-self-2 : goal.invariant_of-self-2
 invariant_of-self-2 c =
     let unknown : is_some (get nat_eq c.self.inside.leases c.args.id) ≡ false = sym c.contains_key.ensures ∙ c.if-contains_key.false in
     record {
-      in_step = granted (list_in c.self.inside.leases) (list_in c.insert.new.self) (get_by_text c.self.inside.attached) (get_by_text c.self.inside.attached) c.self.inside.keys c.new_list.new.self c.self.invariant.in_step c.args.id c.in-Ok.keys (no_list (get nat_eq c.self.inside.leases c.args.id) unknown) c.in-Ok.ensures.fresh c.in-Ok.ensures.ok (list-updates c.self.inside.leases c.insert.new.self c.args.id (Some (record { ttl = c.args.ttl; renewed = c.args.now; keys = c.in-Ok.keys })) (λ q. c.in-Ok-insert.ensures.updates.0 q ∙ ap (λ es. cond (nat_eq c.args.id q) (Some (record { ttl = c.args.ttl; renewed = c.args.now; keys = c.in-Ok.keys })) (lookup (nat_eq q) es)) c.reserve.ensures.entries));
+      in_step = granted (list_in c.self.inside.leases) (list_in c.insert.new.self) (get_by_text c.self.inside.attached)
+          (get_by_text c.self.inside.attached) c.self.inside.keys c.new_list.new.self c.self.invariant.in_step c.args.id c.in-Ok.keys
+          (no_list (get nat_eq c.self.inside.leases c.args.id) unknown) c.in-Ok.ensures.fresh c.in-Ok.ensures.ok
+          (list-updates c.self.inside.leases c.insert.new.self c.args.id (Some (record { ttl = c.args.ttl; renewed = c.args.now; keys = c.in-Ok.keys }))
+          (λ q. c.in-Ok-insert.ensures.updates.0 q
+          ∙ ap (λ es. cond (nat_eq c.args.id q) (Some (record { ttl = c.args.ttl; renewed = c.args.now; keys = c.in-Ok.keys })) (lookup (nat_eq q) es))
+          c.reserve.ensures.entries));
       timed = retimed (get nat_eq c.self.inside.leases) (get nat_eq c.insert.new.self) c.self.inside.due c.set.new.self c.args.id c.in-Ok.keys
           (Some (record { ttl = c.args.ttl; renewed = c.args.now; keys = c.in-Ok.keys })) c.self.invariant.timed c.set.ensures.played
-          (omega (arith, on_ok c.reserve-2.result c.reserve-2.ensures.ok (sym c.is_err-2.ensures.value ∙ c.if-is_err-2.false), c.set.ensures.slots, c.index.ensures))
+          (omega (
+            arith,
+            on_ok c.reserve-2.result c.reserve-2.ensures.ok (sym c.is_err-2.ensures.value ∙ c.if-is_err-2.false),
+            c.set.ensures.slots,
+            c.index.ensures,
+          ))
           (omega (arith, c.reserve-2.ensures.more, c.set.ensures.slots))
-          (λ q. c.in-Ok-insert.ensures.updates.0 q ∙ ap (λ es. cond (nat_eq c.args.id q) (Some (record { ttl = c.args.ttl; renewed = c.args.now; keys = c.in-Ok.keys })) (lookup (nat_eq q) es)) c.reserve.ensures.entries)
+          (λ q. c.in-Ok-insert.ensures.updates.0 q
+          ∙ ap (λ es. cond (nat_eq c.args.id q) (Some (record { ttl = c.args.ttl; renewed = c.args.now; keys = c.in-Ok.keys })) (lookup (nat_eq q) es))
+          c.reserve.ensures.entries)
           (λ lease is. ap (λ (l : Lease). l.keys) (sym (same_Some _ lease is)))
           (ap (slot_of c.set.new.self) (sym c.index-2.ensures) ∙ c.set.ensures.written ∙ c.due_at.ensures)
           (λ other differs. c.set.ensures.kept other (λ same. differs (same ∙ c.index-2.ensures)) ∙ c.reserve-2.ensures.kept other)
-          (fresh_slot c.self.inside.leases (get_by_text c.self.inside.attached) c.self.inside.keys c.args.id c.in-Ok.keys c.self.invariant.in_step unknown c.in-Ok.ensures.fresh);
-      in_range = λ q l is. one-more c.self.inside.leases c.insert.new.self c.args.id (record { ttl = c.args.ttl; renewed = c.args.now; keys = c.in-Ok.keys }) (λ n. c.in-Ok-insert.ensures.updates.0 n ∙ ap (λ es. cond (nat_eq c.args.id n) (Some (record { ttl = c.args.ttl; renewed = c.args.now; keys = c.in-Ok.keys })) (lookup (nat_eq n) es)) c.reserve.ensures.entries) c.self.invariant.in_range (id-fits c.args.id c.if-id-eq0.false c.if-id-gt-HIGHEST_ID.false, ttl-fits c.args.ttl c.if-ttl-eq0.false c.if-ttl-gt-HIGHEST_TTL.false) q l is;
+          (fresh_slot c.self.inside.leases
+          (get_by_text c.self.inside.attached) c.self.inside.keys c.args.id c.in-Ok.keys c.self.invariant.in_step unknown c.in-Ok.ensures.fresh);
+      in_range = λ q l is. one-more c.self.inside.leases c.insert.new.self c.args.id (record { ttl = c.args.ttl; renewed = c.args.now; keys = c.in-Ok.keys })
+          (λ n. c.in-Ok-insert.ensures.updates.0 n
+          ∙ ap (λ es. cond (nat_eq c.args.id n) (Some (record { ttl = c.args.ttl; renewed = c.args.now; keys = c.in-Ok.keys })) (lookup (nat_eq n) es))
+          c.reserve.ensures.entries) c.self.invariant.in_range
+          (id-fits c.args.id c.if-id-eq0.false c.if-id-gt-HIGHEST_ID.false, ttl-fits c.args.ttl c.if-ttl-eq0.false c.if-ttl-gt-HIGHEST_TTL.false) q l is;
       table_room = c.self.invariant.table_room;
       list_room = omega (arith, c.self.invariant.list_room, c.in-Ok.ensures.spare);
     }
 
 pub returns-clause-refusal : goal.returns-clause-refusal
 returns-clause-refusal c =
-    let known : finmap.contains_key c.args.self.now.live c.args.id ≡ false = contains-now c.self.inside.leases c.self.inside.attached _ _ c.self.view_is c.args.id ∙ sym c.contains_key.ensures ∙ c.if-contains_key.false in
+    let known : finmap.contains_key c.args.self.now.live c.args.id ≡ false =
+    contains-now c.self.inside.leases c.self.inside.attached _ _ c.self.view_is c.args.id ∙ sym c.contains_key.ensures ∙ c.if-contains_key.false in
     first_of (search rules, grind (arith, common_steps))
 
 pub returns-clause-ok : goal.returns-clause-ok
 returns-clause-ok c =
-    inserted-view c.self.inside.leases c.self.inside.attached _ _ c.self.view_is c.insert.new.self c.args.id (record { ttl = c.args.ttl; renewed = c.args.now; keys = c.in-Ok.keys }) (λ q. c.in-Ok-insert.ensures.updates.0 q ∙ ap (λ es. cond (nat_eq c.args.id q) (Some (record { ttl = c.args.ttl; renewed = c.args.now; keys = c.in-Ok.keys })) (lookup (nat_eq q) es)) c.reserve.ensures.entries)
+    inserted-view c.self.inside.leases c.self.inside.attached _ _ c.self.view_is c.insert.new.self c.args.id
+    (record { ttl = c.args.ttl; renewed = c.args.now; keys = c.in-Ok.keys })
+    (λ q. c.in-Ok-insert.ensures.updates.0 q
+    ∙ ap (λ es. cond (nat_eq c.args.id q) (Some (record { ttl = c.args.ttl; renewed = c.args.now; keys = c.in-Ok.keys })) (lookup (nat_eq q) es))
+    c.reserve.ensures.entries)
 
 pub returns-clause-log : goal.returns-clause-log
 returns-clause-log c =
     λ log stands.
-    granted-log c.self.inside.leases c.self.inside.attached _ _ c.self.view_is c.insert.new.self c.args.id (record { ttl = c.args.ttl; renewed = c.args.now; keys = c.in-Ok.keys }) (λ q. c.in-Ok-insert.ensures.updates.0 q ∙ ap (λ es. cond (nat_eq c.args.id q) (Some (record { ttl = c.args.ttl; renewed = c.args.now; keys = c.in-Ok.keys })) (lookup (nat_eq q) es)) c.reserve.ensures.entries) log stands
+    granted-log c.self.inside.leases c.self.inside.attached _ _ c.self.view_is c.insert.new.self c.args.id
+    (record { ttl = c.args.ttl; renewed = c.args.now; keys = c.in-Ok.keys })
+    (λ q. c.in-Ok-insert.ensures.updates.0 q
+    ∙ ap (λ es. cond (nat_eq c.args.id q) (Some (record { ttl = c.args.ttl; renewed = c.args.now; keys = c.in-Ok.keys })) (lookup (nat_eq q) es))
+    c.reserve.ensures.entries) log stands

@@ -15,20 +15,27 @@ use Rattle.stm_leases.proofs.table.Leases.keep_alive.Goals as goal
 pub returns-in_default-clause-found : goal.returns-in_default-clause-found
 returns-in_default-clause-found c = (
   λ ok. absurd (cc),
-  λ live. absurd (live-absent c.self.inside.leases c.self.inside.attached _ _ c.self.view_is c.args.id (sym c.get.ensures.value ∙ ap option_copied c.in_default.is) live),
+  λ live. absurd (live-absent c.self.inside.leases c.self.inside.attached _ _ c.self.view_is c.args.id
+      (sym c.get.ensures.value ∙ ap option_copied c.in_default.is) live),
 )
 
 pub returns-in_default-clause-ok : goal.returns-in_default-clause-ok
 returns-in_default-clause-ok c =
     λ term is.
-    absurd (live-absent c.self.inside.leases c.self.inside.attached _ _ c.self.view_is c.args.id (sym c.get.ensures.value ∙ ap option_copied c.in_default.is) (rw is refl))
+    absurd (live-absent c.self.inside.leases c.self.inside.attached _ _ c.self.view_is c.args.id (sym c.get.ensures.value ∙ ap option_copied c.in_default.is)
+    (rw is refl))
 
 pub invariant_of-self : goal.invariant_of-self
 invariant_of-self c =
     let found = sym c.get.ensures.value ∙ ap option_copied c.in-Some.is in
     record {
-      in_step = same_lists (list_in c.self.inside.leases) (list_in c.insert.new.self) (get_by_text c.self.inside.attached) (get_by_text c.self.inside.attached) c.self.inside.keys c.self.inside.keys c.self.invariant.in_step (list-renewed c.self.inside.leases c.insert.new.self c.args.id c.in-Some.lease.now (record { ttl = c.in-Some.lease.now.ttl; renewed = c.args.now; keys = c.in-Some.lease.now.keys }) found refl c.in-Ok.ensures.updates.0);
-      in_range = λ q l is. one-more c.self.inside.leases c.insert.new.self c.args.id (record { ttl = c.in-Some.lease.now.ttl; renewed = c.args.now; keys = c.in-Some.lease.now.keys }) c.in-Ok.ensures.updates.0 c.self.invariant.in_range (c.self.invariant.in_range c.args.id c.in-Some.lease.now found) q l is;
+      in_step = same_lists (list_in c.self.inside.leases) (list_in c.insert.new.self) (get_by_text c.self.inside.attached)
+          (get_by_text c.self.inside.attached) c.self.inside.keys c.self.inside.keys c.self.invariant.in_step
+          (list-renewed c.self.inside.leases c.insert.new.self c.args.id c.in-Some.lease.now
+          (record { ttl = c.in-Some.lease.now.ttl; renewed = c.args.now; keys = c.in-Some.lease.now.keys }) found refl c.in-Ok.ensures.updates.0);
+      in_range = λ q l is. one-more c.self.inside.leases c.insert.new.self c.args.id
+          (record { ttl = c.in-Some.lease.now.ttl; renewed = c.args.now; keys = c.in-Some.lease.now.keys }) c.in-Ok.ensures.updates.0 c.self.invariant.in_range
+          (c.self.invariant.in_range c.args.id c.in-Some.lease.now found) q l is;
       timed = retimed (get nat_eq c.self.inside.leases) (get nat_eq c.insert.new.self) c.self.inside.due c.set.new.self c.args.id c.in-Some.lease.now.keys
           (Some (record { ttl = c.in-Some.lease.now.ttl; renewed = c.args.now; keys = c.in-Some.lease.now.keys })) c.self.invariant.timed c.set.ensures.played
           (omega (arith, c.self.invariant.timed.within c.args.id c.in-Some.lease.now found, c.set.ensures.slots)) (omega (arith, c.set.ensures.slots))
@@ -50,11 +57,14 @@ returns-clause-ok c =
     let found = sym c.get.ensures.value ∙ ap option_copied c.in-Some.is in
     λ term is.
     let terms = term-found c.self.inside.leases c.self.inside.attached _ _ c.self.view_is c.args.id c.in-Some.lease.now term found is in
-    inserted-view c.self.inside.leases c.self.inside.attached _ _ c.self.view_is c.insert.new.self c.args.id (record { ttl = c.in-Some.lease.now.ttl; renewed = c.args.now; keys = c.in-Some.lease.now.keys }) c.in-Ok.ensures.updates.0
+    inserted-view c.self.inside.leases c.self.inside.attached _ _ c.self.view_is c.insert.new.self c.args.id
+    (record { ttl = c.in-Some.lease.now.ttl; renewed = c.args.now; keys = c.in-Some.lease.now.keys }) c.in-Ok.ensures.updates.0
     ∙ ap (λ (t : Term). record c.args.self.now { live = finmap.insert c.args.self.now.live c.args.id (record { ttl = t.ttl; renewed = c.args.now }) }) terms
 
 pub returns-clause-log : goal.returns-clause-log
 returns-clause-log c =
     let found = sym c.get.ensures.value ∙ ap option_copied c.in-Some.is in
     λ log stands.
-    renewed-log c.self.inside.leases c.self.inside.attached _ _ c.self.view_is c.insert.new.self c.args.id c.args.now (record { ttl = c.in-Some.lease.now.ttl; renewed = c.args.now; keys = c.in-Some.lease.now.keys }) c.in-Some.lease.now found refl c.in-Ok.ensures.updates.0 log stands
+    renewed-log c.self.inside.leases c.self.inside.attached _ _ c.self.view_is c.insert.new.self c.args.id c.args.now
+    (record { ttl = c.in-Some.lease.now.ttl; renewed = c.args.now; keys = c.in-Some.lease.now.keys }) c.in-Some.lease.now found refl
+    c.in-Ok.ensures.updates.0 log stands

@@ -10,7 +10,8 @@ use Rattle.stm_leases.proofs.table.Leases.keys_of.Goals as goal
 
 pub returns-in_default-clause-live : goal.returns-in_default-clause-live
 returns-in_default-clause-live c =
-    λ live. absurd (live-absent c.self.inside.leases c.self.inside.attached _ _ c.self.view_is c.args.id (sym c.get.ensures.value ∙ ap option_copied c.in_default.is) live)
+    λ live. absurd (live-absent c.self.inside.leases c.self.inside.attached _ _ c.self.view_is c.args.id
+    (sym c.get.ensures.value ∙ ap option_copied c.in_default.is) live)
 
 pub texts-requires : goal.texts-requires
 texts-requires c =
@@ -36,5 +37,8 @@ pub returns-clause-ok : goal.returns-clause-ok
 returns-clause-ok c =
     let found = sym c.get.ensures.value ∙ ap option_copied c.in-Some.is in
     one_list_of_keys (lease_of c.args.self.now) c.args.id _ _
-    (sorted-keys c.args.self.now (list_in c.self.inside.leases) (get_by_text c.self.inside.attached) c.self.inside.keys c.args.id c.in-Some.lease.now.keys c.in_ok-keys.keys.items c.sort.new.self.items c.self.invariant.in_step (lease_of-now c.self.inside.leases c.self.inside.attached _ _ c.self.view_is) (ap (option_map (λ l. l.keys)) found) (c.stands_once.ensures.apart c.in-Some.lease.now.keys) c.in_ok-keys.ensures c.sort.ensures.permutation c.in_ok-sort.ensures.sorted)
+    (sorted-keys c.args.self.now (list_in c.self.inside.leases)
+    (get_by_text c.self.inside.attached) c.self.inside.keys c.args.id c.in-Some.lease.now.keys c.in_ok-keys.keys.items c.sort.new.self.items
+    c.self.invariant.in_step (lease_of-now c.self.inside.leases c.self.inside.attached _ _ c.self.view_is) (ap (option_map (λ l. l.keys)) found)
+    (c.stands_once.ensures.apart c.in-Some.lease.now.keys) c.in_ok-keys.ensures c.sort.ensures.permutation c.in_ok-sort.ensures.sorted)
     (keys_on_are_keys c.args.self.now.attached c.args.id)

@@ -16,4 +16,5 @@ by_root t played some (Some d) is =
 
 pub returns : goal.returns
 returns c = by_root c.args.self.now c.requires (omega (arith, c.if-self-eq0.false)) c.index.result.now
-    (let size = c.requires.size in get_or_default c.args.self.now.nodes.items 1 None c.index.result.now (omega (arith, c.if-self-eq0.false)) ∙ sym c.index.ensures)
+    (let size = c.requires.size in get_or_default c.args.self.now.nodes.items 1 None c.index.result.now (omega (arith, c.if-self-eq0.false))
+    ∙ sym c.index.ensures)

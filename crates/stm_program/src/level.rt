@@ -1,10 +1,18 @@
 //! The isolation levels.
 ghost use Rattle.std.specs.Prelude.{◌≡◌, ◌↔◌, IsTrue};
 
-/// The isolation level that a run of a program is committed at.
+/// The isolation level that a run of a program is committed at, from the one that compares most to the one that compares nothing.
+///
+/// (The levels of `clientv3/concurrency`, "STM", by their names there.)
 #[derive(Clone, Copy, Debug, PartialEq, Eq)]
 pub enum Level {
-    /// The commit compares nothing: each read is of its own moment.
+    /// The commit compares the keys that were read and those that are written; all reads are of one revision.
+    SerializableSnapshot,
+    /// The commit compares the keys that were read; all reads are of one revision.
+    Serializable,
+    /// The commit compares the keys that were read; each read is of its own moment.
+    RepeatableReads,
+    /// The commit compares nothing; each read is of its own moment.
     ReadCommitted,
 }
 

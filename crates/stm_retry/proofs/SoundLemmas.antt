@@ -7,7 +7,7 @@ use Rattle.stm_history.specs.declared.key_state.ReadAnswer.{ReadAnswer}
 use Rattle.stm_history.specs.History.{History, now, add_revision, opened_at, key_now, mod_of, IsTrueAnswer, HasDistinctKeys, AreRevisions}
 use Rattle.stm_history.proofs.HistoryLaws.{older_revisions_stay, last_revision_is_now}
 use Rattle.stm_program.specs.Syntax.{ProgramTree}
-use Rattle.stm_program.specs.declared.level.Level.{Level}
+use Rattle.stm_retry.specs.declared.level.Level.{Level}
 use Rattle.stm_program.specs.declared.write.Write.{Write}
 use Rattle.stm_meaning.specs.declared.run.End.{End}
 use Rattle.stm_meaning.specs.declared.run.End.TheVariants.{Done, Aborted as AbortedEnd, Faulted as FaultedEnd}

@@ -1,8 +1,9 @@
 //! The entries of a world's history.
 use crate::answers::ReadAnswers;
+use crate::level::Level;
 use stm_history::Sequence;
 use stm_meaning::{TraceItem, Value};
-use stm_program::{Level, Program};
+use stm_program::Program;
 
 /// What changed the store, in the order of the steps.
 #[derive(Debug, Drop)]

@@ -1,5 +1,6 @@
 //! The events of a world.
-use stm_program::{Level, Program};
+use crate::level::Level;
+use stm_program::Program;
 
 /// One event.
 #[derive(Debug, Drop)]

@@ -13,6 +13,7 @@ use crate::answers::{ReadAnswers, mod_rev_in};
 use crate::commit::{add_changes, planned_changes};
 use crate::entry::Entry;
 use crate::event::WorldEvent;
+use crate::level::Level;
 use crate::refusal::{Denied, Refusal};
 use crate::reply::Reply;
 use crate::runner::{Runner, Slot};
@@ -21,7 +22,7 @@ use std::alloc::{AllocError, Global};
 use std::marker::Model;
 use stm_history::{Change, ReadAnswer, Revisions, Sequence, Text};
 use stm_meaning::{Answered, End, Run, TraceItem, Value, latest_writes, run_answered};
-use stm_program::{Level, Program};
+use stm_program::Program;
 
 /// The store, the places of the runners and the entries.
 #[derive(Debug, Drop)]

@@ -1,6 +1,7 @@
 //! A runner and its place.
 use crate::answers::ReadAnswers;
-use stm_program::{Level, Program};
+use crate::level::Level;
+use stm_program::Program;
 
 /// A run of a program that has not ended.
 #[derive(Debug, Drop)]

@@ -13,6 +13,7 @@ ghost use Rattle.stm_retry.specs.Tells.{Tells, ran_out};
 
 use crate::entry::Entry;
 use crate::event::WorldEvent;
+use crate::level::Level;
 use crate::machine::{Machine, denied};
 use crate::refusal::{Denied, Expired, Refusal};
 use crate::reply::Reply;
@@ -21,7 +22,7 @@ use std::alloc::{AllocError, Global};
 use std::marker::Model;
 use stm_history::{HIGHEST_REVISION, KeyState, Sequence};
 use stm_meaning::State;
-use stm_program::{Level, Program};
+use stm_program::Program;
 
 /// Runners of programs over one store.
 ///

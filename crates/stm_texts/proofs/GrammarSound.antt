@@ -13,8 +13,8 @@ use Rattle.stm_json.specs.Tells.{Tells}
 use Rattle.stm_json.specs.Elements.{worded, one_of, three_of, number_up_to, from_least, number_in}
 use Rattle.stm_json.proofs.OutcomeLemmas.{bind_ok, within_ok, guard_ok}
 use Rattle.stm_json.proofs.ElementLemmas.{worded-is, one_of-is, three_of-is, number_up_to-is}
-use Rattle.stm_program.specs.declared.level.Level.{Level}
-use Rattle.stm_program.specs.declared.level.Level.TheVariants.{ReadCommitted}
+use Rattle.stm_retry.specs.declared.level.Level.{Level}
+use Rattle.stm_retry.specs.declared.level.Level.TheVariants.{ReadCommitted}
 use Rattle.stm_program.specs.Grammar.{spelled}
 use Rattle.stm_program.specs.Reading.{program_of}
 use Rattle.stm_program.proofs.ExpressionSound.{words_and}

@@ -10,8 +10,8 @@ use Rattle.stm_json.specs.declared.read_error.ReadError.TheVariants as error
 use Rattle.stm_json.specs.Outcome.{Outcome, bad, ◌>>=◌, step}
 use Rattle.stm_json.specs.Tells.{Tells}
 use Rattle.stm_json.specs.Elements.{worded, one_of, three_of, number_up_to, number_in}
-use Rattle.stm_program.specs.declared.level.Level.{Level}
-use Rattle.stm_program.specs.declared.level.Level.TheVariants.{ReadCommitted}
+use Rattle.stm_retry.specs.declared.level.Level.{Level}
+use Rattle.stm_retry.specs.declared.level.Level.TheVariants.{ReadCommitted}
 use Rattle.stm_program.specs.Reading.{program_of}
 use Rattle.stm_program.specs.FirstFault.{first_fault as program_fault}
 use Rattle.stm_program.proofs.StatementMarks.{program_fault as program_fault-is, fault_of as fault_of_program}

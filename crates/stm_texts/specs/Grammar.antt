@@ -2,8 +2,8 @@
 use Rattle.std.specs.Prelude.{◌≡◌, ℕ, ◌≤◌, pos, List, [], ◌∷◌, length, Option, Some, None, codes}
 use Rattle.serde_json.specs.Data.{Data, string, array, Items, no_items, item}
 use Rattle.stm_json.specs.Elements.{SpellsNumber}
-use Rattle.stm_program.specs.declared.level.Level.{Level}
-use Rattle.stm_program.specs.declared.level.Level.TheVariants.{ReadCommitted}
+use Rattle.stm_retry.specs.declared.level.Level.{Level}
+use Rattle.stm_retry.specs.declared.level.Level.TheVariants.{ReadCommitted}
 use Rattle.stm_program.specs.Grammar.{spelled, SpellsProgram}
 use Rattle.stm_program.specs.Limits.{Fits}
 use Rattle.stm_retry.specs.declared.event.WorldEvent.{WorldEvent}

@@ -7,8 +7,8 @@ use Rattle.stm_json.specs.Elements.{worded, one_of, three_of, number_up_to, numb
 use Rattle.stm_history.specs.declared.revisions.TheConstants.{HIGHEST_NUMBER, HIGHEST_REVISION}
 use Rattle.stm_program.specs.Reading.{program_of}
 use Rattle.stm_program.specs.Words.{same}
-use Rattle.stm_program.specs.declared.level.Level.{Level}
-use Rattle.stm_program.specs.declared.level.Level.TheVariants.{ReadCommitted}
+use Rattle.stm_retry.specs.declared.level.Level.{Level}
+use Rattle.stm_retry.specs.declared.level.Level.TheVariants.{ReadCommitted}
 use Rattle.stm_retry.specs.declared.event.WorldEvent.{WorldEvent}
 use Rattle.stm_retry.specs.declared.event.WorldEvent.TheVariants.{Start, Step}
 use Rattle.stm_json.specs.declared.cause.Cause.TheVariants.{NotJson, Shape, TooLong, TooMany}

@@ -10,10 +10,10 @@ use std::alloc::{AllocError, Global};
 use std::io;
 use std::rt::Clock;
 use std::time::{Duration, Instant};
-use stm_txn::{Keys, Op, Sequence, Store, Text, Txn};
+use stm_txn::{Keys, Op, ShortList, Store, Text, Txn};
 
 /// How many transactions are timed.
-const PUTS: u32 = 20_000;
+const PUTS: u32 = 1_000_000;
 
 /// How many reads are timed.
 const READS: u32 = 100;
@@ -21,6 +21,7 @@ const READS: u32 = 100;
 fn main(rt: HostRuntime) -> Result<()> {
     time_puts(&rt, rt.alloc(), 8)?;
     time_puts(&rt, rt.alloc(), 2_000)?;
+    time_puts(&rt, rt.alloc(), 100_000)?;
     time_reads(&rt, rt.alloc(), 1_000)?;
     time_reads(&rt, rt.alloc(), 10_000)?;
     time_reads(&rt, rt.alloc(), 100_000)
@@ -30,16 +31,16 @@ fn main(rt: HostRuntime) -> Result<()> {
 fn put_of(alloc: Global, number: u32) -> Result<Txn, AllocError> {
     let key = Text::new(format!(in alloc; "key-{number}")?);
     let value = Text::copy_of(alloc, "value")?;
-    let mut success = Sequence::new(alloc);
+    let mut success = ShortList::new(alloc);
     success.push(Op::Put {
         key,
         value,
         lease: 0,
     })?;
     Ok(Txn {
-        compares: Sequence::new(alloc),
+        compares: ShortList::new(alloc),
         success,
-        failure: Sequence::new(alloc),
+        failure: ShortList::new(alloc),
     })
 }
 

@@ -1,5 +1,8 @@
 //! What a transaction answers.
-use stm_history::{ReadAnswer, Sequence};
+use crate::short_list::ShortList;
+use std::alloc::Global;
+use std::default::MadeWith;
+use stm_history::ReadAnswer;
 
 /// The answer to one operation.
 #[derive(Debug, Drop, Clone)]
@@ -29,7 +32,13 @@ pub struct TxnAnswer {
     /// The store's revision after the transaction.
     pub revision: u64,
     /// One answer for each operation of the branch that ran, in order.
-    pub answers: Sequence<OpAnswer>,
+    pub answers: ShortList<OpAnswer>,
     /// The first compare that failed, `None` where all held.
     pub failed: Option<FailedCompare>,
+}
+
+impl MadeWith<Global> for OpAnswer {
+    fn made_with(_alloc: Global) -> OpAnswer {
+        OpAnswer::Put
+    }
 }

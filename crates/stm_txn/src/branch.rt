@@ -5,6 +5,7 @@ ghost use Rattle.stm_txn.specs.Branches.{carried, count_of, is_readable, are_rea
 ghost use Rattle.stm_txn.specs.LookUps.{copy, read_copied, change_copied, answer_copied, changes_copied, answers_copied};
 
 use crate::answer::OpAnswer;
+use crate::short_list::ShortList;
 use crate::txn::Op;
 use std::alloc::{AllocError, Global};
 use stm_history::change::find_change;
@@ -14,7 +15,7 @@ use stm_keys::{Keys, ReadRefusal};
 /// What a branch answers, and what it changes.
 #[derive(Drop)]
 pub(crate) struct Branch {
-    pub answers: Vec<OpAnswer>,
+    pub answers: ShortList<OpAnswer>,
     pub changes: Vec<Change>,
 }
 
@@ -127,10 +128,10 @@ fn change(keys: &Keys, changes: &[Change], op: &Op) -> Result<Option<Change>, Al
 /// Runs a branch over the current state, which it leaves as it is.
 pub(crate) fn run_branch(alloc: Global, keys: &Keys, ops: &[Op]) -> Result<Branch, AllocError>
     requires { IsTrue (are_readable (now keys.now.history) ops.now) }
-    ensures answers { IfOk result (λ b. b.answers.items ≡ answers_copied keys.now.history [] ops.now) }
+    ensures answers { IfOk result (λ b. b.answers ≡ answers_copied keys.now.history [] ops.now) }
     ensures changes { IfOk result (λ b. b.changes.items ≡ changes_copied keys.now.history [] ops.now) }
 {
-    let mut answers = Vec::new(alloc);
+    let mut answers = ShortList::with_capacity(alloc, ops.len())?;
     let mut changes = Vec::new(alloc);
     for op in ops {
         answers.push(answer(keys, changes.as_slice(), op)?)?;

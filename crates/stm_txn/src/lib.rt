@@ -13,6 +13,7 @@ mod hang;
 pub mod laws;
 pub mod refusal;
 mod refuse;
+pub mod short_list;
 pub mod store;
 pub mod txn;
 
@@ -21,6 +22,7 @@ pub use answer::{FailedCompare, OpAnswer, TxnAnswer};
 pub use refusal::Refusal;
 pub use stm_history::ReadAnswer;
 pub use stm_keys::{Change, Event, HIGHEST_REVISION, KeyState, Keys, Sequence, Text};
+pub use short_list::ShortList;
 pub use store::Store;
 pub use txn::{Compare, Op, Order, Target, Txn};
 

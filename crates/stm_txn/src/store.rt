@@ -223,7 +223,7 @@ impl Store {
         Ok(TxnAnswer {
             succeeded: failed.is_none(),
             revision: self.keys.revision(),
-            answers: Sequence::of(branch.answers),
+            answers: branch.answers,
             failed,
         })
     }

@@ -6,7 +6,7 @@ ghost use Rattle.std.specs.Prelude.{◌≤◌};
 
 use crate::{
     Compare, Event, Expired, HIGHEST_REVISION, KeyState, Keys, Op, OpAnswer, Order, Refusal,
-    Sequence, Store, Target, Text, Txn, TxnAnswer,
+    ShortList, Store, Target, Text, Txn, TxnAnswer,
 };
 use std::alloc::{AllocError, Global};
 use std::mem;
@@ -46,9 +46,9 @@ struct Player {
 
 fn empty_txn(alloc: Global) -> Txn {
     Txn {
-        compares: Sequence::new(alloc),
-        success: Sequence::new(alloc),
-        failure: Sequence::new(alloc),
+        compares: ShortList::new(alloc),
+        success: ShortList::new(alloc),
+        failure: ShortList::new(alloc),
     }
 }
 
@@ -168,7 +168,7 @@ fn join(
 
 fn add_get(
     alloc: Global,
-    ops: &mut Sequence<Op>,
+    ops: &mut ShortList<Op>,
     key: &str,
     rev: u64,
 ) -> Result<String, AllocError> {
@@ -179,7 +179,7 @@ fn add_get(
 
 fn add_put(
     alloc: Global,
-    ops: &mut Sequence<Op>,
+    ops: &mut ShortList<Op>,
     key: &str,
     value: &str,
     lease: u64,
@@ -190,7 +190,7 @@ fn add_put(
     Ok(String::new(alloc))
 }
 
-fn add_del(alloc: Global, ops: &mut Sequence<Op>, key: &str) -> Result<String, AllocError> {
+fn add_del(alloc: Global, ops: &mut ShortList<Op>, key: &str) -> Result<String, AllocError> {
     let key = Text::copy_of(alloc, key)?;
     ops.push(Op::Del { key })?;
     Ok(String::new(alloc))

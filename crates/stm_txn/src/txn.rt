@@ -2,7 +2,10 @@
 ghost use Rattle.std.specs.Prelude.{◌≡◌};
 ghost use Rattle.stm_txn.specs.Operations.{key_of_op};
 
-use stm_history::{Sequence, Text};
+use crate::short_list::ShortList;
+use std::alloc::Global;
+use std::default::MadeWith;
+use stm_history::Text;
 
 /// A transaction: where all compares hold the success list runs, otherwise the failure list.
 ///
@@ -10,11 +13,11 @@ use stm_history::{Sequence, Text};
 #[derive(Debug, Drop, Clone)]
 pub struct Txn {
     /// What has to hold of the keys as they are now, each of it, for the success list to run. At most 128.
-    pub compares: Sequence<Compare>,
+    pub compares: ShortList<Compare>,
     /// The operations that run where all compares hold. At most 128.
-    pub success: Sequence<Op>,
+    pub success: ShortList<Op>,
     /// The operations that run where a compare fails. At most 128.
-    pub failure: Sequence<Op>,
+    pub failure: ShortList<Op>,
 }
 
 /// A test of what a key is now. The stored side stands on the left of the order.
@@ -78,6 +81,24 @@ impl Op {
             Op::Get { key, .. } => key,
             Op::Put { key, .. } => key,
             Op::Del { key } => key,
+        }
+    }
+}
+
+impl MadeWith<Global> for Compare {
+    fn made_with(alloc: Global) -> Compare {
+        Compare {
+            key: Text::new(String::new(alloc)),
+            target: Target::Version(0),
+            order: Order::Equal,
+        }
+    }
+}
+
+impl MadeWith<Global> for Op {
+    fn made_with(alloc: Global) -> Op {
+        Op::Del {
+            key: Text::new(String::new(alloc)),
         }
     }
 }

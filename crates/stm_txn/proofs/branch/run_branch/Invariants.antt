@@ -9,6 +9,6 @@ use Rattle.stm_txn.proofs.branch.run_branch.Given as goal
 abbrev pub invariant-loop-op : goal.invariant-loop-op
 invariant-loop-op l = record {
   readable : IsTrue (are_readable (now l.keys.history) (drop l.op-index l.ops));
-  answered : l.answers.items ++ answers_copied l.keys.history l.changes.items (drop l.op-index l.ops) ≡ answers_copied l.keys.history [] l.ops;
+  answered : l.answers ++ answers_copied l.keys.history l.changes.items (drop l.op-index l.ops) ≡ answers_copied l.keys.history [] l.ops;
   changed : changes_copied l.keys.history l.changes.items (drop l.op-index l.ops) ≡ changes_copied l.keys.history [] l.ops;
 }

@@ -1,0 +1,105 @@
+//! A list that keeps its first elements in the value itself.
+ghost use Rattle.std.specs.Prelude.{◌≡◌, [], ◌∷◌, ◌++◌, length, IfOk, OnOk, OnErr};
+
+use smallvec::SmallVec;
+use std::alloc::{AllocError, Global};
+use std::default::MadeWith;
+use std::marker::Model;
+
+/// A list of which most have few elements: the first one takes no memory of its own.
+///
+/// Contracts see its elements in order, and never where they lie. It is made from a `Vec` without taking
+/// memory, and gives one back without taking memory where it has spilled.
+#[derive(Debug, Drop)]
+pub struct ShortList<T> {
+    items: SmallVec<T, 1>,
+}
+
+impl<T> Model for ShortList<T> {
+    ghost use Rattle.std.specs.Prelude.{List};
+
+    ghost Value = { List T };
+
+    ghost view = { λ s. s.items.items };
+}
+
+impl<T> ShortList<T> {
+    /// The number of elements.
+    pub fn len(&self) -> usize
+        ensures { result ≡ length self.now }
+    {
+        self.items.len()
+    }
+
+    /// The elements in order.
+    pub fn as_slice(&self) -> &[T]
+        ensures { result.now ≡ self.now }
+    {
+        self.items.as_slice()
+    }
+}
+
+impl<T: MadeWith<Global> + Drop> ShortList<T> {
+    /// The empty list. It takes no memory.
+    pub fn new(alloc: Global) -> ShortList<T>
+        ensures { result ≡ [] }
+    {
+        ShortList {
+            items: SmallVec::new(alloc),
+        }
+    }
+
+    /// The empty list with room for so many elements.
+    pub fn with_capacity(alloc: Global, count: usize) -> Result<ShortList<T>, AllocError>
+        ensures { IfOk result (λ s. s ≡ []) }
+    {
+        let items = SmallVec::with_capacity(alloc, count)?;
+        Ok(ShortList { items })
+    }
+
+    /// The list of a vector's elements. It takes no memory.
+    pub fn of(items: Vec<T>) -> ShortList<T>
+        ensures { result ≡ items.items }
+    {
+        ShortList {
+            items: SmallVec::from_vec(items),
+        }
+    }
+
+    /// Adds an element at the end. Want of memory leaves the list as it was.
+    pub fn push(&mut self, item: T) -> Result<(), AllocError>
+        ensures ok { OnOk result (self.new ≡ self.old ++ item ∷ []) }
+        ensures err { OnErr result (self.new ≡ self.old) }
+    {
+        self.items.push(item)?;
+        Ok(())
+    }
+
+    /// The vector of the elements. It takes memory only where the elements lie in the list itself.
+    pub fn into_vec(self) -> Result<Vec<T>, AllocError>
+        ensures { IfOk result (λ v. v.items ≡ self) }
+    {
+        let ShortList { items } = self;
+        let vec = items.into_vec()?;
+        Ok(vec)
+    }
+}
+
+impl<T: MadeWith<Global>> From<SmallVec<T, 1>> for ShortList<T> {
+    ghost from_gives = { λ small list. list ≡ small.items };
+
+    fn from(items: SmallVec<T, 1>) -> ShortList<T> {
+        ShortList { items }
+    }
+}
+
+impl<T: MadeWith<Global> + Clone> Clone for ShortList<T> {
+    ghost use Rattle.std.specs.List.{AllZip};
+
+    ghost is_clone = { AllZip T.is_clone };
+
+    fn clone(&self) -> Result<ShortList<T>, AllocError> {
+        let items = self.items.clone()?;
+        Ok(ShortList { items })
+    }
+}

@@ -1,0 +1,50 @@
+-- What a commit comes to, in the words of the run that it commits.
+--
+-- The documentation of the Go package `clientv3/concurrency`, "STM": the writes are applied, all at once, where no compare
+-- fails; else nothing is changed, and the keys read are read again.
+use Rattle.std.specs.Prelude.{ℕ, ◌+◌, Bool, ◌||◌, nat_lt, if◌then◌else◌, List, map, length, Option, None, Some, Result, Ok, Err}
+use Rattle.stm_history.specs.declared.key_state.ReadAnswer.{ReadAnswer}
+use Rattle.stm_history.specs.History.{History, key_now}
+use Rattle.stm_program.specs.declared.level.Level.{Level}
+use Rattle.stm_program.specs.declared.level.Level.TheVariants.{SerializableSnapshot, Serializable, RepeatableReads, ReadCommitted}
+use Rattle.stm_program.specs.declared.write.Write.{Write}
+use Rattle.stm_program.specs.Writes.{latest_writes}
+use Rattle.stm_meaning.specs.declared.run.Run.{Run}
+use Rattle.stm_txn.specs.declared.answer.FailedCompare.{FailedCompare}
+use Rattle.stm_txn.specs.declared.refusal.Refusal.{Refusal}
+use Rattle.stm_txn.specs.declared.refusal.Refusal.TheVariants.{TooManyOps}
+use Rattle.stm_txn.specs.Compares.{first_failed}
+use Rattle.stm_txn.specs.Checks.{most_operations}
+use Rattle.stm_txn.specs.Outcome.{Done}
+use Rattle.stm_txn.specs.Commits.{applied, turned_down}
+use Rattle.stm_compile.specs.Now.{as_change}
+use Rattle.stm_compile.specs.CommitTxn.{compares_of, reread_keys}
+
+-- how many keys a commit compares that has read and written so many
+abbrev pub compared : Level → ℕ → ℕ → ℕ
+compared SerializableSnapshot reads writes = reads + writes
+compared Serializable reads writes = reads
+compared RepeatableReads reads writes = reads
+compared ReadCommitted reads writes = 0
+
+-- more compares or more writes than a transaction may have
+abbrev pub sends_too_many : Level → List ReadAnswer → List Write → Bool
+sends_too_many level reads writes =
+    nat_lt most_operations (compared level (length reads) (length writes)) || nat_lt most_operations (length writes)
+
+-- the first compare that fails, if one does
+abbrev pub conflict_now : History → Level → List ReadAnswer → List Write → Option FailedCompare
+conflict_now h level reads writes = first_failed (key_now h) 0 (compares_of level reads writes)
+
+-- Where no compare fails the latest writes are applied, all at once: LeaseNotFound where one of them names a lease that is not
+-- live, else RevisionsUsedUp where something changes at the highest revision. A failed compare changes nothing: it is told, with
+-- what the keys to be read again are now.
+abbrev pub judged : History → (ℕ → Bool) → Level → List ReadAnswer → Run → Option FailedCompare → Result Done Refusal
+judged h is_live level reads run None = applied h is_live (map as_change (latest_writes run.writes))
+judged h is_live level reads run (Some failed) = Ok (turned_down h failed (reread_keys level reads))
+
+-- the commit of a run that has read this
+abbrev pub committed : History → (ℕ → Bool) → Level → List ReadAnswer → Run → Result Done Refusal
+committed h is_live level reads run =
+    if sends_too_many level reads (latest_writes run.writes) then Err TooManyOps
+    else judged h is_live level reads run (conflict_now h level reads (latest_writes run.writes))

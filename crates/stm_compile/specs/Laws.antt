@@ -1,0 +1,66 @@
+-- The laws of commits, each carried by a function of `src/laws.rt`. Above them no proof speaks of a transaction's parts.
+use Rattle.std.specs.Prelude.{◌≡◌, ℕ, ◌<◌, ◌≤◌, Bool, true, List, length, map, None, Some, All}
+use Rattle.stm_history.specs.declared.change.Change.{Change}
+use Rattle.stm_history.specs.declared.key_state.ReadAnswer.{ReadAnswer}
+use Rattle.stm_history.specs.History.{History, now, key_now}
+use Rattle.stm_program.specs.Syntax.{Block}
+use Rattle.stm_program.specs.declared.level.Level.{Level}
+use Rattle.stm_program.specs.declared.write.Write.{Write}
+use Rattle.stm_program.specs.Writes.{key_of, latest_writes}
+use Rattle.stm_meaning.specs.declared.run.Run.{Run}
+use Rattle.stm_meaning.specs.declared.run.Answered.TheVariants.{Ended}
+use Rattle.stm_meaning.specs.Meaning.{run_over}
+use Rattle.stm_meaning.specs.Laws.{IsContinuedBy}
+use Rattle.stm_txn.specs.declared.answer.FailedCompare.{FailedCompare}
+use Rattle.stm_txn.specs.Outcome.{outcome, with_changes}
+use Rattle.stm_txn.specs.Commits.{effective, turned_down}
+use Rattle.stm_compile.specs.Now.{as_change, changes_of_writes}
+use Rattle.stm_compile.specs.Levels.{is_comparing}
+use Rattle.stm_txn.specs.declared.answer.OpAnswer.TheVariants.{Get as GetAnswer}
+use Rattle.stm_compile.specs.Answers.{look_up, state_now, state_as_of, AreTrue, answer_now}
+use Rattle.stm_compile.specs.CommitTxn.{commit_of, reread_keys}
+use Rattle.stm_compile.specs.Committed.{conflict_now, committed}
+use Rattle.stm_compile.specs.Conflicts.{IsConflict}
+
+-- The transaction of a run whose keys are not empty comes to the run's commit.
+abbrev pub CommitComesTo : Type 0
+CommitComesTo =
+    (h : History) (is_live : ℕ → Bool) (level : Level) (reads : List ReadAnswer) (run : Run) →
+    All (λ (a : ReadAnswer). 0 < length a.key) reads → All (λ w. 0 < length (key_of w)) (latest_writes run.writes)
+    → outcome h is_live (commit_of level reads (latest_writes run.writes)) ≡ committed h is_live level reads run
+
+-- At a comparing level, where no compare fails, the run on true answers is the run of the program on the state now.
+abbrev pub CommitIsTheRunNow : Type 0
+CommitIsTheRunNow =
+    (h : History) (level : Level) (reads : List ReadAnswer) (writes : List Write) (program : Block) (run : Run) →
+    is_comparing level ≡ true → AreTrue h reads → run_over (look_up reads) program ≡ Ended run → conflict_now h level reads writes ≡ None
+    → run_over (state_now h) program ≡ Ended run
+
+-- A failed compare is a conflict.
+abbrev pub FailedComparesConflict : Type 0
+FailedComparesConflict =
+    (h : History) (level : Level) (reads : List ReadAnswer) (writes : List Write) (failed : FailedCompare) →
+    AreTrue h reads → conflict_now h level reads writes ≡ Some failed → IsConflict h reads writes failed
+
+-- Where true answers all show one revision, the run on them is continued by the run on the state at that revision.
+abbrev pub AnswersOfOneRevision : Type 0
+AnswersOfOneRevision =
+    (h : History) (r : ℕ) (reads : List ReadAnswer) (program : Block) → AreTrue h reads → All (λ (a : ReadAnswer). a.of_rev ≡ r) reads
+    → IsContinuedBy (run_over (look_up reads) program) (run_over (state_as_of h r) program)
+
+-- Answers stay true as the history grows.
+abbrev pub TrueAnswersStay : Type 0
+TrueAnswersStay = (h : History) (changes : List Change) (reads : List ReadAnswer) → AreTrue h reads → AreTrue (with_changes h changes) reads
+
+-- What a commit applies is the effect of the run's writes on the state as it is now.
+abbrev pub AppliedIsEffect : Type 0
+AppliedIsEffect = (h : History) (writes : List Write) → effective h (map as_change (latest_writes writes)) ≡ changes_of_writes h writes
+
+-- A commit that is turned down tells the keys that it reads again as they are now, and changes nothing.
+pub record Rereads (h : History) (level : Level) (reads : List ReadAnswer) (failed : FailedCompare) : Type 0 where
+  pub told : (turned_down h failed (reread_keys level reads)).answer.answers ≡ map (λ a. GetAnswer a) (map (answer_now h) (reread_keys level reads))
+  pub true_now : AreTrue h (map (answer_now h) (reread_keys level reads))
+  pub unchanged : (turned_down h failed (reread_keys level reads)).history ≡ h
+
+abbrev pub FailedCommitRereads : Type 0
+FailedCommitRereads = (h : History) (level : Level) (reads : List ReadAnswer) (failed : FailedCompare) → Rereads h level reads failed

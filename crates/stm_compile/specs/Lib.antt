@@ -1,0 +1,7 @@
+pub mod Levels
+pub mod Answers
+pub mod Now
+pub mod CommitTxn
+pub mod Committed
+pub mod Conflicts
+pub mod Laws

@@ -6,19 +6,19 @@ use Rattle.stm_program.specs.Syntax.{Expression, Statement, Block, Text, Number,
 use Rattle.stm_program.specs.declared.write.Write.{Write}
 use Rattle.stm_program.specs.declared.write.Write.TheVariants.{Put as PutWrite, Del as DelWrite}
 use Rattle.stm_program.specs.Writes.{last_write, latest_writes}
-use Rattle.stm_meaning.specs.declared.value.Value.{Value}
-use Rattle.stm_meaning.specs.declared.value.Value.TheVariants.{Text as TextValue, Number as NumberValue}
-use Rattle.stm_meaning.specs.declared.trace_item.TraceItem.TheVariants.{Get as GetItem, Rev as RevItem}
-use Rattle.stm_meaning.specs.declared.state.StateEntry.{StateEntry}
-use Rattle.stm_meaning.specs.declared.run.End.{End as RunEnd}
-use Rattle.stm_meaning.specs.declared.run.End.TheVariants.{Done, Faulted}
-use Rattle.stm_meaning.specs.declared.run.Answered.{Answered}
-use Rattle.stm_meaning.specs.declared.run.Answered.TheVariants.{Ended, Wants}
-use Rattle.stm_meaning.specs.declared.fault.Fault.TheVariants.{Kind, EmptyKey}
-use Rattle.stm_meaning.specs.Values.{key_in, text_of, equal, put_of, del_of}
+use Rattle.stm_steps.specs.declared.value.Value.{Value}
+use Rattle.stm_steps.specs.declared.value.Value.TheVariants.{Text as TextValue, Number as NumberValue}
+use Rattle.stm_steps.specs.declared.trace_item.TraceItem.TheVariants.{Get as GetItem, Rev as RevItem}
+use Rattle.stm_steps.specs.declared.state.StateEntry.{StateEntry}
+use Rattle.stm_steps.specs.declared.run.End.{End as RunEnd}
+use Rattle.stm_steps.specs.declared.run.End.TheVariants.{Done, Faulted}
+use Rattle.stm_steps.specs.declared.run.Answered.{Answered}
+use Rattle.stm_steps.specs.declared.run.Answered.TheVariants.{Ended, Wants}
+use Rattle.stm_steps.specs.declared.fault.Fault.TheVariants.{Kind, EmptyKey}
+use Rattle.stm_steps.specs.Values.{key_in, text_of, equal, put_of, del_of}
 use Rattle.stm_meaning.specs.Writes.{effect}
-use Rattle.stm_meaning.specs.Session.{fresh}
-use Rattle.stm_meaning.specs.States.{state_answers, is_present}
+use Rattle.stm_steps.specs.Session.{fresh}
+use Rattle.stm_steps.specs.States.{state_answers, is_present}
 use Rattle.stm_meaning.specs.Meaning.{get_key, rev_key, evaluate, holds, run_block, run_over}
 use Rattle.stm_meaning.specs.Laws.{trace_of}
 

@@ -9,14 +9,14 @@ use Rattle.std.proofs.lemmas.Bool.Decides.{nat_tests}
 use Rattle.std.proofs.lemmas.Grind.{common_steps}
 use Rattle.std.proofs.lemmas.Str.Parse.{IsNumeralModel, numerals_by_value, tells_all_ascii_digits}
 use Rattle.stm_program.specs.declared.write.Write.{Write}
-use Rattle.stm_meaning.specs.declared.value.Value.TheVariants.{Text, Number}
-use Rattle.stm_meaning.specs.declared.fault.Fault.TheVariants.{NotANumber}
-use Rattle.stm_meaning.specs.declared.trace_item.TraceItem.TheVariants.{Get, Rev}
-use Rattle.stm_meaning.specs.Answer.{Answer, Lookup}
-use Rattle.stm_meaning.specs.Values.{key_in, put_of, del_of, text_of, num_of, as_number, is_in_range, is_numeral, number_or, signed_number, written_number}
+use Rattle.stm_steps.specs.declared.value.Value.TheVariants.{Text, Number}
+use Rattle.stm_steps.specs.declared.fault.Fault.TheVariants.{NotANumber}
+use Rattle.stm_steps.specs.declared.trace_item.TraceItem.TheVariants.{Get, Rev}
+use Rattle.stm_steps.specs.Answer.{Answer, Lookup}
+use Rattle.stm_steps.specs.Values.{key_in, put_of, del_of, text_of, num_of, as_number, is_in_range, is_numeral, number_or, signed_number, written_number}
 use Rattle.stm_meaning.specs.Writes.{value_of, last_write}
-use Rattle.stm_meaning.specs.Session.{Session, with_key}
-use Rattle.stm_meaning.specs.Outcome.{Gives}
+use Rattle.stm_steps.specs.Session.{Session, with_key}
+use Rattle.stm_steps.specs.Outcome.{Gives}
 use Rattle.stm_meaning.specs.Meaning.{get_answered, get_of, get_key, rev_answered, rev_key}
 use Rattle.stm_meaning.specs.Leaves.{trace_after_get, reads_after_get, trace_after_rev, reads_after_rev, GetGives, RevGives, TextsAreKeys, NumbersAreReadBack}
 use Rattle.std.specs.Option.{option_map_or}

@@ -1,11 +1,8 @@
+pub use Rattle.stm_steps.proofs.Entries
 pub mod WorkedExamples
 pub mod KeyExamples
-pub mod IntegerRange
-pub mod WrittenNumber
-pub mod Entries
 pub mod RunLaws
 pub mod LoopTurns
-pub mod PlaceLemmas
 pub mod KeepLemmas
 pub mod RunKeyLaws
 pub mod LeafLaws

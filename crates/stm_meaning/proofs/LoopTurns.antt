@@ -1,7 +1,7 @@
 -- One turn of a loop.
 use Rattle.std.proofs.Common.{◌≡◌, ℕ, suc, ◌+◌, ◌-◌, ◌<◌, ap, ◌∙◌, arith}
-use Rattle.stm_meaning.specs.Session.{Session}
-use Rattle.stm_meaning.specs.Outcome.{Outcome, Gives, and_then, begin_turn}
+use Rattle.stm_steps.specs.Session.{Session}
+use Rattle.stm_steps.specs.Outcome.{Outcome, Gives, and_then, begin_turn}
 use Rattle.stm_meaning.specs.Meaning.{repeat}
 
 repeat-suc : (v : ℕ) (body : Session → Outcome (Unit {0})) (left i : ℕ) (s t u : Session) → begin_turn v i s ≡ Gives tt t → body t ≡ Gives tt u →

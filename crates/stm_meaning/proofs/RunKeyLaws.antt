@@ -8,15 +8,15 @@ use Rattle.stm_program.specs.declared.write.Write.{Write}
 use Rattle.stm_program.specs.Writes.{latest_writes, each_once}
 use Rattle.stm_program.proofs.WriteLemmas.{bytes_eq-flip}
 use Rattle.stm_program.proofs.LatestLemmas.{latest_writes-in_order}
-use Rattle.stm_meaning.specs.Answer.{Answer, Lookup}
+use Rattle.stm_steps.specs.Answer.{Answer, Lookup}
 use Rattle.stm_meaning.specs.Writes.{key_of, last_write}
-use Rattle.stm_meaning.specs.Session.{Session, fresh, with_key}
-use Rattle.stm_meaning.specs.Outcome.{Outcome, Gives, Stops}
+use Rattle.stm_steps.specs.Session.{Session, fresh, with_key}
+use Rattle.stm_steps.specs.Outcome.{Outcome, Gives, Stops}
 use Rattle.stm_meaning.specs.Meaning.{get_answered, rev_answered, get_of, get_key, rev_key, run_of, answered, run_block, run_over}
-use Rattle.stm_meaning.specs.declared.stop.Stop.TheVariants.{Aborted, Faulted, Wants}
-use Rattle.stm_meaning.specs.declared.run.End.TheVariants.{Done, Aborted as EndAborted, Faulted as EndFaulted}
-use Rattle.stm_meaning.specs.declared.run.Run.{Run}
-use Rattle.stm_meaning.specs.declared.run.Answered.TheVariants.{Ended}
+use Rattle.stm_steps.specs.declared.stop.Stop.TheVariants.{Aborted, Faulted, Wants}
+use Rattle.stm_steps.specs.declared.run.End.TheVariants.{Done, Aborted as EndAborted, Faulted as EndFaulted}
+use Rattle.stm_steps.specs.declared.run.Run.{Run}
+use Rattle.stm_steps.specs.declared.run.Answered.TheVariants.{Ended}
 use Rattle.stm_meaning.specs.RunKeys.{KeysAreNotEmpty, ReadsAreKnown}
 use Rattle.stm_meaning.proofs.KeepLemmas.{session_of, StepsKeep, kept_by_run}
 

@@ -5,21 +5,21 @@ use Rattle.std.specs.Prelude.{pos, nat_lt, if◌then◌else◌, Result, Ok, Err,
 use Rattle.stm_program.specs.Syntax.{Expression, Condition, Statement, Block, Text, Number, Variable, Get, Rev, Arithmetic, Cat, TextOf, NumOf, Equal}
 use Rattle.stm_program.specs.Syntax.{Less, Not, And, Or, Set, Put, Del, If, For, Emit, Abort, End, Then}
 use Rattle.stm_program.specs.declared.write.Write.{Write}
-use Rattle.stm_meaning.specs.declared.value.Value.{Value}
-use Rattle.stm_meaning.specs.declared.value.Value.TheVariants.{Text as TextValue, Number as NumberValue}
-use Rattle.stm_meaning.specs.declared.fault.Fault.{Fault}
-use Rattle.stm_meaning.specs.declared.fault.Fault.TheVariants.{TurnLimit}
-use Rattle.stm_meaning.specs.declared.stop.Stop.{Stop}
-use Rattle.stm_meaning.specs.declared.stop.Stop.TheVariants.{Aborted, Faulted, Wants}
-use Rattle.stm_meaning.specs.Session.{Session, fresh, with_variable, with_output, with_write, with_turn}
-use Rattle.stm_meaning.specs.declared.trace_item.TraceItem.{TraceItem}
-use Rattle.stm_meaning.specs.declared.trace_item.TraceItem.TheVariants.{Get as GetItem, Rev as RevItem}
-use Rattle.stm_meaning.specs.declared.run.Run.{Run}
-use Rattle.stm_meaning.specs.declared.run.Answered.TheVariants.{Ended, Wants as WantsKey}
-use Rattle.stm_meaning.specs.Answer.{Answer, Lookup}
-use Rattle.stm_meaning.specs.Values.{text_in, key_in, arithmetic, concatenated, text_of, num_of, equal, less, put_of, del_of, turns_of}
+use Rattle.stm_steps.specs.declared.value.Value.{Value}
+use Rattle.stm_steps.specs.declared.value.Value.TheVariants.{Text as TextValue, Number as NumberValue}
+use Rattle.stm_steps.specs.declared.fault.Fault.{Fault}
+use Rattle.stm_steps.specs.declared.fault.Fault.TheVariants.{TurnLimit}
+use Rattle.stm_steps.specs.declared.stop.Stop.{Stop}
+use Rattle.stm_steps.specs.declared.stop.Stop.TheVariants.{Aborted, Faulted, Wants}
+use Rattle.stm_steps.specs.Session.{Session, fresh, with_variable, with_output, with_write, with_turn}
+use Rattle.stm_steps.specs.declared.trace_item.TraceItem.{TraceItem}
+use Rattle.stm_steps.specs.declared.trace_item.TraceItem.TheVariants.{Get as GetItem, Rev as RevItem}
+use Rattle.stm_steps.specs.declared.run.Run.{Run}
+use Rattle.stm_steps.specs.declared.run.Answered.TheVariants.{Ended, Wants as WantsKey}
+use Rattle.stm_steps.specs.Answer.{Answer, Lookup}
+use Rattle.stm_steps.specs.Values.{text_in, key_in, arithmetic, concatenated, text_of, num_of, equal, less, put_of, del_of, turns_of}
 use Rattle.stm_meaning.specs.Writes.{last_write, value_of}
-use Rattle.stm_meaning.specs.Outcome.{Outcome, Gives, Stops, and_then, given, turn_limit, begin_turn}
+use Rattle.stm_steps.specs.Outcome.{Outcome, Gives, Stops, and_then, given, turn_limit, begin_turn}
 use Rattle.stm_meaning.specs.Meaning.{get_answered, rev_answered, get_of, get_key, rev_key, evaluate, unless_false, unless_true, holds, branch}
 use Rattle.stm_meaning.specs.Meaning.{repeat, aborts, run_statement, run_block, answered, run_over}
 use Rattle.stm_meaning.specs.Laws.{AgreesWith, KnowsEachKey, IsPrefix, trace_of, IsContinuedBy, AnswersGiveTheRun, WholeLookupsEnd, WantedKeysAreUnknown}

@@ -5,14 +5,14 @@ use Rattle.std.specs.Option.{option_map_or}
 use Rattle.std.specs.Fmt.{signed_decimal}
 use Rattle.stm_program.specs.declared.write.Write.{Write}
 use Rattle.stm_program.specs.declared.write.Write.TheVariants.{Put, Del}
-use Rattle.stm_meaning.specs.declared.value.Value.TheVariants.{Text, Number}
-use Rattle.stm_meaning.specs.declared.trace_item.TraceItem.{TraceItem}
-use Rattle.stm_meaning.specs.declared.trace_item.TraceItem.TheVariants.{Get, Rev}
-use Rattle.stm_meaning.specs.Answer.{Lookup}
-use Rattle.stm_meaning.specs.Values.{key_in, put_of, del_of, text_of, num_of, is_in_range}
+use Rattle.stm_steps.specs.declared.value.Value.TheVariants.{Text, Number}
+use Rattle.stm_steps.specs.declared.trace_item.TraceItem.{TraceItem}
+use Rattle.stm_steps.specs.declared.trace_item.TraceItem.TheVariants.{Get, Rev}
+use Rattle.stm_steps.specs.Answer.{Lookup}
+use Rattle.stm_steps.specs.Values.{key_in, put_of, del_of, text_of, num_of, is_in_range}
 use Rattle.stm_meaning.specs.Writes.{value_of, last_write, is_written}
-use Rattle.stm_meaning.specs.Session.{Session, with_key}
-use Rattle.stm_meaning.specs.Outcome.{Gives}
+use Rattle.stm_steps.specs.Session.{Session, with_key}
+use Rattle.stm_steps.specs.Outcome.{Gives}
 use Rattle.stm_meaning.specs.Meaning.{get_key, rev_key}
 use Rattle.stm_meaning.specs.Laws.{KnowsEachKey}
 

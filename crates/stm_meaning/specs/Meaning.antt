@@ -1,44 +1,20 @@
 -- The meaning of a program over a look-up. Elements are evaluated from left to right, and the first stop ends the run.
-use Rattle.std.specs.Prelude.{ℕ, suc, zero, Bool, true, false, not, List, pos, Option, None, Some}
+pub use Rattle.stm_steps.specs.Steps.{get_answered, rev_answered, get_of, run_of}
+unfoldable pub use Rattle.stm_steps.specs.Steps.{get_key, rev_key}
+use Rattle.std.specs.Prelude.{ℕ, suc, zero, Bool, true, false, not, List}
 use Rattle.stm_program.specs.Syntax.{Expression, Condition, Statement, Block}
 use Rattle.stm_program.specs.Syntax.{Text, Number, Variable, Get, Rev, Arithmetic, Cat, TextOf, NumOf, Equal, Less, Not, And, Or, Set, Put, Del, If}
 use Rattle.stm_program.specs.Syntax.{For, Emit, Abort, End, Then}
-use Rattle.stm_program.specs.declared.write.Write.{Write}
-use Rattle.stm_meaning.specs.declared.value.Value.{Value}
-use Rattle.stm_meaning.specs.declared.value.Value.TheVariants.{Text as TextValue, Number as NumberValue}
-use Rattle.stm_meaning.specs.declared.stop.Stop.TheVariants.{Aborted, Faulted, Wants}
-use Rattle.stm_meaning.specs.declared.trace_item.TraceItem.TheVariants.{Get as GetItem, Rev as RevItem}
-use Rattle.stm_meaning.specs.declared.run.End.{End as RunEnd}
-use Rattle.stm_meaning.specs.declared.run.End.TheVariants.{Done, Aborted as EndAborted, Faulted as EndFaulted}
-use Rattle.stm_meaning.specs.declared.run.Run.{Run}
-use Rattle.stm_meaning.specs.declared.run.Answered.{Answered}
-use Rattle.stm_meaning.specs.declared.run.Answered.TheVariants.{Ended, Wants as WantsKey}
-use Rattle.stm_meaning.specs.Answer.{Answer, Lookup}
-use Rattle.stm_meaning.specs.Values.{text_in, key_in, arithmetic, concatenated, text_of, num_of, equal, less, put_of, del_of, turns_of}
-use Rattle.stm_meaning.specs.Writes.{last_write, value_of}
-use Rattle.stm_meaning.specs.Session.{Session, fresh, variable_in, with_variable, with_output, with_write, with_item, with_read}
-use Rattle.stm_meaning.specs.Outcome.{Outcome, Gives, Stops, and_then, given, begin_turn}
-
--- what the look-up has to say of a key that it was asked for
-abbrev pub get_answered : List ℕ → Option Answer → Session → Outcome Value
-get_answered key None s = Stops (Wants key) s
-get_answered key (Some a) s = Gives (TextValue a.value) (with_item (GetItem key a.value) (with_read key s))
-
-abbrev pub rev_answered : List ℕ → Option Answer → Session → Outcome Value
-rev_answered key None s = Stops (Wants key) s
-rev_answered key (Some a) s = Gives (NumberValue (pos a.mod_rev)) (with_item (RevItem key a.mod_rev) (with_read key s))
-
--- a `get` sees the last write of its key, and the look-up where there is none
-abbrev pub get_of : Lookup → List ℕ → Option Write → Session → Outcome Value
-get_of look key (Some w) s = Gives (TextValue (value_of w)) (with_item (GetItem key (value_of w)) s)
-get_of look key None s = get_answered key (look key) s
-
-unfoldable pub get_key : Lookup → List ℕ → Session → Outcome Value
-get_key look key s = get_of look key (last_write key s.writes) s
-
--- a `rev` sees the look-up alone
-unfoldable pub rev_key : Lookup → List ℕ → Session → Outcome Value
-rev_key look key s = rev_answered key (look key) s
+use Rattle.stm_steps.specs.declared.value.Value.{Value}
+use Rattle.stm_steps.specs.declared.value.Value.TheVariants.{Text as TextValue, Number as NumberValue}
+use Rattle.stm_steps.specs.declared.stop.Stop.TheVariants.{Aborted, Faulted, Wants}
+use Rattle.stm_steps.specs.declared.run.End.TheVariants.{Done, Aborted as EndAborted, Faulted as EndFaulted}
+use Rattle.stm_steps.specs.declared.run.Answered.{Answered}
+use Rattle.stm_steps.specs.declared.run.Answered.TheVariants.{Ended, Wants as WantsKey}
+use Rattle.stm_steps.specs.Answer.{Lookup}
+use Rattle.stm_steps.specs.Values.{text_in, key_in, arithmetic, concatenated, text_of, num_of, equal, less, put_of, del_of, turns_of}
+use Rattle.stm_steps.specs.Session.{Session, fresh, variable_in, with_variable, with_output, with_write}
+use Rattle.stm_steps.specs.Outcome.{Outcome, Gives, Stops, and_then, given, begin_turn}
 
 -- what an expression gives; kinds are looked at when all elements of a node have values
 unfoldable pub evaluate : Lookup → Expression → Session → Outcome Value
@@ -98,10 +74,7 @@ unfoldable mutual
   run_block look End s = Gives tt s
   run_block look (Then first rest) s = and_then (run_statement look first s) (λ _. run_block look rest)
 
--- a run that came to its end
-abbrev pub run_of : RunEnd → Session → Run
-run_of end s = record { end = end; output = s.output; trace = s.trace; writes = s.writes; reads = s.reads }
-
+-- what a run came to
 abbrev pub answered : Outcome (Unit {0}) → Answered
 answered (Gives x s) = Ended (run_of Done s)
 answered (Stops (Aborted t) s) = Ended (run_of (EndAborted t) s)

@@ -1,17 +1,13 @@
 //! Runs of whole programs.
 ghost use Rattle.std.specs.Prelude.{◌≡◌, IfOk};
-ghost use Rattle.stm_meaning.specs.declared.run.Answered.TheVariants.{Ended};
+ghost use Rattle.stm_steps.specs.declared.run.Answered.TheVariants.{Ended};
 ghost use Rattle.stm_meaning.specs.Meaning.{run_over};
-ghost use Rattle.stm_meaning.specs.States.{state_answers};
+ghost use Rattle.stm_steps.specs.States.{state_answers};
 
-use crate::lookup::Lookup;
-use crate::run::{Answered, End, Run};
-use crate::session::Session;
-use crate::state::State;
 use crate::statements::run_all;
-use crate::stop::{Halt, Stop};
 use std::alloc::{AllocError, Global};
 use stm_program::Program;
+use stm_steps::{Answered, End, Halt, Lookup, Run, Session, State, Stop};
 
 /// The run of a program over a look-up, such as a list of recorded answers: its end, or the first key that
 /// it wants and the look-up knows nothing of.

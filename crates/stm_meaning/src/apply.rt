@@ -1,11 +1,11 @@
 //! What the writes of a run change in a state.
 ghost use Rattle.std.specs.Prelude.{◌≡◌, IfOk};
 ghost use Rattle.stm_meaning.specs.Writes.{changes, effect};
-ghost use Rattle.stm_meaning.specs.States.{is_present};
+ghost use Rattle.stm_steps.specs.States.{is_present};
 
-use crate::state::State;
 use std::alloc::{AllocError, Global};
 use stm_program::{Write, latest_writes};
+use stm_steps::State;
 
 /// Whether a write changes something: all but the deletion of an absent key do.
 fn changes_state(write: &Write, state: &State) -> bool

@@ -3,12 +3,9 @@ ghost use Rattle.stm_meaning.specs.Meaning.{holds};
 ghost use Rattle.stm_meaning.specs.Tells.{Tells};
 
 use crate::expressions::value_of;
-use crate::lookup::Lookup;
-use crate::session::Session;
-use crate::stop::Halt;
-use crate::texts::{are_equal, is_below};
 use std::alloc::Global;
 use stm_program::{Cond, CondNode};
+use stm_steps::{Halt, Lookup, Session, are_equal, is_below};
 
 /// Whether a condition holds. `and` and `or` look at the right side only where the left one does not decide.
 #[tactic(auto, unfolding(crate::specs::Meaning::holds))]

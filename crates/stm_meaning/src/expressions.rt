@@ -1,18 +1,13 @@
 //! What expressions give.
 ghost use Rattle.stm_meaning.specs.Meaning.{evaluate};
-ghost use Rattle.stm_meaning.specs.Outcome.{found_or_wanted};
-ghost use Rattle.stm_meaning.specs.Session.{Session as Progress};
+ghost use Rattle.stm_steps.specs.Outcome.{found_or_wanted};
+ghost use Rattle.stm_steps.specs.Session.{Session as Progress};
 ghost use Rattle.stm_meaning.specs.Tells.{Tells};
 
-use crate::lookup::Lookup;
-use crate::numbers::{combine, number_of, spell};
-use crate::session::Session;
-use crate::stop::{Halt, Stop};
-use crate::texts::{join, wanted_key};
-use crate::value::Value;
 use std::alloc::Global;
 use stm_history::Text;
 use stm_program::{Expr, ExprNode};
+use stm_steps::{Halt, Lookup, Session, Stop, Value, combine, join, number_of, spell, wanted_key};
 
 /// What was found under a key, or the stop that wants it.
 fn found_or_halt(found: Option<Value>, key: &Text) -> Result<Value, Halt>

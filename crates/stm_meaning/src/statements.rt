@@ -6,12 +6,9 @@ ghost use Rattle.stm_meaning.specs.Tells.{Tells};
 
 use crate::conditions::is_met;
 use crate::expressions::value_of;
-use crate::lookup::Lookup;
-use crate::session::Session;
-use crate::stop::{Halt, Stop};
-use crate::texts::{deletion, put, turns, wanted_text};
 use std::alloc::Global;
 use stm_program::{Block, Expr, Stmt, StmtNode, Variable};
+use stm_steps::{Halt, Lookup, Session, Stop, deletion, put, turns, wanted_text};
 
 /// Runs a statement.
 #[cycle(statements)]

@@ -4,7 +4,8 @@ use Rattle.std.specs.Prelude.{◌==◌}
 use Rattle.std.specs.Cmp.{unsigned_Decides}
 use Rattle.stm_program.specs.Syntax.{Statement, ProgramTree}
 use Rattle.stm_program.specs.BlockView.{block_of}
-use Rattle.stm_program.specs.SameProgram.{same_program, same_program-equal}
+use Rattle.stm_program.specs.SameProgram.{same_program}
+use Rattle.stm_program.specs.SameProgramLaws.{same_program-equal}
 
 -- two lists of statements, of which the first is empty
 pub both_empty : (ls rs : List Statement) (b : Bool) → length ls < 1 → b ≡ (length rs == 0) → IsTrue b ↔ (block_of ls ≡ block_of rs)

@@ -7,13 +7,6 @@ pub mod StatementView
 pub mod BlockView
 pub mod Weight
 pub mod Limits
-pub mod Words
-pub mod Reading
-pub mod Grammar
-pub mod WordTexts
-pub mod Writing
-pub mod FirstFault
 pub mod Writes
-pub use Rattle.stm_json.specs.Outcome
-pub use Rattle.stm_json.specs.Tells
 pub mod SameProgram
+pub mod SameProgramLaws

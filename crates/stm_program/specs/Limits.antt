@@ -1,9 +1,9 @@
 -- The limits of a program: how many nodes it has, how deep they stand in one another, and what its numbers and texts may be.
-use Rattle.std.specs.Prelude.{ℕ, ◌+◌, ◌<◌, ◌≤◌, max, length, FitsSigned}
+use Rattle.std.specs.Prelude.{ℕ, ◌+◌, ◌≤◌, max, length, FitsSigned}
 use Rattle.std.specs.Int.{w64}
 use Rattle.stm_program.specs.Syntax.{Expression, Text, Number, Variable, Get, Rev, Arithmetic, Cat, TextOf, NumOf, Condition, Equal, Less, Not, And, Or}
 use Rattle.stm_program.specs.Syntax.{Statement, Set, Put, Del, If, For, Emit, Abort, Block, End, Then, ProgramTree}
-use Rattle.stm_program.specs.declared.limits.TheConstants.{MAX_DEPTH, MAX_NODES, MAX_TEXT, MAX_TURNS, MAX_LEASE}
+use Rattle.stm_program.specs.declared.limits.TheConstants.{MAX_DEPTH, MAX_NODES, MAX_TEXT, MAX_TURNS, MAX_VARIABLE, MAX_LEASE}
 use Rattle.stm_program.specs.Size.{expression_nodes, condition_nodes, statement_nodes, block_nodes}
 
 -- ---- depth: a node stands one deeper than the node that it is a part of
@@ -46,7 +46,7 @@ abbrev mutual
 abbrev pub ExpressionInRange : Expression → Type 0
 ExpressionInRange (Text s) = length s ≤ MAX_TEXT
 ExpressionInRange (Number z) = FitsSigned w64 z
-ExpressionInRange (Variable v) = v < 16
+ExpressionInRange (Variable v) = v ≤ MAX_VARIABLE
 ExpressionInRange (Get e) = ExpressionInRange e
 ExpressionInRange (Rev e) = ExpressionInRange e
 ExpressionInRange (Arithmetic o l r) = ExpressionInRange l × ExpressionInRange r
@@ -63,11 +63,11 @@ ConditionInRange (Or c d) = ConditionInRange c × ConditionInRange d
 
 abbrev mutual
   pub StatementInRange : Statement → Type 0
-  StatementInRange (Set v e) = (v < 16) × ExpressionInRange e
+  StatementInRange (Set v e) = (v ≤ MAX_VARIABLE) × ExpressionInRange e
   StatementInRange (Put k e l) = ExpressionInRange k × ExpressionInRange e × (l ≤ MAX_LEASE)
   StatementInRange (Del k) = ExpressionInRange k
   StatementInRange (If c t e) = ConditionInRange c × BlockInRange t × BlockInRange e
-  StatementInRange (For v e n b) = (v < 16) × ExpressionInRange e × (n ≤ MAX_TURNS) × BlockInRange b
+  StatementInRange (For v e n b) = (v ≤ MAX_VARIABLE) × ExpressionInRange e × (n ≤ MAX_TURNS) × BlockInRange b
   StatementInRange (Emit e) = ExpressionInRange e
   StatementInRange (Abort e) = ExpressionInRange e
 

@@ -21,6 +21,9 @@ pub const MAX_TEXT: usize = 65536;
 /// The greatest limit of a loop.
 pub const MAX_TURNS: u64 = 1000;
 
+/// The greatest number of a variable. The least is 0.
+pub const MAX_VARIABLE: u64 = 15;
+
 /// The greatest id of a lease.
 pub const MAX_LEASE: u64 = 9223372036854775807;
 

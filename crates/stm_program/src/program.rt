@@ -74,7 +74,8 @@ impl Clone for Program {
 
 /// `==` holds exactly where two programs are the same.
 impl PartialEq for Program {
-    ghost use Rattle.stm_program.specs.SameProgram.{same_program, same_program-equivalence};
+    ghost use Rattle.stm_program.specs.SameProgram.{same_program};
+    ghost use Rattle.stm_program.specs.SameProgramLaws.{same_program-equivalence};
     ghost use Rattle.std.specs.Cmp.{partial_equiv_from_equiv};
 
     ghost eq = { same_program };
@@ -87,7 +88,7 @@ impl PartialEq for Program {
 }
 
 impl Eq for Program {
-    ghost use Rattle.stm_program.specs.SameProgram.{same_program-equivalence};
+    ghost use Rattle.stm_program.specs.SameProgramLaws.{same_program-equivalence};
 
     ghost laws = { same_program-equivalence };
 }

@@ -4,27 +4,51 @@
 //! most the nodes of the smaller program, of which there are at most `MAX_NODES`.
 ghost use Rattle.std.specs.Prelude.{◌≡◌, ◌↔◌, IsTrue};
 ghost use Rattle.stm_program.specs.BlockView.{block_of};
+ghost use Rattle.stm_program.specs.Syntax.{Text as TextTree, Number as NumberTree, Variable as VariableTree, Set, Put, Del, Emit, Abort};
 
 use crate::condition::{Cond, CondNode};
 use crate::expression::{Expr, ExprNode};
 use crate::statement::{Block, Stmt, StmtNode};
+use crate::variable::Variable;
+use stm_history::Text;
+
+/// Whether an expression is a text.
+fn is_text(expression: &Expr, text: &Text) -> bool
+    ensures { IsTrue result ↔ TextTree text.now ≡ expression.now }
+{
+    match &expression.node {
+        ExprNode::Text(other) => text == other,
+        _ => false,
+    }
+}
+
+/// Whether an expression is a number.
+fn is_number(expression: &Expr, number: i64) -> bool
+    ensures { IsTrue result ↔ NumberTree number ≡ expression.now }
+{
+    match &expression.node {
+        ExprNode::Number(other) => number == *other,
+        _ => false,
+    }
+}
+
+/// Whether an expression is the value of a variable.
+fn is_variable(expression: &Expr, variable: Variable) -> bool
+    ensures { IsTrue result ↔ VariableTree variable ≡ expression.now }
+{
+    match &expression.node {
+        ExprNode::Variable(other) => variable == *other,
+        _ => false,
+    }
+}
 
 fn are_same_expressions(left: &Expr, right: &Expr) -> bool
     ensures { IsTrue result ↔ left.now ≡ right.now }
 {
     match &left.node {
-        ExprNode::Text(text) => match &right.node {
-            ExprNode::Text(other) => text == other,
-            _ => false,
-        },
-        ExprNode::Number(number) => match &right.node {
-            ExprNode::Number(other) => number == other,
-            _ => false,
-        },
-        ExprNode::Variable(variable) => match &right.node {
-            ExprNode::Variable(other) => variable == other,
-            _ => false,
-        },
+        ExprNode::Text(text) => is_text(right, text),
+        ExprNode::Number(number) => is_number(right, *number),
+        ExprNode::Variable(variable) => is_variable(right, *variable),
         ExprNode::Get(key) => match &right.node {
             ExprNode::Get(other) => are_same_expressions(key, other),
             _ => false,
@@ -93,29 +117,68 @@ fn are_same_conditions(left: &Cond, right: &Cond) -> bool
     }
 }
 
+/// Whether a statement sets a variable to a value.
+fn is_set(statement: &Stmt, variable: Variable, value: &Expr) -> bool
+    ensures { IsTrue result ↔ Set variable value.now ≡ statement.now }
+{
+    match &statement.node {
+        StmtNode::Set(other, written) => {
+            variable == *other && are_same_expressions(value, written)
+        }
+        _ => false,
+    }
+}
+
+/// Whether a statement puts a key with a value on a lease.
+fn is_put(statement: &Stmt, key: &Expr, value: &Expr, lease: u64) -> bool
+    ensures { IsTrue result ↔ Put key.now value.now lease ≡ statement.now }
+{
+    match &statement.node {
+        StmtNode::Put(other, written, id) => {
+            lease == *id && are_same_expressions(key, other) && are_same_expressions(value, written)
+        }
+        _ => false,
+    }
+}
+
+/// Whether a statement deletes a key.
+fn is_deletion(statement: &Stmt, key: &Expr) -> bool
+    ensures { IsTrue result ↔ Del key.now ≡ statement.now }
+{
+    match &statement.node {
+        StmtNode::Del(other) => are_same_expressions(key, other),
+        _ => false,
+    }
+}
+
+/// Whether a statement puts a value out.
+fn is_emission(statement: &Stmt, value: &Expr) -> bool
+    ensures { IsTrue result ↔ Emit value.now ≡ statement.now }
+{
+    match &statement.node {
+        StmtNode::Emit(other) => are_same_expressions(value, other),
+        _ => false,
+    }
+}
+
+/// Whether a statement ends the run with a text.
+fn is_abort(statement: &Stmt, text: &Expr) -> bool
+    ensures { IsTrue result ↔ Abort text.now ≡ statement.now }
+{
+    match &statement.node {
+        StmtNode::Abort(other) => are_same_expressions(text, other),
+        _ => false,
+    }
+}
+
 #[cycle(same)]
 fn are_same_steps(left: &Stmt, right: &Stmt) -> bool
     ensures { IsTrue result ↔ left.now ≡ right.now }
 {
     match &left.node {
-        StmtNode::Set(variable, value) => match &right.node {
-            StmtNode::Set(other, written) => {
-                variable == other && are_same_expressions(value, written)
-            }
-            _ => false,
-        },
-        StmtNode::Put(key, value, lease) => match &right.node {
-            StmtNode::Put(other, written, id) => {
-                lease == id
-                    && are_same_expressions(key, other)
-                    && are_same_expressions(value, written)
-            }
-            _ => false,
-        },
-        StmtNode::Del(key) => match &right.node {
-            StmtNode::Del(other) => are_same_expressions(key, other),
-            _ => false,
-        },
+        StmtNode::Set(variable, value) => is_set(right, *variable, value),
+        StmtNode::Put(key, value, lease) => is_put(right, key, value, *lease),
+        StmtNode::Del(key) => is_deletion(right, key),
         StmtNode::If(condition, yes, no) => match &right.node {
             StmtNode::If(other, then, otherwise) => {
                 are_same_conditions(condition, other)
@@ -133,14 +196,8 @@ fn are_same_steps(left: &Stmt, right: &Stmt) -> bool
             }
             _ => false,
         },
-        StmtNode::Emit(value) => match &right.node {
-            StmtNode::Emit(other) => are_same_expressions(value, other),
-            _ => false,
-        },
-        StmtNode::Abort(text) => match &right.node {
-            StmtNode::Abort(other) => are_same_expressions(text, other),
-            _ => false,
-        },
+        StmtNode::Emit(value) => is_emission(right, value),
+        StmtNode::Abort(text) => is_abort(right, text),
     }
 }
 

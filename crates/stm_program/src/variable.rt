@@ -1,22 +1,24 @@
 //! The variables of a program.
-ghost use Rattle.std.specs.Prelude.{◌≡◌, ◌<◌, ◌↔◌, IsSome, IfSome};
+ghost use Rattle.std.specs.Prelude.{◌≡◌, ◌≤◌};
+ghost use Rattle.stm_program.specs.declared.limits.TheConstants.{MAX_VARIABLE};
 
 use std::marker::Model;
 
-/// One of the sixteen variables of a program, by its number 0 to 15.
+/// One of the sixteen variables of a program, by its number, from 0 to `MAX_VARIABLE`.
 #[derive(Clone, Copy, Debug, PartialEq, Eq)]
 pub struct Variable {
     number: u8,
 }
 
 impl Model for Variable {
-    ghost use Rattle.std.specs.Prelude.{ℕ, ◌<◌};
+    ghost use Rattle.std.specs.Prelude.{ℕ, ◌≤◌};
+    ghost use Rattle.stm_program.specs.declared.limits.TheConstants.{MAX_VARIABLE};
 
     ghost Value = { ℕ };
 
     ghost view = { λ v. v.number };
 
-    ghost invariant = { λ v. v.number < 16 };
+    ghost invariant = { λ v. v.number ≤ MAX_VARIABLE };
 
     ghost inverse = { λ n. record { number = n } };
 }
@@ -24,7 +26,7 @@ impl Model for Variable {
 impl Variable {
     /// The variable of this number.
     pub fn new(number: u8) -> Variable
-        requires { number < 16 }
+        requires { number ≤ MAX_VARIABLE }
         ensures { result ≡ number }
     {
         Variable { number }
@@ -33,7 +35,7 @@ impl Variable {
     /// The number of this variable.
     pub fn number(self) -> u8
         ensures same { result ≡ self }
-        ensures in_range { result < 16 }
+        ensures in_range { result ≤ MAX_VARIABLE }
     {
         self.number
     }

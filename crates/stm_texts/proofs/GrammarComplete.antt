@@ -9,7 +9,7 @@ use Rattle.stm_json.specs.Elements.{worded, number_in}
 use Rattle.stm_json.proofs.ElementLemmas.{number_up_to-reads}
 use Rattle.stm_retry.specs.declared.level.Level.{Level}
 use Rattle.stm_retry.specs.declared.level.Level.TheVariants.{ReadCommitted}
-use Rattle.stm_program.proofs.StatementComplete.{program_reads}
+use Rattle.stm_program_json.proofs.StatementComplete.{program_reads}
 use Rattle.stm_retry.specs.declared.event.WorldEvent.{WorldEvent}
 use Rattle.stm_retry.specs.declared.event.WorldEvent.TheVariants.{Start, Step}
 use Rattle.stm_texts.specs.declared.scenario.Scenario.{Scenario}

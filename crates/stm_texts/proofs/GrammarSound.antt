@@ -15,10 +15,10 @@ use Rattle.stm_json.proofs.OutcomeLemmas.{bind_ok, within_ok, guard_ok}
 use Rattle.stm_json.proofs.ElementLemmas.{worded-is, one_of-is, three_of-is, number_up_to-is}
 use Rattle.stm_retry.specs.declared.level.Level.{Level}
 use Rattle.stm_retry.specs.declared.level.Level.TheVariants.{ReadCommitted}
-use Rattle.stm_program.specs.Grammar.{spelled}
-use Rattle.stm_program.specs.Reading.{program_of}
-use Rattle.stm_program.proofs.ExpressionSound.{words_and}
-use Rattle.stm_program.proofs.ProgramLemmas.{program_sound}
+use Rattle.stm_program_json.specs.Grammar.{spelled}
+use Rattle.stm_program_json.specs.Reading.{program_of}
+use Rattle.stm_program_json.proofs.ExpressionSound.{words_and}
+use Rattle.stm_program_json.proofs.ProgramLemmas.{program_sound}
 use Rattle.stm_retry.specs.declared.event.WorldEvent.{WorldEvent}
 use Rattle.stm_retry.specs.declared.event.WorldEvent.TheVariants.{Start, Step}
 use Rattle.stm_texts.specs.declared.scenario.Scenario.{Scenario}
@@ -26,7 +26,7 @@ use Rattle.stm_history.specs.declared.revisions.TheConstants.{HIGHEST_NUMBER, HI
 use Rattle.stm_texts.specs.declared.events.TheConstants.{HIGHEST_LIMIT, MOST_EVENTS}
 use Rattle.stm_texts.specs.declared.reading.TheConstants.{MOST_BYTES}
 use Rattle.stm_texts.specs.Bytes.{data_of}
-use Rattle.stm_program.specs.Words.{same}
+use Rattle.stm_program_json.specs.Words.{same}
 use Rattle.stm_texts.specs.Grammar.{level_text, SpellsNumberIn, SpellsEvent, SpellsEvents, SpellsElements, SpellsData, SpellsScenario}
 use Rattle.stm_texts.specs.Reading.{level_named, level_of, start_of, step_of, event_worded, event_of, event_after, events_from, begins, opening_of}
 use Rattle.stm_texts.specs.Reading.{scenario_after, scenario_list, scenario_of, scenario_read, scenario_in}

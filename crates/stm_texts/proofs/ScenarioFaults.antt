@@ -12,9 +12,9 @@ use Rattle.stm_json.specs.Tells.{Tells}
 use Rattle.stm_json.specs.Elements.{worded, one_of, three_of, number_up_to, number_in}
 use Rattle.stm_retry.specs.declared.level.Level.{Level}
 use Rattle.stm_retry.specs.declared.level.Level.TheVariants.{ReadCommitted}
-use Rattle.stm_program.specs.Reading.{program_of}
-use Rattle.stm_program.specs.FirstFault.{first_fault as program_fault}
-use Rattle.stm_program.proofs.StatementMarks.{program_fault as program_fault-is, fault_of as fault_of_program}
+use Rattle.stm_program_json.specs.Reading.{program_of}
+use Rattle.stm_program_json.specs.FirstFault.{first_fault as program_fault}
+use Rattle.stm_program_json.proofs.StatementMarks.{program_fault as program_fault-is, fault_of as fault_of_program}
 use Rattle.stm_retry.specs.declared.event.WorldEvent.{WorldEvent}
 use Rattle.stm_retry.specs.declared.event.WorldEvent.TheVariants.{Start, Step}
 use Rattle.stm_texts.specs.declared.scenario.Scenario.{Scenario}
@@ -22,7 +22,7 @@ use Rattle.stm_history.specs.declared.revisions.TheConstants.{HIGHEST_NUMBER, HI
 use Rattle.stm_texts.specs.declared.events.TheConstants.{HIGHEST_LIMIT, MOST_EVENTS}
 use Rattle.stm_texts.specs.declared.reading.TheConstants.{MOST_BYTES}
 use Rattle.stm_texts.specs.Bytes.{data_of}
-use Rattle.stm_program.specs.Words.{same}
+use Rattle.stm_program_json.specs.Words.{same}
 use Rattle.stm_texts.specs.Grammar.{level_text}
 use Rattle.stm_texts.specs.Reading.{level_named, level_of, start_of, step_of, event_of, event_after, events_from, begins, opening_of, scenario_after}
 use Rattle.stm_texts.specs.Reading.{scenario_of, scenario_read, scenario_in}

@@ -11,13 +11,13 @@ use Rattle.stm_json.specs.declared.read_error.ReadError.{ReadError}
 use Rattle.stm_json.specs.declared.read_error.ReadError.TheVariants as error
 use Rattle.stm_json.specs.Outcome.{step}
 use Rattle.stm_retry.specs.declared.level.Level.TheVariants.{ReadCommitted}
-use Rattle.stm_program.specs.FirstFault.{first_fault as program_fault}
+use Rattle.stm_program_json.specs.FirstFault.{first_fault as program_fault}
 use Rattle.stm_history.specs.declared.revisions.TheConstants.{HIGHEST_NUMBER, HIGHEST_REVISION}
 use Rattle.stm_texts.specs.declared.events.TheConstants.{HIGHEST_LIMIT, MOST_EVENTS}
 use Rattle.stm_texts.specs.declared.reading.TheConstants.{MOST_BYTES}
 use Rattle.stm_texts.specs.Bytes.{data_of}
 use Rattle.stm_texts.specs.Grammar.{level_text}
-use Rattle.stm_program.specs.Words.{same}
+use Rattle.stm_program_json.specs.Words.{same}
 
 abbrev pub Faults : Type 0
 Faults = List BadInput

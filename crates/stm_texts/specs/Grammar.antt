@@ -4,7 +4,7 @@ use Rattle.serde_json.specs.Data.{Data, string, array, Items, no_items, item}
 use Rattle.stm_json.specs.Elements.{SpellsNumber}
 use Rattle.stm_retry.specs.declared.level.Level.{Level}
 use Rattle.stm_retry.specs.declared.level.Level.TheVariants.{ReadCommitted}
-use Rattle.stm_program.specs.Grammar.{spelled, SpellsProgram}
+use Rattle.stm_program_json.specs.Grammar.{spelled, SpellsProgram}
 use Rattle.stm_program.specs.Limits.{Fits}
 use Rattle.stm_retry.specs.declared.event.WorldEvent.{WorldEvent}
 use Rattle.stm_retry.specs.declared.event.WorldEvent.TheVariants.{Start, Step}

@@ -5,8 +5,8 @@ use Rattle.serde_json.specs.Data.{Data, Items, no_items, item}
 use Rattle.serde_json.specs.Find.{as_str, as_array}
 use Rattle.stm_json.specs.Elements.{worded, one_of, three_of, number_up_to, number_in}
 use Rattle.stm_history.specs.declared.revisions.TheConstants.{HIGHEST_NUMBER, HIGHEST_REVISION}
-use Rattle.stm_program.specs.Reading.{program_of}
-use Rattle.stm_program.specs.Words.{same}
+use Rattle.stm_program_json.specs.Reading.{program_of}
+use Rattle.stm_program_json.specs.Words.{same}
 use Rattle.stm_retry.specs.declared.level.Level.{Level}
 use Rattle.stm_retry.specs.declared.level.Level.TheVariants.{ReadCommitted}
 use Rattle.stm_retry.specs.declared.event.WorldEvent.{WorldEvent}

@@ -10,7 +10,7 @@ use serde_json::Value;
 use std::alloc::Global;
 use stm_history::HIGHEST_NUMBER;
 use stm_json::{Cause, ReadError, fault, number_within, one, three, within, worded_array};
-use stm_program::read_program;
+use stm_program_json::read_program;
 use stm_retry::{Level, WorldEvent};
 
 /// A scenario has at most so many events.

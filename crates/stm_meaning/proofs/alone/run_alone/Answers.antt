@@ -1,6 +1,6 @@
 use Rattle.std.proofs.Common.{◌≡◌, refl, sym, ◌∙◌}
-use Rattle.stm_meaning.specs.declared.run.Answered.TheVariants.{Ended, Wants}
-use Rattle.stm_meaning.specs.States.{state_answers}
+use Rattle.stm_steps.specs.declared.run.Answered.TheVariants.{Ended, Wants}
+use Rattle.stm_steps.specs.States.{state_answers}
 use Rattle.stm_meaning.proofs.RunLaws.{whole_lookups_end}
 use Rattle.stm_meaning.proofs.alone.run_alone.Goals as goal
 

@@ -2,7 +2,7 @@ use Rattle.std.proofs.Common.{rules, ap, ◌∙◌}
 use Rattle.std.specs.Prelude.{filter}
 use Rattle.std.proofs.lemmas.Fn.{filter_same}
 use Rattle.stm_meaning.specs.Writes.{changes, effect}
-use Rattle.stm_meaning.specs.States.{is_present}
+use Rattle.stm_steps.specs.States.{is_present}
 use Rattle.stm_meaning.proofs.apply.apply_alone.Goals as goal
 
 -- the closure keeps the writes that change something

@@ -1,0 +1,48 @@
+-- Worked examples of the grammar and of the first fault.
+use Rattle.std.proofs.Common.{◌≡◌, [], ◌∷◌, suc, None, refl, codes}
+use Rattle.std.specs.Fmt.{digits}
+use Rattle.serde_json.specs.Data.{Data, number, unsigned, string, array, Items, no_items, item}
+use Rattle.stm_json.specs.declared.cause.Cause.TheVariants.{Shape, Range}
+use Rattle.stm_program.specs.Syntax.{ProgramTree, of_statements, Get, Text, Emit, End, Then}
+use Rattle.stm_program_json.specs.Grammar.{spelled, SpellsProgram}
+use Rattle.stm_program_json.specs.FirstFault.{parts_behind, first_fault, fault_at}
+
+-- ["get","k"]
+abbrev pub get_of_k : Data
+get_of_k = spelled (codes "get") (string (codes "k") ∷ [])
+
+-- ["emit",["get","k"]]
+abbrev pub emit_of_get : Data
+emit_of_get = spelled (codes "emit") (get_of_k ∷ [])
+
+abbrev pub emits_k : ProgramTree
+emits_k = of_statements (Then (Emit (Get (Text (codes "k")))) End)
+
+-- [["emit",["get","k"]]] spells a program, and has no fault
+
+pub is_spelled : SpellsProgram (array (item emit_of_get no_items)) emits_k
+is_spelled = (item emit_of_get no_items, refl, (emit_of_get, no_items, refl, (get_of_k, refl, (string (codes "k"), refl, refl)), refl))
+
+pub has_no_fault : first_fault (array (item emit_of_get no_items)) ≡ None
+unfolding first_fault parts_behind
+has_no_fault = refl
+
+-- an element that is no number of a variable, before one that is no statement: [["set",16,1],7]
+pub variable_out_of_range : first_fault (array (item
+    (spelled (codes "set") (number (unsigned 16) ∷ number (unsigned 1) ∷ [])) (item (number (unsigned 7)) no_items))) ≡ fault_at (codes "/0/1") Range
+unfolding first_fault parts_behind digits
+variable_out_of_range = refl
+
+-- two faults inside one statement, of which the first element's is answered: [["put",["nope"],["get"],9223372036854775808]]
+pub first_element_first : first_fault (array (item (spelled (codes "put")
+    (array (item (string (codes "nope")) no_items) ∷ array (item (string (codes "get")) no_items) ∷ number (unsigned (suc 9223372036854775807)) ∷
+    [])) no_items))
+    ≡ fault_at (codes "/0/1") Shape
+unfolding first_fault parts_behind digits
+first_element_first = refl
+
+-- a word with an element too many is a fault of the whole array: [["emit",1,2]]
+pub element_too_many : first_fault (array (item (spelled (codes "emit") (number (unsigned 1) ∷ number (unsigned 2) ∷ [])) no_items))
+    ≡ fault_at (codes "/0") Shape
+unfolding first_fault parts_behind digits
+element_too_many = refl

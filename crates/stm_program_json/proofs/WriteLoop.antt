@@ -1,0 +1,49 @@
+-- Writing statements one after the other, as a loop does.
+use Rattle.std.proofs.Common.{◌≡◌, ℕ, zero, suc, ◌+◌, ◌<◌, ◌≤◌, List, [], ◌∷◌, ◌++◌, length, drop, get_or, map, refl, sym, ap, ◌∙◌, arith, add-one}
+use Rattle.std.proofs.lemmas.List.{drop_all, map_push}
+use Rattle.std.proofs.Math.Seq.{drop-cons}
+use Rattle.serde_json.specs.Data.{Data, Items, no_items, item}
+use Rattle.serde_json.specs.View.{view, items_of, items_view}
+use Rattle.serde_json.specs.declared.value.Value.{Value}
+use Rattle.stm_program.specs.Syntax.{Statement}
+use Rattle.stm_program.specs.BlockView.{block_of}
+use Rattle.stm_program.specs.Weight.{statement_weight, block_weight, block_weight-positive}
+use Rattle.stm_program_json.specs.Writing.{written_statement, written_statements}
+use Rattle.stm_program.proofs.WeightLemmas.{statement_weight-positive}
+
+-- elements behind those that were made
+abbrev pub items_after : List Data → Items → Items
+items_after [] es = es
+items_after (d ∷ ds) es = item d (items_after ds es)
+
+items_after-none : (ds : List Data) → items_after ds no_items ≡ items_of ds
+items_after-none [] = refl
+items_after-none (d ∷ ds) = ap (item d) (items_after-none ds)
+
+items_after-snoc : (ds : List Data) (d : Data) (es : Items) → items_after (ds ++ d ∷ []) es ≡ items_after ds (item d es)
+items_after-snoc [] d es = refl
+items_after-snoc (c ∷ ds) d es = ap (item c) (items_after-snoc ds d es)
+
+one_more : (ss : List Statement) (i : ℕ) (s : Statement) → i < length ss → s ≡ get_or ss i s → drop i ss ≡ s ∷ drop (i + 1) ss
+one_more ss i s h e = drop-cons ss i s h ∙ rw (sym e, add-one) refl
+
+pub goes_on : (vs ws : List Value) (ss : List Statement) (i : ℕ) (s : Statement) (v : Value) (total : Items) → i < length ss → s ≡ get_or ss i s
+    → view v ≡ written_statement s → ws ≡ vs ++ v ∷ [] → items_after (map view vs) (written_statements (block_of (drop i ss))) ≡ total
+    → items_after (map view ws) (written_statements (block_of (drop (i + 1) ss))) ≡ total
+goes_on vs ws ss i s v total lt at w e so_far =
+    let one : items_after (map view vs) (written_statements (block_of (drop i ss)))
+    ≡ items_after (map view vs) (item (written_statement s) (written_statements (block_of (drop (i + 1) ss)))) =
+    ap (λ (ts : List Statement). items_after (map view vs) (written_statements (block_of ts))) (one_more ss i s lt at) in
+    rw (e, map_push view vs v, w) (items_after-snoc (map view vs) (written_statement s) (written_statements (block_of (drop (i + 1) ss))) ∙ sym one ∙ so_far)
+
+pub is_done : (vs : List Value) (ss : List Statement) (i : ℕ) (total : Items) → length ss ≤ i
+    → items_after (map view vs) (written_statements (block_of (drop i ss))) ≡ total → items_view vs ≡ total
+is_done vs ss i total h so_far =
+    let e = drop_all i ss h in
+    sym (items_after-none (map view vs)) ∙ sym (ap (λ (ts : List Statement). items_after (map view vs) (written_statements (block_of ts))) e) ∙ so_far
+
+-- each statement weighs less than its block
+pub item_weight : (ss : List Statement) (i : ℕ) (s : Statement) → i < length ss → s ≡ get_or ss i s → statement_weight s + 1 ≤ block_weight (block_of ss)
+item_weight [] i s h e = absurd (omega arith)
+item_weight (t ∷ ss) zero s h e = omega (arith, ap statement_weight e, block_weight-positive ss)
+item_weight (t ∷ ss) (suc i) s h e = omega (arith, item_weight ss i s (omega arith) e, statement_weight-positive t)

@@ -1,0 +1,148 @@
+-- The first fault of data in a program's place, apart from reading: the marks of all the data in the order of reading, none
+-- left out behind a fault, and then the first of them that is a fault.
+use Rattle.std.specs.Prelude.{◌≡◌, ℕ, zero, suc, ℤ, pos, negsuc, Bool, true, false, bytes_eq, List, [], ◌∷◌, ◌++◌, length, Option, Some, None, nat_le}
+use Rattle.std.specs.Prelude.{if◌then◌else◌, option_and_then, codes}
+use Rattle.std.specs.Map.{lookup}
+use Rattle.serde_json.specs.Data.{Data, number, string, array, Items, no_items, item}
+use Rattle.serde_json.specs.Find.{as_number, as_integer}
+use Rattle.stm_json.specs.declared.cause.Cause.{Cause}
+use Rattle.stm_json.specs.declared.cause.Cause.TheVariants.{Shape, Range, TooDeep, TooManyNodes, TooLong}
+use Rattle.stm_json.specs.declared.read_error.BadInput.{BadInput}
+use Rattle.stm_json.specs.declared.read_error.ReadError.{ReadError}
+use Rattle.stm_json.specs.declared.read_error.ReadError.TheVariants as error
+use Rattle.stm_program.specs.declared.limits.TheConstants.{MAX_DEPTH, MAX_NODES, MAX_TEXT, MAX_TURNS, MAX_VARIABLE, MAX_LEASE}
+use Rattle.stm_json.specs.Outcome.{step}
+use Rattle.stm_json.specs.Elements.{is_64_bit}
+
+-- a node that stands at a place and so deep, or what is wrong at a place
+pub data Mark : Type 0 where
+  Node : ℕ → List ℕ → Mark
+  Wrong : List ℕ → Cause → Mark
+
+abbrev pub wrong : List ℕ → Cause → List Mark
+wrong p cause = Wrong p cause ∷ []
+
+-- the place of an element
+abbrev pub at : List ℕ → ℕ → List ℕ
+at p index = p ++ step index
+
+-- ---- numbers
+
+abbrev pub range_marks : List ℕ → ℕ → Option ℤ → List Mark
+range_marks p limit (Some (pos n)) = if nat_le n limit then [] else wrong p Range
+range_marks p limit (Some (negsuc n)) = wrong p Range
+range_marks p limit None = wrong p Shape
+
+-- a whole number from 0 to a limit
+abbrev pub number_marks : List ℕ → ℕ → Data → List Mark
+number_marks p limit d = range_marks p limit (option_and_then as_integer (as_number d))
+
+-- a whole number of 64 bits
+abbrev pub whole_marks : List ℕ → Option ℤ → List Mark
+whole_marks p (Some z) = if is_64_bit z then [] else wrong p Range
+whole_marks p None = wrong p Shape
+
+-- ---- the table: which words there are, and the sorts of the parts behind each
+
+-- an expression, a condition, a statement, a block, or a whole number from 0 to a limit
+pub data Sort : Type 0 where
+  Value : Sort
+  Test : Sort
+  Step : Sort
+  Block : Sort
+  Count : ℕ → Sort
+
+abbrev pub Table : Type 0
+Table = List (List ℕ × List Sort)
+
+abbrev pub value_words : Table
+value_words =
+    (codes "var", Count MAX_VARIABLE ∷ [])
+    ∷ (codes "get", Value ∷ []) ∷ (codes "rev", Value ∷ []) ∷ (codes "text_of", Value ∷ []) ∷ (codes "num_of", Value ∷ [])
+    ∷ (codes "cat", Value ∷ Value ∷ [])
+    ∷ (codes "add", Value ∷ Value ∷ []) ∷ (codes "sub", Value ∷ Value ∷ []) ∷ (codes "mul", Value ∷ Value ∷ [])
+    ∷ (codes "div", Value ∷ Value ∷ []) ∷ (codes "rem", Value ∷ Value ∷ []) ∷ []
+
+abbrev pub test_words : Table
+test_words =
+    (codes "eq", Value ∷ Value ∷ []) ∷ (codes "less", Value ∷ Value ∷ [])
+    ∷ (codes "not", Test ∷ []) ∷ (codes "and", Test ∷ Test ∷ []) ∷ (codes "or", Test ∷ Test ∷ []) ∷ []
+
+abbrev pub step_words : Table
+step_words =
+    (codes "set", Count MAX_VARIABLE ∷ Value ∷ [])
+    ∷ (codes "put", Value ∷ Value ∷ Count MAX_LEASE ∷ [])
+    ∷ (codes "if", Test ∷ Block ∷ Block ∷ [])
+    ∷ (codes "for", Count MAX_VARIABLE ∷ Value ∷ Count MAX_TURNS ∷ Block ∷ [])
+    ∷ (codes "del", Value ∷ []) ∷ (codes "emit", Value ∷ []) ∷ (codes "abort", Value ∷ []) ∷ []
+
+abbrev pub words_of : Sort → Table
+words_of Value = value_words
+words_of Test = test_words
+words_of Step = step_words
+words_of Block = []
+words_of (Count limit) = []
+
+-- the sorts of the parts behind a word, where something of this sort begins with it
+unfoldable pub parts_behind : Sort → List ℕ → Option (List Sort)
+parts_behind sort word = lookup (bytes_eq word) (words_of sort)
+
+-- there are as many elements as parts
+abbrev pub are_as_many : List Sort → Items → Bool
+are_as_many [] no_items = true
+are_as_many (s ∷ ss) (item d ds) = are_as_many ss ds
+are_as_many _ _ = false
+
+-- ---- marks of data at a place
+
+-- an expression, a condition and a statement is a node
+abbrev pub as_node : Sort → ℕ → List ℕ → List Mark → List Mark
+as_node Block k p ms = ms
+as_node (Count limit) k p ms = ms
+as_node _ k p ms = Node k p ∷ ms
+
+abbrev pub marks_if : List ℕ → Option (List Sort) → Items → (List Sort → List Mark) → List Mark
+marks_if p None ds parts = wrong p Shape
+marks_if p (Some sorts) ds parts = if are_as_many sorts ds then parts sorts else wrong p Shape
+
+-- what is marked in something of a sort that stands so deep, behind the node that it is
+abbrev mutual
+  pub marks_in : Sort → ℕ → List ℕ → Data → List Mark
+  marks_in Value k p (string s) = if nat_le (length s) MAX_TEXT then [] else wrong p TooLong
+  marks_in Value k p (number n) = whole_marks p (as_integer n)
+  marks_in Block k p (array ds) = marks_of_steps k p 0 ds
+  marks_in (Count limit) k p d = number_marks p limit d
+  marks_in sort k p (array (item (string word) ds)) = marks_if p (parts_behind sort word) ds (λ sorts. marks_of_parts k p 1 sorts ds)
+  marks_in sort k p _ = wrong p Shape
+
+  -- the parts of a node, from an index on
+  pub marks_of_parts : ℕ → List ℕ → ℕ → List Sort → Items → List Mark
+  marks_of_parts k p index [] ds = []
+  marks_of_parts k p index (s ∷ ss) no_items = []
+  marks_of_parts k p index (s ∷ ss) (item d ds) = as_node s (suc k) (at p index) (marks_in s (suc k) (at p index) d) ++ marks_of_parts k p (suc index) ss ds
+
+  -- the statements of an array, from an index on
+  pub marks_of_steps : ℕ → List ℕ → ℕ → Items → List Mark
+  marks_of_steps k p index no_items = []
+  marks_of_steps k p index (item d ds) = (Node k (at p index) ∷ marks_in Step k (at p index) d) ++ marks_of_steps k p (suc index) ds
+
+-- ---- the first fault
+
+abbrev pub fault_at : List ℕ → Cause → Option BadInput
+fault_at p cause = Some (record { place = p; cause = cause })
+
+-- where so many nodes more are allowed: a node that is too deep is a fault, then one for which no room is left
+abbrev pub first_of_marks : ℕ → List Mark → Option BadInput
+first_of_marks room [] = None
+first_of_marks room (Wrong p cause ∷ ms) = fault_at p cause
+first_of_marks zero (Node k p ∷ ms) = if nat_le k MAX_DEPTH then fault_at p TooManyNodes else fault_at p TooDeep
+first_of_marks (suc room) (Node k p ∷ ms) = if nat_le k MAX_DEPTH then first_of_marks room ms else fault_at p TooDeep
+
+-- the first fault of data in a program's place, if there is one
+unfoldable pub first_fault : Data → Option BadInput
+first_fault d = first_of_marks MAX_NODES (marks_in Block 1 [] d)
+
+-- the error is the first fault, or want of memory
+abbrev pub IsFirstFault : Data → ReadError → Type 0
+IsFirstFault d error.OutOfMemory = Unit {0}
+IsFirstFault d (error.Bad f) = first_fault d ≡ Some f

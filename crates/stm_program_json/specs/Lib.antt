@@ -1,0 +1,10 @@
+pub mod Words
+pub mod Reading
+pub mod Grammar
+pub mod WordTexts
+pub mod Writing
+pub mod FirstFault
+pub use Rattle.stm_json.specs.Outcome
+pub use Rattle.stm_json.specs.Tells
+pub use Rattle.stm_program.specs.Syntax
+pub use Rattle.stm_program.specs.Limits

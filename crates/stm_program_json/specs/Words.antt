@@ -1,0 +1,54 @@
+-- The words that an expression, a condition and a statement begin with.
+use Rattle.std.specs.Prelude.{ℕ, List, Bool, Option, Some, None, nat_eq, if◌then◌else◌, codes}
+use Rattle.std.specs.Cmp.Lexicographic.{pointwise}
+use Rattle.stm_program.specs.declared.operator.Operator.TheVariants.{Add, Sub, Mul, Div, Rem}
+use Rattle.stm_program_json.specs.declared.words.ExprWord.{ExprWord}
+use Rattle.stm_program_json.specs.declared.words.ExprWord.TheVariants as expression
+use Rattle.stm_program_json.specs.declared.words.Unary.TheVariants as unary
+use Rattle.stm_program_json.specs.declared.words.Binary.TheVariants as binary
+use Rattle.stm_program_json.specs.declared.words.CondWord.{CondWord}
+use Rattle.stm_program_json.specs.declared.words.CondWord.TheVariants as condition
+use Rattle.stm_program_json.specs.declared.words.Comparison.TheVariants as comparison
+use Rattle.stm_program_json.specs.declared.words.Connective.TheVariants as connective
+use Rattle.stm_program_json.specs.declared.words.StmtWord.{StmtWord}
+use Rattle.stm_program_json.specs.declared.words.StmtWord.TheVariants as statement
+use Rattle.stm_program_json.specs.declared.words.Simple.TheVariants as simple
+
+-- two texts are the same
+abbrev pub same : List ℕ → List ℕ → Bool
+same = pointwise nat_eq
+
+unfoldable pub expression_word : List ℕ → Option ExprWord
+expression_word w =
+    if same w (codes "var") then Some expression.Var
+    else (if same w (codes "get") then Some (expression.Unary unary.Get)
+    else (if same w (codes "rev") then Some (expression.Unary unary.Rev)
+    else (if same w (codes "text_of") then Some (expression.Unary unary.TextOf)
+    else (if same w (codes "num_of") then Some (expression.Unary unary.NumOf)
+    else (if same w (codes "cat") then Some (expression.Binary binary.Cat)
+    else (if same w (codes "add") then Some (expression.Binary (binary.Arithmetic Add))
+    else (if same w (codes "sub") then Some (expression.Binary (binary.Arithmetic Sub))
+    else (if same w (codes "mul") then Some (expression.Binary (binary.Arithmetic Mul))
+    else (if same w (codes "div") then Some (expression.Binary (binary.Arithmetic Div))
+    else (if same w (codes "rem") then Some (expression.Binary (binary.Arithmetic Rem))
+    else None))))))))))
+
+unfoldable pub condition_word : List ℕ → Option CondWord
+condition_word w =
+    if same w (codes "eq") then Some (condition.Comparison comparison.Equal)
+    else (if same w (codes "less") then Some (condition.Comparison comparison.Less)
+    else (if same w (codes "not") then Some condition.Not
+    else (if same w (codes "and") then Some (condition.Connective connective.And)
+    else (if same w (codes "or") then Some (condition.Connective connective.Or)
+    else None))))
+
+unfoldable pub statement_word : List ℕ → Option StmtWord
+statement_word w =
+    if same w (codes "set") then Some statement.Set
+    else (if same w (codes "put") then Some statement.Put
+    else (if same w (codes "if") then Some statement.If
+    else (if same w (codes "for") then Some statement.For
+    else (if same w (codes "del") then Some (statement.Simple simple.Del)
+    else (if same w (codes "emit") then Some (statement.Simple simple.Emit)
+    else (if same w (codes "abort") then Some (statement.Simple simple.Abort)
+    else None))))))

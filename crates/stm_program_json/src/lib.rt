@@ -1,0 +1,11 @@
+//! Programs read from JSON and written as JSON.
+#![tactic(auto)]
+
+mod read;
+mod spell;
+pub mod words;
+
+pub use read::read_program;
+pub use spell::write_program;
+pub use stm_json::{BadInput, Cause, ReadError};
+pub use stm_program::Program;

@@ -1,0 +1,49 @@
+//! Arrays of a word and its parts.
+ghost use Rattle.std.specs.Prelude.{◌≡◌, [], ◌∷◌, IfOk};
+ghost use Rattle.serde_json.specs.View.{view};
+ghost use Rattle.stm_program_json.specs.Grammar.{spelled};
+
+use serde_json::{Value, json};
+use std::alloc::{AllocError, Global};
+
+pub(crate) fn one_part(alloc: Global, word: &str, part: Value) -> Result<Value, AllocError>
+    ensures { IfOk result (λ v. view v ≡ spelled word.now (view part ∷ [])) }
+{
+    json!(in alloc; [word, part])
+}
+
+pub(crate) fn two_parts(
+    alloc: Global,
+    word: &str,
+    first: Value,
+    second: Value,
+) -> Result<Value, AllocError>
+    ensures { IfOk result (λ v. view v ≡ spelled word.now (view first ∷ view second ∷ [])) }
+{
+    json!(in alloc; [word, first, second])
+}
+
+pub(crate) fn three_parts(
+    alloc: Global,
+    word: &str,
+    first: Value,
+    second: Value,
+    third: Value,
+) -> Result<Value, AllocError>
+    ensures { IfOk result (λ v. view v ≡ spelled word.now (view first ∷ view second ∷ view third ∷ [])) }
+{
+    json!(in alloc; [word, first, second, third])
+}
+
+pub(crate) fn four_parts(
+    alloc: Global,
+    word: &str,
+    first: Value,
+    second: Value,
+    third: Value,
+    fourth: Value,
+) -> Result<Value, AllocError>
+    ensures { IfOk result (λ v. view v ≡ spelled word.now (view first ∷ view second ∷ view third ∷ view fourth ∷ [])) }
+{
+    json!(in alloc; [word, first, second, third, fourth])
+}

@@ -1,0 +1,65 @@
+//! Writing statements and blocks.
+ghost use Rattle.std.specs.Prelude.{◌≡◌, codes, IfOk};
+ghost use Rattle.serde_json.specs.Data.{array};
+ghost use Rattle.serde_json.specs.View.{view};
+ghost use Rattle.stm_program.specs.BlockView.{block_of};
+ghost use Rattle.stm_program_json.specs.Writing.{written_statement, written_block};
+
+use crate::spell::arrays::{four_parts, one_part, three_parts, two_parts};
+use crate::spell::expressions::{condition_value, expression_value};
+use serde_json::Value;
+use std::alloc::{AllocError, Global};
+use stm_program::{Block, Stmt, StmtNode};
+
+#[cycle(write_statements)]
+fn statement_value(alloc: Global, statement: &Stmt) -> Result<Value, AllocError>
+    ensures { IfOk result (λ v. view v ≡ written_statement statement.now) }
+{
+    match &statement.node {
+        StmtNode::Set(variable, value) => {
+            let value = expression_value(alloc, value)?;
+            two_parts(alloc, "set", Value::from(variable.number()), value)
+        }
+        StmtNode::Put(key, value, lease) => {
+            let key = expression_value(alloc, key)?;
+            let value = expression_value(alloc, value)?;
+            three_parts(alloc, "put", key, value, Value::from(*lease))
+        }
+        StmtNode::Del(key) => one_part(alloc, "del", expression_value(alloc, key)?),
+        StmtNode::If(condition, yes, no) => {
+            let condition = condition_value(alloc, condition)?;
+            let yes = block_value(alloc, yes)?;
+            let no = block_value(alloc, no)?;
+            three_parts(alloc, "if", condition, yes, no)
+        }
+        StmtNode::For(variable, count, limit, body) => {
+            let count = expression_value(alloc, count)?;
+            let body = block_value(alloc, body)?;
+            let variable = Value::from(variable.number());
+            four_parts(alloc, "for", variable, count, Value::from(*limit), body)
+        }
+        StmtNode::Emit(value) => one_part(alloc, "emit", expression_value(alloc, value)?),
+        StmtNode::Abort(text) => one_part(alloc, "abort", expression_value(alloc, text)?),
+    }
+}
+
+#[cycle(write_statements)]
+fn block_value(alloc: Global, block: &Block) -> Result<Value, AllocError>
+    ensures { IfOk result (λ v. view v ≡ written_block block.now) }
+{
+    let statements: &Vec<Stmt> = &block.statements;
+    statements_value(alloc, statements)
+}
+
+/// The array of statements.
+#[cycle(write_statements)]
+pub(crate) fn statements_value(alloc: Global, statements: &[Stmt]) -> Result<Value, AllocError>
+    ensures { IfOk result (λ v. view v ≡ written_block (block_of statements.now)) }
+{
+    let mut values = Vec::new(alloc);
+    for statement in statements {
+        let value = statement_value(alloc, statement)?;
+        values.push(value)?;
+    }
+    Ok(Value::Array(values))
+}

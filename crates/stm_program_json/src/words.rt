@@ -1,0 +1,169 @@
+//! The words that programs are spelled with.
+ghost use Rattle.std.specs.Prelude.{◌≡◌};
+ghost use Rattle.stm_program_json.specs.Words.{expression_word, condition_word, statement_word};
+
+use stm_program::Operator;
+
+/// An expression of one part.
+#[derive(Clone, Copy, Debug, PartialEq, Eq)]
+pub enum Unary {
+    /// `get`
+    Get,
+    /// `rev`
+    Rev,
+    /// `text_of`
+    TextOf,
+    /// `num_of`
+    NumOf,
+}
+
+/// An expression of two parts.
+#[derive(Clone, Copy, Debug, PartialEq, Eq)]
+pub enum Binary {
+    /// `add`, `sub`, `mul`, `div` and `rem`
+    Arithmetic(Operator),
+    /// `cat`
+    Cat,
+}
+
+/// The first word of an expression.
+#[derive(Clone, Copy, Debug, PartialEq, Eq)]
+pub enum ExprWord {
+    /// `var`
+    Var,
+    /// The word of an expression of one part.
+    Unary(Unary),
+    /// The word of an expression of two parts.
+    Binary(Binary),
+}
+
+/// A comparison of two expressions.
+#[derive(Clone, Copy, Debug, PartialEq, Eq)]
+pub enum Comparison {
+    /// `eq`
+    Equal,
+    /// `less`
+    Less,
+}
+
+/// A condition of two conditions.
+#[derive(Clone, Copy, Debug, PartialEq, Eq)]
+pub enum Connective {
+    /// `and`
+    And,
+    /// `or`
+    Or,
+}
+
+/// The first word of a condition.
+#[derive(Clone, Copy, Debug, PartialEq, Eq)]
+pub enum CondWord {
+    /// The word of a comparison.
+    Comparison(Comparison),
+    /// `not`
+    Not,
+    /// The word of a condition of two conditions.
+    Connective(Connective),
+}
+
+/// A statement of one expression.
+#[derive(Clone, Copy, Debug, PartialEq, Eq)]
+pub enum Simple {
+    /// `del`
+    Del,
+    /// `emit`
+    Emit,
+    /// `abort`
+    Abort,
+}
+
+/// The first word of a statement.
+#[derive(Clone, Copy, Debug, PartialEq, Eq)]
+pub enum StmtWord {
+    /// `set`
+    Set,
+    /// `put`
+    Put,
+    /// `if`
+    If,
+    /// `for`
+    For,
+    /// The word of a statement of one expression.
+    Simple(Simple),
+}
+
+/// The expression that begins with a word, if there is one.
+#[tactic(auto, unfolding(crate::specs::Words::expression_word))]
+pub(crate) fn expression_word_of(word: &str) -> Option<ExprWord>
+    ensures { result ≡ expression_word word.now }
+{
+    if word == "var" {
+        Some(ExprWord::Var)
+    } else if word == "get" {
+        Some(ExprWord::Unary(Unary::Get))
+    } else if word == "rev" {
+        Some(ExprWord::Unary(Unary::Rev))
+    } else if word == "text_of" {
+        Some(ExprWord::Unary(Unary::TextOf))
+    } else if word == "num_of" {
+        Some(ExprWord::Unary(Unary::NumOf))
+    } else if word == "cat" {
+        Some(ExprWord::Binary(Binary::Cat))
+    } else if word == "add" {
+        Some(ExprWord::Binary(Binary::Arithmetic(Operator::Add)))
+    } else if word == "sub" {
+        Some(ExprWord::Binary(Binary::Arithmetic(Operator::Sub)))
+    } else if word == "mul" {
+        Some(ExprWord::Binary(Binary::Arithmetic(Operator::Mul)))
+    } else if word == "div" {
+        Some(ExprWord::Binary(Binary::Arithmetic(Operator::Div)))
+    } else if word == "rem" {
+        Some(ExprWord::Binary(Binary::Arithmetic(Operator::Rem)))
+    } else {
+        None
+    }
+}
+
+/// The condition that begins with a word, if there is one.
+#[tactic(auto, unfolding(crate::specs::Words::condition_word))]
+pub(crate) fn condition_word_of(word: &str) -> Option<CondWord>
+    ensures { result ≡ condition_word word.now }
+{
+    if word == "eq" {
+        Some(CondWord::Comparison(Comparison::Equal))
+    } else if word == "less" {
+        Some(CondWord::Comparison(Comparison::Less))
+    } else if word == "not" {
+        Some(CondWord::Not)
+    } else if word == "and" {
+        Some(CondWord::Connective(Connective::And))
+    } else if word == "or" {
+        Some(CondWord::Connective(Connective::Or))
+    } else {
+        None
+    }
+}
+
+/// The statement that begins with a word, if there is one.
+#[tactic(auto, unfolding(crate::specs::Words::statement_word))]
+pub(crate) fn statement_word_of(word: &str) -> Option<StmtWord>
+    ensures { result ≡ statement_word word.now }
+{
+    if word == "set" {
+        Some(StmtWord::Set)
+    } else if word == "put" {
+        Some(StmtWord::Put)
+    } else if word == "if" {
+        Some(StmtWord::If)
+    } else if word == "for" {
+        Some(StmtWord::For)
+    } else if word == "del" {
+        Some(StmtWord::Simple(Simple::Del))
+    } else if word == "emit" {
+        Some(StmtWord::Simple(Simple::Emit))
+    } else if word == "abort" {
+        Some(StmtWord::Simple(Simple::Abort))
+    } else {
+        None
+    }
+}

@@ -1,0 +1,4 @@
+pub mod IntegerRange
+pub mod WrittenNumber
+pub mod PlaceLemmas
+pub mod Entries

@@ -1,0 +1,9 @@
+pub mod Values
+pub mod Session
+pub mod Outcome
+pub mod Steps
+pub mod LastPlaces
+pub mod Answer
+pub mod States
+pub mod Places
+pub mod Faults

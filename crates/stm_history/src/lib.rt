@@ -18,6 +18,3 @@ pub use revision::Revision;
 pub use revisions::{HIGHEST_NUMBER, HIGHEST_REVISION, Revisions};
 pub use sequence::Sequence;
 pub use text::Text;
-
-#[cfg(test)]
-mod tests;

@@ -10,8 +10,6 @@ pub mod laws;
 mod record;
 pub mod refusal;
 mod table;
-#[cfg(test)]
-mod tests;
 
 pub use event::Event;
 pub use keys::Keys;

@@ -248,6 +248,3 @@ impl Leases {
         self.leases.len()
     }
 }
-
-#[cfg(test)]
-mod tests;

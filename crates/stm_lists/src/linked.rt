@@ -206,6 +206,3 @@ impl<T> Lists<T> {
         let _nodes = &self.nodes;
     }
 }
-
-#[cfg(test)]
-mod tests;

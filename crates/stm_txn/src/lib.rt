@@ -25,6 +25,3 @@ pub use stm_keys::{Change, Event, HIGHEST_REVISION, KeyState, Keys, Sequence, Te
 pub use short_list::ShortList;
 pub use store::Store;
 pub use txn::{Compare, Op, Order, Target, Txn};
-
-#[cfg(test)]
-mod tests;

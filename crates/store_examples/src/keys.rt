@@ -5,9 +5,10 @@
 ghost use Rattle.std.specs.Prelude.{◌≡◌, ◌≤◌, IfOk};
 ghost use Rattle.stm_history.specs.History.{now};
 
-use crate::{ApplyRefusal, Change, Event, HIGHEST_REVISION, KeyState, Keys, Text};
+use crate::shown::show_state;
 use std::alloc::{AllocError, Global};
 use std::test::Fail;
+use stm_keys::{ApplyRefusal, Change, Event, HIGHEST_REVISION, Keys, Text};
 
 /// A put of a key with a value, on no lease.
 fn put_of(alloc: Global, key: &str, value: &str) -> Result<Change, AllocError>
@@ -73,23 +74,10 @@ fn told_changes(
     Ok(told)
 }
 
-/// A state's value, create and modification revision, version and lease; `-` where the key is absent.
-fn told_state(alloc: Global, state: Option<&KeyState>) -> Result<String, AllocError> {
-    match state {
-        None => String::from_str(alloc, "-"),
-        Some(s) => {
-            format!(in alloc;
-                "{}/{}/{}/{}/{}",
-                s.value, s.create_rev, s.mod_rev, s.version, s.lease
-            )
-        }
-    }
-}
-
 /// What a key was at a revision, or why that can't be read.
 fn told_read(alloc: Global, keys: &Keys, key: &str, revision: u64) -> Result<String, AllocError> {
     match keys.get_at(key, revision) {
-        Ok(state) => told_state(alloc, state),
+        Ok(state) => show_state(alloc, state, "-"),
         Err(refusal) => refusal.to_string(alloc),
     }
 }
@@ -190,12 +178,13 @@ fn replace(alloc: Global, keys: &mut Keys) -> Result<u64, ApplyRefusal> {
 }
 
 fn told_event(alloc: Global, event: &Event) -> Result<String, AllocError> {
+    let key = event.key();
     match event {
-        Event::Put { key, state } => {
-            let state = told_state(alloc, Some(state))?;
+        Event::Put { state, .. } => {
+            let state = show_state(alloc, Some(state), "-")?;
             format!(in alloc; "PUT {key} {state} ")
         }
-        Event::Delete { key, revision } => format!(in alloc; "DELETE {key} {revision} "),
+        Event::Delete { revision, .. } => format!(in alloc; "DELETE {key} {revision} "),
     }
 }
 
@@ -261,19 +250,33 @@ fn present(alloc: Global, keys: &Keys) -> Result<Vec<String>, AllocError> {
     Ok(lines)
 }
 
-/// What a store tells of itself: counter, opening and floor, the present keys, what `a` is, and what
-/// the next put would make of it.
-fn told_store(alloc: Global, keys: &Keys) -> Result<String, AllocError> {
-    let mut told = format!(in alloc; "{} {} {} ", keys.revision(), keys.opening(), keys.floor())?;
+fn told_present(alloc: Global, keys: &Keys) -> Result<String, AllocError> {
+    let mut told = String::new(alloc);
     for line in present(alloc, keys)? {
         told.push_str(line.as_str())?;
     }
-    told.push_str(told_state(alloc, keys.get("a"))?.as_str())?;
-    told.push_str(" ")?;
+    Ok(told)
+}
+
+/// What the next put of "a" would make of it.
+fn told_next(alloc: Global, keys: &Keys) -> Result<String, AllocError> {
     let value = Text::copy_of(alloc, "2")?;
     let next = keys.after_put("a", &value, 7)?;
-    told.push_str(told_state(alloc, Some(&next))?.as_str())?;
-    Ok(told)
+    show_state(alloc, Some(&next), "-")
+}
+
+/// What a store tells of itself: counter, opening and floor, the present keys, what "a" is, and what
+/// the next put would make of it.
+fn told_store(alloc: Global, keys: &Keys) -> Result<String, AllocError> {
+    let present = told_present(alloc, keys)?;
+    let state = show_state(alloc, keys.get("a"), "-")?;
+    let next = told_next(alloc, keys)?;
+    format!(in alloc;
+        "{} {} {} {present}{state} {next}",
+        keys.revision(),
+        keys.opening(),
+        keys.floor()
+    )
 }
 
 fn told_two_keys(alloc: Global) -> Result<String, AllocError> {

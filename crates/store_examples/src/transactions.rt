@@ -4,13 +4,14 @@
 //! Each example is a list of steps and one text: a test that holds a store in hand over many calls is slow to prove.
 ghost use Rattle.std.specs.Prelude.{◌≤◌};
 
-use crate::{
-    Compare, Event, Expired, HIGHEST_REVISION, KeyState, Keys, Op, OpAnswer, Order, Refusal,
-    ShortList, Store, Target, Text, Txn, TxnAnswer,
-};
+use crate::shown::{add_answer, show_state};
 use std::alloc::{AllocError, Global};
 use std::mem;
 use std::test::Fail;
+use stm_txn::{
+    Compare, Event, Expired, HIGHEST_REVISION, Keys, Op, OpAnswer, Order, Refusal, ShortList,
+    Store, Target, Text, Txn, TxnAnswer,
+};
 
 /// A step of an example, in constants.
 #[derive(Clone, Copy)]
@@ -35,6 +36,8 @@ enum Step {
     Events(u64),
     /// Tells a key's state, and the number of live leases.
     Look(&'static str),
+    /// Tells whether a lease is live.
+    IsLive(u64),
 }
 
 /// A store, and the transaction that is being made.
@@ -52,24 +55,12 @@ fn empty_txn(alloc: Global) -> Txn {
     }
 }
 
-fn show_state(alloc: Global, state: Option<&KeyState>) -> Result<String, AllocError> {
-    match state {
-        None => String::from_str(alloc, "null"),
-        Some(s) => {
-            format!(in alloc;
-                "{}/{}/{}/{}/{}",
-                s.value, s.create_rev, s.mod_rev, s.version, s.lease
-            )
-        }
-    }
-}
-
 fn show_op(alloc: Global, answer: &OpAnswer) -> Result<String, AllocError> {
     match answer {
         OpAnswer::Put => String::from_str(alloc, " put"),
         OpAnswer::Del(count) => format!(in alloc; " del {count}"),
         OpAnswer::Get(read) => {
-            let state = show_state(alloc, read.kv.as_ref())?;
+            let state = show_state(alloc, read.kv.as_ref(), "null")?;
             format!(in alloc; " get {} {state}", read.revision)
         }
     }
@@ -149,7 +140,7 @@ fn events(alloc: Global, keys: &Keys, revision: u64) -> Result<String, AllocErro
 }
 
 fn look(alloc: Global, store: &Store, key: &str) -> Result<String, AllocError> {
-    let state = show_state(alloc, store.keys().get(key))?;
+    let state = show_state(alloc, store.keys().get(key), "null")?;
     format!(in alloc; "{key} {state} leases {}", store.lease_count())
 }
 
@@ -217,6 +208,7 @@ fn take(alloc: Global, player: &mut Player, step: Step) -> Result<String, AllocE
         Step::Advance(moment) => advance(alloc, &mut player.store, moment),
         Step::Events(revision) => events(alloc, player.store.keys(), revision),
         Step::Look(key) => look(alloc, &player.store, key),
+        Step::IsLive(id) => player.store.is_live(id).to_string(alloc),
     }
 }
 
@@ -232,10 +224,7 @@ fn play(alloc: Global, opening: u64, steps: &[Step]) -> Result<String, AllocErro
     let mut told = String::new(alloc);
     for step in steps {
         let answer = take(alloc, &mut player, *step)?;
-        if !answer.is_empty() {
-            told.push_str(answer.as_str())?;
-            told.push_str("; ")?;
-        }
+        add_answer(&mut told, answer.as_str())?;
     }
     Ok(told)
 }
@@ -379,6 +368,8 @@ fn an_advance_stops_where_the_revisions_end(rt: HostRuntime) -> Result<(), Fail>
         Step::Put("b", "1", 2),
         Step::Commit,
         Step::Advance(5),
+        Step::IsLive(1),
+        Step::IsLive(2),
         Step::Look("b"),
         Step::Advance(5),
     ];
@@ -386,7 +377,7 @@ fn an_advance_stops_where_the_revisions_end(rt: HostRuntime) -> Result<(), Fail>
     assert_eq!(rt;
         told.as_str(),
         "done; done; true 9223372036854775805 put put; RevisionsUsedUp expired 1@9223372036854775806; \
-         b 1/9223372036854775805/9223372036854775805/1/2 leases 1; RevisionsUsedUp expired; "
+         false; true; b 1/9223372036854775805/9223372036854775805/1/2 leases 1; RevisionsUsedUp expired; "
     );
     Ok(())
 }

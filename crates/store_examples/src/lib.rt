@@ -1,0 +1,18 @@
+//! Worked examples of the store's crates, by their public calls.
+//!
+//! This crate has no code but tests: one module for each crate that is tested, named for it. They stand here, and not
+//! beside what they test, since a crate with tests is proved twice.
+#![tactic(auto)]
+
+#[cfg(test)]
+mod history;
+#[cfg(test)]
+mod keys;
+#[cfg(test)]
+mod leases;
+#[cfg(test)]
+mod lists;
+#[cfg(test)]
+mod shown;
+#[cfg(test)]
+mod transactions;

@@ -13,6 +13,7 @@ use Rattle.indexmap.specs.IndexMap.{IndexMap, get, get_by_text, ContainsKey}
 use Rattle.stm_lists.specs.Lists.{Lists, entries_at}
 use Rattle.stm_leases.specs.LeaseLog.{LogItem, Term, term_of}
 use Rattle.stm_leases.specs.Leases.{Leases, StandsFor, IsLive, HangOnLive, lease_of}
+use Rattle.stm_leases.specs.declared.bounds.TheConstants.{HIGHEST_ID, HIGHEST_TTL}
 use Rattle.stm_leases.specs.declared.lease.Lease.{Lease}
 use Rattle.stm_leases.specs.declared.lease.Attachment.{Attachment}
 use Rattle.stm_leases.specs.Live.{is_id, is_ttl, AreInRange}
@@ -32,22 +33,21 @@ pub list-updates : {S : Type 0} (old new : IndexMap ℕ Lease S) (id : ℕ) (o :
     → list_in new q ≡ cond (nat_eq id q) (option_map (λ (l : Lease). l.keys) o) (list_in old q)
 list-updates old new id o updates q = ap (option_map (λ (l : Lease). l.keys)) (updates q) ∙ through_list (nat_eq id q) o (get nat_eq old q)
 
--- an id and a time to live that pass the tests of a grant are in range
-pub id-fits : (id : ℕ) → id ≢ 0 → id ≤ 9223372036854775807 → IsTrue (is_id id)
-id-fits id positive within = by_tests (nat_le 1 id) (nat_le id 9223372036854775807) refl refl
+-- a number that passes both tests of a range from 1 is in it
+in_range_from_1 : (number most : ℕ) → number ≢ 0 → number ≤ most → (nat_le 1 number && nat_le number most) ≡ true
+in_range_from_1 number most positive within = by_tests (nat_le 1 number) (nat_le number most) refl refl
   where
-    by_tests : (a b : Bool) → nat_le 1 id ≡ a → nat_le id 9223372036854775807 ≡ b → (a && b) ≡ true
+    by_tests : (a b : Bool) → nat_le 1 number ≡ a → nat_le number most ≡ b → (a && b) ≡ true
     by_tests true true x y = refl
-    by_tests true false x y = let above = leb-false id 9223372036854775807 y in absurd (omega arith)
-    by_tests false b x y = let below = leb-false 1 id x in absurd (positive (omega arith))
+    by_tests true false x y = let above = leb-false number most y in absurd (omega arith)
+    by_tests false b x y = let below = leb-false 1 number x in absurd (positive (omega arith))
 
-pub ttl-fits : (ttl : ℕ) → ttl ≢ 0 → ttl ≤ 9000000000 → IsTrue (is_ttl ttl)
-ttl-fits ttl positive within = by_tests (nat_le 1 ttl) (nat_le ttl 9000000000) refl refl
-  where
-    by_tests : (a b : Bool) → nat_le 1 ttl ≡ a → nat_le ttl 9000000000 ≡ b → (a && b) ≡ true
-    by_tests true true x y = refl
-    by_tests true false x y = let above = leb-false ttl 9000000000 y in absurd (omega arith)
-    by_tests false b x y = let below = leb-false 1 ttl x in absurd (positive (omega arith))
+-- an id and a time to live that pass the tests of a grant are in range
+pub id-fits : (id : ℕ) → id ≢ 0 → id ≤ HIGHEST_ID → IsTrue (is_id id)
+id-fits id = in_range_from_1 id HIGHEST_ID
+
+pub ttl-fits : (ttl : ℕ) → ttl ≢ 0 → ttl ≤ HIGHEST_TTL → IsTrue (is_ttl ttl)
+ttl-fits ttl = in_range_from_1 ttl HIGHEST_TTL
 
 -- what holds of each lease of the table, and of one more, holds of each lease after it
 pub one-more : {S : Type 0} (old new : IndexMap ℕ Lease S) (id : ℕ) (now : Lease)

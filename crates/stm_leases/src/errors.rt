@@ -10,9 +10,9 @@ use std::fmt;
 /// Why a grant is refused. Where several causes hold, the first of them in this order is answered.
 #[derive(Debug, Clone, Copy, PartialEq, Eq)]
 pub enum GrantError {
-    /// The id is not from 1 to 9223372036854775807.
+    /// The id is not from 1 to `HIGHEST_ID`.
     LeaseIdOutOfRange,
-    /// The time to live is not from 1 to 9000000000 seconds.
+    /// The time to live is not from 1 second to `HIGHEST_TTL` seconds.
     TtlOutOfRange,
     /// The id is live.
     LeaseExists,

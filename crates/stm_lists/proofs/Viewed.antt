@@ -1,15 +1,15 @@
 -- From heads and nodes to what contracts see.
 use Rattle.std.proofs.Common.{◌≡◌, ◌⊎◌, ℕ, zero, suc, ◌<◌, ◌≤◌, List, [], ◌∷◌, ◌++◌, length, map, get_or, Option, Some, None, IsSome, option_map, unwrap_or}
-use Rattle.std.proofs.Common.{refl, sym, ap, subst, ◌∙◌, inl, inr}
+use Rattle.std.proofs.Common.{refl, sym, ap, subst, ◌∙◌, inl, inr, arith}
 use Rattle.std.proofs.lemmas.Bool.{cases_eq, cases_lt}
 use Rattle.std.proofs.lemmas.List.{get_or-set_same, get_or-set_other, get_or_past}
 use Rattle.std.proofs.lemmas.Option.{same_Some}
-use Rattle.slab.specs.Slab.{Slab, get, ContainsKey, Updates as Changes}
+use Rattle.slab.specs.Slab.{Slab, get, slab_len, ContainsKey, Updates as Changes}
 use Rattle.stm_lists.specs.Lists.{Lists, Place, list_at, entries_at, HasList, HasNode, StandsAt, first_node, last_node, with_entries, Updates, MovesToBack}
 use Rattle.stm_lists.specs.Lists.{IsApart}
 use Rattle.stm_lists.specs.declared.links.Node.{Node}
 use Rattle.stm_lists.specs.declared.links.Head.{Head}
-use Rattle.stm_lists.specs.Chain.{first_or, last_or, walk, IsSegment, IsOn, entries_of, shown, IsSound, IsPlaceOf, Shows, view_of}
+use Rattle.stm_lists.specs.Chain.{first_or, last_or, walk, IsSegment, IsOn, entries_of, shown, node_at, IsSound, IsStored, IsPlaceOf, Shows, view_of}
 use Rattle.stm_lists.proofs.Segments.{off-on, apart}
 use Rattle.stm_lists.proofs.Changes.{Rebuilds, list_kept}
 use Rattle.stm_lists.proofs.Steps.{some_is, place_of, head_of, record_at, place-names}
@@ -152,6 +152,14 @@ module _ {T : Type 0} where
   last_or-node (x ∷ []) = refl
   last_or-node (x ∷ (y ∷ ys)) = last_or-node (y ∷ ys)
 
+  -- a node that names its neighbours at a place
+  abbrev pub naming : Place T → Option ℕ → Option ℕ → Node T
+  naming place previous next = record { list = place.list; previous = previous; next = next; value = place.value }
+
+  pub names-neighbours : (place : Place T) → naming place (last_or None place.before) (first_or place.after None) ≡ node_at place
+  names-neighbours place = ap (λ (o : Option ℕ). naming place o (first_or place.after None)) (last_or-node place.before)
+      ∙ ap (naming place (last_node place.before)) (first_or-node place.after)
+
   -- slabs that hold the same under each key
   module _ (nodes new_nodes : Slab (Node T)) (same : (node : ℕ) → get new_nodes node ≡ get nodes node) where
     by_node : (count node : ℕ) (o : Option (Node T)) → ((link : Option ℕ) → walk new_nodes count link ≡ walk nodes count link)
@@ -185,6 +193,19 @@ module _ {T : Type 0} where
               let found = sound.owned node list (ap (option_map (λ (x : Node T). x.list)) (sym (same node)) ∙ owns) in
               (found.0, found.1, subst (IsOn node) (sym (walk-same found.0.len found.0.first)) found.2);
         }
+
+  -- a slab that has only grown
+  module _ (nodes grown : Slab (Node T)) (rest : grown ≡ record nodes { capacity = grown.capacity }) (heads : Slab Head) (spare : ℕ) where
+    pub grown-sound : IsSound nodes heads → IsSound grown heads
+    grown-sound = sound-same nodes grown (λ n. ap (λ (s : Slab (Node T)). get s n) rest) heads
+
+    pub grown-view : view_of grown heads spare ≡ view_of nodes heads spare
+    grown-view = view_of-same nodes grown (λ n. ap (λ (s : Slab (Node T)). get s n) rest) heads spare
+
+    pub grown-stored : nodes.capacity ≤ grown.capacity → IsStored nodes heads spare → IsStored grown heads spare
+    grown-stored more stored =
+        let len = ap slab_len rest in
+        record { sound = grown-sound stored.sound; room = omega (arith, stored.room, more) }
 
   -- no node stands twice on one list, so an entry has one place
   one_split : (node : ℕ) (v w : T) (b c a d : List (ℕ × T)) → IsApart (b ++ (node, v) ∷ a) → b ++ (node, v) ∷ a ≡ c ++ (node, w) ∷ d

@@ -1,7 +1,7 @@
 -- How nodes and heads make up the lists. No public clause cites this module.
 use Rattle.std.specs.Prelude.{◌≡◌, ◌≢◌, ◌⊎◌, ℕ, zero, suc, List, [], ◌∷◌, ◌++◌, length, map, Option, Some, None, option_map, ◌+◌, ◌≤◌}
 use Rattle.slab.specs.Slab.{Slab, get, slab_len}
-use Rattle.stm_lists.specs.Lists.{Lists, Place}
+use Rattle.stm_lists.specs.Lists.{Lists, Place, first_node, last_node}
 use Rattle.stm_lists.specs.declared.links.Node.{Node}
 use Rattle.stm_lists.specs.declared.links.Head.{Head}
 
@@ -59,6 +59,10 @@ module _ {T : Type 0} where
   abbrev pub IsPlaceOf : Slab (Node T) → Slab Head → ℕ → Place T → Type 0
   IsPlaceOf nodes heads node place =
       shown nodes heads place.list ≡ Some (place.before ++ (node, place.value) ∷ place.after)
+
+  -- what is stored of the node at a place
+  abbrev pub node_at : Place T → Node T
+  node_at place = record { list = place.list; previous = last_node place.before; next = first_node place.after; value = place.value }
 
   -- each head leads along its list, and each node stands on the list that it names
   pub record IsSound (nodes : Slab (Node T)) (heads : Slab Head) : Type 0 where

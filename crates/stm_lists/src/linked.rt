@@ -1,6 +1,8 @@
 //! The lists, and what callers do with them.
-ghost use Rattle.std.specs.Prelude.{◌≡◌, ◌≢◌, ℕ, ◌+◌, ◌-◌, ◌<◌, ◌≤◌, ◌↔◌, List, [], ◌∷◌, ◌++◌, length, max, Some, None, IsTrue, IsOk, OnOk, OnErr, IfOk, IfErr};
+ghost use Rattle.std.specs.Prelude.{◌≡◌, ◌≢◌, ℕ, ◌+◌, ◌-◌, ◌<◌, ◌≤◌, ◌↔◌, List, [], ◌∷◌, ◌++◌, length, max, Some, None};
+ghost use Rattle.std.specs.Prelude.{IsTrue, IsOk, OnOk, OnErr, IfOk, IfErr};
 ghost use Rattle.stm_lists.specs.Lists.{Place, list_at, entries_at, first_node, last_node, HasList, HasNode, IsApart, StandsAt, Updates, MovesToBack};
+ghost use Rattle.stm_lists.specs.Chain.{node_at};
 
 use crate::ids::{ListId, NodeId};
 use crate::links::{Head, Node, push, unlink};
@@ -144,12 +146,20 @@ impl<T> Lists<T> {
         NodeId::of_link(self.heads[list.index()].first)
     }
 
+    // What is stored of a node.
+    fn stored(&self, node: NodeId) -> &Node<T>
+        requires { HasNode self.now node }
+        ensures { (place : Place T) → StandsAt self.now node place → result.now ≡ node_at place }
+    {
+        &self.nodes[node.index()]
+    }
+
     /// The node behind this one on its list, `None` at the back.
     pub fn next(&self, node: NodeId) -> Option<NodeId>
         requires { HasNode self.now node }
         ensures { (place : Place T) → StandsAt self.now node place → result ≡ first_node place.after }
     {
-        NodeId::of_link(self.nodes[node.index()].next)
+        NodeId::of_link(self.stored(node).next)
     }
 
     /// The node before this one on its list, `None` at the front.
@@ -157,7 +167,7 @@ impl<T> Lists<T> {
         requires { HasNode self.now node }
         ensures { (place : Place T) → StandsAt self.now node place → result ≡ last_node place.before }
     {
-        NodeId::of_link(self.nodes[node.index()].previous)
+        NodeId::of_link(self.stored(node).previous)
     }
 
     /// The list that a node stands on.
@@ -165,7 +175,7 @@ impl<T> Lists<T> {
         requires { HasNode self.now node }
         ensures { (place : Place T) → StandsAt self.now node place → result ≡ place.list }
     {
-        self.nodes[node.index()].list
+        self.stored(node).list
     }
 
     /// The value of a node.
@@ -173,7 +183,7 @@ impl<T> Lists<T> {
         requires { HasNode self.now node }
         ensures { (place : Place T) → StandsAt self.now node place → result.now ≡ place.value }
     {
-        &self.nodes[node.index()].value
+        &self.stored(node).value
     }
 
     /// The number of nodes on a list.

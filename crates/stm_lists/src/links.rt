@@ -9,31 +9,34 @@ ghost use Rattle.stm_lists.specs.declared.links.Head.{Head};
 use crate::ids::{ListId, NodeId};
 use slab::Slab;
 
+/// The nodes of all lists.
+type Nodes<T> = Slab<Node<T>>;
+
+/// The ends of all lists, by number.
+type Heads = Slab<Head>;
+
+/// The index of a neighbour's slot, nothing where there is none.
+type Link = Option<usize>;
+
 /// One node: the list that it stands on, its neighbours there and its value.
 #[derive(Drop)]
 pub(crate) struct Node<T> {
     pub list: ListId,
-    pub previous: Option<usize>,
-    pub next: Option<usize>,
+    pub previous: Link,
+    pub next: Link,
     pub value: T,
 }
 
 /// The ends of one list, and how many nodes it has.
 #[derive(Clone, Copy)]
 pub(crate) struct Head {
-    pub first: Option<usize>,
-    pub last: Option<usize>,
+    pub first: Link,
+    pub last: Link,
     pub len: usize,
 }
 
 /// Lets the node `at`, or the list's head where there is none, be followed by `to`.
-pub(crate) fn set_next<T>(
-    nodes: &mut Slab<Node<T>>,
-    heads: &mut Slab<Head>,
-    list: ListId,
-    at: Option<usize>,
-    to: Option<usize>,
-)
+fn set_next<T>(nodes: &mut Nodes<T>, heads: &mut Heads, list: ListId, at: Link, to: Link)
     requires { IsThere nodes.old heads.old list at }
     ensures nodes { nodes.new ≡ next_set nodes.old at to }
     ensures heads { heads.new ≡ first_set heads.old list at to }
@@ -45,13 +48,7 @@ pub(crate) fn set_next<T>(
 }
 
 /// Lets the node `at`, or the list's head where there is none, be preceded by `to`.
-pub(crate) fn set_previous<T>(
-    nodes: &mut Slab<Node<T>>,
-    heads: &mut Slab<Head>,
-    list: ListId,
-    at: Option<usize>,
-    to: Option<usize>,
-)
+fn set_previous<T>(nodes: &mut Nodes<T>, heads: &mut Heads, list: ListId, at: Link, to: Link)
     requires { IsThere nodes.old heads.old list at }
     ensures nodes { nodes.new ≡ previous_set nodes.old at to }
     ensures heads { heads.new ≡ last_set heads.old list at to }
@@ -63,7 +60,7 @@ pub(crate) fn set_previous<T>(
 }
 
 /// Counts one node less.
-fn shorten(heads: &mut Slab<Head>, list: ListId)
+fn shorten(heads: &mut Heads, list: ListId)
     requires there { ContainsKey heads.old list }
     requires filled { (h : Head) → get heads.old list ≡ Some h → 0 < h.len }
     ensures { heads.new ≡ changed heads.old list (λ h. record h { len = h.len - 1 }) }
@@ -72,7 +69,7 @@ fn shorten(heads: &mut Slab<Head>, list: ListId)
 }
 
 /// Counts one node more, which is the last.
-fn lengthen(heads: &mut Slab<Head>, list: ListId, last: NodeId)
+fn lengthen(heads: &mut Heads, list: ListId, last: NodeId)
     requires there { ContainsKey heads.old list }
     requires fits { (h : Head) → get heads.old list ≡ Some h → h.len + 1 < 2 ^ 64 }
     ensures { heads.new ≡ changed heads.old list (λ h. record h { last = Some last; len = h.len + 1 }) }
@@ -83,7 +80,7 @@ fn lengthen(heads: &mut Slab<Head>, list: ListId, last: NodeId)
 }
 
 /// Takes a node off its list and out of the slab, which gives its index out next.
-pub(crate) fn unlink<T>(nodes: &mut Slab<Node<T>>, heads: &mut Slab<Head>, node: NodeId) -> T
+pub(crate) fn unlink<T>(nodes: &mut Nodes<T>, heads: &mut Heads, node: NodeId) -> T
     requires sound { IsSound nodes.old heads.old }
     requires there { ContainsKey nodes.old node }
 
@@ -111,12 +108,7 @@ pub(crate) fn unlink<T>(nodes: &mut Slab<Node<T>>, heads: &mut Slab<Head>, node:
 }
 
 /// Puts a value on the back of a list, where the slab has room for it.
-pub(crate) fn push<T>(
-    nodes: &mut Slab<Node<T>>,
-    heads: &mut Slab<Head>,
-    list: ListId,
-    value: T,
-) -> NodeId
+pub(crate) fn push<T>(nodes: &mut Nodes<T>, heads: &mut Heads, list: ListId, value: T) -> NodeId
     requires sound { IsSound nodes.old heads.old }
     requires there { ContainsKey heads.old list }
     requires room { HasRoomFor nodes.old 1 }

@@ -1,6 +1,5 @@
-use Rattle.std.proofs.Common.{Result, Ok, Err, OnErr, ap, ◌∙◌, arith}
-use Rattle.slab.specs.Slab.{get, slab_len}
-use Rattle.stm_lists.proofs.Viewed.{sound-same, view_of-same}
+use Rattle.std.proofs.Common.{Result, Ok, Err, OnErr, ap, ◌∙◌}
+use Rattle.stm_lists.proofs.Viewed.{grown-sound, grown-view, grown-stored}
 use Rattle.stm_lists.proofs.linked.Lists.reserve.Goals as goal
 
 -- what holds at any rate holds at an `Err`
@@ -10,31 +9,27 @@ on_err (Err e) p = p
 
 pub invariant_of-self : goal.invariant_of-self
 invariant_of-self g c =
-    let len = ap slab_len c.reserve.ensures.rest_kept in
-    record {
-      sound = sound-same c.self.inside.nodes c.reserve.new.self (λ n. ap (λ s. get s n) c.reserve.ensures.rest_kept) _ c.self.invariant.sound;
-      room = omega (arith, c.self.invariant.room, c.reserve.ensures.capacity);
-    }
+    grown-stored c.self.inside.nodes c.reserve.new.self c.reserve.ensures.rest_kept c.self.inside.heads c.self.inside.spare c.reserve.ensures.capacity
+    c.self.invariant
 
 pub returns-in_err-reserve-clause-lists : goal.returns-in_err-reserve-clause-lists
 returns-in_err-reserve-clause-lists g c =
-    ap (λ s. s.lists) (view_of-same c.self.inside.nodes c.reserve.new.self
-    (λ n. ap (λ s. get s n) c.reserve.ensures.rest_kept) c.self.inside.heads c.self.inside.spare ∙ c.self.view_is)
+    ap (λ s. s.lists)
+    (grown-view c.self.inside.nodes c.reserve.new.self c.reserve.ensures.rest_kept c.self.inside.heads c.self.inside.spare ∙ c.self.view_is)
 
 pub returns-in_err-reserve-clause-err : goal.returns-in_err-reserve-clause-err
 returns-in_err-reserve-clause-err g c =
     on_err c.from_residual.result
-    (view_of-same c.self.inside.nodes c.reserve.new.self (λ n. ap (λ s. get s n) c.reserve.ensures.rest_kept) c.self.inside.heads c.self.inside.spare
-    ∙ c.self.view_is)
+    (grown-view c.self.inside.nodes c.reserve.new.self c.reserve.ensures.rest_kept c.self.inside.heads c.self.inside.spare ∙ c.self.view_is)
 
 pub invariant_of-self-then-additional-self : goal.invariant_of-self-then-additional-self
 invariant_of-self-then-additional-self g c =
     record {
-      sound = sound-same c.self.inside.nodes c.reserve.new.self (λ n. ap (λ s. get s n) c.reserve.ensures.rest_kept) _ c.self.invariant.sound;
+      sound = grown-sound c.self.inside.nodes c.reserve.new.self c.reserve.ensures.rest_kept c.self.inside.heads c.self.inside.spare c.self.invariant.sound;
       room = c.in_ok-reserve.ensures.room;
     }
 
 pub returns-in_ok-reserve-clause-lists : goal.returns-in_ok-reserve-clause-lists
 returns-in_ok-reserve-clause-lists g c =
-    ap (λ s. s.lists) (view_of-same c.self.inside.nodes c.reserve.new.self
-    (λ n. ap (λ s. get s n) c.reserve.ensures.rest_kept) c.self.inside.heads c.self.inside.spare ∙ c.self.view_is)
+    ap (λ s. s.lists)
+    (grown-view c.self.inside.nodes c.reserve.new.self c.reserve.ensures.rest_kept c.self.inside.heads c.self.inside.spare ∙ c.self.view_is)

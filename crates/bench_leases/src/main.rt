@@ -1,5 +1,6 @@
 //! Times attaching, moving and detaching every key once, for several numbers of keys on 100 leases, and the
-//! expiry of several numbers of leases that are due at one moment.
+//! expiry of several numbers of leases that are due at one moment, beside a walk over a plain array in the
+//! same order.
 //!
 //! The figures go to standard error. They are of one machine at one moment: no proof is about time.
 #![tactic(auto)]
@@ -8,15 +9,17 @@ ghost use Rattle.std.specs.Prelude.{◌<◌};
 
 mod expiries;
 mod texts;
+mod walks;
 
 use anyhow::Result;
-use expiries::time_expiring;
+use expiries::{Order, time_expiring};
 use std::alloc::Global;
 use std::io;
 use std::rt::Clock;
 use std::time::{Duration, Instant};
 use stm_leases::{LeaseNotFound, Leases};
 use texts::{KeyTexts, make_texts};
+use walks::{Records, time_walking};
 
 /// The leases have the ids from 1 to this number.
 const LEASES: u64 = 100;
@@ -33,13 +36,20 @@ fn main(rt: HostRuntime) -> Result<()> {
     time_expiries(&rt, rt.alloc(), 100_000)
 }
 
-/// Times the expiry of so many leases.
+/// Times the expiry of so many leases in either order, and walks over as many records.
 fn time_expiries(rt: &(impl Clock + Eprint), alloc: Global, count: u32) -> Result<()>
     requires { 0 < count }
 {
-    let expiring = time_expiring(rt, alloc, count)?;
-    let each = (expiring / count).as_nanos();
-    eprintln!(rt; "expire {count:>6} leases {each:>5} ns for each")?;
+    let in_turn = time_expiring(rt, alloc, count, Order::InTurn)?;
+    report(rt, "expire in turn", count, in_turn)?;
+    let spread = time_expiring(rt, alloc, count, Order::Spread)?;
+    report(rt, "expire spread", count, spread)?;
+    let records = Records::make(alloc, count, Order::Spread)?;
+    let (walking, sum) = time_walking(rt, &records)?;
+    if sum == 0 {
+        return Err(LeaseNotFound.into());
+    }
+    report(rt, "walk spread", count, walking)?;
     Ok(())
 }
 
@@ -130,10 +140,10 @@ fn detach_all(leases: &mut Leases, keys: &[KeyTexts]) {
     }
 }
 
-/// Prints the time for each key.
+/// Prints the time for each key, lease or record.
 fn report(rt: &impl Eprint, operation: &str, count: u32, elapsed: Duration) -> io::Result<()>
     requires { 0 < count }
 {
     let each = (elapsed / count).as_nanos();
-    eprintln!(rt; "{operation:<6} {count:>6} keys {each:>5} ns for each")
+    eprintln!(rt; "{operation:<14} {count:>6} {each:>5} ns for each")
 }

@@ -6,11 +6,9 @@ use Rattle.stm_program.specs.Syntax.{Expression, Statement, Block, Text, Number,
 use Rattle.stm_program.specs.declared.write.Write.{Write}
 use Rattle.stm_program.specs.declared.write.Write.TheVariants.{Put as PutWrite, Del as DelWrite}
 use Rattle.stm_program.specs.Writes.{last_write, latest_writes}
-use Rattle.stm_steps.specs.declared.value.Value.{Value}
 use Rattle.stm_steps.specs.declared.value.Value.TheVariants.{Text as TextValue, Number as NumberValue}
 use Rattle.stm_steps.specs.declared.trace_item.TraceItem.TheVariants.{Get as GetItem, Rev as RevItem}
 use Rattle.stm_steps.specs.declared.state.StateEntry.{StateEntry}
-use Rattle.stm_steps.specs.declared.run.End.{End as RunEnd}
 use Rattle.stm_steps.specs.declared.run.End.TheVariants.{Done, Faulted}
 use Rattle.stm_steps.specs.declared.run.Answered.{Answered}
 use Rattle.stm_steps.specs.declared.run.Answered.TheVariants.{Ended, Wants}
@@ -21,6 +19,7 @@ use Rattle.stm_steps.specs.Session.{fresh}
 use Rattle.stm_steps.specs.States.{state_answers, is_present}
 use Rattle.stm_meaning.specs.Meaning.{get_key, rev_key, evaluate, holds, run_block, run_over}
 use Rattle.stm_meaning.specs.Laws.{trace_of}
+use Rattle.stm_meaning.proofs.ExampleRuns.{end_of, output_of, one}
 
 -- "a" has the value "5" since revision 7, and no other key is present
 abbrev only_a : List StateEntry
@@ -29,14 +28,6 @@ only_a = record { key = codes "a"; value = codes "5"; mod_rev = 7 } ∷ []
 abbrev run_on_a : Block → Answered
 run_on_a program = run_over (state_answers only_a) program
 
-abbrev end_of : Answered → RunEnd
-end_of (Ended r) = r.end
-end_of (Wants k t) = Done
-
-abbrev output_of : Answered → List Value
-output_of (Ended r) = r.output
-output_of (Wants k t) = []
-
 abbrev writes_of : Answered → List Write
 writes_of (Ended r) = r.writes
 writes_of (Wants k t) = []
@@ -44,9 +35,6 @@ writes_of (Wants k t) = []
 abbrev reads_of : Answered → List (List ℕ)
 reads_of (Ended r) = r.reads
 reads_of (Wants k t) = []
-
-abbrev one : Statement → Block
-one s = Then s End
 
 abbrev a : Expression
 a = Text (codes "a")

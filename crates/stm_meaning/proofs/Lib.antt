@@ -1,4 +1,5 @@
 pub use Rattle.stm_steps.proofs.Entries
+pub mod ExampleRuns
 pub mod WorkedExamples
 pub mod KeyExamples
 pub mod RunLaws

@@ -1,35 +1,22 @@
 -- Worked examples of the meaning, computed by the definition.
-use Rattle.std.proofs.Common.{◌≡◌, refl, ℕ, List, [], ◌∷◌}
+use Rattle.std.proofs.Common.{◌≡◌, refl, ℕ, [], ◌∷◌}
 use Rattle.std.specs.Prelude.{pos, negsuc, codes, Some}
 use Rattle.stm_program.specs.Syntax.{Condition, Statement, Block, Text, Number, Variable, Arithmetic, Cat, NumOf, Equal, Less, And, Or, Set, Put, If, For, Emit}
 use Rattle.stm_program.specs.Syntax.{Abort, End, Then}
 use Rattle.stm_program.specs.declared.operator.Operator.TheVariants.{Add, Div, Rem}
-use Rattle.stm_steps.specs.declared.value.Value.{Value}
 use Rattle.stm_steps.specs.declared.value.Value.TheVariants.{Number as NumberValue}
-use Rattle.stm_steps.specs.declared.run.End.{End as RunEnd}
 use Rattle.stm_steps.specs.declared.run.End.TheVariants.{Done, Aborted, Faulted}
 use Rattle.stm_steps.specs.declared.run.Answered.{Answered}
-use Rattle.stm_steps.specs.declared.run.Answered.TheVariants.{Ended, Wants}
 use Rattle.stm_steps.specs.declared.fault.Fault.TheVariants.{Kind, Overflow, ZeroDivisor, NotANumber, LoopTooLong, TurnLimit, TextTooLong, EmptyKey}
 use Rattle.stm_steps.specs.Values.{text_in, computed, arithmetic, concatenated, written_number, num_of, equal, less, put_of, turns_of}
 use Rattle.stm_steps.specs.Session.{fresh}
 use Rattle.stm_steps.specs.Outcome.{begin_turn}
 use Rattle.stm_steps.specs.Answer.{Lookup}
 use Rattle.stm_meaning.specs.Meaning.{evaluate, holds, repeat, run_block, run_over}
-
-abbrev end_of : Answered → RunEnd
-end_of (Ended r) = r.end
-end_of (Wants k t) = Done
-
-abbrev output_of : Answered → List Value
-output_of (Ended r) = r.output
-output_of (Wants k t) = []
+use Rattle.stm_meaning.proofs.ExampleRuns.{end_of, output_of, one}
 
 abbrev empty_state : Lookup
 empty_state k = Some (record { value = []; mod_rev = 0 })
-
-abbrev one : Statement → Block
-one s = Then s End
 
 num_of_no_number : end_of (run_over empty_state (one (Emit (NumOf (Text (codes "x")))))) ≡ Faulted NotANumber
 unfolding run_over run_block evaluate num_of written_number fresh

@@ -12,8 +12,9 @@ use Rattle.stm_program_json.specs.FirstFault.{Mark, wrong, at, first_of_marks}
 use Rattle.stm_program_json.proofs.ReaderMarks.{expression_marks, condition_of_one, condition_of_two, condition_inner, condition_marks}
 use Rattle.stm_program_json.proofs.MarkLemmas.{after, wrong_is, too_deep, too_many, one_node}
 use Rattle.stm_program_json.proofs.ExpressionMarks.{one_marked, two_marked, expression_marked}
+use Rattle.stm_program.specs.declared.limits.TheConstants.{MAX_DEPTH}
 
-module _ (l k : ℕ) (depth : l + suc k ≡ 33) (read : ℕ → Data → Read Condition)
+module _ (l k : ℕ) (depth : l + suc k ≡ suc MAX_DEPTH) (read : ℕ → Data → Read Condition)
     (sub : (q : List ℕ) (s : ℕ) (d : Data) (next : List Mark) → first_of_marks s (condition_marks (suc k) q d ++ next) ≡ after q (read s d) next) where
   none_marked : (p : List ℕ) (r : ℕ) (o : Option CondWord) (rest : List Mark)
       → first_of_marks r (wrong p Shape ++ rest) ≡ after p (condition_named (expression_at l) read r o no_items) rest
@@ -55,7 +56,7 @@ module _ (l k : ℕ) (depth : l + suc k ≡ 33) (read : ℕ → Data → Read Co
   inner_marked p r (array (item (string w) (item a (item b (item c ds))))) rest = of_more p r (condition_word w) a b c ds rest
   inner_marked p r _ rest = wrong_is p Shape r rest
 
-pub condition_marked : (l k : ℕ) → l + k ≡ 33 → (p : List ℕ) (r : ℕ) (d : Data) (rest : List Mark)
+pub condition_marked : (l k : ℕ) → l + k ≡ suc MAX_DEPTH → (p : List ℕ) (r : ℕ) (d : Data) (rest : List Mark)
     → first_of_marks r (condition_marks k p d ++ rest) ≡ after p (condition_at l r d) rest
 unfolding condition_at
 condition_marked zero k h p r d rest = too_deep k r p (condition_inner k p d) rest (omega arith)

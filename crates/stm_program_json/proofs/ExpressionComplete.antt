@@ -18,6 +18,7 @@ use Rattle.stm_program_json.specs.Grammar.{spelled, SpellsExpression}
 use Rattle.stm_program.proofs.LimitLemmas.{expression_nodes-positive, expression_depth-positive}
 use Rattle.stm_program_json.proofs.WordLemmas.{expression_word-text}
 use Rattle.stm_json.proofs.ElementLemmas.{number_up_to-reads, whole_number-reads}
+use Rattle.stm_program.specs.declared.limits.TheConstants.{MAX_TEXT, MAX_VARIABLE}
 
 pub one_part-reads : {A B : Type 0} (read : ℕ → Data → Read A) (make : A → B) (room m : ℕ) (d : Data) (x : A) → read room d ≡ Ok (x, m)
     → one_part read make room (Some d) ≡ Ok (make x, m)
@@ -55,7 +56,7 @@ module _ (l : ℕ) (read : ℕ → Data → Read Expression)
   unfolding expression_body
   body_reads r m d (Text s) is f g h =
       let room : r ≡ m = omega arith in
-      let short = le-leb (length s) 65536 g in
+      let short = le-leb (length s) MAX_TEXT g in
       rw (is, short, room) refl
   body_reads r m d (Number z) (n, is, i) f g h =
       let room : r ≡ m = omega arith in
@@ -63,7 +64,7 @@ module _ (l : ℕ) (read : ℕ → Data → Read Expression)
       rw (is, w, room) refl
   body_reads r m d (Variable v) (a, is, s) f g h =
       let room : r ≡ m = omega arith in
-      let n = number_up_to-reads 15 a v (lit< tt) s g in
+      let n = number_up_to-reads MAX_VARIABLE a v (lit< tt) s g in
       rw is (named r (codes "var") (a ∷ []) word.Var refl ∙ rw (n, room) refl)
   body_reads r m d (Get e) (a, is, s) f g h = one unary.Get r m d a e is s (omega arith) g (omega arith)
   body_reads r m d (Rev e) (a, is, s) f g h = one unary.Rev r m d a e is s (omega arith) g (omega arith)

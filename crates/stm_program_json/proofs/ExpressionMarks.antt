@@ -14,6 +14,7 @@ use Rattle.stm_program_json.specs.FirstFault.{Mark, wrong, at, first_of_marks}
 use Rattle.stm_program_json.proofs.ReaderMarks.{expression_of_one, expression_of_two, expression_inner, expression_marks}
 use Rattle.stm_program_json.proofs.MarkLemmas.{after, after_number, wrong_is, too_deep, too_many, one_node, whole_marked, number_marked, part_then, number_then}
 use Rattle.stm_program_json.proofs.MarkLemmas.{behind}
+use Rattle.stm_program.specs.declared.limits.TheConstants.{MAX_DEPTH, MAX_TEXT, MAX_VARIABLE}
 
 -- one part, marked
 pub one_marked : {A B : Type 0} (read : ℕ → Data → Read A) (marks : List ℕ → Data → List Mark) (make : A → B) (p : List ℕ) (r : ℕ) (a : Data) (rest : List Mark)
@@ -52,7 +53,8 @@ module _ (l k : ℕ) (read : ℕ → Data → Read Expression)
   of_one : (p : List ℕ) (r : ℕ) (o : Option ExprWord) (a : Data) (rest : List Mark)
       → first_of_marks r (expression_of_one p o a (expression_marks (suc k) (at p 1) a) ++ rest) ≡ after p (expression_named read r o (item a no_items)) rest
   of_one p r None a rest = wrong_is p Shape r rest
-  of_one p r (Some word.Var) a rest = number_then p 1 r (number_up_to 15 a) _ _ rest rest (number_marked (at p 1) 15 r a rest (lit< tt)) (λ x e. refl)
+  of_one p r (Some word.Var) a rest =
+      number_then p 1 r (number_up_to MAX_VARIABLE a) _ _ rest rest (number_marked (at p 1) MAX_VARIABLE r a rest (lit< tt)) (λ x e. refl)
   of_one p r (Some (word.Unary u)) a rest = one_marked read (expression_marks (suc k)) (unary_of u) p r a rest sub
   of_one p r (Some (word.Binary b)) a rest = wrong_is p Shape r rest
 
@@ -74,7 +76,7 @@ module _ (l k : ℕ) (read : ℕ → Data → Read Expression)
   inner_marked : (p : List ℕ) (r : ℕ) (d : Data) (rest : List Mark)
       → first_of_marks r (expression_inner k p d ++ rest) ≡ after p (expression_body read r d) rest
   unfolding expression_body
-  inner_marked p r (string s) rest = literal_marked p r s (leb (length s) 65536) rest
+  inner_marked p r (string s) rest = literal_marked p r s (leb (length s) MAX_TEXT) rest
   inner_marked p r (number n) rest = whole_marked p r n rest ∙ number_read p r (whole_number (number n)) rest
   inner_marked p r (array (item (string w) no_items)) rest = none_marked p r (expression_word w) rest
   inner_marked p r (array (item (string w) (item a no_items))) rest = of_one p r (expression_word w) a rest
@@ -82,7 +84,7 @@ module _ (l k : ℕ) (read : ℕ → Data → Read Expression)
   inner_marked p r (array (item (string w) (item a (item b (item c ds))))) rest = of_more p r (expression_word w) a b c ds rest
   inner_marked p r _ rest = wrong_is p Shape r rest
 
-pub expression_marked : (l k : ℕ) → l + k ≡ 33 → (p : List ℕ) (r : ℕ) (d : Data) (rest : List Mark)
+pub expression_marked : (l k : ℕ) → l + k ≡ suc MAX_DEPTH → (p : List ℕ) (r : ℕ) (d : Data) (rest : List Mark)
     → first_of_marks r (expression_marks k p d ++ rest) ≡ after p (expression_at l r d) rest
 unfolding expression_at
 expression_marked zero k h p r d rest = too_deep k r p (expression_inner k p d) rest (omega arith)

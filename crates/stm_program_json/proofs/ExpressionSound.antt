@@ -21,6 +21,7 @@ use Rattle.stm_json.proofs.OutcomeLemmas.{bind_ok, within_ok, guard_ok}
 use Rattle.stm_program_json.proofs.OutcomeLemmas.{one_part_ok, two_parts_ok}
 use Rattle.stm_program_json.proofs.WordLemmas.{expression_word-is}
 use Rattle.stm_json.proofs.ElementLemmas.{worded-is, one_of-is, two_of-is, number_up_to-is, whole_number-is, is_64_bit-fits}
+use Rattle.stm_program.specs.declared.limits.TheConstants.{MAX_TEXT, MAX_VARIABLE}
 
 -- an expression that was read within so many levels and nodes
 pub record ExpressionRead (levels room : ℕ) (d : Data) (x : Expression × ℕ) : Type 0 where
@@ -104,8 +105,8 @@ module _ (l : ℕ) (read : ℕ → Data → Read Expression) (sound : (r : ℕ) 
       → one_of p.1 ≡ o → variable r o ≡ Ok y → ExpressionRead (suc l) (suc r) d y
   variable_sound r d p None y w t e h = cc
   variable_sound r d p (Some a) y w t e h =
-      let q = bind_ok (within 1 (number_up_to 15 a)) _ y h in
-      let n = number_up_to-is 15 a q.0 (within_ok 1 _ _ q.1) in
+      let q = bind_ok (within 1 (number_up_to MAX_VARIABLE a)) _ y h in
+      let n = number_up_to-is MAX_VARIABLE a q.0 (within_ok 1 _ _ q.1) in
       let is : y ≡ (Variable q.0, r) = cc q.2 in
       along (suc l) (suc r) d (Variable q.0, r) y is
       record {
@@ -128,11 +129,11 @@ module _ (l : ℕ) (read : ℕ → Data → Read Expression) (sound : (r : ℕ) 
 
   literal_sound : (r : ℕ) (s : List ℕ) (y : Expression × ℕ) → literal r s ≡ Ok y → ExpressionRead (suc l) (suc r) (string s) y
   literal_sound r s y h =
-      let g = guard_ok (leb (length s) 65536) (Text s, r) y _ h in
+      let g = guard_ok (leb (length s) MAX_TEXT) (Text s, r) y _ h in
       along (suc l) (suc r) (string s) (Text s, r) y (sym g.1)
       record {
         spelled = refl;
-        fits = record { depth = omega arith; nodes = omega arith; ranges = leb-true (length s) 65536 g.0 };
+        fits = record { depth = omega arith; nodes = omega arith; ranges = leb-true (length s) MAX_TEXT g.0 };
         left = omega arith;
       }
 

@@ -12,6 +12,7 @@ use Rattle.stm_json.specs.Outcome.{Outcome, bad, ◌>>=◌, within, step}
 use Rattle.stm_json.specs.Elements.{is_64_bit, in_64_bits, in_range, whole_number, number_up_to}
 use Rattle.stm_program_json.specs.Reading.{Read}
 use Rattle.stm_program_json.specs.FirstFault.{Mark, Node, wrong, at, fault_at, first_of_marks, range_marks, number_marks, whole_marks}
+use Rattle.stm_program.specs.declared.limits.TheConstants.{MAX_DEPTH}
 
 -- the reader's fault, or the first one behind
 abbrev pub after : {A : Type 0} → List ℕ → Read A → List Mark → Option BadInput
@@ -36,14 +37,14 @@ pub too_deep : (k room : ℕ) (p : List ℕ) (ms rest : List Mark) → k ≡ 33 
 too_deep k zero p ms rest e = rw e (here p TooDeep)
 too_deep k (suc room) p ms rest e = rw e (here p TooDeep)
 
-pub too_many : (k : ℕ) (p : List ℕ) (ms rest : List Mark) → k ≤ 32 → first_of_marks 0 ((Node k p ∷ ms) ++ rest) ≡ fault_at (p ++ []) TooManyNodes
+pub too_many : (k : ℕ) (p : List ℕ) (ms rest : List Mark) → k ≤ MAX_DEPTH → first_of_marks 0 ((Node k p ∷ ms) ++ rest) ≡ fault_at (p ++ []) TooManyNodes
 too_many k p ms rest h =
-    let e = le-leb k 32 h in
+    let e = le-leb k MAX_DEPTH h in
     rw e (here p TooManyNodes)
 
-pub one_node : (k room : ℕ) (p : List ℕ) (ms : List Mark) → k ≤ 32 → first_of_marks (suc room) (Node k p ∷ ms) ≡ first_of_marks room ms
+pub one_node : (k room : ℕ) (p : List ℕ) (ms : List Mark) → k ≤ MAX_DEPTH → first_of_marks (suc room) (Node k p ∷ ms) ≡ first_of_marks room ms
 one_node k room p ms h =
-    let e = le-leb k 32 h in
+    let e = le-leb k MAX_DEPTH h in
     rw e refl
 
 -- ---- numbers

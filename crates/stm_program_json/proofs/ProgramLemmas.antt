@@ -14,11 +14,12 @@ use Rattle.stm_json.proofs.OutcomeLemmas.{bind_ok}
 use Rattle.stm_program_json.proofs.StatementSound.{read_block_sound}
 use Rattle.stm_program_json.proofs.StatementComplete.{program_reads}
 use Rattle.stm_program_json.proofs.StatementMarks.{fault_of, program_fault}
+use Rattle.stm_program.specs.declared.limits.TheConstants.{MAX_DEPTH, MAX_NODES}
 
 pub program_sound : (d : Data) (p : ProgramTree) → program_of d ≡ Ok p → SpellsProgram d p × Fits p
 unfolding program_of
 program_sound d p h =
-    let q = bind_ok (block_by (statement_at 32) 4096 d) _ p h in
+    let q = bind_ok (block_by (statement_at MAX_DEPTH) MAX_NODES d) _ p h in
     let is : of_statements q.0.0 ≡ p = cc q.2 in
     subst (λ (t : ProgramTree). SpellsProgram d t × Fits t) is (read_block_sound d q.0 q.1)
 

@@ -13,13 +13,14 @@ use Rattle.stm_program_json.specs.declared.words.StmtWord.{StmtWord}
 use Rattle.stm_program_json.specs.declared.words.StmtWord.TheVariants as statement
 use Rattle.stm_program_json.specs.Words.{expression_word, condition_word, statement_word}
 use Rattle.stm_program_json.specs.FirstFault.{Mark, Node, wrong, at, number_marks, whole_marks}
+use Rattle.stm_program.specs.declared.limits.TheConstants.{MAX_TEXT, MAX_TURNS, MAX_VARIABLE, MAX_LEASE}
 
 -- ---- expressions
 
 -- an array of a word and one element, of which the marks are given for the case that it is an expression
 abbrev pub expression_of_one : List ℕ → Option ExprWord → Data → List Mark → List Mark
 expression_of_one p None a ms = wrong p Shape
-expression_of_one p (Some expression.Var) a ms = number_marks (at p 1) 15 a
+expression_of_one p (Some expression.Var) a ms = number_marks (at p 1) MAX_VARIABLE a
 expression_of_one p (Some (expression.Unary u)) a ms = ms
 expression_of_one p (Some (expression.Binary b)) a ms = wrong p Shape
 
@@ -31,7 +32,7 @@ expression_of_two p (Some (expression.Binary b)) ms = ms
 
 -- what is marked in a node, behind the node itself
 abbrev pub expression_inner : ℕ → List ℕ → Data → List Mark
-expression_inner k p (string s) = if nat_le (length s) 65536 then [] else wrong p TooLong
+expression_inner k p (string s) = if nat_le (length s) MAX_TEXT then [] else wrong p TooLong
 expression_inner k p (number n) = whole_marks p (as_integer n)
 expression_inner k p (array (item (string w) (item a no_items))) =
     expression_of_one p (expression_word w) a (Node (suc k) (at p 1) ∷ expression_inner (suc k) (at p 1) a)
@@ -109,14 +110,14 @@ abbrev mutual
   statement_inner k p (array (item (string w) (item a no_items))) =
       statement_of_one p (statement_word w) (expression_marks (suc k) (at p 1) a)
   statement_inner k p (array (item (string w) (item a (item b no_items)))) =
-      statement_of_two p (statement_word w) (number_marks (at p 1) 15 a ++ expression_marks (suc k) (at p 2) b)
+      statement_of_two p (statement_word w) (number_marks (at p 1) MAX_VARIABLE a ++ expression_marks (suc k) (at p 2) b)
   statement_inner k p (array (item (string w) (item a (item b (item c no_items))))) =
       statement_of_three p (statement_word w)
-      (expression_marks (suc k) (at p 1) a ++ (expression_marks (suc k) (at p 2) b ++ number_marks (at p 3) 9223372036854775807 c))
+      (expression_marks (suc k) (at p 1) a ++ (expression_marks (suc k) (at p 2) b ++ number_marks (at p 3) MAX_LEASE c))
       (condition_marks (suc k) (at p 1) a ++ (block_marks (suc k) (at p 2) b ++ block_marks (suc k) (at p 3) c))
   statement_inner k p (array (item (string w) (item a (item b (item c (item e no_items)))))) =
       statement_of_four p (statement_word w)
-      (number_marks (at p 1) 15 a ++ (expression_marks (suc k) (at p 2) b ++ (number_marks (at p 3) 1000 c ++ block_marks (suc k) (at p 4) e)))
+      (number_marks (at p 1) MAX_VARIABLE a ++ (expression_marks (suc k) (at p 2) b ++ (number_marks (at p 3) MAX_TURNS c ++ block_marks (suc k) (at p 4) e)))
   statement_inner k p _ = wrong p Shape
 
   -- the statements of an array, at the given depth

@@ -21,6 +21,7 @@ use Rattle.stm_program_json.proofs.WordLemmas.{statement_word-text}
 use Rattle.stm_json.proofs.ElementLemmas.{number_up_to-reads}
 use Rattle.stm_program_json.proofs.ExpressionComplete.{one_part-reads, expression_reads}
 use Rattle.stm_program_json.proofs.ConditionComplete.{condition_reads}
+use Rattle.stm_program.specs.declared.limits.TheConstants.{MAX_DEPTH, MAX_NODES, MAX_TURNS, MAX_VARIABLE, MAX_LEASE}
 
 module _ (l : ℕ) (read : ℕ → Data → Read Statement)
     (reads : (r m : ℕ) (d : Data) (s : Statement) → SpellsStatement d s → statement_depth s ≤ l → StatementInRange s → r ≡ m + statement_nodes s
@@ -61,13 +62,13 @@ module _ (l : ℕ) (read : ℕ → Data → Read Statement)
   array_reads : (r m : ℕ) (d : Data) (s : Statement) → SpellsStatement d s → statement_depth s ≤ suc l → StatementInRange s → suc r ≡ m + statement_nodes s
       → statement_array (expression_at l) (condition_at l) (block_by read) r (worded d) ≡ Ok (s, m)
   array_reads r m d (Set v e) (a, b, is, n, s) f g h =
-      let k = number_up_to-reads 15 a v (lit< tt) n g.0 in
+      let k = number_up_to-reads MAX_VARIABLE a v (lit< tt) n g.0 in
       let x = expression_reads l r m b e s (omega arith) g.1 (omega arith) in
       opened r d (statement_text word.Set) (a ∷ b ∷ []) word.Set is refl ∙ rw k (rw x refl)
   array_reads r m d (Put k e n) (a, b, c, is, s, t, o) f g h =
       let x = expression_reads l r (m + expression_nodes e) a k s (omega arith) g.0 (omega arith) in
       let y = expression_reads l (m + expression_nodes e) m b e t (omega arith) g.1 refl in
-      let z = number_up_to-reads 9223372036854775807 c n (lit< tt) o g.2 in
+      let z = number_up_to-reads MAX_LEASE c n (lit< tt) o g.2 in
       opened r d (statement_text word.Put) (a ∷ b ∷ c ∷ []) word.Put is refl ∙ rw x (rw y (rw z refl))
   array_reads r m d (Del e) (a, is, s) f g h = simple_reads simple.Del r m d a e is s (omega arith) g (omega arith)
   array_reads r m d (If i t e) (a, b, c, is, s, u, w) f g h =
@@ -76,9 +77,9 @@ module _ (l : ℕ) (read : ℕ → Data → Read Statement)
       let z = block_reads (m + block_nodes e) m c e w (omega arith) g.2 refl in
       opened r d (statement_text word.If) (a ∷ array b ∷ array c ∷ []) word.If is refl ∙ rw x (rw y (rw z refl))
   array_reads r m d (For v e n b) (a, c, i, ds, is, k, s, o, u) f g h =
-      let w = number_up_to-reads 15 a v (lit< tt) k g.0 in
+      let w = number_up_to-reads MAX_VARIABLE a v (lit< tt) k g.0 in
       let x = expression_reads l r (m + block_nodes b) c e s (omega arith) g.1 (omega arith) in
-      let y = number_up_to-reads 1000 i n (lit< tt) o g.2 in
+      let y = number_up_to-reads MAX_TURNS i n (lit< tt) o g.2 in
       let z = block_reads (m + block_nodes b) m ds b u (omega arith) g.3 refl in
       opened r d (statement_text word.For) (a ∷ c ∷ i ∷ array ds ∷ []) word.For is refl ∙ rw w (rw x (rw y (rw z refl)))
   array_reads r m d (Emit e) (a, is, s) f g h = simple_reads simple.Emit r m d a e is s (omega arith) g (omega arith)
@@ -96,6 +97,6 @@ pub program_reads : (d : Data) (p : ProgramTree) → SpellsProgram d p → Fits 
 unfolding program_of
 program_reads d p (ds, is, s) f =
     let b = p.statements in
-    let h : 4096 ≡ (4096 - block_nodes b) + block_nodes b = omega (arith, f.nodes) in
-    let e = block_reads 32 (statement_at 32) (statement_reads 32) 4096 (4096 - block_nodes b) ds b s f.depth f.ranges h in
+    let h : MAX_NODES ≡ (MAX_NODES - block_nodes b) + block_nodes b = omega (arith, f.nodes) in
+    let e = block_reads MAX_DEPTH (statement_at MAX_DEPTH) (statement_reads MAX_DEPTH) MAX_NODES (MAX_NODES - block_nodes b) ds b s f.depth f.ranges h in
     rw (is, e) refl

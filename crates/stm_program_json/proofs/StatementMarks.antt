@@ -20,8 +20,9 @@ use Rattle.stm_program_json.proofs.TableMarks.{block_is}
 use Rattle.stm_program_json.proofs.MarkLemmas.{after, wrong_is, too_deep, too_many, one_node, number_marked, part_then, number_then, behind, made}
 use Rattle.stm_program_json.proofs.ExpressionMarks.{one_marked, expression_marked}
 use Rattle.stm_program_json.proofs.ConditionMarks.{condition_marked}
+use Rattle.stm_program.specs.declared.limits.TheConstants.{MAX_DEPTH, MAX_NODES, MAX_TURNS, MAX_VARIABLE, MAX_LEASE}
 
-module _ (l k : ℕ) (depth : l + suc k ≡ 33) (read : ℕ → Data → Read Statement)
+module _ (l k : ℕ) (depth : l + suc k ≡ suc MAX_DEPTH) (read : ℕ → Data → Read Statement)
     (sub : (q : List ℕ) (s : ℕ) (d : Data) (next : List Mark) → first_of_marks s (statement_marks (suc k) q d ++ next) ≡ after q (read s d) next) where
   statements_marked : (p : List ℕ) (i r : ℕ) (ds : Items) (rest : List Mark)
       → first_of_marks r (statements_marks (suc k) p i ds ++ rest) ≡ after p (statements_from read i r ds) rest
@@ -58,13 +59,13 @@ module _ (l k : ℕ) (depth : l + suc k ≡ 33) (read : ℕ → Data → Read St
       (expression_marked l (suc k) depth)
 
   of_two : (p : List ℕ) (r : ℕ) (o : Option StmtWord) (a b : Data) (rest : List Mark)
-      → first_of_marks r (statement_of_two p o (number_marks (at p 1) 15 a ++ expression_marks (suc k) (at p 2) b) ++ rest)
+      → first_of_marks r (statement_of_two p o (number_marks (at p 1) MAX_VARIABLE a ++ expression_marks (suc k) (at p 2) b) ++ rest)
       ≡ after p (statement_named (expression_at l) (condition_at l) (block_by read) r o (item a (item b no_items))) rest
   of_two p r None a b rest = wrong_is p Shape r rest
   of_two p r (Some word.Set) a b rest =
-      behind r (number_marks (at p 1) 15 a) (expression_marks (suc k) (at p 2) b) rest
-      ∙ number_then p 1 r (number_up_to 15 a) _ _ (expression_marks (suc k) (at p 2) b ++ rest) rest
-      (number_marked (at p 1) 15 r a (expression_marks (suc k) (at p 2) b ++ rest) (lit< tt))
+      behind r (number_marks (at p 1) MAX_VARIABLE a) (expression_marks (suc k) (at p 2) b) rest
+      ∙ number_then p 1 r (number_up_to MAX_VARIABLE a) _ _ (expression_marks (suc k) (at p 2) b ++ rest) rest
+      (number_marked (at p 1) MAX_VARIABLE r a (expression_marks (suc k) (at p 2) b ++ rest) (lit< tt))
       (λ v e. part_then p 2 (expression_at l r b) _ _ rest rest (expression_marked l (suc k) depth (at p 2) r b rest) (λ x f. refl))
   of_two p r (Some word.Put) a b rest = wrong_is p Shape r rest
   of_two p r (Some word.If) a b rest = wrong_is p Shape r rest
@@ -73,19 +74,19 @@ module _ (l k : ℕ) (depth : l + suc k ≡ 33) (read : ℕ → Data → Read St
 
   of_three : (p : List ℕ) (r : ℕ) (o : Option StmtWord) (a b c : Data) (rest : List Mark)
       → first_of_marks r (statement_of_three p o
-      (expression_marks (suc k) (at p 1) a ++ (expression_marks (suc k) (at p 2) b ++ number_marks (at p 3) 9223372036854775807 c))
+      (expression_marks (suc k) (at p 1) a ++ (expression_marks (suc k) (at p 2) b ++ number_marks (at p 3) MAX_LEASE c))
       (condition_marks (suc k) (at p 1) a ++ (block_marks (suc k) (at p 2) b ++ block_marks (suc k) (at p 3) c)) ++ rest)
       ≡ after p (statement_named (expression_at l) (condition_at l) (block_by read) r o (item a (item b (item c no_items)))) rest
   of_three p r None a b c rest = wrong_is p Shape r rest
   of_three p r (Some word.Set) a b c rest = wrong_is p Shape r rest
   of_three p r (Some word.Put) a b c rest =
-      let ms = number_marks (at p 3) 9223372036854775807 c in
+      let ms = number_marks (at p 3) MAX_LEASE c in
       behind r (expression_marks (suc k) (at p 1) a) (expression_marks (suc k) (at p 2) b ++ ms) rest
       ∙ part_then p 1 (expression_at l r a) _ _ ((expression_marks (suc k) (at p 2) b ++ ms) ++ rest) rest
       (expression_marked l (suc k) depth (at p 1) r a ((expression_marks (suc k) (at p 2) b ++ ms) ++ rest))
       (λ x e. behind x.1 (expression_marks (suc k) (at p 2) b) ms rest
       ∙ part_then p 2 (expression_at l x.1 b) _ _ (ms ++ rest) rest (expression_marked l (suc k) depth (at p 2) x.1 b (ms ++ rest))
-      (λ y f. number_then p 3 y.1 (number_up_to 9223372036854775807 c) _ _ rest rest (number_marked (at p 3) 9223372036854775807 y.1 c rest (lit< tt))
+      (λ y f. number_then p 3 y.1 (number_up_to MAX_LEASE c) _ _ rest rest (number_marked (at p 3) MAX_LEASE y.1 c rest (lit< tt))
       (λ n g. refl)))
   of_three p r (Some word.If) a b c rest =
       let ms = block_marks (suc k) (at p 3) c in
@@ -100,7 +101,8 @@ module _ (l k : ℕ) (depth : l + suc k ≡ 33) (read : ℕ → Data → Read St
 
   of_four : (p : List ℕ) (r : ℕ) (o : Option StmtWord) (a b c f : Data) (rest : List Mark)
       → first_of_marks r (statement_of_four p o
-      (number_marks (at p 1) 15 a ++ (expression_marks (suc k) (at p 2) b ++ (number_marks (at p 3) 1000 c ++ block_marks (suc k) (at p 4) f))) ++ rest)
+      (number_marks (at p 1) MAX_VARIABLE a
+      ++ (expression_marks (suc k) (at p 2) b ++ (number_marks (at p 3) MAX_TURNS c ++ block_marks (suc k) (at p 4) f))) ++ rest)
       ≡ after p (statement_named (expression_at l) (condition_at l) (block_by read) r o (item a (item b (item c (item f no_items))))) rest
   of_four p r None a b c f rest = wrong_is p Shape r rest
   of_four p r (Some word.Set) a b c f rest = wrong_is p Shape r rest
@@ -108,14 +110,14 @@ module _ (l k : ℕ) (depth : l + suc k ≡ 33) (read : ℕ → Data → Read St
   of_four p r (Some word.If) a b c f rest = wrong_is p Shape r rest
   of_four p r (Some word.For) a b c f rest =
       let bs = block_marks (suc k) (at p 4) f in
-      let ns = number_marks (at p 3) 1000 c ++ bs in
+      let ns = number_marks (at p 3) MAX_TURNS c ++ bs in
       let es = expression_marks (suc k) (at p 2) b ++ ns in
-      behind r (number_marks (at p 1) 15 a) es rest
-      ∙ number_then p 1 r (number_up_to 15 a) _ _ (es ++ rest) rest (number_marked (at p 1) 15 r a (es ++ rest) (lit< tt))
+      behind r (number_marks (at p 1) MAX_VARIABLE a) es rest
+      ∙ number_then p 1 r (number_up_to MAX_VARIABLE a) _ _ (es ++ rest) rest (number_marked (at p 1) MAX_VARIABLE r a (es ++ rest) (lit< tt))
       (λ v e. behind r (expression_marks (suc k) (at p 2) b) ns rest
       ∙ part_then p 2 (expression_at l r b) _ _ (ns ++ rest) rest (expression_marked l (suc k) depth (at p 2) r b (ns ++ rest))
-      (λ x g. behind x.1 (number_marks (at p 3) 1000 c) bs rest
-      ∙ number_then p 3 x.1 (number_up_to 1000 c) _ _ (bs ++ rest) rest (number_marked (at p 3) 1000 x.1 c (bs ++ rest) (lit< tt))
+      (λ x g. behind x.1 (number_marks (at p 3) MAX_TURNS c) bs rest
+      ∙ number_then p 3 x.1 (number_up_to MAX_TURNS c) _ _ (bs ++ rest) rest (number_marked (at p 3) MAX_TURNS x.1 c (bs ++ rest) (lit< tt))
       (λ n h. part_then p 4 (block_by read x.1 f) _ _ rest rest (block_marked (at p 4) x.1 f rest) (λ y i. refl))))
   of_four p r (Some (word.Simple s)) a b c f rest = wrong_is p Shape r rest
 
@@ -139,7 +141,7 @@ module _ (l k : ℕ) (depth : l + suc k ≡ 33) (read : ℕ → Data → Read St
   inner_marked p r (array (item (string w) (item a (item b (item c (item f (item g ds))))))) rest = of_more p r (statement_word w) a b c f g ds rest
   inner_marked p r _ rest = wrong_is p Shape r rest
 
-pub statement_marked : (l k : ℕ) → l + k ≡ 33 → (p : List ℕ) (r : ℕ) (d : Data) (rest : List Mark)
+pub statement_marked : (l k : ℕ) → l + k ≡ suc MAX_DEPTH → (p : List ℕ) (r : ℕ) (d : Data) (rest : List Mark)
     → first_of_marks r (statement_marks k p d ++ rest) ≡ after p (statement_at l r d) rest
 unfolding statement_at
 statement_marked zero k h p r d rest = too_deep k r p (statement_inner k p d) rest (omega arith)
@@ -160,7 +162,7 @@ told (Err f) = refl
 pub program_fault : (d : Data) → first_fault d ≡ fault_of (program_of d)
 unfolding first_fault program_of
 program_fault d =
-    ap (first_of_marks 4096) (block_is 1 [] d)
-    ∙ ap (first_of_marks 4096) (sym (append-nil (block_marks 1 [] d)))
-    ∙ block_marked 32 0 refl (statement_at 32) (statement_marked 32 1 refl) [] 4096 d []
-    ∙ told (block_by (statement_at 32) 4096 d)
+    ap (first_of_marks MAX_NODES) (block_is 1 [] d)
+    ∙ ap (first_of_marks MAX_NODES) (sym (append-nil (block_marks 1 [] d)))
+    ∙ block_marked MAX_DEPTH 0 refl (statement_at MAX_DEPTH) (statement_marked MAX_DEPTH 1 refl) [] MAX_NODES d []
+    ∙ told (block_by (statement_at MAX_DEPTH) MAX_NODES d)

@@ -21,6 +21,7 @@ use Rattle.stm_program_json.proofs.WordLemmas.{statement_word-is}
 use Rattle.stm_json.proofs.ElementLemmas.{one_of-is, two_of-is, three_of-is, four_of-is, number_up_to-is}
 use Rattle.stm_program_json.proofs.ExpressionSound.{expression_sound, words_and}
 use Rattle.stm_program_json.proofs.ConditionSound.{condition_sound}
+use Rattle.stm_program.specs.declared.limits.TheConstants.{MAX_DEPTH, MAX_NODES, MAX_TURNS, MAX_VARIABLE, MAX_LEASE}
 
 -- a statement that was read within so many levels and nodes
 pub record StatementRead (levels room : ℕ) (d : Data) (x : Statement × ℕ) : Type 0 where
@@ -108,9 +109,9 @@ module _ (l : ℕ) (read : ℕ → Data → Read Statement) (sound : (r : ℕ) (
       → set_of (expression_at l) r o ≡ Ok y → StatementRead (suc l) (suc r) d y
   set_sound r d p None y w t e h = cc
   set_sound r d p (Some a) y w t e h =
-      let v = bind_ok (within 1 (number_up_to 15 a.0)) _ y h in
+      let v = bind_ok (within 1 (number_up_to MAX_VARIABLE a.0)) _ y h in
       let x = bind_ok (within 2 (expression_at l r a.1)) _ y v.2 in
-      let n = number_up_to-is 15 a.0 v.0 (within_ok 1 _ _ v.1) in
+      let n = number_up_to-is MAX_VARIABLE a.0 v.0 (within_ok 1 _ _ v.1) in
       let f = expression_sound l r a.1 x.0 (within_ok 2 _ _ x.1) in
       let is : y ≡ (Set v.0 x.0.0, x.0.1) = cc x.2 in
       along (suc l) (suc r) d (Set v.0 x.0.0, x.0.1) y is
@@ -127,10 +128,10 @@ module _ (l : ℕ) (read : ℕ → Data → Read Statement) (sound : (r : ℕ) (
   put_sound r d p (Some a) y w t e h =
       let k = bind_ok (within 1 (expression_at l r a.0)) _ y h in
       let x = bind_ok (within 2 (expression_at l k.0.1 a.1)) _ y k.2 in
-      let m = bind_ok (within 3 (number_up_to 9223372036854775807 a.2)) _ y x.2 in
+      let m = bind_ok (within 3 (number_up_to MAX_LEASE a.2)) _ y x.2 in
       let g = expression_sound l r a.0 k.0 (within_ok 1 _ _ k.1) in
       let f = expression_sound l k.0.1 a.1 x.0 (within_ok 2 _ _ x.1) in
-      let n = number_up_to-is 9223372036854775807 a.2 m.0 (within_ok 3 _ _ m.1) in
+      let n = number_up_to-is MAX_LEASE a.2 m.0 (within_ok 3 _ _ m.1) in
       let is : y ≡ (Put k.0.0 x.0.0 m.0, x.0.1) = cc m.2 in
       along (suc l) (suc r) d (Put k.0.0 x.0.0 m.0, x.0.1) y is
       record {
@@ -181,13 +182,13 @@ module _ (l : ℕ) (read : ℕ → Data → Read Statement) (sound : (r : ℕ) (
       → for_of (expression_at l) (block_by read) r o ≡ Ok y → StatementRead (suc l) (suc r) d y
   for_sound r d p None y w t e h = cc
   for_sound r d p (Some a) y w t e h =
-      let v = bind_ok (within 1 (number_up_to 15 a.0)) _ y h in
+      let v = bind_ok (within 1 (number_up_to MAX_VARIABLE a.0)) _ y h in
       let x = bind_ok (within 2 (expression_at l r a.1)) _ y v.2 in
-      let m = bind_ok (within 3 (number_up_to 1000 a.2)) _ y x.2 in
+      let m = bind_ok (within 3 (number_up_to MAX_TURNS a.2)) _ y x.2 in
       let z = bind_ok (within 4 (block_by read x.0.1 a.3)) _ y m.2 in
-      let n = number_up_to-is 15 a.0 v.0 (within_ok 1 _ _ v.1) in
+      let n = number_up_to-is MAX_VARIABLE a.0 v.0 (within_ok 1 _ _ v.1) in
       let f = expression_sound l r a.1 x.0 (within_ok 2 _ _ x.1) in
-      let k = number_up_to-is 1000 a.2 m.0 (within_ok 3 _ _ m.1) in
+      let k = number_up_to-is MAX_TURNS a.2 m.0 (within_ok 3 _ _ m.1) in
       let b = block_sound x.0.1 a.3 z.0 (within_ok 4 _ _ z.1) in
       let is : y ≡ (For v.0 x.0.0 m.0 z.0.0, z.0.1) = cc z.2 in
       along (suc l) (suc r) d (For v.0 x.0.0 m.0 z.0.0, z.0.1) y is
@@ -232,7 +233,8 @@ statement_sound zero r d x h = cc
 statement_sound (suc l) zero d x h = cc
 statement_sound (suc l) (suc r) d x h = array_sound l (statement_at l) (statement_sound l) r d (worded d) x refl h
 
-pub read_block_sound : (d : Data) (x : Block × ℕ) → block_by (statement_at 32) 4096 d ≡ Ok x → SpellsProgram d (of_statements x.0) × Fits (of_statements x.0)
+pub read_block_sound : (d : Data) (x : Block × ℕ) → block_by (statement_at MAX_DEPTH) MAX_NODES d ≡ Ok x
+    → SpellsProgram d (of_statements x.0) × Fits (of_statements x.0)
 read_block_sound d x h =
-    let b = block_sound 32 (statement_at 32) (statement_sound 32) 4096 d x h in
+    let b = block_sound MAX_DEPTH (statement_at MAX_DEPTH) (statement_sound MAX_DEPTH) MAX_NODES d x h in
     ((b.items, b.is, b.read.spelled), b.read.fits)

@@ -21,6 +21,7 @@ use Rattle.stm_program_json.specs.FirstFault.{marks_of_parts, marks_of_steps}
 use Rattle.stm_program_json.proofs.ReaderMarks.{expression_of_one, expression_of_two, expression_inner, condition_of_one, condition_of_two, condition_inner}
 use Rattle.stm_program_json.proofs.ReaderMarks.{statement_of_one, statement_of_two, statement_of_three, statement_of_four, statement_inner, block_marks}
 use Rattle.stm_program_json.proofs.ReaderMarks.{statements_marks}
+use Rattle.stm_program.specs.declared.limits.TheConstants.{MAX_TURNS, MAX_VARIABLE, MAX_LEASE}
 
 -- what the first of these tests that holds picks
 abbrev pick : {A : Type 0} → List Bool → List A → A → A
@@ -41,7 +42,7 @@ picked f (b ∷ bs) (x ∷ xs) z = tried f b x (pick bs xs z) (pick bs (map f xs
 
 abbrev expression_parts : Option ExprWord → Option (List Sort)
 expression_parts None = None
-expression_parts (Some expression.Var) = Some (Count 15 ∷ [])
+expression_parts (Some expression.Var) = Some (Count MAX_VARIABLE ∷ [])
 expression_parts (Some (expression.Unary u)) = Some (Value ∷ [])
 expression_parts (Some (expression.Binary b)) = Some (Value ∷ Value ∷ [])
 
@@ -53,10 +54,10 @@ condition_parts (Some (condition.Connective c)) = Some (Test ∷ Test ∷ [])
 
 abbrev statement_parts : Option StmtWord → Option (List Sort)
 statement_parts None = None
-statement_parts (Some statement.Set) = Some (Count 15 ∷ Value ∷ [])
-statement_parts (Some statement.Put) = Some (Value ∷ Value ∷ Count 9223372036854775807 ∷ [])
+statement_parts (Some statement.Set) = Some (Count MAX_VARIABLE ∷ Value ∷ [])
+statement_parts (Some statement.Put) = Some (Value ∷ Value ∷ Count MAX_LEASE ∷ [])
 statement_parts (Some statement.If) = Some (Test ∷ Block ∷ Block ∷ [])
-statement_parts (Some statement.For) = Some (Count 15 ∷ Value ∷ Count 1000 ∷ Block ∷ [])
+statement_parts (Some statement.For) = Some (Count MAX_VARIABLE ∷ Value ∷ Count MAX_TURNS ∷ Block ∷ [])
 statement_parts (Some (statement.Simple s)) = Some (Value ∷ [])
 
 expression_table : (w : List ℕ) → parts_behind Value w ≡ expression_parts (expression_word w)
@@ -99,7 +100,7 @@ value_one : (k : ℕ) (p : List ℕ) (o : Option ExprWord) (a : Data) → marks_
     marks_if p (expression_parts o) (item a no_items) (λ ss. marks_of_parts k p 1 ss (item a no_items))
     ≡ expression_of_one p o a (Node (suc k) (at p 1) ∷ expression_inner (suc k) (at p 1) a)
 value_one k p None a e = refl
-value_one k p (Some expression.Var) a e = append-nil (number_marks (at p 1) 15 a)
+value_one k p (Some expression.Var) a e = append-nil (number_marks (at p 1) MAX_VARIABLE a)
 value_one k p (Some (expression.Unary u)) a e = append-nil (Node (suc k) (at p 1) ∷ marks_in Value (suc k) (at p 1) a) ∙ ap (λ ms. Node (suc k) (at p 1) ∷ ms) e
 value_one k p (Some (expression.Binary b)) a e = refl
 
@@ -218,9 +219,9 @@ step_one k p (Some (statement.Simple s)) a = last (suc k) (at p 1) _ _ (value_is
 
 step_two : (k : ℕ) (p : List ℕ) (o : Option StmtWord) (a b : Data) →
     marks_if p (statement_parts o) (item a (item b no_items)) (λ ss. marks_of_parts k p 1 ss (item a (item b no_items)))
-    ≡ statement_of_two p o (number_marks (at p 1) 15 a ++ (Node (suc k) (at p 2) ∷ expression_inner (suc k) (at p 2) b))
+    ≡ statement_of_two p o (number_marks (at p 1) MAX_VARIABLE a ++ (Node (suc k) (at p 2) ∷ expression_inner (suc k) (at p 2) b))
 step_two k p None a b = refl
-step_two k p (Some statement.Set) a b = ap (λ l. number_marks (at p 1) 15 a ++ l) (last (suc k) (at p 2) _ _ (value_is (suc k) (at p 2) b))
+step_two k p (Some statement.Set) a b = ap (λ l. number_marks (at p 1) MAX_VARIABLE a ++ l) (last (suc k) (at p 2) _ _ (value_is (suc k) (at p 2) b))
 step_two k p (Some statement.Put) a b = refl
 step_two k p (Some statement.If) a b = refl
 step_two k p (Some statement.For) a b = refl
@@ -231,13 +232,13 @@ step_three : (k : ℕ) (p : List ℕ) (o : Option StmtWord) (a b c : Data) →
     marks_if p (statement_parts o) (item a (item b (item c no_items))) (λ ss. marks_of_parts k p 1 ss (item a (item b (item c no_items))))
     ≡ statement_of_three p o
     ((Node (suc k) (at p 1) ∷ expression_inner (suc k) (at p 1) a) ++
-    ((Node (suc k) (at p 2) ∷ expression_inner (suc k) (at p 2) b) ++ number_marks (at p 3) 9223372036854775807 c))
+    ((Node (suc k) (at p 2) ∷ expression_inner (suc k) (at p 2) b) ++ number_marks (at p 3) MAX_LEASE c))
     ((Node (suc k) (at p 1) ∷ condition_inner (suc k) (at p 1) a) ++ (block_marks (suc k) (at p 2) b ++ block_marks (suc k) (at p 3) c))
 step_three k p None a b c e f = refl
 step_three k p (Some statement.Set) a b c e f = refl
 step_three k p (Some statement.Put) a b c e f =
     both _ _ _ _ (node_is (suc k) (at p 1) _ _ (value_is (suc k) (at p 1) a))
-    (both _ _ _ _ (node_is (suc k) (at p 2) _ _ (value_is (suc k) (at p 2) b)) (append-nil (number_marks (at p 3) 9223372036854775807 c)))
+    (both _ _ _ _ (node_is (suc k) (at p 2) _ _ (value_is (suc k) (at p 2) b)) (append-nil (number_marks (at p 3) MAX_LEASE c)))
 step_three k p (Some statement.If) a b c e f =
     both _ _ _ _ (node_is (suc k) (at p 1) _ _ (test_is (suc k) (at p 1) a)) (both _ _ _ _ e (append-nil (marks_in Block (suc k) (at p 3) c) ∙ f))
 step_three k p (Some statement.For) a b c e f = refl
@@ -246,16 +247,16 @@ step_three k p (Some (statement.Simple s)) a b c e f = refl
 step_four : (k : ℕ) (p : List ℕ) (o : Option StmtWord) (a b c d : Data) → marks_in Block (suc k) (at p 4) d ≡ block_marks (suc k) (at p 4) d →
     marks_if p (statement_parts o) (item a (item b (item c (item d no_items)))) (λ ss. marks_of_parts k p 1 ss (item a (item b (item c (item d no_items)))))
     ≡ statement_of_four p o
-    (number_marks (at p 1) 15 a ++ ((Node (suc k) (at p 2) ∷ expression_inner (suc k) (at p 2) b) ++
-    (number_marks (at p 3) 1000 c ++ block_marks (suc k) (at p 4) d)))
+    (number_marks (at p 1) MAX_VARIABLE a ++ ((Node (suc k) (at p 2) ∷ expression_inner (suc k) (at p 2) b) ++
+    (number_marks (at p 3) MAX_TURNS c ++ block_marks (suc k) (at p 4) d)))
 step_four k p None a b c d e = refl
 step_four k p (Some statement.Set) a b c d e = refl
 step_four k p (Some statement.Put) a b c d e = refl
 step_four k p (Some statement.If) a b c d e = refl
 step_four k p (Some statement.For) a b c d e =
-    ap (λ l. number_marks (at p 1) 15 a ++ l)
+    ap (λ l. number_marks (at p 1) MAX_VARIABLE a ++ l)
     (both _ _ _ _ (node_is (suc k) (at p 2) _ _ (value_is (suc k) (at p 2) b))
-    (ap (λ l. number_marks (at p 3) 1000 c ++ l) (append-nil (marks_in Block (suc k) (at p 4) d) ∙ e)))
+    (ap (λ l. number_marks (at p 3) MAX_TURNS c ++ l) (append-nil (marks_in Block (suc k) (at p 4) d) ∙ e)))
 step_four k p (Some (statement.Simple s)) a b c d e = refl
 
 step_more : (k : ℕ) (p : List ℕ) (o : Option StmtWord) (a b c d f : Data) (ds : Items) →

@@ -1,0 +1,3 @@
+pub mod EffectLemmas
+pub mod Replaying
+pub mod Adding

@@ -1,0 +1,5 @@
+pub mod Replayed
+pub mod Alone
+pub mod Replay
+pub mod Legal
+pub mod Laws

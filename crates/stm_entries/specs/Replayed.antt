@@ -1,0 +1,27 @@
+-- What entries are replayed over: a store without its moment.
+--
+-- etcd's API reference, "Revisions" and "Lease": one history with one revision counter, and the leases that are live.
+use Rattle.std.specs.Prelude.{ℕ}
+use Rattle.std.specs.FinMap as finmap
+use Rattle.stm_history.specs.History.{History, opened_at}
+use Rattle.stm_leases.specs.Live.{Live}
+use Rattle.stm_txn.specs.Standing.{Standing}
+
+-- a history and the live leases with their terms
+pub record Replayed : Type 0 where
+  pub history : History
+  pub live : Live
+
+-- an empty store that opens at a revision
+abbrev pub opening : ℕ → Replayed
+opening number = record { history = opened_at number; live = finmap.empty }
+
+-- a store without its moment
+abbrev pub without_moment : Standing → Replayed
+without_moment s = record { history = s.history; live = s.live }
+
+abbrev pub with_history : Replayed → History → Replayed
+with_history r h = record { history = h; live = r.live }
+
+abbrev pub with_live : Replayed → Live → Replayed
+with_live r live = record { history = r.history; live = live }

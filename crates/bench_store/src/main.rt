@@ -1,4 +1,5 @@
-//! Times transactions of one put each over few and over many keys, and reads of the past of long histories.
+//! Times transactions of one put each over few and over many keys, and reads of the past of long histories, and
+//! holds a long history while its bytes are counted.
 //!
 //! The figures go to standard error. They are of one machine at one moment: no proof is about time.
 #![tactic(auto)]
@@ -15,10 +16,14 @@ use stm_txn::{Keys, Op, ShortList, Store, Text, Txn};
 /// How many transactions are timed.
 const PUTS: u32 = 1_000_000;
 
+/// How many revisions are held while their bytes are counted.
+const REVISIONS: u32 = 100_000;
+
 /// How many reads are timed.
 const READS: u32 = 100;
 
 fn main(rt: HostRuntime) -> Result<()> {
+    hold_revisions(&rt, rt.alloc(), REVISIONS)?;
     time_puts(&rt, rt.alloc(), 8)?;
     time_puts(&rt, rt.alloc(), 2_000)?;
     time_puts(&rt, rt.alloc(), 100_000)?;
@@ -110,6 +115,14 @@ fn time_reads(rt: &(impl Clock + Eprint), alloc: Global, revisions: u32) -> Resu
     let present = read_often(store.keys(), READS)?;
     let elapsed = start.elapsed(rt)?;
     report_read(rt, revisions, elapsed / READS, present)?;
+    Ok(())
+}
+
+/// Holds so many revisions of one short put while a line is printed. `bench/store` counts the bytes there, from outside.
+fn hold_revisions(rt: &impl Eprint, alloc: Global, revisions: u32) -> Result<()> {
+    let store = long_store(alloc, revisions)?;
+    let counter = store.keys().revision();
+    eprintln!(rt; "held at revision {counter}")?;
     Ok(())
 }
 

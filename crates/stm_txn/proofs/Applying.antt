@@ -364,22 +364,37 @@ chosen_apart txn (Some f) none = (no_clash_case (has_too_many txn) (has_empty_ke
 distinct_changes : (h : History) (ops : List Op) → has_clash ops ≡ false → HasDistinctKeys (changes_of_branch h ops)
 distinct_changes h ops apart = subst (λ cs. HasDistinctKeys cs) (sym (changes_agree h ops apart)) (changes_are_distinct h ops apart)
 
-pub history_grows : HistoryGrows
-history_grows h is_live txn done is =
+-- the branch that runs, and what a transaction that is not refused comes to
+abbrev pub branch_run : History → Txn → List Op
+branch_run h txn = chosen (first_failed (key_now h) 0 txn.compares) txn
+
+abbrev pub done_by : History → Txn → Done
+done_by h txn = record {
+  answer = answer_of h (first_failed (key_now h) 0 txn.compares) (changes_of_branch h (branch_run h txn)) (answers_after h (begun h) (branch_run h txn));
+  history = with_changes h (changes_of_branch h (branch_run h txn));
+}
+
+pub record IsDone (h : History) (is_live : ℕ → Bool) (txn : Txn) (done : Done) : Type 0 where
+  pub right : fault_of txn ≡ None
+  pub allowed : branch_refusal (now h) is_live (branch_run h txn) ≡ None
+  pub made : done_by h txn ≡ done
+
+pub is_done : (h : History) (is_live : ℕ → Bool) (txn : Txn) (done : Done) → outcome h is_live txn ≡ Ok done → IsDone h is_live txn done
+is_done h is_live txn done is =
     let failed : Option FailedCompare = first_failed (key_now h) 0 txn.compares in
-    let ops : List Op = chosen failed txn in
+    let ops : List Op = branch_run h txn in
     let whole : (fault_of txn ≡ None) × (branch_outcome h is_live failed ops ≡ Ok done) =
     of_unless (fault_of txn) (branch_outcome h is_live failed ops) done is in
     let branch : (branch_refusal (now h) is_live ops ≡ None) × (finished h failed (changes_of_branch h ops) (answers_after h (begun h) ops) ≡ Ok done) =
     of_unless (branch_refusal (now h) is_live ops) (finished h failed (changes_of_branch h ops) (answers_after h (begun h) ops)) done whole.1 in
-    let made : record {
-      answer = answer_of h failed (changes_of_branch h ops) (answers_after h (begun h) ops);
-      history = with_changes h
-          (changes_of_branch h ops);
-    }
-    ≡ done =
-    of_finished (is_used_up h (changes_of_branch h ops)) _ done branch.1 in
-    (changes_of_branch h ops, distinct_changes h ops (chosen_apart txn failed whole.0), sym (ap (λ (d : Done). d.history) made))
+    record { right = whole.0; allowed = branch.0; made = of_finished (is_used_up h (changes_of_branch h ops)) (done_by h txn) done branch.1 }
+
+pub history_grows : HistoryGrows
+history_grows h is_live txn done is =
+    let came : IsDone h is_live txn done = is_done h is_live txn done is in
+    let changes : List Change = changes_of_branch h (branch_run h txn) in
+    (changes, distinct_changes h (branch_run h txn) (chosen_apart txn (first_failed (key_now h) 0 txn.compares) came.right),
+    sym (ap (λ (d : Done). d.history) came.made))
 
 -- a failed compare's place in what a transaction comes to
 pub failed_case : (s : Standing) (outcome_of : Result Done Refusal) (a : TxnAnswer) (next : Standing) →
@@ -390,14 +405,7 @@ failed_case s (Err e) a next is = cc
 
 answered_failed : (h : History) (is_live : ℕ → Bool) (txn : Txn) (done : Done) → outcome h is_live txn ≡ Ok done →
     done.answer.failed ≡ first_failed (key_now h) 0 txn.compares
-answered_failed h is_live txn done is =
-    let failed : Option FailedCompare = first_failed (key_now h) 0 txn.compares in
-    let ops : List Op = chosen failed txn in
-    let whole : (fault_of txn ≡ None) × (branch_outcome h is_live failed ops ≡ Ok done) =
-    of_unless (fault_of txn) (branch_outcome h is_live failed ops) done is in
-    let branch : (branch_refusal (now h) is_live ops ≡ None) × (finished h failed (changes_of_branch h ops) (answers_after h (begun h) ops) ≡ Ok done) =
-    of_unless (branch_refusal (now h) is_live ops) (finished h failed (changes_of_branch h ops) (answers_after h (begun h) ops)) done whole.1 in
-    sym (ap (λ (d : Done). d.answer.failed) (of_finished (is_used_up h (changes_of_branch h ops)) _ done branch.1))
+answered_failed h is_live txn done is = sym (ap (λ (d : Done). d.answer.failed) (is_done h is_live txn done is).made)
 
 place_within : (state : List ℕ → Option KeyState) (cs : List Compare) (failed : Option FailedCompare) → failed ≡ first_failed state 0 cs →
     IfSome failed (λ (f : FailedCompare). f.index < length cs)

@@ -11,7 +11,8 @@ use Rattle.std.specs.FinMap as finmap
 use Rattle.std.specs.declared.cmp.Ordering.TheVariants.{Less}
 use Rattle.std.proofs.lemmas.Map.Text.{is_eq-slice_cmp}
 use Rattle.std.proofs.lemmas.Cmp.{nat_eq_equiv}
-use Rattle.stm_history.specs.declared.change.Change.TheVariants.{Del}
+use Rattle.stm_history.specs.declared.change.Change.{Change}
+use Rattle.stm_history.specs.declared.change.Change.TheVariants.{Put, Del}
 use Rattle.stm_history.specs.declared.key_state.KeyState.{KeyState}
 use Rattle.stm_history.specs.declared.revisions.TheConstants.{HIGHEST_REVISION}
 use Rattle.stm_history.specs.History.{History, now, key_now, add_revision, change_of, after_change, HasDistinctKeys}
@@ -29,7 +30,7 @@ use Rattle.stm_leases.proofs.Tables.{test_number}
 use Rattle.stm_txn.specs.declared.advance.Expired.{Expired}
 use Rattle.stm_txn.specs.declared.refusal.Refusal.{Refusal}
 use Rattle.stm_txn.specs.declared.refusal.Refusal.TheVariants.{RevisionsUsedUp}
-use Rattle.stm_txn.specs.Leasing.{hanging, hangs_of, lease_now}
+use Rattle.stm_txn.specs.Leasing.{hanging, hung_after, hangs_of, lease_now}
 use Rattle.stm_txn.specs.LeaseKeys.{keys_of_lease, deletions_of}
 use Rattle.stm_txn.specs.Outcome.{with_changes, is_used_up}
 use Rattle.stm_txn.specs.Standing.{Standing, IsRefusalOf, without_lease, ended, Advance, after, expired_in, expire_up_to, expire_all, IsCutShort}
@@ -53,6 +54,19 @@ pub renewed_attached : (r : Result (Unit {0}) LeaseNotFound) (old new : Leases) 
     ((term : Term) → finmap.get old.live id ≡ Some term → new ≡ record old { live = finmap.insert old.live id (record term { renewed = at }) }) →
     OnErr r (new ≡ old) → new.attached ≡ old.attached
 renewed_attached r old new id at found ok err = renewed_case r old new id at (finmap.get old.live id) refl found ok err
+
+-- keys hang as they are stored once their leases moved with a revision's changes
+hung_by_change : (n : ℕ) (o : Option Change) (s : Option KeyState) → hung_after o (hanging s) ≡ hanging (after_change n o s)
+hung_by_change n None s = refl
+hung_by_change n (Some (Put key value lease)) None = refl
+hung_by_change n (Some (Put key value lease)) (Some s) = refl
+hung_by_change n (Some (Del key)) s = refl
+
+pub still_stored : (h : History) (cs : List Change) (key : List ℕ) (before after : Option ℕ) → before ≡ hanging (key_now h key) →
+    after ≡ hung_after (change_of key cs) before → after ≡ hanging (key_now (add_revision h cs) key)
+still_stored h cs key before after was is =
+    is ∙ ap (hung_after (change_of key cs)) was ∙ hung_by_change _ (change_of key cs) (key_now h key)
+    ∙ sym (ap hanging (one_more_revision h cs key))
 
 -- ascending texts are distinct
 less_apart : (a b : List ℕ) → slice_cmp nat_cmp a b ≡ Less → bytes_eq b a ≡ false

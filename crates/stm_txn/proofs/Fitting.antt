@@ -10,7 +10,7 @@ use Rattle.stm_history.specs.History.{History, now, key_now, key_at, mod_of, cha
 use Rattle.stm_history.proofs.HistoryLaws.{numbers_stay_small, last_revision_is_now, mod_is_reached}
 use Rattle.stm_keys.specs.Keys.{HasSmallNumbers}
 use Rattle.stm_keys.proofs.Numbers.{at_small}
-use Rattle.stm_leases.specs.Live.{is_live_in}
+use Rattle.stm_leases.specs.Live.{Live, is_live_in, AreInRange}
 use Rattle.stm_txn.specs.declared.txn.Op.{Op}
 use Rattle.stm_txn.specs.declared.txn.Op.TheVariants.{Get, Put, Del}
 use Rattle.stm_txn.specs.declared.txn.Txn.{Txn}
@@ -18,16 +18,16 @@ use Rattle.stm_txn.specs.declared.txn.Compare.{Compare}
 use Rattle.stm_txn.specs.declared.answer.FailedCompare.{FailedCompare}
 use Rattle.stm_txn.specs.declared.answer.TxnAnswer.{TxnAnswer}
 use Rattle.stm_txn.specs.Compares.{first_failed}
-use Rattle.stm_txn.specs.Checks.{fault_of}
-use Rattle.stm_txn.specs.Branches.{begun, carried, deletion_of, count_of, are_readable, branch_refusal, answers_after, changes_of_branch}
+use Rattle.stm_txn.specs.Branches.{carried, deletion_of, count_of, are_readable, changes_of_branch}
 use Rattle.stm_txn.specs.LookUps.{copy, read_copied, with_copied, answers_copied}
-use Rattle.stm_txn.specs.Outcome.{Done, chosen, with_changes, is_used_up, answer_of, finished, branch_outcome, outcome}
+use Rattle.stm_txn.specs.Outcome.{Done, with_changes, outcome}
 use Rattle.stm_txn.specs.Standing.{Standing, transacted}
-use Rattle.stm_txn.specs.Numbers.{ReadFits, OpsFit, AnswerFits}
+use Rattle.stm_txn.specs.Numbers.{LeaseFits, ChangesFit, LeasesFit, StateFits, StatesFit, ReadFits, OpsFit, AnswerFits}
 use Rattle.stm_txn.specs.Laws.{FailsAt}
 use Rattle.stm_txn.proofs.Folding.{answers_agree}
 use Rattle.stm_txn.proofs.Running.{all_readable}
-use Rattle.stm_txn.proofs.Applying.{failed_has_its_place, of_unless, of_finished, chosen_apart, failed_case}
+use Rattle.stm_txn.proofs.Bounding.{both, NamesFit, names_fit, fits-push, deleted_fits, lease_at_fits, lease_copied_fits}
+use Rattle.stm_txn.proofs.Applying.{failed_has_its_place, chosen_apart, failed_case, branch_run, IsDone, is_done}
 
 -- the state of a key once the changes so far are made
 changed_small : (h : History) (o : Option Change) (s : Option KeyState) → now h ≤ HIGHEST_REVISION →
@@ -54,35 +54,46 @@ carried_small : (h : History) (changes : List Change) → now h ≤ HIGHEST_REVI
 carried_small h [] bounded = omega arith
 carried_small h (c ∷ cs) bounded = omega arith
 
+-- both kinds of numbers of a state
+state_case : (o : Option KeyState) → IfSome o HasSmallNumbers → IfSome o LeaseFits → IfSome o StateFits
+state_case None small lease = tt
+state_case (Some s) small lease = record { numbers = small; lease = lease }
+
+pub states_fit : (h : History) → now h ≤ HIGHEST_REVISION → LeasesFit h.revisions → StatesFit h
+states_fit h bounded fits key revision = state_case (key_at h key revision) (at_small h key revision bounded) (lease_at_fits h key revision fits)
+
 -- what a read answers
-read_fits : (h : History) (changes : List Change) (key : List ℕ) (rev : ℕ) → now h ≤ HIGHEST_REVISION → rev ≤ now h → ReadFits (read_copied h changes key rev)
-read_fits h changes key rev bounded reached =
+read_fits : (h : History) (changes : List Change) (key : List ℕ) (rev : ℕ) → now h ≤ HIGHEST_REVISION → LeasesFit h.revisions → ChangesFit changes →
+    rev ≤ now h → ReadFits (read_copied h changes key rev)
+read_fits h changes key rev bounded fits named reached =
     elim (nat_eq rev 0) as (λ b. ReadFits (cond b
     (record { key = key; kv = copy h changes key; of_rev = carried h changes; revision = carried h changes })
     (record { key = key; kv = key_at h key rev; of_rev = rev; revision = carried h changes }))) [
-      | true ↦ record { of_rev = carried_small h changes bounded; revision = carried_small h changes bounded; state = copy_small h changes key bounded }
-      | false ↦ record { of_rev = omega arith; revision = carried_small h changes bounded; state = at_small h key rev bounded }
+      | true ↦ record {
+          of_rev = carried_small h changes bounded;
+          revision = carried_small h changes bounded;
+          state = state_case (copy h changes key) (copy_small h changes key bounded) (lease_copied_fits h changes key fits named);
+        }
+      | false ↦ record { of_rev = omega arith; revision = carried_small h changes bounded; state = states_fit h bounded fits key rev }
     ]
-
-both : (a b : Bool) → (a && b) ≡ true → (a ≡ true) × (b ≡ true)
-both true b is = (refl, is)
-both false b is = cc
 
 one_at_most : (o : Option Change) → count_of o ≤ 1
 one_at_most None = omega arith
 one_at_most (Some c) = omega arith
 
-answers_fit : (h : History) (changes : List Change) (ops : List Op) → now h ≤ HIGHEST_REVISION → are_readable (now h) ops ≡ true →
-    OpsFit (answers_copied h changes ops)
-answers_fit h changes [] bounded readable = tt
-answers_fit h changes (Get key rev ∷ ops) bounded readable =
+answers_fit : (h : History) (changes : List Change) (ops : List Op) → now h ≤ HIGHEST_REVISION → LeasesFit h.revisions → ChangesFit changes →
+    NamesFit ops → are_readable (now h) ops ≡ true → OpsFit (answers_copied h changes ops)
+answers_fit h changes [] bounded fits named names readable = tt
+answers_fit h changes (Get key rev ∷ ops) bounded fits named names readable =
     let parts : (nat_le rev (now h) ≡ true) × (are_readable (now h) ops ≡ true) = both (nat_le rev (now h)) (are_readable (now h) ops) readable in
-    (read_fits h changes key rev bounded (leb-true rev (now h) parts.0), answers_fit h changes ops bounded parts.1)
-answers_fit h changes (Put key value lease ∷ ops) bounded readable =
-    (tt, answers_fit h (changes ++ PutChange key value lease ∷ []) ops bounded readable)
-answers_fit h changes (Del key ∷ ops) bounded readable = (
+    (read_fits h changes key rev bounded fits named (leb-true rev (now h) parts.0), answers_fit h changes ops bounded fits named names parts.1)
+answers_fit h changes (Put key value lease ∷ ops) bounded fits named names readable =
+    (tt, answers_fit h (changes ++ PutChange key value lease ∷ []) ops bounded fits (fits-push changes (PutChange key value lease) named names.0)
+    names.1 readable)
+answers_fit h changes (Del key ∷ ops) bounded fits named names readable = (
   one_at_most (deletion_of key (copy h changes key)),
-  answers_fit h (with_copied changes (deletion_of key (copy h changes key))) ops bounded readable,
+  answers_fit h (with_copied changes (deletion_of key (copy h changes key))) ops bounded fits (deleted_fits changes key (copy h changes key) named)
+      names readable,
 )
 
 counter_fits : (h : History) (changes : List Change) → now h ≤ HIGHEST_REVISION → now (with_changes h changes) ≤ HIGHEST_NUMBER
@@ -98,26 +109,22 @@ failed_fits h cs (Some f) bounded is =
     let reached : mod_of (key_now h at.compare.key) ≤ now h = mod_is_reached h.opening at.compare.key h.revisions in
     omega arith
 
-done_fits : (h : History) (is_live : ℕ → Bool) (txn : Txn) (done : Done) → now h ≤ HIGHEST_REVISION → outcome h is_live txn ≡ Ok done → AnswerFits done.answer
-done_fits h is_live txn done bounded is =
-    let failed : Option FailedCompare = first_failed (key_now h) 0 txn.compares in
-    let ops : List Op = chosen failed txn in
-    let whole : (fault_of txn ≡ None) × (branch_outcome h is_live failed ops ≡ Ok done) =
-    of_unless (fault_of txn) (branch_outcome h is_live failed ops) done is in
-    let branch : (branch_refusal (now h) is_live ops ≡ None) × (finished h failed (changes_of_branch h ops) (answers_after h (begun h) ops) ≡ Ok done) =
-    of_unless (branch_refusal (now h) is_live ops) (finished h failed (changes_of_branch h ops) (answers_after h (begun h) ops)) done whole.1 in
-    let made : answer_of h failed (changes_of_branch h ops) (answers_after h (begun h) ops) ≡ done.answer =
-    ap (λ (d : Done). d.answer) (of_finished (is_used_up h (changes_of_branch h ops)) _ done branch.1) in
-    subst AnswerFits made (record {
+done_fits : (h : History) (live : Live) (txn : Txn) (done : Done) → now h ≤ HIGHEST_REVISION → LeasesFit h.revisions → AreInRange live →
+    outcome h (is_live_in live) txn ≡ Ok done → AnswerFits done.answer
+done_fits h live txn done bounded fits in_range is =
+    let came : IsDone h (is_live_in live) txn done = is_done h (is_live_in live) txn done is in
+    let ops : List Op = branch_run h txn in
+    subst AnswerFits (ap (λ (d : Done). d.answer) came.made) (record {
       revision = counter_fits h (changes_of_branch h ops) bounded;
-      answers = subst OpsFit (sym (answers_agree h ops (chosen_apart txn failed whole.0)))
-          (answers_fit h [] ops bounded (all_readable (now h) is_live ops branch.0));
-      failed = failed_fits h txn.compares failed bounded refl;
+      answers = subst OpsFit (sym (answers_agree h ops (chosen_apart txn (first_failed (key_now h) 0 txn.compares) came.right)))
+          (answers_fit h [] ops bounded fits tt (names_fit (now h) live ops in_range came.allowed)
+          (all_readable (now h) (is_live_in live) ops came.allowed));
+      failed = failed_fits h txn.compares (first_failed (key_now h) 0 txn.compares) bounded refl;
     })
 
-pub numbers_fit : (s next : Standing) (txn : Txn) (a : TxnAnswer) → now s.history ≤ HIGHEST_REVISION →
+pub numbers_fit : (s next : Standing) (txn : Txn) (a : TxnAnswer) → now s.history ≤ HIGHEST_REVISION → LeasesFit s.history.revisions → AreInRange s.live →
     transacted s txn ≡ Ok record { answer = a; next = next } → AnswerFits a
-numbers_fit s next txn a bounded is =
+numbers_fit s next txn a bounded fits in_range is =
     let found : (done : Done) × (outcome s.history (is_live_in s.live) txn ≡ Ok done) × (done.answer ≡ a) =
     failed_case s (outcome s.history (is_live_in s.live) txn) a next is in
-    subst AnswerFits found.2 (done_fits s.history (is_live_in s.live) txn found.0 bounded found.1)
+    subst AnswerFits found.2 (done_fits s.history s.live txn found.0 bounded fits in_range found.1)

@@ -2,6 +2,7 @@ pub mod Branching
 pub mod Folding
 pub mod Moving
 pub mod Running
+pub mod Bounding
 pub mod Naming
 pub mod Ending
 pub mod Advancing

@@ -25,7 +25,7 @@ use Rattle.stm_leases.specs.Live.{Live, is_live_in}
 use Rattle.stm_txn.specs.Leasing.{hung_by, with_hang, hangs_of, HangOnLive}
 
 -- where no refusal comes first, neither part has one
-both_none : (a b : Option Refusal) → option_or a b ≡ None → (a ≡ None) × (b ≡ None)
+pub both_none : (a b : Option Refusal) → option_or a b ≡ None → (a ≡ None) × (b ≡ None)
 both_none None b none = (refl, none)
 both_none (Some r) b none = cc
 

@@ -1,18 +1,48 @@
--- The numbers that a store gives in an answer fit into 63 bits: revisions, versions and counts. A lease in a state is the
--- one that its put named.
-use Rattle.std.specs.Prelude.{◌≤◌, List, [], ◌∷◌, IfSome}
+-- The numbers that a store gives in an answer fit into 63 bits: revisions, versions, counts, and the leases of states.
+use Rattle.std.specs.Prelude.{ℕ, ◌≤◌, List, [], ◌∷◌, IfSome}
+use Rattle.stm_history.specs.declared.change.Change.{Change}
+use Rattle.stm_history.specs.declared.change.Change.TheVariants.{Put as PutChange, Del as DelChange}
+use Rattle.stm_history.specs.declared.key_state.KeyState.{KeyState}
 use Rattle.stm_history.specs.declared.key_state.ReadAnswer.{ReadAnswer}
 use Rattle.stm_history.specs.declared.revisions.TheConstants.{HIGHEST_NUMBER}
+use Rattle.stm_history.specs.History.{History, key_at}
 use Rattle.stm_keys.specs.Keys.{HasSmallNumbers}
 use Rattle.stm_txn.specs.declared.answer.OpAnswer.{OpAnswer}
 use Rattle.stm_txn.specs.declared.answer.OpAnswer.TheVariants.{Get, Put, Del}
 use Rattle.stm_txn.specs.declared.answer.FailedCompare.{FailedCompare}
 use Rattle.stm_txn.specs.declared.answer.TxnAnswer.{TxnAnswer}
 
+-- the lease of a state: an id, or 0
+abbrev pub LeaseFits : KeyState → Type 0
+LeaseFits s = s.lease ≤ HIGHEST_NUMBER
+
+-- the lease that a change names
+abbrev pub ChangeFits : Change → Type 0
+ChangeFits (PutChange key value lease) = lease ≤ HIGHEST_NUMBER
+ChangeFits (DelChange key) = Unit {0}
+
+abbrev pub ChangesFit : List Change → Type 0
+ChangesFit [] = Unit {0}
+ChangesFit (c ∷ cs) = ChangeFits c × ChangesFit cs
+
+-- the leases that revisions name
+abbrev pub LeasesFit : List (List Change) → Type 0
+LeasesFit [] = Unit {0}
+LeasesFit (changes ∷ older) = ChangesFit changes × LeasesFit older
+
+-- each number of a state
+pub record StateFits (s : KeyState) : Type 0 where
+  pub numbers : HasSmallNumbers s
+  pub lease : LeaseFits s
+
+-- each number of what a key was at any revision
+abbrev pub StatesFit : History → Type 0
+StatesFit h = (key : List ℕ) (revision : ℕ) → IfSome (key_at h key revision) StateFits
+
 pub record ReadFits (a : ReadAnswer) : Type 0 where
   pub of_rev : a.of_rev ≤ HIGHEST_NUMBER
   pub revision : a.revision ≤ HIGHEST_NUMBER
-  pub state : IfSome a.kv HasSmallNumbers
+  pub state : IfSome a.kv StateFits
 
 abbrev pub OpFits : OpAnswer → Type 0
 OpFits (Get answer) = ReadFits answer

@@ -1,6 +1,6 @@
 //! Keys that move between leases.
 ghost use Rattle.std.specs.Prelude.{◌≡◌, ◌+◌, ◌<◌, ◌≤◌, ℕ, List, IfOk, length, map, None, true};
-ghost use Rattle.stm_history.specs.History.{change_of, HasDistinctKeys};
+ghost use Rattle.stm_history.specs.History.{change_of, key_of, HasDistinctKeys};
 ghost use Rattle.stm_leases.specs.Leases.{lease_of};
 ghost use Rattle.stm_txn.specs.Leasing.{hangs_of, hung_after, HangOnLive};
 ghost use Rattle.stm_txn.specs.Moves.{detached_all, attached_one, attached_all, CanHang};
@@ -52,11 +52,11 @@ pub(crate) fn prepare_hangs(alloc: Global, changes: &[Change]) -> Result<Vec<Han
     Ok(hangs)
 }
 
-/// Takes a key off its lease, if it hangs on one.
-fn take_off(leases: &mut Leases, key: &str)
-    ensures { leases.new ≡ record leases.old { attached = finmap.remove leases.old.attached key.now } }
+/// Takes the key of a change off its lease, if it hangs on one.
+fn take_off(leases: &mut Leases, change: &Change)
+    ensures { leases.new ≡ record leases.old { attached = finmap.remove leases.old.attached (key_of change.now) } }
 {
-    leases.detach(key);
+    leases.detach(change.key().as_str());
 }
 
 /// Takes the keys of changes off their leases.
@@ -66,7 +66,7 @@ fn detach_all(leases: &mut Leases, changes: &[Change])
     ensures spare { leases.new.spare ≡ leases.old.spare }
 {
     for change in changes {
-        take_off(leases, change.key().as_str());
+        take_off(leases, change);
     }
 }
 

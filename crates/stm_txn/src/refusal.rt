@@ -23,9 +23,9 @@ pub enum Refusal {
     RevisionsUsedUp,
     /// The lease is live already.
     LeaseExists,
-    /// A time to live is outside 1 to 9000000000 seconds.
+    /// A time to live is outside 1 to `stm_leases::HIGHEST_TTL` seconds.
     TtlOutOfRange,
-    /// A lease id is outside 1 to 9223372036854775807.
+    /// A lease id is outside 1 to `stm_leases::HIGHEST_ID`.
     LeaseIdOutOfRange,
     /// The lease is not live.
     LeaseNotFound,

@@ -1,7 +1,8 @@
 //! The store.
-ghost use Rattle.std.specs.Prelude.{◌≡◌, ◌<◌, ◌≤◌, ℕ, List, [], ◌∷◌, ◌++◌, length, IfOk, IfErr, IfSome, OnOk, OnErr, IsOkUnless, map, string_bytes, Ok, Err, None, Some, true, false};
+ghost use Rattle.std.specs.Prelude.{◌≡◌, ◌<◌, ◌≤◌, ℕ, List, [], ◌∷◌, ◌++◌, length, IfOk, IfErr, IfSome, OnOk, OnErr, IsOkUnless};
+ghost use Rattle.std.specs.Prelude.{map, string_bytes, Ok, Err, None, Some, true, false};
 ghost use Rattle.std.specs.FinMap as finmap;
-ghost use Rattle.stm_history.specs.declared.revisions.TheConstants.{HIGHEST_REVISION};
+ghost use Rattle.stm_history.specs.declared.revisions.TheConstants.{HIGHEST_REVISION, HIGHEST_NUMBER};
 ghost use Rattle.stm_history.specs.History.{now, add_revision, IsRevision, HasDistinctKeys};
 ghost use Rattle.stm_keys.specs.Keys.{DeletePresent};
 ghost use Rattle.stm_leases.specs.LeaseLog.{LogItem, Grant, Renew, Revoke};
@@ -10,7 +11,7 @@ ghost use Rattle.stm_leases.specs.Live.{is_live_in, AreInRange};
 ghost use Rattle.stm_leases.specs.DueFirst.{first_due};
 ghost use Rattle.stm_txn.specs.Branches.{branch_refusal};
 ghost use Rattle.stm_txn.specs.LookUps.{changes_copied, answers_copied, outcome_copied};
-ghost use Rattle.stm_txn.specs.Outcome.{is_used_up};
+ghost use Rattle.stm_txn.specs.Outcome.{is_used_up, chosen};
 ghost use Rattle.stm_txn.specs.Grants.{grant_refusal_of, grant_told};
 
 use crate::advance::{AdvanceRefused, Expired};
@@ -42,6 +43,7 @@ pub struct Store {
 impl Model for Store {
     ghost use Rattle.stm_leases.specs.Leases.{lease_of};
     ghost use Rattle.stm_txn.specs.Leasing.{HangAsStored};
+    ghost use Rattle.stm_txn.specs.Numbers.{LeasesFit};
     ghost use Rattle.stm_txn.specs.Store.{StoreView, store_code};
     ghost use Rattle.stm_keys.specs.contracts.keys.Keys as key_store;
 
@@ -54,7 +56,7 @@ impl Model for Store {
       present = s.keys.present;
     } };
 
-    ghost invariant = { λ s. HangAsStored (lease_of s.leases) s.keys.history };
+    ghost invariant = { λ s. HangAsStored (lease_of s.leases) s.keys.history × LeasesFit s.keys.history.revisions };
 }
 
 /// Whether a branch is to change something at the highest revision.
@@ -63,6 +65,16 @@ fn uses_up(keys: &Keys, ops: &[Op]) -> bool
 {
     let is_highest = keys.revision() == HIGHEST_REVISION;
     is_highest && makes_changes(keys, ops)
+}
+
+/// The operations of the branch that runs.
+fn choose(txn: &Txn, failed: Option<FailedCompare>) -> &[Op]
+    ensures { result.now ≡ chosen failed txn.now }
+{
+    match failed {
+        None => txn.success.as_slice(),
+        Some(_) => txn.failure.as_slice(),
+    }
 }
 
 /// Why a grant is refused.
@@ -104,7 +116,7 @@ impl Store {
     ghost use Rattle.stm_txn.specs.Leasing.{hangs_of, HangOnLive, lease_now};
     ghost use Rattle.stm_txn.specs.LeaseKeys.{deletions_of};
     ghost use Rattle.stm_txn.specs.Outcome.{with_changes, answer_of};
-    ghost use Rattle.stm_txn.specs.Numbers.{AnswerFits};
+    ghost use Rattle.stm_txn.specs.Numbers.{AnswerFits, StatesFit};
     ghost use Rattle.stm_txn.specs.Standing.{opening, IsRefusalOf, ComesTo, transacted, granted, kept_alive, told, ended, revoked, after, expired_in, expire_all, at_moment, advanced, IsStopped, IsCutShort, with_expiries};
 
     /// An empty store at revision 1 and moment 0. Want of memory is its only refusal.
@@ -133,11 +145,13 @@ impl Store {
         })
     }
 
-    /// The keys. The counter of every store is at least 1.
+    /// The keys. The counter of every store is at least 1, and no number of a state, its lease included, is
+    /// above `HIGHEST_NUMBER`.
     pub fn keys(&self) -> &Keys
         ensures history { result.now.history ≡ self.now.standing.history }
         ensures present { result.now.present ≡ self.now.present }
         ensures counter { 1 ≤ now self.now.standing.history }
+        ensures numbers { StatesFit self.now.standing.history }
     {
         let _counter = self.keys.revision();
         &self.keys
@@ -174,6 +188,7 @@ impl Store {
         ensures memory { IsOkUnless result Refusal.OutOfMemory }
         ensures err { OnErr result (self.new ≡ self.old) }
     {
+        let _ids_are_in_range = self.leases.is_live(0);
         let hangs = prepare_hangs(self.alloc, changes)?;
         self.leases.reserve_attach(hangs.len())?;
         match self.keys.apply(changes) {
@@ -253,10 +268,7 @@ impl Store {
         ensures err { OnErr result (self.new ≡ self.old) }
     {
         let failed = find_failed(txn.compares.as_slice(), &self.keys);
-        match failed {
-            None => self.run(txn.success.as_slice(), failed),
-            Some(_) => self.run(txn.failure.as_slice(), failed),
-        }
+        self.run(choose(txn, failed), failed)
     }
 
     /// Looks at the whole transaction, then runs it.
@@ -287,6 +299,7 @@ impl Store {
         ensures err { OnErr result (self.new ≡ self.old) }
     {
         let _counter = self.keys.revision();
+        let _ids_are_in_range = self.leases.is_live(0);
         let answer = self.transact(txn)?;
         Ok(answer)
     }
@@ -364,6 +377,7 @@ impl Store {
     pub fn revoke(&mut self, id: u64) -> Result<u64, Refusal>
         ensures step { ComesTo (revoked self.old.standing id) result self.new.standing }
         ensures log { OnOk result ((log : List LogItem) → StandsFor self.old.standing.live log → StandsFor self.new.standing.live (Revoke id ∷ log)) }
+        ensures numbers { IfOk result (λ revision. revision ≤ HIGHEST_NUMBER) }
         ensures err { OnErr result (self.new ≡ self.old) }
     {
         if !self.leases.is_live(id) {

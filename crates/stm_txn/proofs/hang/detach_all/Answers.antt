@@ -19,8 +19,7 @@ loop-change-preserved c =
     ∙ ap (λ d. d ∷ drop (suc i) cs) (sym c.change-item.is) ∙ ap (λ n. c.change-item.result ∷ drop n cs) (sym step) in
     let taken : (key : List ℕ) → lease_of c.take_off.new.leases key ≡ cond (bytes_eq (key_of c.change-item.result) key) None (lease_of now key) = λ key.
     ap (λ (s : Leases). lease_of s key) c.take_off.ensures
-    ∙ get_taken now.attached c.as_str.result.now key
-    ∙ ap (λ k. cond (bytes_eq k key) None (lease_of now key)) (c.as_str.ensures ∙ c.key.ensures) in
+    ∙ get_taken now.attached (key_of c.change-item.result) key in
     record {
       told = λ key. ap (detached_all (drop (i + 1) cs) key) (taken key) ∙ sym (ap (λ l. detached_all l key (lease_of now key)) rest)
           ∙ c.loop-change.invariant.told key;

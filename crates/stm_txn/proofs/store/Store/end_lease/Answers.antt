@@ -25,7 +25,7 @@ remove-requires-clause-no_keys c = λ has.
     let history : c.self.inside.keys.history ≡ with_changes h (deletions_of h c.args.id) =
     ap (λ (s : StoreView). s.standing.history) c.self.view_is ∙ c.in_ok-commit.ensures.ok
     ∙ ap (with_changes h) (c.as_slice.ensures.value ∙ c.in_ok-changes.ensures.ok) in
-    gone h c.args.id has.0 (sym (ap (λ (x : History). lease_now x has.0) history) ∙ sym (c.self.invariant has.0) ∙ has.1)
+    gone h c.args.id has.0 (sym (ap (λ (x : History). lease_now x has.0) history) ∙ sym (c.self.invariant.0 has.0) ∙ has.1)
 
 pub commit-requires-clause-present : goal.commit-requires-clause-present
 commit-requires-clause-present c =

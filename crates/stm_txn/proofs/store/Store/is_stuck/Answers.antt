@@ -16,8 +16,8 @@ pub returns-then-is_highest : goal.returns-then-is_highest
 returns-then-is_highest c =
     let h : History = c.self.inside.keys.history in
     let tells : IsTrue c.has_keys.result ↔ HasKeys (lease_now h) c.args.id = (
-      (λ is. let key : HasKeys (lease_of c.self.inside.leases) c.args.id = c.has_keys.ensures.0 is in (key.0, sym (c.self.invariant key.0) ∙ key.1)),
-      (λ key. c.has_keys.ensures.1 (key.0, c.self.invariant key.0 ∙ key.1)),
+      (λ is. let key : HasKeys (lease_of c.self.inside.leases) c.args.id = c.has_keys.ensures.0 is in (key.0, sym (c.self.invariant.0 key.0) ∙ key.1)),
+      (λ key. c.has_keys.ensures.1 (key.0, c.self.invariant.0 key.0 ∙ key.1)),
     ) in
     let highest : nat_eq (now h) HIGHEST_REVISION ≡ true = eq-eqb (now h) HIGHEST_REVISION (sym c.revision-is_highest.ensures.value ∙ c.if-is_highest.true) in
     sym (ap (λ b. b && c.has_keys.result) highest)

@@ -10,5 +10,5 @@ pub returns-in_ok-deletions-in-Ok-clause-ok : goal.returns-in_ok-deletions-in-Ok
 returns-in_ok-deletions-in-Ok-clause-ok c =
     c.in_ok-deletions-in-Ok.ensures
     ∙ ap (map Del) (is_the_list c.self.inside.leases c.self.inside.keys.history c.args.id
-    (map string_bytes c.in-Ok.keys.items) c.in-Ok.ensures.ok c.self.invariant)
+    (map string_bytes c.in-Ok.keys.items) c.in-Ok.ensures.ok c.self.invariant.0)
     ∙ ap (λ (s : StoreView). deletions_of s.standing.history c.args.id) c.self.view_is

@@ -1,0 +1,26 @@
+use Rattle.std.proofs.Common.{◌≡◌, ◌∙◌, sym, ap, subst, ℕ, List}
+use Rattle.stm_history.specs.declared.change.Change.{Change}
+use Rattle.stm_history.specs.History.{History, key_now}
+use Rattle.stm_leases.specs.Leases.{Leases, lease_of}
+use Rattle.stm_txn.specs.Leasing.{hanging, hangs_of, HangOnLive}
+use Rattle.stm_txn.specs.Numbers.{LeasesFit}
+use Rattle.stm_txn.specs.Store.{StoreView}
+use Rattle.stm_txn.proofs.Bounding.{hung_fit}
+use Rattle.stm_txn.proofs.Ending.{still_stored}
+use Rattle.stm_txn.proofs.store.Store.change.Goals as goal
+
+pub invariant_of-self-2 : goal.invariant_of-self-2
+invariant_of-self-2 c =
+    let h : History = c.self.inside.keys.history in
+    let cs : List Change = c.args.changes.now in
+    subst (λ (next : History). ((key : List ℕ) → lease_of c.move_keys.new.leases key ≡ hanging (key_now next key)) × LeasesFit next.revisions)
+    (sym c.in-Ok.ensures.ok) (
+      λ key.
+        still_stored h cs key (lease_of c.reserve_attach.new.self key) (lease_of c.move_keys.new.leases key)
+        (ap (λ (s : Leases). lease_of s key) c.in_ok-reserve_attach.ensures.ok ∙ c.self.invariant.0 key) (c.move_keys.ensures.keys key),
+      (
+        hung_fit c.self.inside.leases.live cs c.is_live-ids_are_in_range.ensures.in_range
+            (subst (λ (s : StoreView). HangOnLive s.standing.live (hangs_of cs)) (sym c.self.view_is) c.requires.live),
+        c.self.invariant.1,
+      ),
+    )

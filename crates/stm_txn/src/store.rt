@@ -117,7 +117,8 @@ impl Store {
     ghost use Rattle.stm_txn.specs.LeaseKeys.{deletions_of};
     ghost use Rattle.stm_txn.specs.Outcome.{with_changes, answer_of};
     ghost use Rattle.stm_txn.specs.Numbers.{AnswerFits, StatesFit};
-    ghost use Rattle.stm_txn.specs.Standing.{opening, IsRefusalOf, ComesTo, transacted, granted, kept_alive, told, ended, revoked, after, expired_in, expire_all, at_moment, advanced, IsStopped, IsCutShort, with_expiries};
+    ghost use Rattle.stm_txn.specs.Standing.{opening, IsRefusalOf, ComesTo, transacted, granted, kept_alive, told, ended, revoked};
+    ghost use Rattle.stm_txn.specs.Standing.{after, expired_in, expire_all, at_moment, advanced, IsStopped, IsCutShort, with_expiries};
 
     /// An empty store at revision 1 and moment 0. Want of memory is its only refusal.
     pub fn new(alloc: Global) -> Result<Store, AllocError>
@@ -226,7 +227,8 @@ impl Store {
         requires apart { has_clash ops.now ≡ false }
         requires allowed { branch_refusal (now self.old.standing.history) (is_live_in self.old.standing.live) ops.now ≡ None }
         requires room { is_used_up self.old.standing.history (changes_copied self.old.standing.history [] ops.now) ≡ false }
-        ensures answer { IfOk result (λ answer. answer ≡ answer_of self.old.standing.history failed (changes_copied self.old.standing.history [] ops.now) (answers_copied self.old.standing.history [] ops.now)) }
+        ensures answer { IfOk result (λ answer. answer ≡ answer_of self.old.standing.history failed
+            (changes_copied self.old.standing.history [] ops.now) (answers_copied self.old.standing.history [] ops.now)) }
         ensures history { OnOk result (self.new.standing.history ≡ with_changes self.old.standing.history (changes_copied self.old.standing.history [] ops.now)) }
         ensures live { self.new.standing.live ≡ self.old.standing.live }
         ensures moment { self.new.standing.moment ≡ self.old.standing.moment }
@@ -246,7 +248,8 @@ impl Store {
     /// Runs one branch, whose first failed compare is given.
     fn run(&mut self, ops: &[Op], failed: Option<FailedCompare>) -> Result<TxnAnswer, Refusal>
         requires { has_clash ops.now ≡ false }
-        ensures ok { IfOk result (λ answer. outcome_copied self.old.standing.history (is_live_in self.old.standing.live) failed ops.now ≡ Ok (record { answer = answer; history = self.new.standing.history })) }
+        ensures ok { IfOk result (λ answer. outcome_copied self.old.standing.history (is_live_in self.old.standing.live) failed ops.now
+            ≡ Ok (record { answer = answer; history = self.new.standing.history })) }
         ensures live { self.new.standing.live ≡ self.old.standing.live }
         ensures moment { self.new.standing.moment ≡ self.old.standing.moment }
         ensures refused { IfErr result (IsRefusalOf (outcome_copied self.old.standing.history (is_live_in self.old.standing.live) failed ops.now)) }

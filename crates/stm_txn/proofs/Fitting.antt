@@ -21,12 +21,15 @@ use Rattle.stm_txn.specs.Compares.{first_failed}
 use Rattle.stm_txn.specs.Branches.{carried, deletion_of, count_of, are_readable, changes_of_branch}
 use Rattle.stm_txn.specs.LookUps.{copy, read_copied, with_copied, answers_copied}
 use Rattle.stm_txn.specs.Outcome.{Done, with_changes, outcome}
-use Rattle.stm_txn.specs.Standing.{Standing, transacted}
-use Rattle.stm_txn.specs.Numbers.{LeaseFits, ChangesFit, LeasesFit, StateFits, StatesFit, ReadFits, OpsFit, AnswerFits}
+use Rattle.stm_txn.specs.Standing.{Standing, transacted, ended, expired_in}
+use Rattle.stm_txn.specs.LeaseKeys.{deletions_of}
+use Rattle.stm_txn.specs.declared.advance.Expired.{Expired}
+use Rattle.stm_txn.proofs.Ending.{ended_is}
+use Rattle.stm_txn.specs.Numbers.{LeaseFits, ChangesFit, LeasesFit, StateFits, StatesFit, ExpiredFits, AllExpiredFit, ReadFits, OpsFit, AnswerFits}
 use Rattle.stm_txn.specs.Laws.{FailsAt}
 use Rattle.stm_txn.proofs.Folding.{answers_agree}
 use Rattle.stm_txn.proofs.Running.{all_readable}
-use Rattle.stm_txn.proofs.Bounding.{both, NamesFit, names_fit, fits-push, deleted_fits, lease_at_fits, lease_copied_fits}
+use Rattle.stm_txn.proofs.Bounding.{both, live_fits, NamesFit, names_fit, fits-push, deleted_fits, lease_at_fits, lease_copied_fits}
 use Rattle.stm_txn.proofs.Applying.{failed_has_its_place, chosen_apart, failed_case, branch_run, IsDone, is_done}
 
 -- the state of a key once the changes so far are made
@@ -128,3 +131,15 @@ numbers_fit s next txn a bounded fits in_range is =
     let found : (done : Done) × (outcome s.history (is_live_in s.live) txn ≡ Ok done) × (done.answer ≡ a) =
     failed_case s (outcome s.history (is_live_in s.live) txn) a next is in
     subst AnswerFits found.2 (done_fits s.history s.live txn found.0 bounded fits in_range found.1)
+
+-- a lease that expired, and one more of them
+pub expired_fits : (s next : Standing) (id : ℕ) → now s.history ≤ HIGHEST_REVISION → AreInRange s.live → is_live_in s.live id ≡ true →
+    ended s id ≡ Ok next → ExpiredFits (expired_in id next)
+expired_fits s next id bounded in_range live is = (
+  live_fits s.live id in_range live,
+  subst (λ (n : Standing). now n.history ≤ HIGHEST_NUMBER) (ended_is s next id is) (counter_fits s.history (deletions_of s.history id) bounded),
+)
+
+pub AllExpiredFit-push : (es : List Expired) (e : Expired) → AllExpiredFit es → ExpiredFits e → AllExpiredFit (es ++ e ∷ [])
+AllExpiredFit-push [] e before one = (one, tt)
+AllExpiredFit-push (x ∷ xs) e before one = (before.0, AllExpiredFit-push xs e before.1 one)

@@ -7,6 +7,7 @@ use Rattle.stm_history.specs.declared.key_state.ReadAnswer.{ReadAnswer}
 use Rattle.stm_history.specs.declared.revisions.TheConstants.{HIGHEST_NUMBER}
 use Rattle.stm_history.specs.History.{History, key_at}
 use Rattle.stm_keys.specs.Keys.{HasSmallNumbers}
+use Rattle.stm_txn.specs.declared.advance.Expired.{Expired}
 use Rattle.stm_txn.specs.declared.answer.OpAnswer.{OpAnswer}
 use Rattle.stm_txn.specs.declared.answer.OpAnswer.TheVariants.{Get, Put, Del}
 use Rattle.stm_txn.specs.declared.answer.FailedCompare.{FailedCompare}
@@ -57,3 +58,11 @@ pub record AnswerFits (answer : TxnAnswer) : Type 0 where
   pub revision : answer.revision ≤ HIGHEST_NUMBER
   pub answers : OpsFit answer.answers
   pub failed : IfSome answer.failed (λ (f : FailedCompare). f.mod_rev ≤ HIGHEST_NUMBER)
+
+-- a lease that expired, and the revision after it
+abbrev pub ExpiredFits : Expired → Type 0
+ExpiredFits e = (e.id ≤ HIGHEST_NUMBER) × (e.revision ≤ HIGHEST_NUMBER)
+
+abbrev pub AllExpiredFit : List Expired → Type 0
+AllExpiredFit [] = Unit {0}
+AllExpiredFit (e ∷ es) = ExpiredFits e × AllExpiredFit es

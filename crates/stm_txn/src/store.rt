@@ -116,7 +116,7 @@ impl Store {
     ghost use Rattle.stm_txn.specs.Leasing.{hangs_of, HangOnLive, lease_now};
     ghost use Rattle.stm_txn.specs.LeaseKeys.{deletions_of};
     ghost use Rattle.stm_txn.specs.Outcome.{with_changes, answer_of};
-    ghost use Rattle.stm_txn.specs.Numbers.{AnswerFits, StatesFit};
+    ghost use Rattle.stm_txn.specs.Numbers.{AnswerFits, StatesFit, ExpiredFits, AllExpiredFit};
     ghost use Rattle.stm_txn.specs.Standing.{opening, IsRefusalOf, ComesTo, transacted, granted, kept_alive, told, ended, revoked};
     ghost use Rattle.stm_txn.specs.Standing.{after, expired_in, expire_all, at_moment, advanced, IsStopped, IsCutShort, with_expiries};
 
@@ -405,7 +405,10 @@ impl Store {
         ensures refused { IfErr result (IsRefusalOf (ended self.old.standing id)) }
         ensures err { OnErr result (self.new ≡ self.old) }
         ensures same { OnErr result (expired.new.items ≡ expired.old.items) }
+        ensures numbers { OnOk result (ExpiredFits (expired_in id self.new.standing)) }
     {
+        let _counter = self.keys.revision();
+        let _ids_are_in_range = self.leases.is_live(id);
         if self.is_stuck(id) {
             return Err(Refusal::RevisionsUsedUp);
         }
@@ -422,6 +425,8 @@ impl Store {
         ensures refused { IfErr result (λ refused. IsCutShort (expire_all self.old.standing) refused.expired refused.cause self.new.standing) }
         ensures logged { IfOk result (λ expired. (log : List LogItem) → StandsFor self.old.standing.live log → StandsFor self.new.standing.live (with_expiries expired.items log)) }
         ensures logged_so_far { IfErr result (λ refused. (log : List LogItem) → StandsFor self.old.standing.live log → StandsFor self.new.standing.live (with_expiries refused.expired log)) }
+        ensures numbers { IfOk result (λ expired. AllExpiredFit expired.items) }
+        ensures numbers_so_far { IfErr result (λ refused. AllExpiredFit refused.expired) }
     {
         let mut expired = Vec::new(self.alloc);
         while let Some(id) = self.next_due() {
@@ -449,6 +454,8 @@ impl Store {
         ensures refused { IfErr result (λ refused. IsCutShort (advanced self.old.standing moment) refused.expired refused.cause self.new.standing) }
         ensures logged { IfOk result (λ expired. (log : List LogItem) → StandsFor self.old.standing.live log → StandsFor self.new.standing.live (with_expiries expired.items log)) }
         ensures logged_so_far { IfErr result (λ refused. (log : List LogItem) → StandsFor self.old.standing.live log → StandsFor self.new.standing.live (with_expiries refused.expired log)) }
+        ensures numbers { IfOk result (λ expired. AllExpiredFit expired.items) }
+        ensures numbers_so_far { IfErr result (λ refused. AllExpiredFit refused.expired) }
     {
         if moment < self.moment {
             return Err(AdvanceRefused {

@@ -392,9 +392,11 @@ is_done h is_live txn done is =
 pub history_grows : HistoryGrows
 history_grows h is_live txn done is =
     let came : IsDone h is_live txn done = is_done h is_live txn done is in
-    let changes : List Change = changes_of_branch h (branch_run h txn) in
-    (changes, distinct_changes h (branch_run h txn) (chosen_apart txn (first_failed (key_now h) 0 txn.compares) came.right),
-    sym (ap (λ (d : Done). d.history) came.made))
+    let changes : List Change = changes_of_branch h (branch_run h txn) in (
+      changes,
+      distinct_changes h (branch_run h txn) (chosen_apart txn (first_failed (key_now h) 0 txn.compares) came.right),
+      sym (ap (λ (d : Done). d.history) came.made),
+    )
 
 -- a failed compare's place in what a transaction comes to
 pub failed_case : (s : Standing) (outcome_of : Result Done Refusal) (a : TxnAnswer) (next : Standing) →

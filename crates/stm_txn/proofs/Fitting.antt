@@ -73,10 +73,10 @@ read_fits h changes key rev bounded fits named reached =
     (record { key = key; kv = copy h changes key; of_rev = carried h changes; revision = carried h changes })
     (record { key = key; kv = key_at h key rev; of_rev = rev; revision = carried h changes }))) [
       | true ↦ record {
-          of_rev = carried_small h changes bounded;
-          revision = carried_small h changes bounded;
-          state = state_case (copy h changes key) (copy_small h changes key bounded) (lease_copied_fits h changes key fits named);
-        }
+        of_rev = carried_small h changes bounded;
+        revision = carried_small h changes bounded;
+        state = state_case (copy h changes key) (copy_small h changes key bounded) (lease_copied_fits h changes key fits named);
+      }
       | false ↦ record { of_rev = omega arith; revision = carried_small h changes bounded; state = states_fit h bounded fits key rev }
     ]
 
@@ -90,9 +90,11 @@ answers_fit h changes [] bounded fits named names readable = tt
 answers_fit h changes (Get key rev ∷ ops) bounded fits named names readable =
     let parts : (nat_le rev (now h) ≡ true) × (are_readable (now h) ops ≡ true) = both (nat_le rev (now h)) (are_readable (now h) ops) readable in
     (read_fits h changes key rev bounded fits named (leb-true rev (now h) parts.0), answers_fit h changes ops bounded fits named names parts.1)
-answers_fit h changes (Put key value lease ∷ ops) bounded fits named names readable =
-    (tt, answers_fit h (changes ++ PutChange key value lease ∷ []) ops bounded fits (fits-push changes (PutChange key value lease) named names.0)
-    names.1 readable)
+answers_fit h changes (Put key value lease ∷ ops) bounded fits named names readable = (
+  tt,
+  answers_fit h (changes ++ PutChange key value lease ∷ []) ops bounded fits (fits-push changes (PutChange key value lease) named names.0)
+      names.1 readable,
+)
 answers_fit h changes (Del key ∷ ops) bounded fits named names readable = (
   one_at_most (deletion_of key (copy h changes key)),
   answers_fit h (with_copied changes (deletion_of key (copy h changes key))) ops bounded fits (deleted_fits changes key (copy h changes key) named)

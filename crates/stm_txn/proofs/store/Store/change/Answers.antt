@@ -16,8 +16,8 @@ invariant_of-self-2 c =
     subst (λ (next : History). ((key : List ℕ) → lease_of c.move_keys.new.leases key ≡ hanging (key_now next key)) × LeasesFit next.revisions)
     (sym c.in-Ok.ensures.ok) (
       λ key.
-        still_stored h cs key (lease_of c.reserve_attach.new.self key) (lease_of c.move_keys.new.leases key)
-        (ap (λ (s : Leases). lease_of s key) c.in_ok-reserve_attach.ensures.ok ∙ c.self.invariant.0 key) (c.move_keys.ensures.keys key),
+          still_stored h cs key (lease_of c.reserve_attach.new.self key) (lease_of c.move_keys.new.leases key)
+          (ap (λ (s : Leases). lease_of s key) c.in_ok-reserve_attach.ensures.ok ∙ c.self.invariant.0 key) (c.move_keys.ensures.keys key),
       (
         hung_fit c.self.inside.leases.live cs c.is_live-ids_are_in_range.ensures.in_range
             (subst (λ (s : StoreView). HangOnLive s.standing.live (hangs_of cs)) (sym c.self.view_is) c.requires.live),

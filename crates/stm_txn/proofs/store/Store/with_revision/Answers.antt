@@ -11,9 +11,9 @@ use Rattle.stm_txn.proofs.store.Store.with_revision.Goals as goal
 pub invariant_of-result : goal.invariant_of-result
 invariant_of-result c = (
   λ key.
-    ap (λ (m : finmap.FinMap (slice_cmp nat_cmp) ℕ). finmap.get m key) c.new.ensures.attached
-    ∙ finmap.get-empty (slice_cmp nat_cmp) key
-    ∙ ap (λ h. hanging (key_now h key)) (sym c.with_revision.ensures.history),
+      ap (λ (m : finmap.FinMap (slice_cmp nat_cmp) ℕ). finmap.get m key) c.new.ensures.attached
+      ∙ finmap.get-empty (slice_cmp nat_cmp) key
+      ∙ ap (λ h. hanging (key_now h key)) (sym c.with_revision.ensures.history),
   subst (λ (h : History). LeasesFit h.revisions) (sym c.with_revision.ensures.history) tt,
 )
 

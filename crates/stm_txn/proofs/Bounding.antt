@@ -1,5 +1,5 @@
 -- The leases that states name are numbers that fit.
-use Rattle.std.proofs.Common.{◌≡◌, ℕ, ◌+◌, ◌≤◌, Bool, true, false, cond, List, [], ◌∷◌, ◌++◌, Option, Some, None, refl, sym, ap, subst, arith}
+use Rattle.std.proofs.Common.{◌≡◌, ℕ, ◌+◌, ◌≤◌, Bool, true, false, cond, List, [], ◌∷◌, ◌++◌, Option, Some, None, refl, sym, subst, arith}
 use Rattle.std.specs.Prelude.{nat_eq, nat_le, ◌&&◌, ◌||◌, is_some, bytes_eq, IfSome}
 use Rattle.std.specs.FinMap as finmap
 use Rattle.std.proofs.lemmas.Bool.{leb-true, eqb-true}
@@ -14,11 +14,10 @@ use Rattle.stm_leases.specs.LeaseLog.{Term}
 use Rattle.stm_leases.specs.Live.{Live, is_live_in, AreInRange}
 use Rattle.stm_txn.specs.declared.txn.Op.{Op}
 use Rattle.stm_txn.specs.declared.txn.Op.TheVariants.{Get, Put, Del}
-use Rattle.stm_txn.specs.declared.refusal.Refusal.{Refusal}
 use Rattle.stm_txn.specs.declared.refusal.Refusal.TheVariants.{LeaseNotFound}
 use Rattle.stm_txn.specs.Branches.{op_refusal, branch_refusal, deletion_of}
 use Rattle.stm_txn.specs.LookUps.{copy, with_copied}
-use Rattle.stm_txn.specs.Leasing.{hangs_of, HangOnLive, with_hang, lease_named}
+use Rattle.stm_txn.specs.Leasing.{hangs_of, HangOnLive, with_hang}
 use Rattle.stm_txn.specs.Numbers.{LeaseFits, ChangeFits, ChangesFit, LeasesFit}
 use Rattle.stm_txn.proofs.Running.{both_none}
 

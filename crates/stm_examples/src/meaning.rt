@@ -1,0 +1,234 @@
+//! Worked programs, by their ends, outputs and effects. What is expected comes from the description of the
+//! language, and never from a run.
+use std::alloc::{AllocError, Global};
+use std::test::Fail;
+use stm_history::Text;
+use stm_meaning::{
+    Answered, End, Fault, Lookup, Run, State, Value, apply_alone, latest_writes, run_alone,
+    run_answered,
+};
+use stm_program::{Program, Write};
+use stm_program_json::read_program;
+
+fn program(alloc: Global, text: &str) -> Result<Program, Fail> {
+    let value = serde_json::Value::from_str(alloc, text)?;
+    Ok(read_program(alloc, &value)?)
+}
+
+/// The end of a run in words, and then each value that it emitted.
+fn described(alloc: Global, run: &Run) -> Result<String, AllocError> {
+    let mut text = match &run.end {
+        End::Done => String::from_str(alloc, "Done")?,
+        End::Aborted(text) => format!(in alloc; "Aborted {text}")?,
+        End::Faulted(fault) => format!(in alloc; "{fault}")?,
+    };
+    for value in run.output.as_slice() {
+        let value = match value {
+            Value::Text(text) => format!(in alloc; " {text}")?,
+            Value::Number(number) => format!(in alloc; " {number}")?,
+        };
+        text.push_str(value.as_str())?;
+    }
+    Ok(text)
+}
+
+/// Programs on the empty state, each with the description of its run.
+const PROGRAMS: [(&str, &str); 23] = [
+    (r#"[["emit",["num_of","x"]]]"#, "NotANumber"),
+    (r#"[["emit",["num_of","+1"]]]"#, "NotANumber"),
+    (r#"[["emit",["num_of","-007"]]]"#, "Done -7"),
+    (r#"[["emit",["add",9223372036854775807,1]]]"#, "Overflow"),
+    (r#"[["emit",["div",1,0]]]"#, "ZeroDivisor"),
+    (r#"[["emit",["div",-7,2]]]"#, "Done -3"),
+    (r#"[["emit",["rem",-7,2]]]"#, "Done -1"),
+    (r#"[["emit",["rem",-9223372036854775808,-1]]]"#, "Overflow"),
+    (r#"[["for",0,5,4,[]]]"#, "LoopTooLong"),
+    (r#"[["for",0,5,5,[]]]"#, "Done"),
+    (r#"[["for",0,100,1000,[["for",1,99,1000,[]]]]]"#, "Done"),
+    (
+        r#"[["for",0,100,1000,[["for",1,100,1000,[]]]]]"#,
+        "TurnLimit",
+    ),
+    (r#"[["emit",["add","1",2]]]"#, "Kind"),
+    (r#"[["put","","v",0]]"#, "EmptyKey"),
+    (r#"[["put","",5,0]]"#, "Kind"),
+    (r#"[["put","a","1",0],["abort","no"]]"#, "Aborted no"),
+    (
+        r#"[["put","a","1",0],["emit",["rev","a"]],["emit",["get","a"]]]"#,
+        "Done 0 1",
+    ),
+    (
+        r#"[["set",0,"x"],["for",1,17,17,[["set",0,["cat",["var",0],["var",0]]]]]]"#,
+        "TextTooLong",
+    ),
+    (
+        r#"[["set",0,"x"],["for",1,16,17,[["set",0,["cat",["var",0],["var",0]]]]]]"#,
+        "Done",
+    ),
+    (
+        r#"[["if",["and",["eq",1,2],["less",1,"a"]],[["emit",1]],[["emit",0]]]]"#,
+        "Done 0",
+    ),
+    (
+        r#"[["if",["or",["eq",1,2],["less",1,"a"]],[["emit",1]],[["emit",0]]]]"#,
+        "Kind",
+    ),
+    (
+        r#"[["for",0,3,3,[["emit",["cat","k",["text_of",["var",0]]]]]]]"#,
+        "Done k0 k1 k2",
+    ),
+    (
+        r#"[["put","a","1",0],["del","a"],["emit",["get","a"]]]"#,
+        "Done ",
+    ),
+];
+
+fn told_run(alloc: Global, program: &Program, state: &State) -> Result<String, AllocError> {
+    let run = run_alone(alloc, program, state)?;
+    described(alloc, &run)
+}
+
+/// What is told of a program's run on the empty state.
+fn told_program(alloc: Global, text: &str) -> Result<String, Fail> {
+    let program = program(alloc, text)?;
+    let state = State::new(alloc);
+    Ok(told_run(alloc, &program, &state)?)
+}
+
+#[test]
+fn ends_and_outputs(rt: HostRuntime) -> Result<(), Fail> {
+    for (text, expected) in PROGRAMS {
+        let told = told_program(rt.alloc(), text)?;
+        assert_eq!(rt; told.as_str(), expected, "{text}");
+    }
+    Ok(())
+}
+
+/// Two accounts. The first is put twice.
+fn accounts(alloc: Global) -> Result<State, AllocError> {
+    let mut state = State::new(alloc);
+    for (key, value, mod_rev) in [("a1", "100", 2), ("a0", "7", 2), ("a0", "100", 3)] {
+        let key = Text::copy_of(alloc, key)?;
+        state.insert(key, Text::copy_of(alloc, value)?, mod_rev)?;
+    }
+    Ok(state)
+}
+
+fn show_write(alloc: Global, write: &Write) -> Result<String, AllocError> {
+    match write {
+        Write::Put { key, value, lease } => format!(in alloc; " {key}={value}/{lease}"),
+        Write::Del { key } => format!(in alloc; " -{key}"),
+    }
+}
+
+/// Each write of the effect of these writes.
+fn show_effect(alloc: Global, writes: &[Write], state: &State) -> Result<String, AllocError> {
+    let mut shown = String::new(alloc);
+    for write in apply_alone(alloc, writes, state)? {
+        shown.push_str(show_write(alloc, &write)?.as_str())?;
+    }
+    Ok(shown)
+}
+
+fn count_latest(alloc: Global, writes: &[Write]) -> Result<usize, AllocError> {
+    let latest = latest_writes(alloc, writes)?;
+    Ok(latest.len())
+}
+
+/// The number of a run's reads, counted and listed, and of its latest writes, and then each write of its effect.
+fn told_effect(alloc: Global, program: &Program, state: &State) -> Result<String, AllocError> {
+    let run = run_alone(alloc, program, state)?;
+    let effect = show_effect(alloc, run.writes.as_slice(), state)?;
+    let latest = count_latest(alloc, run.writes.as_slice())?;
+    format!(in alloc;
+        "{}/{} {latest}{effect}",
+        run.reads.len(),
+        run.reads.as_slice().len()
+    )
+}
+
+fn told_transfer(alloc: Global, text: &str) -> Result<String, Fail> {
+    let program = program(alloc, text)?;
+    let state = accounts(alloc)?;
+    Ok(told_effect(alloc, &program, &state)?)
+}
+
+/// Transfers over the two accounts, from one to the other and from one to itself, each with what is told of its effect.
+const TRANSFERS: [(&str, &str); 2] = [
+    (
+        r#"[["put","a0",["text_of",["sub",["num_of",["get","a0"]],30]],0],
+        ["put","a1",["text_of",["add",["num_of",["get","a1"]],30]],0]]"#,
+        "2/2 2 a0=70/0 a1=130/0",
+    ),
+    (
+        r#"[["put","a0",["text_of",["sub",["num_of",["get","a0"]],30]],0],["del","absent"],
+        ["put","a0",["text_of",["add",["num_of",["get","a0"]],30]],0]]"#,
+        "1/1 2 a0=100/0",
+    ),
+];
+
+#[test]
+fn the_effect_of_a_transfer(rt: HostRuntime) -> Result<(), Fail> {
+    for (text, expected) in TRANSFERS {
+        let told = told_transfer(rt.alloc(), text)?;
+        assert_eq!(rt; told.as_str(), expected, "{text}");
+    }
+    Ok(())
+}
+
+#[test]
+fn a_state_is_ascending(rt: HostRuntime) -> Result<(), Fail> {
+    let state = accounts(rt.alloc())?;
+    assert_eq!(rt; state.len(), 2);
+    assert!(rt; state.at(0).key.as_str() == "a0");
+    assert!(rt; state.at(1).key.as_str() == "a1");
+    let revision = state.get("a0").map(|entry| entry.mod_rev);
+    assert_eq!(rt; revision, Some(3));
+    assert!(rt; state.get("a2").is_none());
+    Ok(())
+}
+
+/// A look-up that knows nothing.
+#[derive(Drop)]
+struct Nothing;
+
+impl Lookup for Nothing {
+    ghost use Rattle.std.specs.Prelude.{None};
+
+    ghost answers = { λ _ _. None };
+
+    fn value(&self, _key: &str) -> Option<&str> {
+        None
+    }
+
+    fn mod_rev(&self, _key: &str) -> Option<u64> {
+        None
+    }
+}
+
+/// The key that a run on no answers wants, and the number of reads and writes that it did before.
+fn told_want(alloc: Global, program: &Program) -> Result<String, AllocError> {
+    match run_answered(alloc, program, &Nothing)? {
+        Answered::Wants { key, trace } => format!(in alloc; "{key} {}", trace.len()),
+        Answered::Ended(_) => String::from_str(alloc, "nothing"),
+    }
+}
+
+fn told_program_wants(alloc: Global, text: &str) -> Result<String, Fail> {
+    let program = program(alloc, text)?;
+    Ok(told_want(alloc, &program)?)
+}
+
+#[test]
+fn a_run_wants_what_it_has_not_written(rt: HostRuntime) -> Result<(), Fail> {
+    let text = r#"[["put","a","1",0],["emit",["get","a"]],["emit",["get","b"]]]"#;
+    let told = told_program_wants(rt.alloc(), text)?;
+    assert_eq!(rt; told.as_str(), "b 1");
+    Ok(())
+}
+
+#[test]
+fn faults_have_names(rt: HostRuntime) -> Result<(), Fail> {
+    assert!(rt; Fault::ZeroDivisor.name() == "ZeroDivisor");
+    Ok(())
+}

@@ -8,3 +8,5 @@
 mod meaning;
 #[cfg(test)]
 mod program;
+#[cfg(test)]
+mod worlds;

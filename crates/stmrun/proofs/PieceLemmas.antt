@@ -1,5 +1,5 @@
 -- Lemmas on texts that are written one after the other.
-use Rattle.std.proofs.Common.{ℕ, List, ◌++◌, Option, ap, ◌∙◌, append_assoc}
+use Rattle.std.proofs.Common.{ℕ, List, ◌++◌, ◌≡◌, Option, ap, ◌∙◌, append_assoc}
 use Rattle.std.proofs.KnownBytes.{Appends-trans}
 use Rattle.std.specs.Io.KnownBytes.{Appends}
 use Rattle.stm_report.specs.Transfers.{WritesFront}
@@ -16,3 +16,7 @@ behind old mid new so_far text done (front, rest, is, written) = (
   ap (λ (x : List ℕ). so_far ++ x) is ∙ simp append_assoc,
   Appends-trans old mid new so_far front done written,
 )
+
+-- five texts, of which the second two were written together
+pub grouped : (one two three four five : List ℕ) → (((one ++ two) ++ three) ++ four) ++ five ≡ ((one ++ two) ++ (three ++ four)) ++ five
+grouped one two three four five = ap (λ (x : List ℕ). x ++ five) (append_assoc (one ++ two) three four)

@@ -1,5 +1,5 @@
 //! The command `script` over devices.
-ghost use Rattle.std.specs.Prelude.{◌≡◌, false};
+ghost use Rattle.std.specs.Prelude.{◌≡◌, ◌++◌, false};
 ghost use Rattle.stm_report.specs.Transfers.{HasWritten};
 ghost use Rattle.stmrun.specs.Statuses.{status_of, bad_message, message_of, SaysOf, Ends};
 
@@ -25,16 +25,24 @@ fn write_text<E: Sink>(err: &mut E, text: &str) -> Result<(), DeviceFault>
     write_all(err, text.as_bytes())
 }
 
+/// Writes two texts, one behind the other. Where the sink fails, a front of them was written.
+fn write_both<E: Sink>(err: &mut E, first: &str, second: &str) -> Result<(), DeviceFault>
+    requires { E.failed err.old ≡ false }
+    ensures { HasWritten (E.held err.old) (E.held err.new) (E.failed err.new) result (first.now ++ second.now) }
+{
+    write_text(err, first)?;
+    write_text(err, second)?;
+    Ok(())
+}
+
 /// Writes what is wrong with a scenario, piece by piece, which takes no memory. Where the sink fails, a front of it was
 /// written.
 fn write_bad<E: Sink>(err: &mut E, bad: &BadInput) -> Result<(), DeviceFault>
     requires { E.failed err.old ≡ false }
     ensures { HasWritten (E.held err.old) (E.held err.new) (E.failed err.new) result (bad_message bad.now) }
 {
-    write_text(err, "stmrun: bad scenario at ")?;
-    write_text(err, bad.place.as_str())?;
-    write_text(err, ": ")?;
-    write_text(err, bad.cause.name())?;
+    write_both(err, "stmrun: bad scenario at ", bad.place.as_str())?;
+    write_both(err, ": ", bad.cause.name())?;
     write_text(err, "\n")?;
     Ok(())
 }

@@ -83,17 +83,17 @@ fn run(alloc: Global, scenario: &[u8]) -> Left {
 /// A scenario that is run has this report.
 fn reports(rt: &impl Abort, alloc: Global, scenario: &str, report: &str) {
     let left = run(alloc, scenario.as_bytes());
-    assert_eq!(rt; left.status, 0);
-    assert!(rt; left.out.as_slice() == report.as_bytes());
-    assert!(rt; left.err.is_empty());
+    assert_eq!(rt; left.status, 0, "{scenario}");
+    assert!(rt; left.out.as_slice() == report.as_bytes(), "{scenario}");
+    assert!(rt; left.err.is_empty(), "{scenario}");
 }
 
 /// A scenario that is refused has this first fault.
 fn refuses(rt: &impl Abort, alloc: Global, scenario: &str, said: &str) {
     let left = run(alloc, scenario.as_bytes());
-    assert_eq!(rt; left.status, 2);
-    assert!(rt; left.out.is_empty());
-    assert!(rt; left.err.as_slice() == said.as_bytes());
+    assert_eq!(rt; left.status, 2, "{said}");
+    assert!(rt; left.out.is_empty(), "{said}");
+    assert!(rt; left.err.as_slice() == said.as_bytes(), "{said}");
 }
 
 const FIRST_PUT: &str = "[[\"start\",\"ReadCommitted\",1,[[\"put\",\"a\",\"1\",0]]],[\"step\",1]]";
@@ -104,21 +104,14 @@ const FIRST_PUT_REPORT: &str = "[1,\"started\",1]
 [\"end\",2,1]
 ";
 
-#[test]
-fn an_empty_scenario(rt: HostRuntime) {
-    reports(&rt, rt.alloc(), "[]", "[\"end\",1,0]\n");
-}
-
-#[test]
-fn the_first_put(rt: HostRuntime) {
-    reports(&rt, rt.alloc(), FIRST_PUT, FIRST_PUT_REPORT);
-}
-
-#[test]
-fn a_get_before_anothers_put(rt: HostRuntime) {
-    reports(
-        &rt,
-        rt.alloc(),
+/// Scenarios, each with its report.
+const REPORTS: [(&str, &str); 7] = [
+    // An empty scenario.
+    ("[]", "[\"end\",1,0]\n"),
+    // The first put.
+    (FIRST_PUT, FIRST_PUT_REPORT),
+    // A get before another's put.
+    (
         "[[\"start\",\"ReadCommitted\",1,[[\"emit\",[\"get\",\"a\"]]]],[\"start\",\"ReadCommitted\",1,[[\"put\",\"a\",\"1\",0]]],[\"step\",1],[\"step\",2],[\"step\",1]]",
         "[1,\"started\",1]
 [2,\"started\",2]
@@ -128,52 +121,32 @@ fn a_get_before_anothers_put(rt: HostRuntime) {
 [\"key\",\"a\",\"1\",2,2,1,0]
 [\"end\",2,2]
 ",
-    );
-}
-
-#[test]
-fn a_get_answered_by_the_buffer(rt: HostRuntime) {
-    reports(
-        &rt,
-        rt.alloc(),
+    ),
+    // A get that the buffer answers.
+    (
         "[[\"start\",\"ReadCommitted\",1,[[\"put\",\"a\",\"1\",0],[\"emit\",[\"get\",\"a\"]],[\"put\",\"a\",\"2\",0]]],[\"step\",1]]",
         "[1,\"started\",1]
 [2,\"committed\",1,2,1,[\"1\"],[[\"get\",\"a\",\"1\"]],[]]
 [\"key\",\"a\",\"2\",2,2,1,0]
 [\"end\",2,1]
 ",
-    );
-}
-
-#[test]
-fn the_highest_revision(rt: HostRuntime) {
-    reports(
-        &rt,
-        rt.alloc(),
+    ),
+    // The highest revision.
+    (
         "[[\"begin\",9223372036854775806],[\"start\",\"ReadCommitted\",1,[[\"put\",\"a\",\"1\",0]]],[\"step\",1],[\"step\",1]]",
         "[1,\"started\",1]
 [2,\"ended\",1,\"RevisionsUsedUp\"]
 [3,\"refused\",\"NoRunner\",[]]
 [\"end\",9223372036854775806,0]
 ",
-    );
-}
-
-#[test]
-fn a_limit_of_no_attempts(rt: HostRuntime) {
-    reports(
-        &rt,
-        rt.alloc(),
+    ),
+    // A limit of no attempts.
+    (
         "[[\"start\",\"ReadCommitted\",0,[]]]",
         "[1,\"refused\",\"BadLimit\",[]]\n[\"end\",1,0]\n",
-    );
-}
-
-#[test]
-fn an_abort_and_a_fault(rt: HostRuntime) {
-    reports(
-        &rt,
-        rt.alloc(),
+    ),
+    // An abort and a fault.
+    (
         "[[\"start\",\"ReadCommitted\",1,[[\"put\",\"a\",\"1\",0],[\"abort\",\"no\"]]],[\"start\",\"ReadCommitted\",1,[[\"emit\",[\"num_of\",\"x\"]]]],[\"step\",1],[\"step\",2]]",
         "[1,\"started\",1]
 [2,\"started\",2]
@@ -181,56 +154,52 @@ fn an_abort_and_a_fault(rt: HostRuntime) {
 [4,\"faulted\",2,\"NotANumber\"]
 [\"end\",1,0]
 ",
-    );
+    ),
+];
+
+/// Bad texts, each with what is said of its first fault.
+const REFUSED: [(&str, &str); 8] = [
+    ("[[\"step\",1]", "stmrun: bad scenario at : NotJson\n"),
+    ("{}", "stmrun: bad scenario at : Shape\n"),
+    (
+        "[[\"start\",\"ReadCommitted\",1,[[\"put\",\"a\",\"1\"]]]]",
+        "stmrun: bad scenario at /0/3/0: Shape\n",
+    ),
+    (
+        "[[\"start\",\"ReadCommitted\",1,[[\"emit\",[\"var\",16]]]]]",
+        "stmrun: bad scenario at /0/3/0/1/1: Range\n",
+    ),
+    (
+        "[[\"start\",\"ReadCommitted\",1,[[\"emit\",1.5]]]]",
+        "stmrun: bad scenario at /0/3/0/1: Shape\n",
+    ),
+    (
+        "[[\"step\",1],[\"begin\",2]]",
+        "stmrun: bad scenario at /1: Shape\n",
+    ),
+    // Two faults inside one event: the first in reading order is told.
+    (
+        "[[\"start\",\"None\",-1,[[\"emit\",1.5]]]]",
+        "stmrun: bad scenario at /0/1: Shape\n",
+    ),
+    (
+        "[[\"start\",\"ReadCommitted\",-1,[[\"emit\",1.5]]]]",
+        "stmrun: bad scenario at /0/2: Range\n",
+    ),
+];
+
+#[test]
+fn scenarios_have_their_reports(rt: HostRuntime) {
+    for (scenario, report) in REPORTS {
+        reports(&rt, rt.alloc(), scenario, report);
+    }
 }
 
 #[test]
 fn bad_texts(rt: HostRuntime) {
-    let alloc = rt.alloc();
-    refuses(
-        &rt,
-        alloc,
-        "[[\"step\",1]",
-        "stmrun: bad scenario at : NotJson\n",
-    );
-    refuses(&rt, alloc, "{}", "stmrun: bad scenario at : Shape\n");
-    refuses(
-        &rt,
-        alloc,
-        "[[\"start\",\"ReadCommitted\",1,[[\"put\",\"a\",\"1\"]]]]",
-        "stmrun: bad scenario at /0/3/0: Shape\n",
-    );
-    refuses(
-        &rt,
-        alloc,
-        "[[\"start\",\"ReadCommitted\",1,[[\"emit\",[\"var\",16]]]]]",
-        "stmrun: bad scenario at /0/3/0/1/1: Range\n",
-    );
-    refuses(
-        &rt,
-        alloc,
-        "[[\"start\",\"ReadCommitted\",1,[[\"emit\",1.5]]]]",
-        "stmrun: bad scenario at /0/3/0/1: Shape\n",
-    );
-    refuses(
-        &rt,
-        alloc,
-        "[[\"step\",1],[\"begin\",2]]",
-        "stmrun: bad scenario at /1: Shape\n",
-    );
-    // Two faults inside one event: the first in reading order is told.
-    refuses(
-        &rt,
-        alloc,
-        "[[\"start\",\"None\",-1,[[\"emit\",1.5]]]]",
-        "stmrun: bad scenario at /0/1: Shape\n",
-    );
-    refuses(
-        &rt,
-        alloc,
-        "[[\"start\",\"ReadCommitted\",-1,[[\"emit\",1.5]]]]",
-        "stmrun: bad scenario at /0/2: Range\n",
-    );
+    for (scenario, said) in REFUSED {
+        refuses(&rt, rt.alloc(), scenario, said);
+    }
 }
 
 #[test]

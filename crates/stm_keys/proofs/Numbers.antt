@@ -1,12 +1,14 @@
 -- The numbers of states fit.
-use Rattle.std.proofs.Common.{ℕ, ◌+◌, ◌≤◌, true, false, cond, List, length, map, Option, Some, None, IfSome, nat_eq, subst, arith}
+use Rattle.std.proofs.Common.{ℕ, ◌+◌, ◌<◌, ◌≤◌, true, false, cond, List, length, map, Option, Some, None, IfSome, nat_eq, subst, arith}
 use Rattle.std.proofs.lemmas.List.{length-map}
 use Rattle.stm_history.specs.declared.key_state.KeyState.{KeyState}
 use Rattle.stm_history.specs.declared.revisions.TheConstants.{HIGHEST_REVISION}
 use Rattle.stm_history.specs.History.{History, now, key_at, key_now}
+use Rattle.stm_history.specs.Walk.{version_of}
 use Rattle.stm_history.proofs.HistoryLaws.{numbers_stay_small, last_revision_is_now}
 use Rattle.stm_keys.specs.declared.event.Event.{Event}
 use Rattle.stm_keys.specs.Events.{change_of_event}
+use Rattle.stm_keys.specs.Places.{Places}
 use Rattle.stm_keys.specs.Keys.{HasSmallNumbers, IsKept, changes_of, key_read}
 
 small_case : (h : History) (o : Option KeyState) → now h ≤ HIGHEST_REVISION →
@@ -17,9 +19,9 @@ small_case h (Some s) bounded small =
     record { version = omega (arith, small.0); mod_rev = omega (arith, small.1); create_rev = omega (arith, small.1, small.2) }
 
 -- the counter of the fields fits
-pub now_fits : (opening : ℕ) (recorded : List (List Event)) (table : List ℕ → Option KeyState) → IsKept opening recorded table
+pub now_fits : (opening : ℕ) (recorded : List (List Event)) (chains : List ℕ → Option Places) → IsKept opening recorded chains
     → opening + length (changes_of recorded) ≤ HIGHEST_REVISION
-now_fits opening recorded table kept = omega (arith, kept.bounded, length-map recorded (map change_of_event))
+now_fits opening recorded chains kept = omega (arith, kept.bounded, length-map recorded (map change_of_event))
 
 pub at_small : (h : History) (key : List ℕ) (r : ℕ) → now h ≤ HIGHEST_REVISION → IfSome (key_at h key r) HasSmallNumbers
 at_small h key r bounded = small_case h (key_at h key r) bounded (numbers_stay_small h key r)
@@ -32,3 +34,8 @@ pub read_small : (h : History) (key : List ℕ) (r : ℕ) → now h ≤ HIGHEST_
 read_small h key r bounded =
     elim (nat_eq r 0) as (λ b. IfSome (cond b (key_now h key) (key_at h key r)) HasSmallNumbers)
     [ true ↦ now_small h key bounded | false ↦ at_small h key r bounded ]
+
+-- there is room for one more version
+pub next_version : (o : Option KeyState) → IfSome o HasSmallNumbers → version_of o + 1 < 18446744073709551616
+next_version None small = omega arith
+next_version (Some s) small = omega (arith, small.version)

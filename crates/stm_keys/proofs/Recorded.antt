@@ -1,6 +1,6 @@
 -- Recorded events against the history that they record.
 use Rattle.std.proofs.Common.{◌≡◌, ℕ, ◌+◌, ◌≤◌, ◌<◌, Bool, true, false, List, [], ◌∷◌, ◌++◌, length, map, Option, Some, None, suc, refl, sym, ◌∙◌, ap, subst}
-use Rattle.std.proofs.Common.{arith, cond, ne_eqb, eq-eqb}
+use Rattle.std.proofs.Common.{arith, cond, ne_eqb, eq-eqb, is_some}
 use Rattle.std.specs.Prelude.{bytes_eq, nat_eq}
 use Rattle.std.proofs.lemmas.List.{length-map, length-append}
 use Rattle.std.proofs.lemmas.Slice.Eq.{bytes_eq-Decides}
@@ -8,13 +8,13 @@ use Rattle.stm_history.specs.declared.change.Change.{Change}
 use Rattle.stm_history.specs.declared.change.Change.TheVariants.{Put, Del}
 use Rattle.stm_history.specs.declared.key_state.KeyState.{KeyState}
 use Rattle.stm_history.specs.declared.revisions.TheConstants.{HIGHEST_REVISION}
-use Rattle.stm_history.specs.History.{number_of_last, key_of, change_of, key_after, after_change, state_after_put, HasDistinctKeys, IsRevision}
+use Rattle.stm_history.specs.History.{number_of_last, key_of, change_of, key_after, after_change, state_after_put, IsRevision}
 use Rattle.stm_history.proofs.HistoryLaws.{one_more}
 use Rattle.stm_keys.specs.declared.event.Event.{Event}
 use Rattle.stm_keys.specs.declared.event.Event.TheVariants.{Put as PutEvent}
 use Rattle.stm_keys.specs.Events.{event_of, events_above, events_numbered, key_of_event, event_about, after_event, change_of_event}
-use Rattle.stm_keys.specs.Table.{after_all}
 use Rattle.stm_keys.specs.Keys.{changes_of, all_events, state_recorded, IsKept}
+use Rattle.stm_keys.specs.Places.{Places, places_in, places_of, with_place}
 
 -- equal bytes are one text
 same_text : (a b : List ℕ) → bytes_eq a b ≡ true → a ≡ b
@@ -122,54 +122,34 @@ none_numbered opening r (changes ∷ older) below =
     (ne_eqb _ _ (λ e. absurd (omega arith)))
     (none_numbered opening r older below)
 
--- events of other keys leave a key
-untouched_case : (b : Bool) (c : Change) (d : Option Change) → cond b (Some c) d ≡ None → (b ≡ false) × (d ≡ None)
-untouched_case true c d none = cc
-untouched_case false c d none = (refl, none)
+-- a revision has an event of a key where it has a change of it
+some_case : (b : Bool) (n : ℕ) (before : List ℕ → Option KeyState) (c : Change) (e : Option Event) (d : Option Change)
+    → is_some e ≡ is_some d → is_some (cond b (Some (event_of n before c)) e) ≡ is_some (cond b (Some c) d)
+some_case true n before c e d same = refl
+some_case false n before c e d same = same
 
-untouched : (n : ℕ) (before : List ℕ → Option KeyState) (key : List ℕ) (cs : List Change) (s : Option KeyState) → change_of key cs ≡ None →
-    after_all (map (event_of n before) cs) key s ≡ s
-untouched n before key [] s none = refl
-untouched n before key (c ∷ cs) s none =
-    let others : (bytes_eq (key_of c) key ≡ false) × (change_of key cs ≡ None) = untouched_case (bytes_eq (key_of c) key) c (change_of key cs) none in
-    ap (λ k. after_all (map (event_of n before) cs) key (cond (bytes_eq k key) (after_event (Some (event_of n before c)) s) s))
-    (key_of_event-event_of n before c)
-    ∙ ap (λ b. after_all (map (event_of n before) cs) key (cond b (after_event (Some (event_of n before c)) s) s)) others.0
-    ∙ untouched n before key cs s others.1
-
--- events of distinct keys, one after another, make of a key what its change makes of it
-all_case : (b : Bool) (n : ℕ) (before : List ℕ → Option KeyState) (key : List ℕ) (c : Change) (cs : List Change) →
-    (b ≡ true → key_of c ≡ key) → change_of (key_of c) cs ≡ None →
-    after_all (map (event_of n before) cs) key (before key) ≡ after_change n (change_of key cs) (before key) →
-    after_all (map (event_of n before) cs) key (cond b (after_event (Some (event_of n before c)) (before key)) (before key)) ≡ after_change n
-    (cond b (Some c) (change_of key cs)) (before key)
-all_case true n before key c cs same apart rest =
-    untouched n before key cs (after_event (Some (event_of n before c)) (before key)) (subst (λ k. change_of k cs ≡ None) (same refl) apart)
-    ∙ shown_of n before key c (before key) (same refl)
-all_case false n before key c cs same apart rest = rest
-
-pub all_written : (n : ℕ) (before : List ℕ → Option KeyState) (key : List ℕ) (cs : List Change) → HasDistinctKeys cs →
-    after_all (map (event_of n before) cs) key (before key) ≡ after_change n (change_of key cs) (before key)
-all_written n before key [] apart = refl
-all_written n before key (c ∷ cs) apart =
-    ap (λ k. after_all (map (event_of n before) cs) key (cond (bytes_eq k key) (after_event (Some (event_of n before c)) (before key)) (before key)))
-    (key_of_event-event_of n before c)
-    ∙ all_case (bytes_eq (key_of c) key) n before key c cs (same_text (key_of c) key) apart.0 (all_written n before key cs apart.1)
+pub about_changed : (n : ℕ) (before : List ℕ → Option KeyState) (key : List ℕ) (cs : List Change) →
+    is_some (event_about key (map (event_of n before) cs)) ≡ is_some (change_of key cs)
+about_changed n before key [] = refl
+about_changed n before key (c ∷ cs) =
+    ap (λ k. is_some (cond (bytes_eq k key) (Some (event_of n before c)) (event_about key (map (event_of n before) cs)))) (key_of_event-event_of n before c)
+    ∙ some_case (bytes_eq (key_of c) key) n before c (event_about key (map (event_of n before) cs)) (change_of key cs) (about_changed n before key cs)
 
 -- one more revision keeps what a key store keeps
-pub kept_after : (opening : ℕ) (recorded : List (List Event)) (table : List ℕ → Option KeyState) (next : List ℕ → Option KeyState) (changes : List Change)
-    (events : List Event) →
-    IsKept opening recorded table → opening + length recorded < HIGHEST_REVISION → IsRevision changes →
-    events ≡ map (event_of (opening + suc (length recorded)) table) changes →
-    ((key : List ℕ) → next key ≡ after_all events key (table key)) →
+pub kept_after : (opening : ℕ) (recorded : List (List Event)) (chains next : List ℕ → Option Places) (before : List ℕ → Option KeyState)
+    (changes : List Change) (events : List Event) →
+    IsKept opening recorded chains → opening + length recorded < HIGHEST_REVISION → IsRevision changes →
+    ((key : List ℕ) → before key ≡ key_after opening key (changes_of recorded)) →
+    events ≡ map (event_of (opening + suc (length recorded)) before) changes →
+    ((key : List ℕ) → places_in (next key) ≡ with_place (is_some (change_of key changes)) (length recorded) (places_in (chains key))) →
     IsKept opening (events ∷ recorded) next
-kept_after opening recorded table next changes events kept room revision made written =
+kept_after opening recorded chains next before changes events kept room revision now made noted =
     let n : ℕ = opening + suc (length recorded) in
     let older : List (List Change) = changes_of recorded in
     let number : n ≡ opening + suc (length older) = omega (arith, length-changes_of recorded) in
-    let shown : map change_of_event events ≡ changes = ap (map change_of_event) made ∙ changes_shown n table changes in
+    let shown : map change_of_event events ≡ changes = ap (map change_of_event) made ∙ changes_shown n before changes in
     let above : events ≡ events_above opening changes older =
-    made ∙ events_same n table (λ key. key_after opening key older) changes kept.states
+    made ∙ events_same n before (λ key. key_after opening key older) changes now
     ∙ ap (λ m. map (event_of m (λ key. key_after opening key older)) changes) number in
     record {
       positive = kept.positive;
@@ -179,19 +159,16 @@ kept_after opening recorded table next changes events kept room revision made wr
           ap (λ e. e ∷ recorded) above
           ∙ ap (λ r. events_above opening changes older ∷ r) kept.events
           ∙ ap (λ cs. events_above opening cs older ∷ all_events opening older) (sym shown);
-      states = λ key.
-          written key
-          ∙ ap (λ es. after_all es key (table key)) made
-          ∙ all_written n table key changes revision.1
-          ∙ ap (λ s. after_change n (change_of key changes) s) (kept.states key)
-          ∙ ap (λ m. after_change m (change_of key changes) (key_after opening key older)) number
-          ∙ sym (one_more opening key changes older)
-          ∙ ap (λ cs. key_after opening key (cs ∷ older)) (sym shown);
+      places = λ key.
+          noted key
+          ∙ ap (λ ps. with_place (is_some (change_of key changes)) (length recorded) ps) (kept.places key)
+          ∙ ap (λ b. with_place b (length recorded) (places_of key recorded))
+          (sym (ap (λ es. is_some (event_about key es)) made ∙ about_changed n before key changes));
     }
 
 -- the history after one more recorded revision
-pub shown_after : (opening : ℕ) (recorded : List (List Event)) (table : List ℕ → Option KeyState) (changes : List Change) (events : List Event) →
-    events ≡ map (event_of (opening + suc (length recorded)) table) changes →
+pub shown_after : (opening : ℕ) (recorded : List (List Event)) (before : List ℕ → Option KeyState) (changes : List Change) (events : List Event) →
+    events ≡ map (event_of (opening + suc (length recorded)) before) changes →
     changes_of (events ∷ recorded) ≡ changes ∷ changes_of recorded
-shown_after opening recorded table changes events made =
-    ap (λ cs. cs ∷ changes_of recorded) (ap (map change_of_event) made ∙ changes_shown (opening + suc (length recorded)) table changes)
+shown_after opening recorded before changes events made =
+    ap (λ cs. cs ∷ changes_of recorded) (ap (map change_of_event) made ∙ changes_shown (opening + suc (length recorded)) before changes)

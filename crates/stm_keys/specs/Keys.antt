@@ -6,9 +6,10 @@ use Rattle.stm_history.specs.declared.change.Change.{Change}
 use Rattle.stm_history.specs.declared.change.Change.TheVariants.{Put, Del}
 use Rattle.stm_history.specs.declared.key_state.KeyState.{KeyState}
 use Rattle.stm_history.specs.declared.revisions.TheConstants.{HIGHEST_REVISION, HIGHEST_NUMBER}
-use Rattle.stm_history.specs.History.{History, key_after, key_at, key_now, AreRevisions}
+use Rattle.stm_history.specs.History.{History, key_at, key_now, AreRevisions}
 use Rattle.stm_keys.specs.declared.event.Event.{Event}
 use Rattle.stm_keys.specs.Events.{events_above, change_of_event, event_about, after_event}
+use Rattle.stm_keys.specs.Places.{Places, places_in, places_of}
 
 -- what contracts see of a key store
 pub record Contents : Type 0 where
@@ -51,10 +52,11 @@ state_recorded key [] = None
 state_recorded key (events ∷ older) = after_event (event_about key events) (state_recorded key older)
 
 -- What a key store keeps true of its fields, the recorded revisions being the newest first: the counter is at least 1 and
--- fits, each revision changes something and no key twice, each recorded event is what its change shows, and the table has what each key is now.
-pub record IsKept (opening : ℕ) (recorded : List (List Event)) (table : List ℕ → Option KeyState) : Type 0 where
+-- fits, each revision changes something and no key twice, each recorded event is what its change shows, and the chain of each key has the
+-- places of the revisions that changed it.
+pub record IsKept (opening : ℕ) (recorded : List (List Event)) (chains : List ℕ → Option Places) : Type 0 where
   pub positive : 1 ≤ opening
   pub bounded : opening + length recorded ≤ HIGHEST_REVISION
   pub shaped : AreRevisions (changes_of recorded)
   pub events : recorded ≡ all_events opening (changes_of recorded)
-  pub states : (key : List ℕ) → table key ≡ key_after opening key (changes_of recorded)
+  pub places : (key : List ℕ) → places_in (chains key) ≡ places_of key recorded

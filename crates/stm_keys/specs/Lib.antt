@@ -2,5 +2,5 @@ pub mod ApplyNames
 pub mod Events
 pub mod Keys
 pub mod Laws
+pub mod Places
 pub mod ReadNames
-pub mod Table

@@ -1,14 +1,17 @@
 //! The key store.
-ghost use Rattle.std.specs.Prelude.{◌≡◌, ◌+◌, ◌<◌, ◌≤◌, IfOk, OnOk, OnErr, IfSome, List, ℕ, length, Some, None, ◌↔◌, slice_get, option_copied, [], ◌≢◌, reverse};
+ghost use Rattle.std.specs.Prelude.{◌≡◌, ◌+◌, ◌<◌, ◌≤◌, IfOk, OnOk, OnErr, IfSome, List, ℕ, length, Some, None, ◌↔◌, slice_get, option_copied, [], ◌∷◌, ◌++◌, ◌≢◌, ◌^◌, map, is_some, string_bytes};
 ghost use Rattle.std.specs.Map;
-ghost use Rattle.stm_history.specs.History.{History, opened_at, now, add_revision, key_at, key_now, AreRevisions, IsRevision, state_after_put};
-ghost use Rattle.stm_keys.specs.Events.{events_of};
-ghost use Rattle.stm_keys.specs.Keys.{key_read, DeletePresent, HasSmallNumbers, ListsPresent, state_recorded};
+ghost use Rattle.std.specs.Map.{keys_of};
+ghost use Rattle.indexmap.specs.IndexMap.{get_by_text};
+ghost use Rattle.stm_history.specs.History.{History, opened_at, now, add_revision, key_at, key_now, AreRevisions, IsRevision, HasDistinctKeys, change_of, state_after_put};
+ghost use Rattle.stm_history.specs.Walk.{version_of};
+ghost use Rattle.stm_keys.specs.Events.{event_of, events_of};
+ghost use Rattle.stm_keys.specs.Places.{places_in, with_place, KeepsPresent};
+ghost use Rattle.stm_keys.specs.Keys.{key_read, DeletePresent, HasSmallNumbers, ListsPresent};
 
-use crate::event::{Event, find_event};
-use crate::record::{record_changes, state_put};
+use crate::chains::{Chains, add_places, count_present, find_present, find_state, make_room};
+use crate::event::Event;
 use crate::refusal::{ApplyRefusal, ReadRefusal};
-use crate::table::{Table, write_events};
 use indexmap::IndexMap;
 use std::alloc::{AllocError, Global};
 use std::marker::Model;
@@ -17,48 +20,57 @@ use stm_history::{Change, HIGHEST_REVISION, KeyState, Sequence, Text};
 /// The keys of a store at every revision.
 ///
 /// Contracts see the store's history, and the list of its present keys. The fields are the revisions
-/// since the opening, the oldest first, each put with its key's full state, and a table of what each
-/// key is now.
+/// since the opening, the oldest first, each put with its key's full state, and for each key that was
+/// ever changed the places of the revisions that changed it.
 #[derive(Debug, Drop)]
 pub struct Keys {
     opening: u64,
     revisions: Vec<Sequence<Event>>,
-    table: Table,
+    chains: Chains,
 }
 
 impl Model for Keys {
     ghost use Rattle.std.specs.Prelude.{map, reverse, string_bytes};
-    ghost use Rattle.std.specs.Map;
+    ghost use Rattle.std.specs.Map.{keys_of};
     ghost use Rattle.indexmap.specs.IndexMap.{get_by_text};
+    ghost use Rattle.stm_history.specs.History.{key_after};
     ghost use Rattle.stm_keys.specs.Keys.{Contents, IsKept, changes_of};
+    ghost use Rattle.stm_keys.specs.Places.{present_among};
 
     ghost Value = { Contents };
 
     ghost view = { λ a. record {
       history = record { opening = a.opening; revisions = changes_of (reverse a.revisions.items) };
-      present = map (λ e. (string_bytes e.0, e.1)) a.table.entries;
+      present = present_among (λ key. key_after a.opening key (changes_of (reverse a.revisions.items))) (map string_bytes (keys_of a.chains.entries));
     } };
 
-    ghost invariant = { λ a. IsKept a.opening (reverse a.revisions.items) (get_by_text a.table) };
+    ghost invariant = { λ a. IsKept a.opening (reverse a.revisions.items) (get_by_text a.chains) };
 }
 
 /// The floor of a store that drops nothing.
 const FLOOR: u64 = 0;
 
-/// What a key is after these revisions, of which the last is the newest.
-fn find_state<'a>(revisions: &'a [Sequence<Event>], key: &str) -> Option<&'a KeyState>
-    ensures { option_copied result ≡ state_recorded key.now (reverse revisions.now) }
+/// What a put makes of a key: it begins anew where the key was absent, and counts on where it was present.
+fn state_put(
+    before: Option<&KeyState>,
+    number: u64,
+    value: &Text,
+    lease: u64,
+) -> Result<KeyState, AllocError>
+    requires { version_of (option_copied before) + 1 < 2 ^ 64 }
+    ensures { IfOk result (λ s. s ≡ state_after_put number value.now lease (option_copied before.entry)) }
 {
-    let mut left = revisions.len();
-    while left > 0 {
-        left -= 1;
-        match find_event(revisions[left].as_slice(), key) {
-            None => {}
-            Some(Event::Put { state, .. }) => return Some(state),
-            Some(Event::Delete { .. }) => return None,
-        }
-    }
-    None
+    let (create_rev, version) = match before {
+        None => (number, 1),
+        Some(state) => (state.create_rev, state.version + 1),
+    };
+    Ok(KeyState {
+        value: value.clone()?,
+        create_rev,
+        mod_rev: number,
+        version,
+        lease,
+    })
 }
 
 /// A copy of the events of a revision.
@@ -70,6 +82,27 @@ fn copy_events(alloc: Global, events: &[Event]) -> Result<Vec<Event>, AllocError
         copy.push(event.clone()?)?;
     }
     Ok(copy)
+}
+
+/// Adds a recorded revision, and its place to the chains of its keys. Every growth comes before the first change.
+fn add_recorded(
+    revisions: &mut Vec<Sequence<Event>>,
+    chains: &mut Chains,
+    changes: &[Change],
+    events: Vec<Event>,
+) -> Result<(), AllocError>
+    requires { HasDistinctKeys changes.now }
+    ensures recorded { OnOk result (revisions.new.items ≡ revisions.old.items ++ events.items ∷ []) }
+    ensures told { OnOk result ((k : _) → places_in (get_by_text chains.new k) ≡ with_place (is_some (change_of k changes.now)) (length revisions.old.items) (places_in (get_by_text chains.old k))) }
+    ensures err { OnErr result (revisions.new.items ≡ revisions.old.items) }
+    ensures same { OnErr result ((k : List ℕ) → places_in (get_by_text chains.new k) ≡ places_in (get_by_text chains.old k)) }
+    ensures present { OnErr result (KeepsPresent (λ k. places_in (get_by_text chains.old k)) (map string_bytes (keys_of chains.old.entries)) (map string_bytes (keys_of chains.new.entries))) }
+{
+    make_room(chains, *revisions.allocator(), changes)?;
+    revisions.reserve(1)?;
+    add_places(chains, changes, revisions.len());
+    revisions.push_reserved(Sequence::of(events));
+    Ok(())
 }
 
 impl Keys {
@@ -93,7 +126,7 @@ impl Keys {
         Keys {
             opening: start,
             revisions: Vec::new(alloc),
-            table: IndexMap::new(alloc),
+            chains: IndexMap::new(alloc),
         }
     }
 
@@ -127,7 +160,12 @@ impl Keys {
         ensures value { option_copied result ≡ key_now self.now.history key.now }
         ensures fits { IfSome (key_now self.now.history key.now) HasSmallNumbers }
     {
-        self.table.get(key)
+        find_state(
+            &self.chains,
+            self.revisions.as_slice(),
+            key,
+            self.revisions.len(),
+        )
     }
 
     /// What a key was at a revision, `None` where it was absent. Revision 0 names the current one.
@@ -149,14 +187,44 @@ impl Keys {
         let count = revision
             .saturating_sub(self.opening)
             .min(self.revisions.len() as u64) as usize;
-        Ok(find_state(&self.revisions[..count], key))
+        Ok(find_state(&self.chains, self.revisions.as_slice(), key, count))
     }
 
     /// What a put in the next revision would make of a key.
     pub fn after_put(&self, key: &str, value: &Text, lease: u64) -> Result<KeyState, AllocError>
         ensures { IfOk result (λ s. s ≡ state_after_put (now self.now.history + 1) value.now lease (key_now self.now.history key.now)) }
     {
-        state_put(self.table.get(key), self.revision() + 1, value, lease)
+        state_put(self.get(key), self.revision() + 1, value, lease)
+    }
+
+    /// What a change shows in the next revision.
+    fn show_change(&self, change: &Change) -> Result<Event, AllocError>
+        ensures { IfOk result (λ e. e ≡ event_of (now self.now.history + 1) (key_now self.now.history) change.now) }
+    {
+        match change {
+            Change::Put { key, value, lease } => {
+                let state = self.after_put(key.as_str(), value, *lease)?;
+                Ok(Event::Put {
+                    key: key.clone()?,
+                    state,
+                })
+            }
+            Change::Del { key } => Ok(Event::Delete {
+                key: key.clone()?,
+                revision: self.revision() + 1,
+            }),
+        }
+    }
+
+    /// What the changes of the next revision show, in their order.
+    fn show_changes(&self, changes: &[Change]) -> Result<Vec<Event>, AllocError>
+        ensures { IfOk result (λ v. v.items ≡ map (event_of (now self.now.history + 1) (key_now self.now.history)) changes.now) }
+    {
+        let mut events = Vec::with_capacity(*self.revisions.allocator(), changes.len())?;
+        for change in changes {
+            events.push(self.show_change(change)?)?;
+        }
+        Ok(events)
     }
 
     /// Adds one revision with these changes, in this order, and answers its number. There is a change, no key
@@ -176,15 +244,9 @@ impl Keys {
         if before == HIGHEST_REVISION {
             return Err(ApplyRefusal::RevisionsUsedUp);
         }
-        let number = before + 1;
-        let alloc = *self.revisions.allocator();
-        let recorded = record_changes(alloc, &self.table, number, changes)?;
-        let written = record_changes(alloc, &self.table, number, changes)?;
-        self.table.reserve(changes.len())?;
-        self.revisions.reserve(1)?;
-        self.revisions.push_reserved(Sequence::of(recorded));
-        write_events(&mut self.table, written);
-        Ok(number)
+        let events = self.show_changes(changes)?;
+        add_recorded(&mut self.revisions, &mut self.chains, changes, events)?;
+        Ok(before + 1)
     }
 
     /// The events of a revision, in the order of operations: none at the opening revision and below.
@@ -205,7 +267,7 @@ impl Keys {
         ensures count { result ≡ length self.now.present }
         ensures listed { ListsPresent self.now.history self.now.present }
     {
-        self.table.len()
+        count_present(&self.chains, self.revisions.as_slice())
     }
 
     /// The present key at an index, with its state. Which key stands where is left open.
@@ -213,9 +275,6 @@ impl Keys {
         requires { index < length self.now.present }
         ensures { slice_get self.now.present index ≡ Some (result.0.now, result.1.now) }
     {
-        match self.table.get_index(index) {
-            Some((key, state)) => (key.as_str(), state),
-            None => unreachable!(),
-        }
+        find_present(&self.chains, self.revisions.as_slice(), index)
     }
 }

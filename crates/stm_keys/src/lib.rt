@@ -1,15 +1,15 @@
 //! The keys of a store, at every revision.
 //!
 //! `Keys` is a history: the list of revisions since the store opened, each put with its key's full
-//! state, beside a table of what each key is now.
+//! state, beside a chain for each key, of the places of the revisions that changed it.
 #![tactic(auto)]
 
+mod chains;
 pub mod event;
 pub mod keys;
 pub mod laws;
-mod record;
+mod places;
 pub mod refusal;
-mod table;
 
 pub use event::Event;
 pub use keys::Keys;

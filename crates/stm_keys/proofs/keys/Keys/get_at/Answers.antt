@@ -1,12 +1,18 @@
-use Rattle.std.proofs.Common.{arith, rules, ◌≡◌, ◌-◌, ◌∙◌, sym, ap, cond, length, take, reverse, List, false}
+use Rattle.std.proofs.Common.{arith, rules, ◌≡◌, ◌-◌, ◌∙◌, sym, ap, subst, cond, length, List, false}
 use Rattle.std.specs.Prelude.{min, nat_eq}
 use Rattle.indexmap.specs.IndexMap.{get_by_text}
 use Rattle.stm_history.specs.History.{key_at, key_now}
 use Rattle.stm_keys.specs.declared.event.Event.{Event}
-use Rattle.stm_keys.specs.Keys.{Contents, state_recorded}
-use Rattle.stm_keys.proofs.Fields.{found_at}
+use Rattle.stm_keys.specs.Keys.{Contents}
+use Rattle.stm_keys.specs.Places.{found_in, AreSearchable}
+use Rattle.stm_keys.proofs.Walked.{found_then, searchable}
 use Rattle.stm_keys.proofs.Numbers.{read_small}
 use Rattle.stm_keys.proofs.keys.Keys.get_at.Goals as goal
+
+pub find_state-requires : goal.find_state-requires
+find_state-requires c =
+    subst (λ (xs : List (List Event)). AreSearchable (get_by_text c.self.inside.chains) xs) (sym c.as_slice.ensures.value)
+    (searchable c.self.inside.opening c.self.inside.revisions.items (get_by_text c.self.inside.chains) c.self.invariant)
 
 pub returns-clause-found : goal.returns-clause-found
 returns-clause-found c =
@@ -14,8 +20,8 @@ returns-clause-found c =
     let count : c.min-count.result ≡ min (c.args.revision - c.self.inside.opening) (length xs) = cc in
     let past : nat_eq c.args.revision 0 ≡ false = search rules in
     c.find_state.ensures
-    ∙ ap (λ l. state_recorded c.args.key.now (reverse (take c.min-count.result l))) c.deref.ensures.value
-    ∙ found_at c.self.inside.opening c.args.revision xs (get_by_text c.self.inside.table) c.args.key.now c.min-count.result c.self.invariant count
+    ∙ ap (λ (l : List (List Event)). found_in (get_by_text c.self.inside.chains) l c.min-count.result c.args.key.now) c.as_slice.ensures.value
+    ∙ found_then c.self.inside.opening c.args.revision xs (get_by_text c.self.inside.chains) c.args.key.now c.min-count.result c.self.invariant count
     ∙ ap (λ (v : Contents). key_at v.history c.args.key.now c.args.revision) c.self.view_is
     ∙ sym (ap (λ b. cond b (key_now c.args.self.now.history c.args.key.now) (key_at c.args.self.now.history c.args.key.now c.args.revision)) past)
 

@@ -1,0 +1,65 @@
+-- The version chains: which revisions changed a key, and what the key is at them.
+use Rattle.std.specs.Prelude.{◌≡◌, ℕ, nat_lt, List, [], ◌∷◌, length, Bool, true, false, Option, Some, None, is_some, IfSome, ◌<◌, reverse}
+use Rattle.std.specs.Prelude.{if◌then◌else◌, get_or}
+use Rattle.std.specs.List.Sorted.{IsNonDecreasing}
+use Rattle.stm_history.specs.declared.key_state.KeyState.{KeyState}
+use Rattle.stm_keys.specs.declared.event.Event.{Event}
+use Rattle.stm_keys.specs.Events.{event_about, after_event}
+
+-- A revision's place is the number of revisions before it. A chain has the places of the revisions that changed its key, the
+-- newest first, and has room for so many more.
+pub record Places : Type 0 where
+  pub places : List ℕ
+  pub room : ℕ
+
+-- what a look-up of a key's chain finds: no place where there is no chain
+abbrev pub places_in : Option Places → List ℕ
+places_in None = []
+places_in (Some chain) = chain.places
+
+abbrev pub room_in : Option Places → ℕ
+room_in None = 0
+room_in (Some chain) = chain.room
+
+-- the places with one more, where it is one of the key's
+abbrev pub with_place : Bool → ℕ → List ℕ → List ℕ
+with_place false place places = places
+with_place true place places = place ∷ places
+
+-- the places of the revisions that have an event of a key, of revisions with the newest first
+abbrev pub places_of : List ℕ → List (List Event) → List ℕ
+places_of key [] = []
+places_of key (events ∷ older) = with_place (is_some (event_about key events)) (length older) (places_of key older)
+
+-- the newest place below a count
+abbrev pub newest_below : ℕ → List ℕ → Option ℕ
+newest_below count [] = None
+newest_below count (place ∷ older) = if nat_lt place count then Some place else newest_below count older
+
+-- what a key is after the revision at a place, which changed it; the oldest revision stands first
+abbrev pub state_from : List (List Event) → List ℕ → Option ℕ → Option KeyState
+state_from recorded key None = None
+state_from recorded key (Some place) = after_event (event_about key (get_or recorded place [])) None
+
+-- what a key is after so many revisions, as its chain tells it
+abbrev pub found_in : (List ℕ → Option Places) → List (List Event) → ℕ → List ℕ → Option KeyState
+found_in chains recorded count key = state_from recorded key (newest_below count (places_in (chains key)))
+
+-- chains that can be searched: their places rise, and each is that of a revision
+pub record AreSearchable (chains : List ℕ → Option Places) (recorded : List (List Event)) : Type 0 where
+  pub rising : (key : List ℕ) → IsNonDecreasing (reverse (places_in (chains key)))
+  pub within : (key : List ℕ) (count : ℕ) → IfSome (newest_below count (places_in (chains key))) (λ place. place < length recorded)
+
+-- the keys with a chain that are present, each with its state
+abbrev pub with_state : List ℕ → Option KeyState → List (List ℕ × KeyState) → List (List ℕ × KeyState)
+with_state key None present = present
+with_state key (Some state) present = (key, state) ∷ present
+
+abbrev pub present_among : (List ℕ → Option KeyState) → List (List ℕ) → List (List ℕ × KeyState)
+present_among state [] = []
+present_among state (key ∷ keys) = with_state key (state key) (present_among state keys)
+
+-- The present keys stay as they are where keys come that have no state.
+abbrev pub KeepsPresent : (List ℕ → List ℕ) → List (List ℕ) → List (List ℕ) → Type 0
+KeepsPresent places_at old new =
+    (state : List ℕ → Option KeyState) → ((key : List ℕ) → places_at key ≡ [] → state key ≡ None) → present_among state new ≡ present_among state old

@@ -2,11 +2,10 @@
 --
 -- The documentation of the Go package `clientv3/concurrency`, "STM": a commit fails where a key that was read, or at
 -- serializable snapshot one that was written, has been changed since.
-use Rattle.std.specs.Prelude.{◌≡◌, ◌<◌, ◌≤◌, ◌+◌, ℕ, Bool, false, true, is_some, nat_lt, ◌&&◌, ◌||◌, List, [], ◌∷◌, ◌++◌, map, Option, Some, slice_get}
+use Rattle.std.specs.Prelude.{◌≡◌, ℕ, Bool, false, true, is_some, nat_lt, ◌&&◌, ◌||◌, List, [], ◌∷◌, ◌++◌, map, Some, slice_get}
 use Rattle.stm_history.specs.declared.change.Change.{Change}
 use Rattle.stm_history.specs.declared.key_state.ReadAnswer.{ReadAnswer}
 use Rattle.stm_history.specs.History.{History, key_now, mod_of, number_of_last, change_of}
-use Rattle.stm_program.specs.declared.level.Level.{Level}
 use Rattle.stm_program.specs.declared.write.Write.{Write}
 use Rattle.stm_program.specs.Writes.{key_of}
 use Rattle.stm_txn.specs.declared.answer.FailedCompare.{FailedCompare}

@@ -1,5 +1,7 @@
 pub mod Levels
 pub mod Answers
+pub mod Places
+pub mod Buffered
 pub mod Now
 pub mod CommitTxn
 pub mod Committed

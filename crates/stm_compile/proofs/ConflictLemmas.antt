@@ -1,0 +1,205 @@
+-- A failed compare is a conflict.
+use Rattle.std.proofs.Common.{◌≡◌, ◌≢◌, ◌⊎◌, inl, inr, ℕ, suc, zero, ◌+◌, ◌<◌, ◌≤◌, List, [], ◌∷◌, ◌++◌, map, length, Bool, true, false, cond}
+use Rattle.std.proofs.Common.{Option, Some, None, IfSome, refl, sym, ◌∙◌, ap, subst, arith}
+use Rattle.std.specs.Prelude.{nat_lt, nat_le, is_some, ◌&&◌, ◌||◌, slice_get}
+use Rattle.std.proofs.lemmas.Bool.{lt-ltb, ltb-true, ltb-false, leb-true, leb-false}
+use Rattle.std.proofs.lemmas.Option.{same_Some}
+use Rattle.stm_history.specs.declared.change.Change.{Change}
+use Rattle.stm_history.specs.declared.key_state.KeyState.{KeyState}
+use Rattle.stm_history.specs.declared.key_state.ReadAnswer.{ReadAnswer}
+use Rattle.stm_history.specs.History.{History, now, key_now, key_at, key_after, mod_of, number_of_last, change_of, revisions_up_to, after_change, IsTrueAnswer}
+use Rattle.stm_history.proofs.HistoryLaws.{one_more, last_revision_is_now, numbers_stay_small}
+use Rattle.stm_program.specs.declared.level.Level.TheVariants.{SerializableSnapshot, Serializable, RepeatableReads, ReadCommitted}
+use Rattle.stm_program.specs.declared.write.Write.{Write}
+use Rattle.stm_program.specs.Writes.{key_of}
+use Rattle.stm_txn.specs.declared.txn.Compare.{Compare}
+use Rattle.stm_txn.specs.declared.answer.FailedCompare.{FailedCompare}
+use Rattle.stm_txn.specs.Compares.{holds}
+use Rattle.stm_txn.specs.Laws.{FailsAt}
+use Rattle.stm_txn.proofs.Applying.{mod_compares, failed_has_its_place}
+use Rattle.stm_compile.specs.Answers.{AreTrue}
+use Rattle.stm_compile.specs.CommitTxn.{first_carried, is_as_read, is_unmodified, compares_of}
+use Rattle.stm_compile.specs.Conflicts.{changes_above, IsChangedAbove, Seen, seen_of_read, seen_of_write, seen_by, IsConflict}
+use Rattle.stm_compile.specs.Laws.{FailedComparesConflict}
+
+-- ---- a key that no revision above changes is what it was
+
+no_change_of : (c : Option Change) → is_some c ≡ false → c ≡ None
+no_change_of None e = refl
+no_change_of (Some c) e = absurd (cc)
+
+neither_above : (above changed deeper : Bool) → ((above && changed) || deeper) ≡ false → (above ≡ true → changed ≡ false) × (deeper ≡ false)
+neither_above true true deeper e = absurd (cc)
+neither_above true false deeper e = (λ p. refl, e)
+neither_above false changed deeper e = (λ p. absurd (cc), e)
+
+pub unchanged_above : (opening r : ℕ) (key : List ℕ) (revisions : List (List Change)) → changes_above opening r key revisions ≡ false →
+    key_after opening key (revisions_up_to opening r revisions) ≡ key_after opening key revisions
+unchanged_above opening r key [] none = refl
+unchanged_above opening r key (changes ∷ older) none =
+    let number : ℕ = number_of_last opening (changes ∷ older) in
+    let parts = neither_above (nat_lt r number) (is_some (change_of key changes)) (changes_above opening r key older) none in
+    by (nat_le (number_of_last opening (changes ∷ older)) r) refl parts.0 (unchanged_above opening r key older parts.1)
+  where
+    by : (b : Bool) → nat_le (number_of_last opening (changes ∷ older)) r ≡ b →
+        (nat_lt r (number_of_last opening (changes ∷ older)) ≡ true → is_some (change_of key changes) ≡ false) →
+        key_after opening key (revisions_up_to opening r older) ≡ key_after opening key older →
+        key_after opening key (cond b (changes ∷ older) (revisions_up_to opening r older)) ≡ key_after opening key (changes ∷ older)
+    by true at quiet deeper = refl
+    by false at quiet deeper =
+        let number : ℕ = number_of_last opening (changes ∷ older) in
+        let below : r < number = leb-false number r at in
+        let absent : change_of key changes ≡ None = no_change_of (change_of key changes) (quiet (lt-ltb r number below)) in
+        deeper ∙ sym (one_more opening key changes older ∙ ap (λ c. after_change number c (key_after opening key older)) absent)
+
+either_way : (b : Bool) → (b ≡ true) ⊎ (b ≡ false)
+either_way true = inl refl
+either_way false = inr refl
+
+-- the history changes a key whose modification revision is another one than it was
+changed_since : (h : History) (r : ℕ) (key : List ℕ) → mod_of (key_now h key) ≢ mod_of (key_at h key r) → IsChangedAbove h r key
+changed_since h r key other = by (changes_above h.opening r key h.revisions) refl
+  where
+    by : (b : Bool) → changes_above h.opening r key h.revisions ≡ b → b ≡ true
+    by true e = refl
+    by false e = absurd (other (ap mod_of (sym (unchanged_above h.opening r key h.revisions e))))
+
+-- ---- a key is modified at most where it is looked at
+
+mod_of_small : (n : ℕ) (s : Option KeyState) → IfSome s (λ k. k.mod_rev ≤ n) → mod_of s ≤ n
+mod_of_small n None small = omega arith
+mod_of_small n (Some s) small = small
+
+weaker_small : (h : History) (n : ℕ) (s : Option KeyState) →
+    IfSome s (λ s. (s.version ≤ length h.revisions) × (s.mod_rev ≤ n) × (s.create_rev ≤ s.mod_rev) × (h.opening + 1 ≤ s.create_rev)) →
+    IfSome s (λ k. k.mod_rev ≤ n)
+weaker_small h n None small = small
+weaker_small h n (Some s) small = small.1
+
+mod_now_small : (h : History) (key : List ℕ) → mod_of (key_now h key) ≤ now h
+mod_now_small h key =
+    let last : key_at h key (now h) ≡ key_now h key = last_revision_is_now h key (now h) (omega arith) in
+    subst (λ (s : Option KeyState). mod_of s ≤ now h) last
+    (mod_of_small (now h) (key_at h key (now h)) (weaker_small h (now h) (key_at h key (now h)) (numbers_stay_small h key (now h))))
+
+pub mod_at_small : (opening r : ℕ) (key : List ℕ) (revisions : List (List Change)) →
+    mod_of (key_after opening key (revisions_up_to opening r revisions)) ≤ r
+mod_at_small opening r key [] = omega arith
+mod_at_small opening r key (changes ∷ older) =
+    by (nat_le (number_of_last opening (changes ∷ older)) r) refl (mod_at_small opening r key older)
+  where
+    by : (b : Bool) → nat_le (number_of_last opening (changes ∷ older)) r ≡ b →
+        mod_of (key_after opening key (revisions_up_to opening r older)) ≤ r →
+        mod_of (key_after opening key (cond b (changes ∷ older) (revisions_up_to opening r older))) ≤ r
+    by true at deeper =
+        let within : number_of_last opening (changes ∷ older) ≤ r = leb-true (number_of_last opening (changes ∷ older)) r at in
+        let small : mod_of (key_after opening key (changes ∷ older)) ≤ number_of_last opening (changes ∷ older) =
+        mod_now_small (record { opening = opening; revisions = changes ∷ older }) key in
+        omega (arith, within, small)
+    by false at deeper = deeper
+
+-- the history changes a key above a revision that its modification revision is above
+modified_above : (h : History) (r : ℕ) (key : List ℕ) → r < mod_of (key_now h key) → IsChangedAbove h r key
+modified_above h r key above = changed_since h r key (λ same.
+    let small : mod_of (key_at h key r) ≤ r = mod_at_small h.opening r key h.revisions in
+    let here : mod_of (key_now h key) ≤ r = subst (λ n. n ≤ r) (sym same) small in
+    absurd (omega (arith, above, here)))
+
+-- ---- what a compare at a place is about
+
+-- a compare of a key read, at its place
+record IsOfRead (h : History) (c : Compare) (seen : Option Seen) : Type 0 where
+  answer : ReadAnswer
+  is_true : IsTrueAnswer h answer
+  compares : c ≡ is_as_read answer
+  stands : seen ≡ Some (seen_of_read answer)
+
+record IsOfWrite (first : ℕ) (c : Compare) (seen : Option Seen) : Type 0 where
+  write : Write
+  compares : c ≡ is_unmodified first write
+  stands : seen ≡ Some (seen_of_write first write)
+
+of_write : (first : ℕ) (ws : List Write) (i : ℕ) (c : Compare) → slice_get (map (is_unmodified first) ws) i ≡ Some c →
+    IsOfWrite first c (slice_get (map (seen_of_write first) ws) i)
+of_write first [] i c at = absurd (cc)
+of_write first (w ∷ ws) zero c at = record { write = w; compares = same_Some c (is_unmodified first w) (sym at); stands = refl }
+of_write first (w ∷ ws) (suc i) c at = of_write first ws i c at
+
+of_either : (h : History) (first : ℕ) (reads : List ReadAnswer) (ws : List Write) (i : ℕ) (c : Compare) → AreTrue h reads →
+    slice_get (map is_as_read reads ++ map (is_unmodified first) ws) i ≡ Some c →
+    IsOfRead h c (slice_get (map seen_of_read reads ++ map (seen_of_write first) ws) i)
+    ⊎ IsOfWrite first c (slice_get (map seen_of_read reads ++ map (seen_of_write first) ws) i)
+of_either h first [] ws i c t at = inr (of_write first ws i c at)
+of_either h first (a ∷ reads) ws zero c t at =
+    inl (record { answer = a; is_true = t.0; compares = same_Some c (is_as_read a) (sym at); stands = refl })
+of_either h first (a ∷ reads) ws (suc i) c t at = of_either h first reads ws i c t.1 at
+
+of_read : (h : History) (reads : List ReadAnswer) (more : List Seen) (i : ℕ) (c : Compare) → AreTrue h reads →
+    slice_get (map is_as_read reads) i ≡ Some c → IsOfRead h c (slice_get (map seen_of_read reads ++ more) i)
+of_read h [] more i c t at = absurd (cc)
+of_read h (a ∷ reads) more zero c t at = record { answer = a; is_true = t.0; compares = same_Some c (is_as_read a) (sym at); stands = refl }
+of_read h (a ∷ reads) more (suc i) c t at = of_read h reads more i c t.1 at
+
+-- ---- a failed compare
+
+read_changed : (h : History) (a : ReadAnswer) → IsTrueAnswer h a → holds (is_as_read a) (key_now h a.key) ≡ false → IsChangedAbove h a.of_rev a.key
+read_changed h a t fails = changed_since h a.of_rev a.key (λ same.
+    let held : holds (is_as_read a) (key_now h a.key) ≡ true =
+    (mod_compares.equal a.key (mod_of a.kv) (key_now h a.key)).1 (same ∙ ap mod_of t.shown) in
+    absurd (cc))
+
+write_modified : (h : History) (first : ℕ) (w : Write) → holds (is_unmodified first w) (key_now h (key_of w)) ≡ false →
+    IsChangedAbove h first (key_of w)
+write_modified h first w fails = modified_above h first (key_of w) (by (nat_lt first (mod_of (key_now h (key_of w)))) refl)
+  where
+    by : (b : Bool) → nat_lt first (mod_of (key_now h (key_of w))) ≡ b → first < mod_of (key_now h (key_of w))
+    by true e = ltb-true first (mod_of (key_now h (key_of w))) e
+    by false e =
+        let within : mod_of (key_now h (key_of w)) ≤ first = ltb-false first (mod_of (key_now h (key_of w))) e in
+        let held : holds (is_unmodified first w) (key_now h (key_of w)) ≡ true =
+        (mod_compares.below (key_of w) (first + 1) (key_now h (key_of w))).1 (omega (arith, within)) in
+        absurd (cc)
+
+read_conflicts : (h : History) (reads : List ReadAnswer) (ws : List Write) (failed : FailedCompare) (c : Compare) →
+    holds c (key_now h c.key) ≡ false → failed.mod_rev ≡ mod_of (key_now h c.key) → IsOfRead h c (slice_get (seen_by reads ws) failed.index) →
+    IsConflict h reads ws failed
+read_conflicts h reads ws failed c fails told of = record {
+  seen = seen_of_read of.answer;
+  about = of.stands;
+  told = subst (λ (d : Compare). failed.mod_rev ≡ mod_of (key_now h d.key)) of.compares told;
+  changed = read_changed h of.answer of.is_true (subst (λ (d : Compare). holds d (key_now h d.key) ≡ false) of.compares fails);
+}
+
+write_conflicts : (h : History) (reads : List ReadAnswer) (ws : List Write) (failed : FailedCompare) (c : Compare) →
+    holds c (key_now h c.key) ≡ false → failed.mod_rev ≡ mod_of (key_now h c.key) →
+    IsOfWrite (first_carried reads) c (slice_get (seen_by reads ws) failed.index) → IsConflict h reads ws failed
+write_conflicts h reads ws failed c fails told of = record {
+  seen = seen_of_write (first_carried reads) of.write;
+  about = of.stands;
+  told = subst (λ (d : Compare). failed.mod_rev ≡ mod_of (key_now h d.key)) of.compares told;
+  changed = write_modified h (first_carried reads) of.write (subst (λ (d : Compare). holds d (key_now h d.key) ≡ false) of.compares fails);
+}
+
+either_conflicts : (h : History) (reads : List ReadAnswer) (ws : List Write) (failed : FailedCompare) (c : Compare) →
+    holds c (key_now h c.key) ≡ false → failed.mod_rev ≡ mod_of (key_now h c.key) →
+    IsOfRead h c (slice_get (seen_by reads ws) failed.index) ⊎ IsOfWrite (first_carried reads) c (slice_get (seen_by reads ws) failed.index) →
+    IsConflict h reads ws failed
+either_conflicts h reads ws failed c fails told (inl of) = read_conflicts h reads ws failed c fails told of
+either_conflicts h reads ws failed c fails told (inr of) = write_conflicts h reads ws failed c fails told of
+
+reads_conflict : (h : History) (reads : List ReadAnswer) (ws : List Write) (failed : FailedCompare) → AreTrue h reads →
+    FailsAt (key_now h) (map is_as_read reads) failed → IsConflict h reads ws failed
+reads_conflict h reads ws failed t f =
+    read_conflicts h reads ws failed f.compare f.fails f.told
+    (of_read h reads (map (seen_of_write (first_carried reads)) ws) failed.index f.compare t f.stands)
+
+pub failed_compares_conflict : FailedComparesConflict
+failed_compares_conflict h SerializableSnapshot reads writes failed t found =
+    let f = failed_has_its_place (key_now h) (compares_of SerializableSnapshot reads writes) failed found in
+    either_conflicts h reads writes failed f.compare f.fails f.told
+    (of_either h (first_carried reads) reads writes failed.index f.compare t f.stands)
+failed_compares_conflict h Serializable reads writes failed t found =
+    reads_conflict h reads writes failed t (failed_has_its_place (key_now h) (map is_as_read reads) failed found)
+failed_compares_conflict h RepeatableReads reads writes failed t found =
+    reads_conflict h reads writes failed t (failed_has_its_place (key_now h) (map is_as_read reads) failed found)
+failed_compares_conflict h ReadCommitted reads writes failed t found = absurd (cc)

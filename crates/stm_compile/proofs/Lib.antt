@@ -1,0 +1,6 @@
+pub mod AnswerLemmas
+pub mod BufferLemmas
+pub mod AgreeLemmas
+pub mod OutcomeLemmas
+pub mod ConflictLemmas
+pub mod WorkedExamples

@@ -1,0 +1,261 @@
+-- What a commit's transaction comes to.
+use Rattle.std.proofs.Common.{◌≡◌, ℕ, ◌+◌, ◌<◌, List, [], ◌∷◌, ◌++◌, map, filter, length, Bool, true, false, cond, Option, None, Some, Err}
+use Rattle.std.proofs.Common.{refl, sym, ◌∙◌, ap, subst, arith, length-append}
+use Rattle.std.proofs.lemmas.List.{length-map}
+use Rattle.std.proofs.lemmas.Bool.{lt-ltb, ltb-true}
+use Rattle.std.specs.Prelude.{bytes_eq, nat_lt, ◌||◌}
+use Rattle.std.specs.List.{IsDistinct, AllByRecursion}
+use Rattle.std.proofs.lemmas.List.Elements.{recursion_from_All}
+use Rattle.stm_history.specs.declared.change.Change.{Change}
+use Rattle.stm_history.specs.declared.key_state.ReadAnswer.{ReadAnswer}
+use Rattle.stm_history.specs.History.{History, now, key_now, key_of as changed_key, change_of, HasDistinctKeys}
+use Rattle.stm_history.proofs.HistoryLaws.{last_revision_is_now}
+use Rattle.stm_program.specs.declared.level.Level.{Level}
+use Rattle.stm_program.specs.declared.level.Level.TheVariants.{SerializableSnapshot, Serializable, RepeatableReads, ReadCommitted}
+use Rattle.stm_program.specs.declared.write.Write.{Write}
+use Rattle.stm_program.specs.declared.write.Write.TheVariants.{Put, Del}
+use Rattle.stm_program.specs.Writes.{key_of, latest_writes}
+use Rattle.stm_program.proofs.WriteLemmas.{bytes_eq-flip}
+use Rattle.stm_program.proofs.LatestLemmas.{latest_writes-distinct}
+use Rattle.stm_meaning.specs.Writes.{changes, effect}
+use Rattle.stm_meaning.specs.declared.run.Run.{Run}
+use Rattle.stm_txn.specs.declared.txn.Compare.{Compare}
+use Rattle.stm_txn.specs.declared.answer.FailedCompare.{FailedCompare}
+use Rattle.stm_txn.specs.declared.answer.OpAnswer.TheVariants.{Get as GetAnswer}
+use Rattle.stm_txn.specs.declared.refusal.Refusal.{Refusal}
+use Rattle.stm_txn.specs.declared.refusal.Refusal.TheVariants.{TooManyOps}
+use Rattle.stm_txn.specs.Checks.{most_operations, has_too_many, fault_of}
+use Rattle.stm_txn.specs.Effect.{op_of, changes_something}
+use Rattle.stm_txn.specs.Outcome.{outcome, chosen, unless, branch_outcome}
+use Rattle.stm_txn.specs.Compares.{first_failed}
+use Rattle.stm_txn.specs.Commits.{read_now, AreNamed, effective, shown, reads_now}
+use Rattle.stm_txn.proofs.Applying.{writes_apply, failed_compare_reads, number_alone_is_wrong}
+use Rattle.stm_compile.specs.Answers.{answer_now}
+use Rattle.stm_compile.specs.Now.{as_change, is_present}
+use Rattle.stm_compile.specs.CommitTxn.{first_carried, is_as_read, is_unmodified, compares_of, write_op, reread_keys, commit_of}
+use Rattle.stm_compile.specs.Committed.{compared, sends_too_many, conflict_now, judged}
+use Rattle.stm_compile.specs.Laws.{CommitComesTo, AppliedIsEffect, FailedCommitRereads}
+use Rattle.stm_compile.proofs.AgreeLemmas.{now_are_true}
+
+-- ---- writes as changes
+
+pub key_of-as_change : (w : Write) → changed_key (as_change w) ≡ key_of w
+key_of-as_change (Put key value lease) = refl
+key_of-as_change (Del key) = refl
+
+op_of-as_change : (w : Write) → write_op w ≡ op_of (as_change w)
+op_of-as_change (Put key value lease) = refl
+op_of-as_change (Del key) = refl
+
+ops_of_writes : (ws : List Write) → map write_op ws ≡ map op_of (map as_change ws)
+ops_of_writes [] = refl
+ops_of_writes (w ∷ ws) = ap (λ o. o ∷ map write_op ws) (op_of-as_change w) ∙ ap (λ l. op_of (as_change w) ∷ l) (ops_of_writes ws)
+
+other_by : (b : Bool) (c : Change) (rest : Option Change) → b ≡ false → rest ≡ None → cond b (Some c) rest ≡ None
+other_by true c rest p e = absurd (cc)
+other_by false c rest p e = e
+
+-- a key of which there is no write has no change
+no_change : (key : List ℕ) (ws : List Write) → AllByRecursion (λ l. bytes_eq key l ≡ false) (map key_of ws) → change_of key (map as_change ws) ≡ None
+no_change key [] others = refl
+no_change key (w ∷ ws) others =
+    other_by (bytes_eq (changed_key (as_change w)) key) (as_change w) (change_of key (map as_change ws))
+    (ap (λ k. bytes_eq k key) (key_of-as_change w) ∙ bytes_eq-flip (key_of w) key ∙ others.0) (no_change key ws others.1)
+
+pub changes_are_distinct : (ws : List Write) → IsDistinct bytes_eq (map key_of ws) → HasDistinctKeys (map as_change ws)
+unfolding IsDistinct
+changes_are_distinct [] distinct = tt
+changes_are_distinct (w ∷ ws) distinct =
+    (ap (λ k. change_of k (map as_change ws)) (key_of-as_change w) ∙ no_change (key_of w) ws distinct.0, changes_are_distinct ws distinct.1)
+
+-- ---- what is applied is the effect
+
+changes-as_change : (h : History) (w : Write) → changes_something (key_now h) (as_change w) ≡ changes (is_present h) w
+changes-as_change h (Put key value lease) = refl
+changes-as_change h (Del key) = refl
+
+map-cond : (b : Bool) (w : Write) (ws : List Write) → cond b (as_change w ∷ map as_change ws) (map as_change ws) ≡ map as_change (cond b (w ∷ ws) ws)
+map-cond true w ws = refl
+map-cond false w ws = refl
+
+effective_is_effect : (h : History) (ws : List Write) → effective h (map as_change ws) ≡ map as_change (filter (changes (is_present h)) ws)
+effective_is_effect h [] = refl
+effective_is_effect h (w ∷ ws) =
+    ap (λ b. cond b (as_change w ∷ effective h (map as_change ws)) (effective h (map as_change ws))) (changes-as_change h w)
+    ∙ ap (λ l. cond (changes (is_present h) w) (as_change w ∷ l) l) (effective_is_effect h ws)
+    ∙ map-cond (changes (is_present h) w) w (filter (changes (is_present h)) ws)
+
+pub applied_is_effect : AppliedIsEffect
+unfolding effect
+applied_is_effect h writes = effective_is_effect h (latest_writes writes)
+
+-- ---- names
+
+named_writes : (ws : List Write) → AllByRecursion (λ w. 0 < length (key_of w)) ws → AreNamed (map changed_key (map as_change ws))
+named_writes [] named = tt
+named_writes (w ∷ ws) named = (subst (λ k. 0 < length k) (sym (key_of-as_change w)) named.0, named_writes ws named.1)
+
+named_reads : (reads : List ReadAnswer) → AllByRecursion (λ (a : ReadAnswer). 0 < length a.key) reads → AreNamed (map (λ (a : ReadAnswer). a.key) reads)
+named_reads [] named = tt
+named_reads (a ∷ reads) named = (named.0, named_reads reads named.1)
+
+named_compares : (reads : List ReadAnswer) (others : List Compare) → AllByRecursion (λ (a : ReadAnswer). 0 < length a.key) reads →
+    AreNamed (map (λ (c : Compare). c.key) others) → AreNamed (map (λ (c : Compare). c.key) (map is_as_read reads ++ others))
+named_compares [] others named rest = rest
+named_compares (a ∷ reads) others named rest = (named.0, named_compares reads others named.1 rest)
+
+named_read_compares : (reads : List ReadAnswer) → AllByRecursion (λ (a : ReadAnswer). 0 < length a.key) reads →
+    AreNamed (map (λ (c : Compare). c.key) (map is_as_read reads))
+named_read_compares [] named = tt
+named_read_compares (a ∷ reads) named = (named.0, named_read_compares reads named.1)
+
+named_write_compares : (first : ℕ) (ws : List Write) → AllByRecursion (λ w. 0 < length (key_of w)) ws →
+    AreNamed (map (λ (c : Compare). c.key) (map (is_unmodified first) ws))
+named_write_compares first [] named = tt
+named_write_compares first (w ∷ ws) named = (named.0, named_write_compares first ws named.1)
+
+compares_are_named : (level : Level) (reads : List ReadAnswer) (ws : List Write) → AllByRecursion (λ (a : ReadAnswer). 0 < length a.key) reads →
+    AllByRecursion (λ w. 0 < length (key_of w)) ws → AreNamed (map (λ (c : Compare). c.key) (compares_of level reads ws))
+compares_are_named SerializableSnapshot reads ws reads_named writes_named =
+    named_compares reads (map (is_unmodified (first_carried reads)) ws) reads_named (named_write_compares (first_carried reads) ws writes_named)
+compares_are_named Serializable reads ws reads_named writes_named = named_read_compares reads reads_named
+compares_are_named RepeatableReads reads ws reads_named writes_named = named_read_compares reads reads_named
+compares_are_named ReadCommitted reads ws reads_named writes_named = tt
+
+rereads_are_named : (level : Level) (reads : List ReadAnswer) → AllByRecursion (λ (a : ReadAnswer). 0 < length a.key) reads →
+    AreNamed (reread_keys level reads)
+rereads_are_named SerializableSnapshot reads named = named_reads reads named
+rereads_are_named Serializable reads named = named_reads reads named
+rereads_are_named RepeatableReads reads named = tt
+rereads_are_named ReadCommitted reads named = tt
+
+-- ---- numbers
+
+is_above : ℕ → Bool
+is_above n = nat_lt most_operations n
+
+-- more compares or more writes, by the numbers of compares, writes and reads of a failure list
+too_many_by : ℕ → ℕ → ℕ → Bool
+too_many_by compares writes rereads = is_above compares || is_above writes || is_above rereads
+
+same_too : (a b : Bool) → (a || b || a) ≡ (a || b)
+same_too true true = refl
+same_too true false = refl
+same_too false true = refl
+same_too false false = refl
+
+none_too : (a b : Bool) → (a || b || false) ≡ (a || b)
+none_too true true = refl
+none_too true false = refl
+none_too false true = refl
+none_too false false = refl
+
+third_within : (a b c : Bool) → (c ≡ true → a ≡ true) → (a || b || c) ≡ (a || b)
+third_within true true c within = refl
+third_within true false c within = refl
+third_within false true c within = refl
+third_within false false true within = absurd (let e : false ≡ true = within refl in cc)
+third_within false false false within = refl
+
+sum_is_above : (m n : ℕ) → is_above m ≡ true → is_above (m + n) ≡ true
+unfolding is_above
+sum_is_above m n above = lt-ltb most_operations (m + n) (let more : 128 < m = ltb-true most_operations m above in omega arith)
+
+-- how many reads a failure list has
+rereads : Level → ℕ → ℕ
+rereads SerializableSnapshot n = n
+rereads Serializable n = n
+rereads RepeatableReads n = 0
+rereads ReadCommitted n = 0
+
+length_of_compares : (level : Level) (reads : List ReadAnswer) (ws : List Write) →
+    length (compares_of level reads ws) ≡ compared level (length reads) (length ws)
+length_of_compares SerializableSnapshot reads ws =
+    length-append (map is_as_read reads) (map (is_unmodified (first_carried reads)) ws)
+    ∙ ap (λ n. n + length (map (is_unmodified (first_carried reads)) ws)) (length-map reads is_as_read)
+    ∙ ap (λ n. length reads + n) (length-map ws (is_unmodified (first_carried reads)))
+length_of_compares Serializable reads ws = length-map reads is_as_read
+length_of_compares RepeatableReads reads ws = length-map reads is_as_read
+length_of_compares ReadCommitted reads ws = refl
+
+length_of_rereads : (level : Level) (reads : List ReadAnswer) → length (reread_keys level reads) ≡ rereads level (length reads)
+unfolding rereads
+length_of_rereads SerializableSnapshot reads = length-map reads (λ (a : ReadAnswer). a.key)
+length_of_rereads Serializable reads = length-map reads (λ (a : ReadAnswer). a.key)
+length_of_rereads RepeatableReads reads = refl
+length_of_rereads ReadCommitted reads = refl
+
+by_level : (level : Level) (reads writes : ℕ) → too_many_by (compared level reads writes) writes (rereads level reads)
+    ≡ (is_above (compared level reads writes) || is_above writes)
+unfolding rereads too_many_by is_above
+by_level SerializableSnapshot reads writes = third_within (is_above (reads + writes)) (is_above writes) (is_above reads) (sum_is_above reads writes)
+by_level Serializable reads writes = same_too (is_above reads) (is_above writes)
+by_level RepeatableReads reads writes = none_too (is_above reads) (is_above writes)
+by_level ReadCommitted reads writes = none_too false (is_above writes)
+
+pub too_many_is : (level : Level) (reads : List ReadAnswer) (ws : List Write) → has_too_many (commit_of level reads ws) ≡ sends_too_many level reads ws
+unfolding too_many_by is_above
+too_many_is level reads ws =
+    ap (λ n. is_above n || is_above (length (map write_op ws)) || is_above (length (map read_now (reread_keys level reads))))
+    (length_of_compares level reads ws)
+    ∙ ap (λ n. is_above (compared level (length reads) (length ws)) || is_above n || is_above (length (map read_now (reread_keys level reads))))
+    (length-map ws write_op)
+    ∙ ap (λ n. is_above (compared level (length reads) (length ws)) || is_above (length ws) || is_above n)
+    (length-map (reread_keys level reads) read_now ∙ length_of_rereads level reads)
+    ∙ by_level level (length reads) (length ws)
+
+-- ---- the outcome
+
+-- nothing of the whole transaction is wrong but its number
+fault_is : (level : Level) (reads : List ReadAnswer) (ws : List Write) → IsDistinct bytes_eq (map key_of ws) →
+    AllByRecursion (λ (a : ReadAnswer). 0 < length a.key) reads → AllByRecursion (λ w. 0 < length (key_of w)) ws →
+    fault_of (commit_of level reads ws) ≡ cond (sends_too_many level reads ws) (Some TooManyOps) None
+fault_is level reads ws distinct reads_named writes_named =
+    number_alone_is_wrong (commit_of level reads ws) (map as_change ws) (reread_keys level reads) (ops_of_writes ws) refl
+    (changes_are_distinct ws distinct) (compares_are_named level reads ws reads_named writes_named) (named_writes ws writes_named)
+    (rereads_are_named level reads reads_named)
+    ∙ ap (λ b. cond b (Some TooManyOps) None) (too_many_is level reads ws)
+
+judged_is : (h : History) (is_live : ℕ → Bool) (level : Level) (reads : List ReadAnswer) (run : Run) (failed : Option FailedCompare) →
+    fault_of (commit_of level reads (latest_writes run.writes)) ≡ None → conflict_now h level reads (latest_writes run.writes) ≡ failed →
+    outcome h is_live (commit_of level reads (latest_writes run.writes)) ≡ judged h is_live level reads run failed
+judged_is h is_live level reads run None right found =
+    writes_apply h is_live (commit_of level reads (latest_writes run.writes)) (map as_change (latest_writes run.writes))
+    (ops_of_writes (latest_writes run.writes)) (changes_are_distinct (latest_writes run.writes) (latest_writes-distinct run.writes)) right found
+judged_is h is_live level reads run (Some failed) right found =
+    failed_compare_reads h is_live (commit_of level reads (latest_writes run.writes)) (reread_keys level reads) failed refl right found
+
+committed_by : (h : History) (is_live : ℕ → Bool) (level : Level) (reads : List ReadAnswer) (run : Run) (b : Bool) →
+    fault_of (commit_of level reads (latest_writes run.writes)) ≡ cond b (Some TooManyOps) None →
+    outcome h is_live (commit_of level reads (latest_writes run.writes))
+    ≡ cond b (Err TooManyOps) (judged h is_live level reads run (conflict_now h level reads (latest_writes run.writes)))
+committed_by h is_live level reads run true fault =
+    let txn = commit_of level reads (latest_writes run.writes) in
+    let failed : Option FailedCompare = first_failed (key_now h) 0 txn.compares in
+    ap (λ (f : Option Refusal). unless f (branch_outcome h is_live failed (chosen failed txn))) fault
+committed_by h is_live level reads run false fault =
+    judged_is h is_live level reads run (conflict_now h level reads (latest_writes run.writes)) fault refl
+
+pub commit_comes_to : CommitComesTo
+commit_comes_to h is_live level reads run reads_named writes_named =
+    let ws = latest_writes run.writes in
+    committed_by h is_live level reads run (sends_too_many level reads ws)
+    (fault_is level reads ws (latest_writes-distinct run.writes)
+    (recursion_from_All (λ (a : ReadAnswer). 0 < length a.key) reads reads_named)
+    (recursion_from_All (λ w. 0 < length (key_of w)) ws writes_named))
+
+-- ---- what a failed commit tells
+
+shown_now : (h : History) (keys : List (List ℕ)) → map (shown h) (reads_now keys) ≡ map (λ a. GetAnswer a) (map (answer_now h) keys)
+shown_now h [] = refl
+shown_now h (key ∷ keys) =
+    ap (λ kv. GetAnswer (record { key = key; kv = kv; of_rev = now h; revision = now h }) ∷ map (shown h) (reads_now keys))
+    (last_revision_is_now h key (now h) (omega arith))
+    ∙ ap (λ l. GetAnswer (answer_now h key) ∷ l) (shown_now h keys)
+
+pub failed_commit_rereads : FailedCommitRereads
+failed_commit_rereads h level reads failed = record {
+  told = shown_now h (reread_keys level reads);
+  true_now = now_are_true h (reread_keys level reads);
+  unchanged = refl;
+}

@@ -1,0 +1,11 @@
+use Rattle.std.proofs.Common.{rules, ◌≡◌, ◌∙◌, ap, map}
+use Rattle.std.specs.Map.Iter.{deref}
+use Rattle.std.proofs.lemmas.Map.Iter.{iter_end}
+use Rattle.stm_compile.specs.CommitTxn.{is_unmodified}
+use Rattle.stm_compile.proofs.commit.write_compares.Goals as goal
+
+-- all the writes were gone over
+pub returns : goal.returns
+returns c =
+    let all : map deref c.loop-write.yielded ≡ c.args.writes.now = search (rules, iter_end) in
+    c.loop-write.invariant ∙ ap (map (is_unmodified c.args.first)) all

@@ -1,0 +1,179 @@
+//! The transaction that commits an attempt.
+ghost use Rattle.std.specs.Prelude.{◌≡◌, ◌≤◌, ◌++◌, map, IfOk};
+ghost use Rattle.stm_history.specs.declared.key_state.ReadAnswer.{ReadAnswer as Answer};
+ghost use Rattle.stm_history.specs.declared.revisions.TheConstants.{HIGHEST_NUMBER};
+ghost use Rattle.stm_txn.specs.Commits.{read_now};
+ghost use Rattle.stm_compile.specs.CommitTxn.{first_carried, is_as_read, is_unmodified, compares_of, write_op, reread_keys, commit_of};
+
+use crate::read_set::{ReadSet, mod_rev_in};
+use crate::write_buffer::WriteBuffer;
+use std::alloc::{AllocError, Global};
+use stm_history::{ReadAnswer, Text};
+use stm_program::{Level, Write};
+use stm_txn::{Compare, Op, Order, ShortList, Target, Txn};
+
+/// "The key is as it was read", an absent one too: by its modification revision.
+fn as_read(answer: &ReadAnswer) -> Result<Compare, AllocError>
+    ensures { IfOk result (λ compare. compare ≡ is_as_read answer.now) }
+{
+    let key = answer.key.clone()?;
+    Ok(Compare {
+        key,
+        target: Target::Mod(mod_rev_in(&answer.kv)),
+        order: Order::Equal,
+    })
+}
+
+/// "The written key was not modified above `first`."
+fn unmodified(alloc: Global, first: u64, write: &Write) -> Result<Compare, AllocError>
+    requires { first ≤ HIGHEST_NUMBER }
+    ensures { IfOk result (λ compare. compare ≡ is_unmodified first write.now) }
+{
+    let key = Text::copy_of(alloc, write.key())?;
+    Ok(Compare {
+        key,
+        target: Target::Mod(first + 1),
+        order: Order::Less,
+    })
+}
+
+/// The compares of the keys that were read.
+fn read_compares(alloc: Global, answers: &[ReadAnswer]) -> Result<Vec<Compare>, AllocError>
+    ensures { IfOk result (λ compares. compares.items ≡ map is_as_read answers.now) }
+{
+    let mut compares = Vec::with_capacity(alloc, answers.len())?;
+    for answer in answers {
+        compares.push(as_read(answer)?)?;
+    }
+    Ok(compares)
+}
+
+/// The compares of the keys that were written.
+fn write_compares(
+    alloc: Global,
+    first: u64,
+    writes: &WriteBuffer,
+) -> Result<Vec<Compare>, AllocError>
+    requires { first ≤ HIGHEST_NUMBER }
+    ensures { IfOk result (λ compares. compares.items ≡ map (is_unmodified first) writes.now) }
+{
+    let mut compares = Vec::with_capacity(alloc, writes.len())?;
+    for write in writes.values() {
+        compares.push(unmodified(alloc, first, write)?)?;
+    }
+    Ok(compares)
+}
+
+/// The compares of the keys that were read, and those of the keys that were written.
+fn all_compares(
+    alloc: Global,
+    reads: &ReadSet,
+    writes: &WriteBuffer,
+) -> Result<Vec<Compare>, AllocError>
+    ensures { IfOk result (λ compares. compares.items ≡ map is_as_read reads.now ++ map (is_unmodified (first_carried reads.now)) writes.now) }
+{
+    let mut compares = read_compares(alloc, reads.as_slice())?;
+    let mut written = write_compares(alloc, reads.first_carried(), writes)?;
+    compares.append(&mut written)?;
+    Ok(compares)
+}
+
+/// What a commit compares, at each level.
+fn compares(
+    alloc: Global,
+    level: Level,
+    reads: &ReadSet,
+    writes: &WriteBuffer,
+) -> Result<Vec<Compare>, AllocError>
+    ensures { IfOk result (λ compares. compares.items ≡ compares_of level reads.now writes.now) }
+{
+    match level {
+        Level::SerializableSnapshot => all_compares(alloc, reads, writes),
+        Level::Serializable => read_compares(alloc, reads.as_slice()),
+        Level::RepeatableReads => read_compares(alloc, reads.as_slice()),
+        Level::ReadCommitted => Ok(Vec::new(alloc)),
+    }
+}
+
+/// A write, as an operation.
+fn operation(write: &Write) -> Result<Op, AllocError>
+    ensures { IfOk result (λ op. op ≡ write_op write.now) }
+{
+    match write {
+        Write::Put { key, value, lease } => {
+            let key = key.clone()?;
+            let value = value.clone()?;
+            Ok(Op::Put {
+                key,
+                value,
+                lease: *lease,
+            })
+        }
+        Write::Del { key } => {
+            let key = key.clone()?;
+            Ok(Op::Del { key })
+        }
+    }
+}
+
+/// The writes, as operations.
+fn operations(alloc: Global, writes: &WriteBuffer) -> Result<Vec<Op>, AllocError>
+    ensures { IfOk result (λ ops. ops.items ≡ map write_op writes.now) }
+{
+    let mut ops = Vec::with_capacity(alloc, writes.len())?;
+    for write in writes.values() {
+        ops.push(operation(write)?)?;
+    }
+    Ok(ops)
+}
+
+/// Reads of the keys that were read, as they are when the commit has failed.
+fn reads_again(alloc: Global, answers: &[ReadAnswer]) -> Result<Vec<Op>, AllocError>
+    ensures { IfOk result (λ ops. ops.items ≡ map read_now (map (λ (a : Answer). a.key) answers.now)) }
+{
+    let mut ops = Vec::with_capacity(alloc, answers.len())?;
+    for answer in answers {
+        let key = answer.key.clone()?;
+        ops.push(Op::Get { key, rev: 0 })?;
+    }
+    Ok(ops)
+}
+
+/// What a failed commit reads again, at each level.
+fn rereads(alloc: Global, level: Level, reads: &ReadSet) -> Result<Vec<Op>, AllocError>
+    ensures { IfOk result (λ ops. ops.items ≡ map read_now (reread_keys level reads.now)) }
+{
+    match level {
+        Level::SerializableSnapshot => reads_again(alloc, reads.as_slice()),
+        Level::Serializable => reads_again(alloc, reads.as_slice()),
+        Level::RepeatableReads => Ok(Vec::new(alloc)),
+        Level::ReadCommitted => Ok(Vec::new(alloc)),
+    }
+}
+
+/// The transaction that commits what an attempt has read and written, at a level.
+///
+/// It compares, in this order: each key read, whose modification revision has to be the one that was read
+/// (0 where it was absent); and, at `SerializableSnapshot`, each key written, which may not be modified
+/// above the least revision that the answers carry. At `ReadCommitted` it compares nothing. Its success list
+/// has the writes in the order of first writes. At the two serializable levels its failure list reads each
+/// key of the read set again; at the other two it is empty. (`clientv3/concurrency`, "STM".)
+///
+/// The one refusal is want of memory.
+pub fn compile(
+    alloc: Global,
+    level: Level,
+    reads: &ReadSet,
+    writes: &WriteBuffer,
+) -> Result<Txn, AllocError>
+    ensures { IfOk result (λ txn. txn ≡ commit_of level reads.now writes.now) }
+{
+    let compares = compares(alloc, level, reads, writes)?;
+    let success = operations(alloc, writes)?;
+    let failure = rereads(alloc, level, reads)?;
+    Ok(Txn {
+        compares: ShortList::of(compares),
+        success: ShortList::of(success),
+        failure: ShortList::of(failure),
+    })
+}

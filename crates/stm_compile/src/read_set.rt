@@ -1,0 +1,188 @@
+//! What an attempt has read.
+ghost use Rattle.std.specs.Prelude.{◌≡◌, ℕ, List, ◌<◌, ◌≤◌, fold, min, [], ◌∷◌, ◌++◌, length, slice_get, option_copied, OnOk, OnErr, IfOk, IfSome, Some};
+ghost use Rattle.indexmap.specs.IndexMap.{get_by_text};
+ghost use Rattle.stm_history.specs.History.{value_of, mod_of};
+ghost use Rattle.stm_history.specs.declared.key_state.ReadAnswer.{ReadAnswer as Answer};
+ghost use Rattle.stm_history.specs.declared.revisions.TheConstants.{HIGHEST_NUMBER};
+ghost use Rattle.stm_txn.specs.Numbers.{ReadFits};
+ghost use Rattle.stm_compile.specs.Answers.{answer_in, look_up};
+ghost use Rattle.stm_compile.specs.CommitTxn.{first_carried as first_of};
+
+use indexmap::IndexMap;
+use std::alloc::{AllocError, Global};
+use std::marker::Model;
+use stm_history::{HIGHEST_REVISION, KeyState, ReadAnswer};
+use stm_meaning::Lookup;
+
+/// The answers that an attempt has read, one for each key, in the order of first reads. Contracts see the
+/// list of them.
+///
+/// Beside it stands an index from each key to the place of its answer, so that a look-up is no search. (The
+/// read set of the Go package `clientv3/concurrency`, which keeps no order.)
+#[derive(Debug, Drop)]
+pub struct ReadSet {
+    answers: Vec<ReadAnswer>,
+    places: IndexMap<String, usize>,
+}
+
+impl Model for ReadSet {
+    ghost use Rattle.std.specs.Prelude.{List, All};
+    ghost use Rattle.indexmap.specs.IndexMap.{get_by_text};
+    ghost use Rattle.stm_history.specs.declared.key_state.ReadAnswer.{ReadAnswer};
+    ghost use Rattle.stm_txn.specs.Numbers.{ReadFits};
+    ghost use Rattle.stm_compile.specs.Places.{AreAnswerPlaces};
+
+    ghost Value = { List ReadAnswer };
+
+    ghost view = { λ s. s.answers.items };
+
+    ghost invariant = { λ s. All ReadFits s.answers.items × AreAnswerPlaces s.answers.items (get_by_text s.places) };
+}
+
+impl ReadSet {
+    /// Nothing read. It takes no memory.
+    pub fn new(alloc: Global) -> ReadSet
+        ensures { result ≡ [] }
+    {
+        ReadSet {
+            answers: Vec::new(alloc),
+            places: IndexMap::new(alloc),
+        }
+    }
+
+    /// Adds an answer at the end, of a key that has none yet. Its revisions are at most `HIGHEST_NUMBER`.
+    ///
+    /// Want of memory is its only refusal, and leaves the answers as they were.
+    pub fn add(&mut self, answer: ReadAnswer) -> Result<(), AllocError>
+        requires new_key { answer_in answer.key self.old ≡ None }
+        requires in_range { ReadFits answer }
+        ensures ok { OnOk result (self.new ≡ self.old ++ answer ∷ []) }
+        ensures err { OnErr result (self.new ≡ self.old) }
+    {
+        let key = String::from_str(*self.answers.allocator(), answer.key.as_str())?;
+        self.answers.reserve(1)?;
+        self.places.insert(key, self.answers.len())?;
+        self.answers.push_reserved(answer);
+        Ok(())
+    }
+
+    /// The number of answers.
+    pub fn len(&self) -> usize
+        ensures { result ≡ length self.now }
+    {
+        self.answers.len()
+    }
+
+    /// The answer at a place, which is below `len()`.
+    pub fn at(&self, place: usize) -> &ReadAnswer
+        requires { place < length self.now }
+        ensures answer { slice_get self.now place ≡ Some result.now }
+        ensures in_range { ReadFits result.now }
+    {
+        &self.answers[place]
+    }
+
+    /// The answer for a key, `None` where there is none.
+    pub fn get(&self, key: &str) -> Option<&ReadAnswer>
+        ensures answer { option_copied result ≡ answer_in key.now self.now }
+        ensures in_range { IfSome (option_copied result) ReadFits }
+    {
+        let place = *self.places.get(key)?;
+        Some(&self.answers[place])
+    }
+
+    /// The least store revision that the answers carry, `HIGHEST_REVISION` where nothing was read.
+    pub fn first_carried(&self) -> u64
+        ensures first { result ≡ first_of self.now }
+        ensures in_range { result ≤ HIGHEST_NUMBER }
+    {
+        match self.answers.as_slice() {
+            [] => HIGHEST_REVISION,
+            [first, others @ ..] => least_carried(first.revision, others),
+        }
+    }
+
+    /// The answers in order.
+    pub fn as_slice(&self) -> &[ReadAnswer]
+        ensures { result.now ≡ self.now }
+    {
+        self.answers.as_slice()
+    }
+}
+
+/// The least of a revision and those that these answers carry.
+fn least_carried(first: u64, answers: &[ReadAnswer]) -> u64
+    ensures { result ≡ fold (λ least (b : Answer). min least b.revision) first answers.now }
+{
+    let mut least = first;
+    for answer in answers {
+        least = least.min(answer.revision);
+    }
+    least
+}
+
+/// A copy of the answers.
+fn copy_of(answers: &Vec<ReadAnswer>) -> Result<Vec<ReadAnswer>, AllocError>
+    ensures { IfOk result (λ copy. copy.items ≡ answers.now.items) }
+{
+    let copy = answers.clone()?;
+    Ok(copy)
+}
+
+/// A copy of the index.
+fn copy_of_places(places: &IndexMap<String, usize>) -> Result<IndexMap<String, usize>, AllocError>
+    ensures { IfOk result (λ copy. (key : List ℕ) → get_by_text copy key ≡ get_by_text places.now key) }
+{
+    let copy = places.clone()?;
+    Ok(copy)
+}
+
+impl Clone for ReadSet {
+    ghost use Rattle.std.specs.Prelude.{◌≡◌};
+
+    ghost is_clone = { λ s copy. copy ≡ s };
+
+    fn clone(&self) -> Result<ReadSet, AllocError> {
+        let answers = copy_of(&self.answers)?;
+        let places = copy_of_places(&self.places)?;
+        Ok(ReadSet { answers, places })
+    }
+}
+
+impl Lookup for ReadSet {
+    ghost answers = { look_up };
+
+    fn value(&self, key: &str) -> Option<&str> {
+        match self.get(key) {
+            None => None,
+            Some(answer) => Some(value_in(&answer.kv)),
+        }
+    }
+
+    fn mod_rev(&self, key: &str) -> Option<u64> {
+        match self.get(key) {
+            None => None,
+            Some(answer) => Some(mod_rev_in(&answer.kv)),
+        }
+    }
+}
+
+/// The value of a key's state, "" where it is absent.
+fn value_in(kv: &Option<KeyState>) -> &str
+    ensures { result.now ≡ value_of kv.now }
+{
+    match kv {
+        None => "",
+        Some(state) => state.value.as_str(),
+    }
+}
+
+/// The modification revision of a key's state, 0 where it is absent.
+pub(crate) fn mod_rev_in(kv: &Option<KeyState>) -> u64
+    ensures { result ≡ mod_of kv.now }
+{
+    match kv {
+        None => 0,
+        Some(state) => state.mod_rev,
+    }
+}

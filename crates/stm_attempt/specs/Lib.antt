@@ -1,0 +1,10 @@
+pub mod Known
+pub mod Settled
+pub mod Fetches
+pub mod ReadyRun
+pub mod AttemptState
+pub mod Next
+pub mod Laws
+pub use Rattle.stm_compile.specs.Levels
+pub use Rattle.stm_compile.specs.Answers
+pub use Rattle.stm_txn.specs.Numbers

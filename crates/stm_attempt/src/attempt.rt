@@ -1,0 +1,129 @@
+//! Attempts.
+ghost use Rattle.std.specs.Prelude.{◌≡◌, true, Some, [], All, IfOk, OnOk, OnErr};
+ghost use Rattle.stm_txn.specs.Numbers.{ReadFits};
+ghost use Rattle.stm_compile.specs.Levels.{is_serializable};
+ghost use Rattle.stm_attempt.specs.Known.{HaveDistinctKeys};
+ghost use Rattle.stm_attempt.specs.Fetches.{ShowOneRevision};
+
+use crate::after_run::go_on;
+use crate::next::Next;
+use std::alloc::{AllocError, Global};
+use std::marker::Model;
+use stm_compile::ReadSet;
+use stm_history::{ReadAnswer, Sequence};
+use stm_program::{Level, Program};
+
+/// An attempt at running one program and committing it.
+///
+/// Contracts see its program (`None` before the first `advance` that was not refused), its level, what it has
+/// read, and what was prefetched for it.
+#[derive(Debug, Drop)]
+pub struct Attempt {
+    program: Option<Program>,
+    level: Level,
+    reads: ReadSet,
+    prefetched: ReadSet,
+    alloc: Global,
+}
+
+impl Model for Attempt {
+    ghost use Rattle.std.specs.Coded.{codes};
+    ghost use Rattle.stm_program.specs.Coding.{coded_program};
+    ghost use Rattle.stm_attempt.specs.Known.{HaveDistinctKeys};
+    ghost use Rattle.stm_attempt.specs.AttemptState.{AttemptState};
+
+    ghost Value = { AttemptState };
+
+    ghost coded = { Prim.hlevel (codes, coded_program) };
+
+    ghost view = { λ a. record { program = a.program; level = a.level; known = record { reads = a.reads; prefetched = a.prefetched } } };
+
+    ghost invariant = { λ a. HaveDistinctKeys a.prefetched };
+}
+
+impl Attempt {
+    ghost use Rattle.stm_attempt.specs.AttemptState.{begun, IsOf, advanced, supplied, awaited};
+    ghost use Rattle.stm_attempt.specs.Next.{next_of, key_asked};
+
+    /// An attempt that has read nothing.
+    fn begin(alloc: Global, level: Level, prefetched: ReadSet) -> Attempt
+        requires { HaveDistinctKeys prefetched }
+        ensures { result ≡ begun level prefetched }
+    {
+        Attempt {
+            program: None,
+            level,
+            reads: ReadSet::new(alloc),
+            prefetched,
+            alloc,
+        }
+    }
+
+    /// A new attempt at this level, for which nothing was prefetched. It takes no memory.
+    pub fn new(alloc: Global, level: Level) -> Attempt
+        ensures { result ≡ begun level [] }
+    {
+        Attempt::begin(alloc, level, ReadSet::new(alloc))
+    }
+
+    /// A new attempt at a serializable level, for which these answers were prefetched: of keys that differ, and
+    /// all of one revision, as the reads of a failed commit answer them.
+    ///
+    /// They serve the attempt only where its base revision is theirs. Want of memory is the only refusal.
+    pub fn from_prefetch(
+        alloc: Global,
+        level: Level,
+        answers: Sequence<ReadAnswer>,
+    ) -> Result<Attempt, AllocError>
+        requires serializable { is_serializable level ≡ true }
+        requires distinct { HaveDistinctKeys answers }
+        requires in_range { All ReadFits answers }
+        requires one_revision { ShowOneRevision answers }
+        ensures { IfOk result (λ attempt. attempt ≡ begun level answers) }
+    {
+        let mut prefetched = ReadSet::new(alloc);
+        for answer in answers.into_vec() {
+            prefetched.add(answer)?;
+        }
+        Ok(Attempt::begin(alloc, level, prefetched))
+    }
+
+    /// Goes on with the program as far as the answers take it: to the first key that it wants and that neither an
+    /// answer nor a prefetched one has, or to its end.
+    ///
+    /// It is the same program at each call; the attempt keeps a copy from the first call that is not refused.
+    /// Repeated with nothing supplied, the call answers the same. Want of memory is the only refusal, and leaves
+    /// the attempt as it was.
+    pub fn advance(&mut self, program: &Program) -> Result<Next, AllocError>
+        requires { IsOf program.now self.old }
+        ensures next { IfOk result (λ next. next ≡ next_of program.now self.old.level self.old.known) }
+        ensures ok { OnOk result (self.new ≡ advanced program.now self.old) }
+        ensures asked { IfOk result (λ next. awaited self.new ≡ key_asked next) }
+        ensures err { OnErr result (self.new ≡ self.old) }
+    {
+        let kept = program.clone()?;
+        let done = go_on(
+            self.alloc,
+            program,
+            self.level,
+            &self.prefetched,
+            &self.reads,
+        )?;
+        self.program = Some(kept);
+        self.reads = done.reads;
+        Ok(done.next)
+    }
+
+    /// Takes the answer for the key that `advance` just asked for. Its numbers are at most `HIGHEST_NUMBER`.
+    ///
+    /// Want of memory is the only refusal, and leaves the attempt as it was; the answer is dropped.
+    pub fn supply(&mut self, answer: ReadAnswer) -> Result<(), AllocError>
+        requires asked { awaited self.old ≡ Some answer.key }
+        requires in_range { ReadFits answer }
+        ensures ok { OnOk result (self.new ≡ supplied answer self.old) }
+        ensures err { OnErr result (self.new ≡ self.old) }
+    {
+        self.reads.add(answer)?;
+        Ok(())
+    }
+}

@@ -1,0 +1,45 @@
+//! The laws of attempts. Each function does nothing: its contract is the law.
+ghost use Rattle.stm_attempt.specs.Laws.{NothingServesTheSettled, SettledIsSettled, RepeatingAnswersTheSame, WhatServesIsTaken, SettlingAddsPrefetched};
+ghost use Rattle.stm_attempt.specs.Laws.{SettlingKeepsTheBase, FetchingKeepsTheBase, ReadyIsTheRun};
+
+/// A key that an attempt wants after settling is served by no prefetched answer.
+pub fn nothing_serves_the_settled()
+    ensures { NothingServesTheSettled }
+{}
+
+/// Settled is settled.
+pub fn settled_is_settled()
+    ensures { SettledIsSettled }
+{}
+
+/// Asked again with nothing supplied, an attempt answers the same.
+pub fn repeating_answers_the_same()
+    ensures { RepeatingAnswersTheSame }
+{}
+
+/// What serves is taken, and the attempt goes on from there.
+pub fn what_serves_is_taken()
+    ensures { WhatServesIsTaken }
+{}
+
+/// The settled reads are those before, and behind them answers that were prefetched.
+pub fn settling_adds_prefetched()
+    ensures { SettlingAddsPrefetched }
+{}
+
+/// Answers that show one revision still do after settling.
+pub fn settling_keeps_the_base()
+    ensures { SettlingKeepsTheBase }
+{}
+
+/// At a serializable level the answer to the next fetch shows the revision that the others show.
+///
+/// So the answers of an attempt at such a level are of one revision, also of one that will fail.
+pub fn fetching_keeps_the_base()
+    ensures { FetchingKeepsTheBase }
+{}
+
+/// An attempt that is ready is its program's run on its answers.
+pub fn ready_is_the_run()
+    ensures { ReadyIsTheRun }
+{}

@@ -1,0 +1,23 @@
+//! What an attempt answers.
+use crate::ready::Ready;
+use stm_history::Text;
+use stm_meaning::Run;
+
+/// Where an attempt stands once its program has gone as far as its answers take it.
+#[derive(Debug, Drop)]
+pub enum Next {
+    /// The program wants a key that has no answer: it is to be fetched, and its answer supplied.
+    Fetch {
+        /// The key. It is not empty.
+        key: Text,
+        /// The revision to read it at, 0 for the current one: the base revision at the two serializable levels,
+        /// which the first read fixes; 0 before that, and at the other levels.
+        at: u64,
+    },
+    /// The program came to its end, and can be committed.
+    Ready(Ready),
+    /// The program ended by `abort`.
+    Aborted(Run),
+    /// The program ended by a fault.
+    Faulted(Run),
+}

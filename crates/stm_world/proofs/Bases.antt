@@ -1,0 +1,60 @@
+-- What an attempt at a serializable level knows is of one revision.
+use Rattle.std.proofs.Common.{◌≡◌, ℕ, ◌+◌, ◌≤◌, List, [], ◌∷◌, ◌++◌, length, map, true, refl, sym, ◌∙◌, ap, subst, arith, All, length-append}
+use Rattle.std.specs.List.{AllByRecursion}
+use Rattle.std.proofs.lemmas.List.Elements.{All-from_recursion}
+use Rattle.stm_history.specs.declared.change.Change.{Change}
+use Rattle.stm_history.specs.declared.key_state.ReadAnswer.{ReadAnswer}
+use Rattle.stm_history.specs.History.{History, now}
+use Rattle.stm_txn.specs.Commits.{revision_read}
+use Rattle.stm_txn.specs.Standing.{Standing}
+use Rattle.stm_compile.specs.Levels.{is_serializable}
+use Rattle.stm_compile.specs.Answers.{answer_now}
+use Rattle.stm_compile.specs.CommitTxn.{reread_keys}
+use Rattle.stm_attempt.specs.Known.{Known}
+use Rattle.stm_attempt.specs.Fetches.{at_of, HaveOneBase}
+use Rattle.stm_attempt.proofs.BaseLemmas.{settling_keeps_the_base, fetching_keeps_the_base}
+use Rattle.stm_entries.specs.declared.entry.Entry.{Entry}
+use Rattle.stm_entries.specs.Replayed.{Replayed, opening, without_moment}
+use Rattle.stm_entries.specs.Replay.{replay}
+use Rattle.stm_entries.specs.Laws.{AddsTo}
+use Rattle.stm_entries.proofs.Adding.{replay_only_adds}
+use Rattle.stm_world.specs.Task.{Task, answer_at, with_served, after_fetch, after_conflict}
+use Rattle.stm_world.specs.World.{Runner}
+
+-- the answers that were read have one base, and those that were prefetched show no revision 0
+abbrev pub HasBase : Known → Type 0
+HasBase known = HaveOneBase known.reads × AllByRecursion (λ (a : ReadAnswer). 1 ≤ a.of_rev) known.prefetched
+
+-- at the serializable levels, in a world whose store did not open at 0
+abbrev pub IsBased : ℕ → Task → Known → Type 0
+IsBased start task known = 1 ≤ start → is_serializable task.level ≡ true → HasBase known
+
+served_base : (task : Task) (known : Known) → HasBase known → HasBase (with_served task known)
+served_base task known based =
+    (settling_keeps_the_base task.program known (All-from_recursion (λ (a : ReadAnswer). 1 ≤ a.of_rev) known.prefetched based.1) based.0, based.1)
+
+rereads_show : (h : History) (keys : List (List ℕ)) → 1 ≤ now h → AllByRecursion (λ (a : ReadAnswer). 1 ≤ a.of_rev) (map (answer_now h) keys)
+rereads_show h [] some = tt
+rereads_show h (key ∷ keys) some = (some, rereads_show h keys some)
+
+-- the counter of a world's store does not fall below the revision that it opened at
+added_count : (before after : History) → AddsTo before after → 1 ≤ before.opening → 1 ≤ now after
+added_count before after adds some = let same : after.opening ≡ before.opening = adds.opening in omega arith
+
+pub counter_some : (start : ℕ) (entries : List Entry) (s : Standing) → replay entries (opening start) ≡ without_moment s → 1 ≤ start → 1 ≤ now s.history
+counter_some start entries s replays some =
+    subst (λ (r : Replayed). 1 ≤ now r.history) replays
+    (added_count (opening start).history (replay entries (opening start)).history (replay_only_adds entries (opening start)) some)
+
+pub fetch_based : (start : ℕ) (task : Task) (h : History) (key : List ℕ) (known : Known) → (1 ≤ start → 1 ≤ now h) → IsBased start task known →
+    IsBased start task (after_fetch task (answer_at h key (revision_read h (at_of task.level known.reads))) known)
+fetch_based start task h key known counter based some serializable =
+    let before : HasBase known = based some serializable in
+    let a : ReadAnswer = answer_at h key (revision_read h (at_of task.level known.reads)) in
+    served_base task (record { reads = known.reads ++ a ∷ []; prefetched = known.prefetched })
+    (fetching_keeps_the_base h task.level known.reads a serializable (counter some) refl before.0, before.1)
+
+pub conflict_based : (start : ℕ) (task : Task) (h : History) (known : Known) → (1 ≤ start → 1 ≤ now h) → IsBased start task (after_conflict task h known)
+conflict_based start task h known counter some serializable =
+    served_base task (record { reads = []; prefetched = map (answer_now h) (reread_keys task.level known.reads) })
+    (tt, rereads_show h (reread_keys task.level known.reads) (counter some))

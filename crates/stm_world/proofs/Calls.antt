@@ -1,0 +1,174 @@
+-- The calls of the store that are no runner's: what each leaves is what its entry replays to.
+use Rattle.std.proofs.Common.{◌≡◌, ℕ, ◌+◌, ◌<◌, ◌≤◌, List, [], ◌∷◌, Option, Some, None, Ok, Err, Bool, true, false, cond, refl, sym, ◌∙◌, ap, subst, arith}
+use Rattle.std.proofs.lemmas.Bool.{ltb-true, ltb-false}
+use Rattle.std.specs.Prelude.{nat_lt, is_some, Result}
+use Rattle.std.specs.FinMap as finmap
+use Rattle.stm_history.specs.declared.change.Change.{Change}
+use Rattle.stm_history.specs.History.{History, now, HasDistinctKeys}
+use Rattle.stm_leases.specs.LeaseLog.{Term}
+use Rattle.stm_leases.specs.Live.{is_live_in, grant_refusal}
+use Rattle.stm_leases.specs.declared.errors.GrantError.{GrantError}
+use Rattle.stm_leases.specs.DueFirst.{IsNextDue}
+use Rattle.stm_txn.specs.declared.txn.Txn.{Txn}
+use Rattle.stm_txn.specs.declared.advance.Expired.{Expired}
+use Rattle.stm_txn.specs.declared.refusal.Refusal.{Refusal}
+use Rattle.stm_txn.specs.declared.refusal.Refusal.TheVariants.{LeaseNotFound, RevisionsUsedUp, TimeGoesBack}
+use Rattle.stm_txn.specs.Outcome.{Done, outcome, with_changes, is_used_up}
+use Rattle.stm_txn.specs.Grants.{grant_refusal_of}
+use Rattle.stm_txn.specs.LeaseKeys.{deletions_of}
+use Rattle.stm_txn.specs.Standing.{Standing, Step, Advance, step_of, transacted, granted, with_lease, kept_alive, without_lease, ended, with_revision, revoked}
+use Rattle.stm_txn.specs.Standing.{at_moment, expire_all, expired_in, advanced}
+use Rattle.stm_txn.specs.Advances.{Expiries, none, more}
+use Rattle.stm_txn.proofs.Applying.{history_grows}
+use Rattle.stm_txn.proofs.Ending.{ended_is}
+use Rattle.stm_txn.proofs.Advancing.{advance_expires}
+use Rattle.stm_entries.specs.declared.entry.Entry.{Entry}
+use Rattle.stm_entries.specs.declared.entry.Entry.TheVariants.{Foreign, Grant as GrantEntry, Renew, Revoke as RevokeEntry, Expire}
+use Rattle.stm_entries.specs.Replayed.{Replayed, with_history, with_live, without_moment}
+use Rattle.stm_entries.specs.Alone.{history_left}
+use Rattle.stm_entries.specs.Replay.{replay, renewed_at}
+use Rattle.stm_entries.specs.Legal.{AreLegal}
+use Rattle.stm_world.specs.Told.{store_after_call}
+use Rattle.stm_world.specs.World.{if_taken, if_changed, expiries}
+use Rattle.stm_world.proofs.Truth.{Keeps, keeps_same, keeps_changes, keeps_twice}
+use Rattle.stm_world.proofs.Following.{EntriesFollow}
+
+pub nothing_follows : (s : Standing) → EntriesFollow s s []
+nothing_follows s = record { replays = refl; legal = tt; keeps = keeps_same s.history }
+
+-- ---- a transaction ----
+
+same_history : (h after : History) (changes : List Change) → after ≡ with_changes h changes → nat_lt (now h) (now after) ≡ false → h ≡ after
+same_history h after [] is still = sym is
+same_history h after (c ∷ cs) is still =
+    let no_higher : now after ≤ now h = ltb-false (now h) (now after) still in
+    let higher : now after ≡ now (with_changes h (c ∷ cs)) = ap now is in
+    absurd (omega arith)
+
+changed_follows : (s : Standing) (txn : Txn) (done : Done) (b : Bool) → outcome s.history (is_live_in s.live) txn ≡ Ok done →
+    nat_lt (now s.history) (now done.history) ≡ b →
+    EntriesFollow s (record s { history = done.history }) (cond b (Foreign txn ∷ []) [])
+changed_follows s txn done b is changed =
+    let grown : (changes : List Change) × HasDistinctKeys changes × (done.history ≡ with_changes s.history changes) =
+    history_grows s.history (is_live_in s.live) txn done is in
+    let keeps : Keeps s.history done.history = subst (λ (h : History). Keeps s.history h) (sym grown.2) (keeps_changes s.history grown.0) in
+    elim b as (λ c. nat_lt (now s.history) (now done.history) ≡ c → EntriesFollow s (record s { history = done.history }) (cond c (Foreign txn ∷ []) [])) [
+      | true ↦ λ e. record {
+        replays = ap (λ o. with_history (without_moment s) (history_left s.history o)) is;
+        legal = (record { done = done; taken = is; changed = ltb-true (now s.history) (now done.history) e }, tt);
+        keeps = keeps;
+      }
+      | false ↦ λ e. record {
+        replays = ap (λ (h : History). record { history = h; live = s.live }) (same_history s.history done.history grown.0 grown.2 e);
+        legal = tt;
+        keeps = keeps;
+      }
+    ] changed
+
+refused_follows : (s : Standing) (txn : Txn) (b : Bool) → nat_lt (now s.history) (now s.history) ≡ b → EntriesFollow s s (cond b (Foreign txn ∷ []) [])
+refused_follows s txn true changed = let higher : now s.history < now s.history = ltb-true (now s.history) (now s.history) changed in absurd (omega arith)
+refused_follows s txn false changed = nothing_follows s
+
+txn_by : (s : Standing) (txn : Txn) (o : Result Done Refusal) → outcome s.history (is_live_in s.live) txn ≡ o →
+    EntriesFollow s (store_after_call s (step_of s o)) (if_changed s (store_after_call s (step_of s o)) txn)
+txn_by s txn (Ok done) is = changed_follows s txn done (nat_lt (now s.history) (now done.history)) is refl
+txn_by s txn (Err cause) is = refused_follows s txn (nat_lt (now s.history) (now s.history)) refl
+
+pub txn_follows : (s : Standing) (txn : Txn) →
+    EntriesFollow s (store_after_call s (transacted s txn)) (if_changed s (store_after_call s (transacted s txn)) txn)
+txn_follows s txn = txn_by s txn (outcome s.history (is_live_in s.live) txn) refl
+
+-- ---- leases ----
+
+abbrev granted_by : Standing → ℕ → ℕ → Option GrantError → Result (Step (Unit {0})) Refusal
+granted_by s id ttl o =
+    elim o [
+      | Some cause ↦ Err (grant_refusal_of cause)
+      | None ↦ Ok record { answer = tt; next = with_lease s id ttl }
+    ]
+
+grant_by : (s : Standing) (id ttl : ℕ) (o : Option GrantError) → grant_refusal s.live id ttl ≡ o →
+    EntriesFollow s (store_after_call s (granted_by s id ttl o)) (if_taken (granted_by s id ttl o) (GrantEntry id ttl s.moment))
+grant_by s id ttl None is = record { replays = refl; legal = (is, tt); keeps = keeps_same s.history }
+grant_by s id ttl (Some cause) is = nothing_follows s
+
+pub grant_follows : (s : Standing) (id ttl : ℕ) →
+    EntriesFollow s (store_after_call s (granted s id ttl)) (if_taken (granted s id ttl) (GrantEntry id ttl s.moment))
+grant_follows s id ttl = grant_by s id ttl (grant_refusal s.live id ttl) refl
+
+abbrev kept_by : Standing → ℕ → Option Term → Result (Step (Unit {0})) Refusal
+kept_by s id o =
+    elim o [
+      | None ↦ Err LeaseNotFound
+      | Some term ↦ Ok record { answer = tt; next = with_lease s id term.ttl }
+    ]
+
+keep_by : (s : Standing) (id : ℕ) (o : Option Term) → finmap.get s.live id ≡ o →
+    EntriesFollow s (store_after_call s (kept_by s id o)) (if_taken (kept_by s id o) (Renew id s.moment))
+keep_by s id None is = nothing_follows s
+keep_by s id (Some term) is = record {
+  replays = ap (λ (o : Option Term). with_live (without_moment s) (renewed_at s.live id s.moment o)) is;
+  legal = (ap (λ (o : Option Term). is_some o) is, tt);
+  keeps = keeps_same s.history;
+}
+
+pub keep_follows : (s : Standing) (id : ℕ) →
+    EntriesFollow s (store_after_call s (kept_alive s id)) (if_taken (kept_alive s id) (Renew id s.moment))
+keep_follows s id = keep_by s id (finmap.get s.live id) refl
+
+abbrev revoked_by : Standing → ℕ → Bool → Bool → Result (Step ℕ) Refusal
+revoked_by s id live used = cond live (with_revision (cond used (Err RevisionsUsedUp) (Ok (without_lease s id)))) (Err LeaseNotFound)
+
+revoke_by : (s : Standing) (id : ℕ) (live used : Bool) → is_live_in s.live id ≡ live → is_used_up s.history (deletions_of s.history id) ≡ used →
+    EntriesFollow s (store_after_call s (revoked_by s id live used)) (if_taken (revoked_by s id live used) (RevokeEntry id))
+revoke_by s id false used is room = nothing_follows s
+revoke_by s id true true is room = nothing_follows s
+revoke_by s id true false is room = record {
+  replays = refl;
+  legal = (record { is_live = is; has_room = room }, tt);
+  keeps = keeps_changes s.history (deletions_of s.history id);
+}
+
+pub revoke_follows : (s : Standing) (id : ℕ) →
+    EntriesFollow s (store_after_call s (revoked s id)) (if_taken (revoked s id) (RevokeEntry id))
+revoke_follows s id = revoke_by s id (is_live_in s.live id) (is_used_up s.history (deletions_of s.history id)) refl refl
+
+-- ---- an advance ----
+
+has_room : (used : Bool) (s next : Standing) → cond used (Err RevisionsUsedUp) (Ok s) ≡ Ok next → used ≡ false
+has_room true s next is = absurd (cc)
+has_room false s next is = refl
+
+one_more_expiry : (s next last : Standing) (id : ℕ) (expired : List Expired) → is_live_in s.live id ≡ true → ended s id ≡ Ok next →
+    EntriesFollow next last (expiries expired) → EntriesFollow s last (Expire id ∷ expiries expired)
+one_more_expiry s next last id expired live is rest =
+    let same : without_lease s id ≡ next = ended_is s next id is in
+    record {
+      replays = ap (λ (x : Standing). replay (expiries expired) (without_moment x)) same ∙ rest.replays;
+      legal = (
+        record { is_live = live; has_room = has_room (is_used_up s.history (deletions_of s.history id)) (without_lease s id) next is },
+        subst (λ (x : Standing). AreLegal (expiries expired) (without_moment x)) (sym same) rest.legal,
+      );
+      keeps = keeps_twice s.history next.history last.history
+          (subst (λ (x : Standing). Keeps s.history x.history) same (keeps_changes s.history (deletions_of s.history id))) rest.keeps;
+    }
+
+expiries_follow : (s last : Standing) (expired : List Expired) → Expiries s expired last → EntriesFollow s last (expiries expired)
+expiries_follow s last expired (none _) = nothing_follows s
+expiries_follow s last expired (more _ next _ id rest due is later) =
+    one_more_expiry s next last id rest (ap (λ (o : Option Term). is_some o) due.live_now) is (expiries_follow next last rest later)
+
+advance_by : (s : Standing) (moment : ℕ) (back : Bool) → nat_lt moment s.moment ≡ back →
+    EntriesFollow s (advanced s moment).leaves (expiries (advanced s moment).expired)
+advance_by s moment true back =
+    subst (λ (a : Advance). EntriesFollow s a.leaves (expiries a.expired))
+    (sym (ap (λ b. cond b (record { expired = []; leaves = s; cause = Some TimeGoesBack }) (expire_all (at_moment s moment))) back))
+    (nothing_follows s)
+advance_by s moment false back =
+    let e : EntriesFollow (at_moment s moment) (advanced s moment).leaves (expiries (advanced s moment).expired) =
+    expiries_follow (at_moment s moment) (advanced s moment).leaves (advanced s moment).expired
+    (advance_expires s moment (ltb-false moment s.moment back)).expiries in
+    record { replays = e.replays; legal = e.legal; keeps = e.keeps }
+
+pub advance_follows : (s : Standing) (moment : ℕ) → EntriesFollow s (advanced s moment).leaves (expiries (advanced s moment).expired)
+advance_follows s moment = advance_by s moment (nat_lt moment s.moment) refl

@@ -1,0 +1,242 @@
+-- The headline: each step leads to a world that follows its log.
+use Rattle.std.proofs.Common.{◌≡◌, ◌≢◌, ℕ, ◌+◌, ◌<◌, List, [], ◌∷◌, ◌++◌, length, Option, Some, None, Ok, Err, Bool, true, false, cond, refl, sym, ◌∙◌, ap}
+use Rattle.std.proofs.Common.{subst, arith}
+use Rattle.std.specs.Prelude.{nat_eq, option_map, Result, slice_get, ◌||◌}
+use Rattle.stm_txn.specs.declared.refusal.Refusal.{Refusal as StoreRefusal}
+use Rattle.stm_txn.specs.Standing.{Standing, Step as StoreStep, Advance as StoreAdvance, transacted, granted, kept_alive, revoked, advanced}
+use Rattle.stm_entries.specs.declared.entry.Entry.{Entry}
+use Rattle.stm_entries.specs.declared.entry.Entry.TheVariants.{Grant as GrantEntry, Renew, Revoke as RevokeEntry}
+use Rattle.stm_entries.specs.Replayed.{without_moment}
+use Rattle.stm_world.specs.declared.event.WorldEvent.{WorldEvent}
+use Rattle.stm_world.specs.declared.event.WorldEvent.TheVariants.{Start, Step, Txn, Grant, Keep, Revoke, Advance}
+use Rattle.stm_world.specs.declared.reply.Reply.{Reply}
+use Rattle.stm_world.specs.declared.reply.Reply.TheVariants.{Started, Txn as TxnDone, Granted, Kept, Revoked}
+use Rattle.stm_world.specs.declared.refusal.Denied.{Denied}
+use Rattle.stm_world.specs.declared.refusal.Refusal.TheVariants.{BadLimit, NoRunner}
+use Rattle.stm_world.specs.Told.{denied, reply_to, store_after_call, advance_reply}
+use Rattle.stm_world.specs.Task.{Task, nothing_known}
+use Rattle.stm_world.specs.Log.{Line, begun, is_over, running, failures, started, is_id, store, told, runner_started}
+use Rattle.stm_world.specs.Right.{IsRight, RunnerIsRight}
+use Rattle.stm_world.specs.World.{World, Stepped, Runner, Slot, Live, live_in, runner_at, begin, opened, refused, start_runner, step_runner, if_changed}
+use Rattle.stm_world.specs.World.{if_taken, expiries, step}
+use Rattle.stm_world.specs.World.{world_after, replies_to}
+use Rattle.stm_world.specs.Headline.{logged, Headline, OneRevision}
+use Rattle.stm_world.proofs.Truth.{KnowsTruth}
+use Rattle.stm_world.proofs.Bases.{IsBased}
+use Rattle.stm_world.proofs.Slots.{equal_numbers, same_number, other_number, differ, runner_new, runner_old, count_grows}
+use Rattle.stm_world.proofs.Untouched.{runner_for, runner_in_log, Untouched, IsFresh, none_told, same_in_log, fresh_stays, by_refusal, by_call, by_advance}
+use Rattle.stm_world.proofs.Untouched.{by_reply}
+use Rattle.stm_world.proofs.Following.{FollowsAt, FollowsStep, EntriesFollow, with_line, world_at, no_runner_touched, nothing_touched}
+use Rattle.stm_world.proofs.RunnerSteps.{CommitLaws, live_follows}
+use Rattle.stm_world.proofs.Calls.{nothing_follows, txn_follows, grant_follows, keep_follows, revoke_follows, advance_follows}
+
+-- ---- starts ----
+
+new_in_log : (start : ℕ) (log : List Line) (id : ℕ) (task : Task) → IsFresh start log id →
+    runner_in_log start (with_line (Start task.program task.level task.limit) (Ok (Started id)) log) id ≡ Some (begin task)
+new_in_log start log id task fresh =
+    let after : List Line = with_line (Start task.program task.level task.limit) (Ok (Started id)) log in
+    ap (λ b. option_map (runner_for start after id) (cond b None (cond (nat_eq id id) (Some task) (begun id log)))) fresh.not_over
+    ∙ ap (λ b. option_map (runner_for start after id) (cond b (Some task) (begun id log))) (same_number id)
+    ∙ (λ i. Some (record { task = task; failures = fresh.no_failures i; known = fresh.nothing task i }))
+
+nothing_true : (start : ℕ) (log : List Line) (task : Task) (r : Runner) → live_in (Some (Live (begin task))) ≡ Some r →
+    KnowsTruth (store start log).history r.known
+nothing_true start log task r is = let same : begin task ≡ r = cc in subst (λ (x : Runner). KnowsTruth (store start log).history x.known) same (tt, tt)
+
+nothing_based : (start : ℕ) (task : Task) (r : Runner) → live_in (Some (Live (begin task))) ≡ Some r → IsBased start r.task r.known
+nothing_based start task r is =
+    let same : begin task ≡ r = cc in subst (λ (x : Runner). IsBased start x.task x.known) same (λ some serializable. (tt, tt))
+
+started_follows : (start : ℕ) (log : List Line) (runners : List Slot) (entries : List Entry) (task : Task) → FollowsAt start log runners entries →
+    task.limit ≢ 0 →
+    FollowsAt start (with_line (Start task.program task.level task.limit) (Ok (Started (length runners + 1))) log) (runners ++ Live (begin task) ∷ []) entries
+started_follows start log runners entries task f some =
+    let id : ℕ = length runners + 1 in
+    let line : Line = record { event = Start task.program task.level task.limit; reply = Ok (Started id) } in
+    let slot : Slot = Live (begin task) in
+    let above : started log < id = subst (λ n. n < id) f.count (let up : length runners < length runners + 1 = omega arith in up) in
+    record {
+      right = ((ap (λ n. Started (n + 1)) f.count, some), f.right);
+      count = count_grows runners slot ∙ ap (λ n. n + 1) f.count;
+      slots = λ other. elim (nat_eq id other) as (λ b. nat_eq id other ≡ b → runner_at other (runners ++ slot ∷ []) ≡ runner_in_log start (line ∷ log) other) [
+        | true ↦ λ is. subst (λ n. runner_at n (runners ++ slot ∷ []) ≡ runner_in_log start (line ∷ log) n) (equal_numbers id other is)
+            (runner_new runners slot ∙ sym (new_in_log start log id task (f.fresh id above)))
+        | false ↦ λ is. runner_old runners slot other (λ e. differ id other is (sym e)) ∙ f.slots other
+            ∙ sym (same_in_log start other line log (by_reply other (Started id) is))
+      ] refl;
+      fresh = λ other beyond.
+          let ne : nat_eq id other ≡ false =
+          other_number id other (λ same. let count : length runners ≡ started log = f.count in let far : started log + 1 < other = beyond in omega (arith, same)) in
+          let more : started log < other = let far : started log + 1 < other = beyond in omega arith in
+          fresh_stays start other line log (by_reply other (Started id) ne) (f.fresh other more);
+      truth = λ other x found. elim (nat_eq id other) as (λ b. nat_eq id other ≡ b → KnowsTruth (store start log).history x.known) [
+        | true ↦ λ is. nothing_true start log task x
+            (sym (runner_new runners slot) ∙ subst (λ n. runner_at n (runners ++ slot ∷ []) ≡ Some x) (sym (equal_numbers id other is)) found)
+        | false ↦ λ is. f.truth other x (sym (runner_old runners slot other (λ e. differ id other is (sym e))) ∙ found)
+      ] refl;
+      based = λ other x found. elim (nat_eq id other) as (λ b. nat_eq id other ≡ b → IsBased start x.task x.known) [
+        | true ↦ λ is. nothing_based start task x
+            (sym (runner_new runners slot) ∙ subst (λ n. runner_at n (runners ++ slot ∷ []) ≡ Some x) (sym (equal_numbers id other is)) found)
+        | false ↦ λ is. f.based other x (sym (runner_old runners slot other (λ e. differ id other is (sym e))) ∙ found)
+      ] refl;
+      replays = f.replays;
+      legal = f.legal;
+    }
+
+start_by : (start : ℕ) (log : List Line) (runners : List Slot) (entries : List Entry) (task : Task) (none : Bool) → nat_eq task.limit 0 ≡ none →
+    FollowsAt start log runners entries →
+    FollowsStep start log (Start task.program task.level task.limit) (cond none (refused BadLimit (world_at start log runners entries)) (record {
+      reply = Ok (Started (length runners + 1));
+      next = record { standing = store start log; runners = runners ++ Live (begin task) ∷ []; entries = entries };
+    }))
+start_by start log runners entries task true none f = record {
+  standing = refl;
+  follows = nothing_touched start log runners entries (Start task.program task.level task.limit) (denied BadLimit) f
+      (refl, equal_numbers task.limit 0 none) refl (λ id. by_refusal id (record { cause = BadLimit; expired = [] })) (nothing_follows (store start log));
+}
+start_by start log runners entries task false none f =
+    record { standing = refl; follows = started_follows start log runners entries task f (differ task.limit 0 none) }
+
+start_follows : (start : ℕ) (log : List Line) (runners : List Slot) (entries : List Entry) (task : Task) → FollowsAt start log runners entries →
+    FollowsStep start log (Start task.program task.level task.limit) (start_runner task (world_at start log runners entries))
+unfolding start_runner
+start_follows start log runners entries task f = start_by start log runners entries task (nat_eq task.limit 0) refl f
+
+-- ---- steps ----
+
+runner_by : (start : ℕ) (log : List Line) (runners : List Slot) (entries : List Entry) (id : ℕ) (o : Option Task) → CommitLaws →
+    FollowsAt start log runners entries → running id log ≡ o →
+    FollowsStep start log (Step id) (step_runner id (option_map (runner_for start log id) o) (world_at start log runners entries))
+runner_by start log runners entries id None laws f runs = record {
+  standing = refl;
+  follows = nothing_touched start log runners entries (Step id) (denied NoRunner) f
+      (subst (λ (o : Option Task). RunnerIsRight start log id o (denied NoRunner)) (sym runs) refl) refl
+      (λ other. by_refusal other (record { cause = NoRunner; expired = [] })) (nothing_follows (store start log));
+}
+runner_by start log runners entries id (Some task) laws f runs = live_follows start log runners entries id task laws (record { follows = f; running = runs })
+
+runner_follows : (start : ℕ) (log : List Line) (runners : List Slot) (entries : List Entry) (id : ℕ) → CommitLaws → FollowsAt start log runners entries →
+    FollowsStep start log (Step id) (step_runner id (runner_at id runners) (world_at start log runners entries))
+runner_follows start log runners entries id laws f =
+    subst (λ (o : Option Runner). FollowsStep start log (Step id) (step_runner id o (world_at start log runners entries))) (sym (f.slots id))
+    (runner_by start log runners entries id (running id log) laws f refl)
+
+-- ---- calls ----
+
+no_number : {A : Type 0} (tell : A → Reply) (o : Result (StoreStep A) StoreRefusal) → ((x : A) → runner_started (Ok (tell x)) ≡ None) →
+    runner_started (reply_to tell o) ≡ None
+no_number tell (Ok done) none = none done.answer
+no_number tell (Err cause) none = refl
+
+no_number_at : (moment : ℕ) (a : StoreAdvance) → runner_started (advance_reply moment a.expired a.cause) ≡ None
+no_number_at moment a = by_cause a.cause
+  where
+    by_cause : (cause : Option StoreRefusal) → runner_started (advance_reply moment a.expired cause) ≡ None
+    by_cause None = refl
+    by_cause (Some cause) = refl
+
+-- each event
+pub event_follows : (start : ℕ) (log : List Line) (runners : List Slot) (entries : List Entry) (event : WorldEvent) → CommitLaws →
+    FollowsAt start log runners entries → FollowsStep start log event (step event (world_at start log runners entries))
+event_follows start log runners entries (Start program level limit) laws f =
+    start_follows start log runners entries (record { program = program; level = level; limit = limit }) f
+event_follows start log runners entries (Step id) laws f = runner_follows start log runners entries id laws f
+event_follows start log runners entries (Txn txn) laws f =
+    let s : Standing = store start log in
+    let o = transacted s txn in
+    record {
+      standing = refl;
+      follows = no_runner_touched start log runners entries (if_changed s (store_after_call s o) txn) (Txn txn) (reply_to (TxnDone) o) f refl
+          (no_number (TxnDone) o (λ x. refl)) (λ id. by_call id (TxnDone) o (λ x. by_reply id (TxnDone x) refl)) (txn_follows s txn);
+    }
+event_follows start log runners entries (Grant lease ttl) laws f =
+    let s : Standing = store start log in
+    let o = granted s lease ttl in
+    record {
+      standing = refl;
+      follows = no_runner_touched start log runners entries (if_taken o (GrantEntry lease ttl s.moment)) (Grant lease ttl)
+          (reply_to (λ _. Granted lease) o) f refl (no_number (λ _. Granted lease) o (λ x. refl))
+          (λ id. by_call id (λ _. Granted lease) o (λ x. by_reply id (Granted lease) refl)) (grant_follows s lease ttl);
+    }
+event_follows start log runners entries (Keep lease) laws f =
+    let s : Standing = store start log in
+    let o = kept_alive s lease in
+    record {
+      standing = refl;
+      follows = no_runner_touched start log runners entries (if_taken o (Renew lease s.moment)) (Keep lease) (reply_to (λ _. Kept lease) o) f refl
+          (no_number (λ _. Kept lease) o (λ x. refl)) (λ id. by_call id (λ _. Kept lease) o (λ x. by_reply id (Kept lease) refl)) (keep_follows s lease);
+    }
+event_follows start log runners entries (Revoke lease) laws f =
+    let s : Standing = store start log in
+    let o = revoked s lease in
+    record {
+      standing = refl;
+      follows = no_runner_touched start log runners entries (if_taken o (RevokeEntry lease)) (Revoke lease) (reply_to (Revoked lease) o) f refl
+          (no_number (Revoked lease) o (λ x. refl)) (λ id. by_call id (Revoked lease) o (λ x. by_reply id (Revoked lease x) refl)) (revoke_follows s lease);
+    }
+event_follows start log runners entries (Advance moment) laws f =
+    let a : StoreAdvance = advanced (store start log) moment in
+    record {
+      standing = refl;
+      follows = no_runner_touched start log runners entries (expiries a.expired) (Advance moment) (advance_reply moment a.expired a.cause) f refl
+          (no_number_at moment a) (λ id. by_advance id moment a.expired a.cause) (advance_follows (store start log) moment);
+    }
+
+-- ---- whole runs ----
+
+-- a world that follows a log
+pub record Follows (start : ℕ) (log : List Line) (w : World) : Type 0 where
+  pub standing : w.standing ≡ store start log
+  pub at : FollowsAt start log w.runners w.entries
+
+step_follows : (start : ℕ) (log : List Line) (event : WorldEvent) (w : World) → CommitLaws → Follows start log w → FollowsStep start log event (step event w)
+step_follows start log event w laws f =
+    subst (λ (s : Standing). FollowsStep start log event (step event (record { standing = s; runners = w.runners; entries = w.entries }))) (sym f.standing)
+    (event_follows start log w.runners w.entries event laws f.at)
+
+run_follows : (start : ℕ) (events : List WorldEvent) (log : List Line) (w : World) → CommitLaws → Follows start log w →
+    Follows start (logged events (replies_to events w) log) (world_after events w)
+run_follows start [] log w laws f = f
+run_follows start (e ∷ es) log w laws f =
+    let s : FollowsStep start log e (step e w) = step_follows start log e w laws f in
+    run_follows start es (with_line e (step e w).reply log) (step e w).next laws (record { standing = s.standing; at = s.follows })
+
+no_runner : (b : Bool) → cond b None None ≡ (let o : Option Runner = None in o)
+no_runner true = refl
+no_runner false = refl
+
+opened_follows : (start : ℕ) → Follows start [] (opened start)
+opened_follows start = record {
+  standing = refl;
+  at = record {
+    right = tt;
+    count = refl;
+    slots = λ id. no_runner (nat_eq id 0);
+    fresh = λ id above. none_told start id;
+    truth = λ id r found. let none : runner_at id [] ≡ None = no_runner (nat_eq id 0) in absurd (cc);
+    based = λ id r found. let none : runner_at id [] ≡ None = no_runner (nat_eq id 0) in absurd (cc);
+    replays = refl;
+    legal = tt;
+  };
+}
+
+pub headline : CommitLaws → Headline
+headline laws start events =
+    let f : Follows start (logged events (replies_to events (opened start)) []) (world_after events (opened start)) =
+    run_follows start events [] (opened start) laws (opened_follows start) in
+    record {
+      replies = f.at.right;
+      standing = f.standing;
+      replays = f.at.replays ∙ ap without_moment (sym f.standing);
+      legal = f.at.legal;
+    }
+
+-- what an attempt at a serializable level has read is of one revision, whatever comes of it
+pub one_revision : CommitLaws → OneRevision
+one_revision laws start events id task some runs serializable =
+    let log : List Line = logged events (replies_to events (opened start)) [] in
+    let w : World = world_after events (opened start) in
+    let f : Follows start log w = run_follows start events [] (opened start) laws (opened_follows start) in
+    let found : runner_at id w.runners ≡ Some (runner_for start log id task) = f.at.slots id ∙ ap (option_map (runner_for start log id)) runs in
+    (f.at.based id (runner_for start log id task) found some serializable).0

@@ -1,0 +1,10 @@
+pub mod Wrong
+pub mod Truth
+pub mod Slots
+pub mod Untouched
+pub mod Bases
+pub mod Following
+pub mod CommitCases
+pub mod RunnerSteps
+pub mod Calls
+pub mod Headlines

@@ -1,0 +1,426 @@
+-- The steps of a runner, as the log tells of it.
+use Rattle.std.proofs.Common.{◌≡◌, ◌≢◌, ℕ, ◌+◌, ◌<◌, ◌≤◌, List, [], ◌∷◌, ◌++◌, length, map, Option, Some, None, Ok, Err, Bool, true, false, cond, refl, sym}
+use Rattle.std.proofs.Common.{◌∙◌, ap, subst, arith}
+use Rattle.std.proofs.lemmas.List.{append-nil}
+use Rattle.std.proofs.lemmas.Bool.{ltb-true, ltb-false}
+use Rattle.std.specs.Prelude.{nat_eq, nat_lt, option_map, Result, slice_get, MatchBool, ◌||◌}
+use Rattle.stm_history.specs.declared.change.Change.{Change}
+use Rattle.stm_history.specs.declared.key_state.ReadAnswer.{ReadAnswer}
+use Rattle.stm_history.specs.History.{History, now, key_at, mod_of}
+use Rattle.stm_leases.specs.Live.{is_live_in}
+use Rattle.stm_program.specs.Syntax.{ProgramTree, Block}
+use Rattle.stm_program.specs.declared.level.Level.{Level}
+use Rattle.stm_program.specs.Writes.{latest_writes}
+use Rattle.stm_meaning.specs.declared.trace_item.TraceItem.{TraceItem}
+use Rattle.stm_meaning.specs.declared.run.End.{End}
+use Rattle.stm_meaning.specs.declared.run.End.TheVariants.{Done as DoneEnd, Aborted as AbortedEnd, Faulted as FaultedEnd}
+use Rattle.stm_meaning.specs.declared.run.Run.{Run}
+use Rattle.stm_meaning.specs.declared.run.Answered.{Answered}
+use Rattle.stm_meaning.specs.declared.run.Answered.TheVariants.{Ended as EndedRun, Wants}
+use Rattle.stm_meaning.specs.Meaning.{run_over}
+use Rattle.stm_txn.specs.declared.answer.FailedCompare.{FailedCompare}
+use Rattle.stm_txn.specs.declared.refusal.Refusal.{Refusal as StoreRefusal}
+use Rattle.stm_txn.specs.Outcome.{Done}
+use Rattle.stm_txn.specs.Commits.{revision_read, applied, effective}
+use Rattle.stm_txn.specs.Standing.{Standing, with_history}
+use Rattle.stm_compile.specs.Levels.{is_comparing}
+use Rattle.stm_compile.specs.Answers.{AreTrue, look_up, state_now, answer_now}
+use Rattle.stm_compile.specs.Now.{as_change}
+use Rattle.stm_compile.specs.CommitTxn.{reread_keys}
+use Rattle.stm_compile.specs.Committed.{conflict_now, committed}
+use Rattle.stm_compile.specs.Conflicts.{Seen, seen_by, IsConflict}
+use Rattle.stm_compile.specs.Laws.{CommitIsTheRunNow, FailedComparesConflict}
+use Rattle.stm_attempt.specs.Known.{Known}
+use Rattle.stm_attempt.specs.Settled.{run_on}
+use Rattle.stm_attempt.specs.Fetches.{at_of}
+use Rattle.stm_entries.specs.declared.entry.Entry.{Entry}
+use Rattle.stm_entries.specs.Replayed.{Replayed, without_moment}
+use Rattle.stm_entries.specs.Alone.{seen_at, history_left, left_by, left_by_run}
+use Rattle.stm_entries.specs.Replay.{replay}
+use Rattle.stm_entries.specs.Legal.{IsCommit, IsLegal, AreLegal, AnswersAreTrue}
+use Rattle.stm_world.specs.declared.event.WorldEvent.TheVariants.{Step}
+use Rattle.stm_world.specs.declared.reply.Reply.{Reply}
+use Rattle.stm_world.specs.declared.reply.Reply.TheVariants.{Fetched, Committed, Conflict, GaveUp, Aborted, Faulted, Ended}
+use Rattle.stm_world.specs.Task.{Task, answer_at, after_fetch, after_conflict, answers_told}
+use Rattle.stm_world.specs.Log.{Line, begun, is_over, running, failures, is_id, runner_started, runner_ended, task_in, store, told, with_commit}
+use Rattle.stm_world.specs.Right.{IsRight, RunnerIsRight, Situation, situation, ReplyIsRight, IsConflicted}
+use Rattle.stm_world.specs.World.{World, Stepped, Runner, Slot, Over, Live, live_in, runner_at, with_slot, replied, fetch, entry_of, take_commit, fail_commit}
+use Rattle.stm_world.specs.World.{seen_in, decided}
+use Rattle.stm_world.specs.World.{commit_told, commit, finish, step_on, step_live}
+use Rattle.stm_world.proofs.Truth.{Keeps, KnowsTruth, keeps_same, keeps_changes, served_true, one_more_true, answer_true, reread_true, fetch_reached}
+use Rattle.stm_world.proofs.Bases.{IsBased, counter_some, fetch_based, conflict_based}
+use Rattle.stm_world.proofs.Slots.{same_number}
+use Rattle.stm_world.proofs.Untouched.{runner_for, runner_in_log, runner_named, by_reply}
+use Rattle.stm_world.proofs.Following.{FollowsAt, FollowsStep, EntriesFollow, with_line, world_at, slot_touched}
+use Rattle.stm_world.proofs.CommitCases.{Succeeds, Fails, succeeds, fails, applied_history}
+
+-- a runner of a world that follows its log, which the log tells to run this task
+pub record Runs (start : ℕ) (log : List Line) (runners : List Slot) (entries : List Entry) (id : ℕ) (task : Task) : Type 0 where
+  pub follows : FollowsAt start log runners entries
+  pub running : running id log ≡ Some task
+
+there : (start : ℕ) (log : List Line) (runners : List Slot) (entries : List Entry) (id : ℕ) (task : Task) → Runs start log runners entries id task →
+    runner_at id runners ≡ Some (runner_for start log id task)
+there start log runners entries id task x = x.follows.slots id ∙ ap (option_map (runner_for start log id)) x.running
+
+known_truth : (start : ℕ) (log : List Line) (runners : List Slot) (entries : List Entry) (id : ℕ) (task : Task) → Runs start log runners entries id task →
+    KnowsTruth (store start log).history (told start id task log)
+known_truth start log runners entries id task x = x.follows.truth id (runner_for start log id task) (there start log runners entries id task x)
+
+known_based : (start : ℕ) (log : List Line) (runners : List Slot) (entries : List Entry) (id : ℕ) (task : Task) → Runs start log runners entries id task →
+    IsBased start task (told start id task log)
+known_based start log runners entries id task x = x.follows.based id (runner_for start log id task) (there start log runners entries id task x)
+
+counter : (start : ℕ) (log : List Line) (runners : List Slot) (entries : List Entry) (id : ℕ) (task : Task) → Runs start log runners entries id task →
+    1 ≤ start → 1 ≤ now (store start log).history
+counter start log runners entries id task x some = counter_some start entries (store start log) x.follows.replays some
+
+pub reads_truth : (start : ℕ) (log : List Line) (runners : List Slot) (entries : List Entry) (id : ℕ) (task : Task) → Runs start log runners entries id task →
+    AreTrue (store start log).history (told start id task log).reads
+reads_truth start log runners entries id task x =
+    (known_truth start log runners entries id task x).0
+
+is_right : (start : ℕ) (log : List Line) (id : ℕ) (task : Task) (reply : Reply) → running id log ≡ Some task →
+    ReplyIsRight (situation start log id task) reply → IsRight start log (Step id) (Ok reply)
+is_right start log id task reply runs right = subst (λ (o : Option Task). RunnerIsRight start log id o (Ok reply)) (sym runs) right
+
+-- a reply that ends the run
+over_now : (start : ℕ) (log : List Line) (id : ℕ) (reply : Reply) → runner_ended (Ok reply) ≡ Some id →
+    runner_in_log start (with_line (Step id) (Ok reply) log) id ≡ None
+over_now start log id reply ended =
+    ap (λ b. option_map (runner_for start (with_line (Step id) (Ok reply) log) id)
+    (cond (b || is_over id log) None (cond (is_id id (runner_started (Ok reply))) None (begun id log))))
+    (ap (is_id id) ended ∙ same_number id)
+
+-- a reply that changes nothing of the store
+replied_follows : (start : ℕ) (log : List Line) (runners : List Slot) (entries : List Entry) (id : ℕ) (task : Task) (slot : Slot) (reply : Reply) →
+    Runs start log runners entries id task → ReplyIsRight (situation start log id task) reply → runner_named reply ≡ Some id →
+    runner_started (Ok reply) ≡ None → store start (with_line (Step id) (Ok reply) log) ≡ store start log →
+    runner_in_log start (with_line (Step id) (Ok reply) log) id ≡ live_in (Some slot) →
+    ((r : Runner) → live_in (Some slot) ≡ Some r → KnowsTruth (store start log).history r.known) →
+    ((r : Runner) → live_in (Some slot) ≡ Some r → IsBased start r.task r.known) →
+    FollowsStep start log (Step id) (replied reply id slot (world_at start log runners entries))
+replied_follows start log runners entries id task slot reply x right named none same mine truth based =
+    let after : List Line = with_line (Step id) (Ok reply) log in
+    record {
+      standing = sym same;
+      follows = subst (λ (es : List Entry). FollowsAt start after (with_slot id slot runners) es) (append-nil entries)
+          (slot_touched start log runners entries [] id (runner_for start log id task) slot reply x.follows
+          (there start log runners entries id task x) (is_right start log id task reply x.running right) none
+          (λ other ne. by_reply other reply (ap (is_id other) named ∙ ne)) mine
+          (λ r is. subst (λ (s : Standing). KnowsTruth s.history r.known) (sym same) (truth r is)) based
+          (record {
+            replays = ap without_moment (sym same);
+            legal = tt;
+            keeps = subst (λ (s : Standing). Keeps (store start log).history s.history) (sym same) (keeps_same (store start log).history);
+          }));
+    }
+
+-- a reply that ends the run, and changes nothing of the store
+ended_follows : (start : ℕ) (log : List Line) (runners : List Slot) (entries : List Entry) (id : ℕ) (task : Task) (reply : Reply) →
+    Runs start log runners entries id task → ReplyIsRight (situation start log id task) reply → runner_named reply ≡ Some id →
+    runner_started (Ok reply) ≡ None → runner_ended (Ok reply) ≡ Some id → store start (with_line (Step id) (Ok reply) log) ≡ store start log →
+    FollowsStep start log (Step id) (replied reply id Over (world_at start log runners entries))
+ended_follows start log runners entries id task reply x right named none ended same =
+    replied_follows start log runners entries id task Over reply x right named none same (over_now start log id reply ended) (λ r is. absurd (cc))
+    (λ r is. absurd (cc))
+
+-- ---- a fetch ----
+
+fetched_in_log : (start : ℕ) (log : List Line) (id : ℕ) (task : Task) (key : List ℕ) (mod_rev of_rev revision : ℕ) → running id log ≡ Some task →
+    runner_in_log start (with_line (Step id) (Ok (Fetched id key mod_rev of_rev revision)) log) id ≡ Some (record {
+      task = task;
+      failures = failures id log;
+      known = after_fetch task (answer_at (store start log).history key of_rev) (told start id task log);
+    })
+fetched_in_log start log id task key mod_rev of_rev revision runs =
+    ap (option_map (runner_for start (with_line (Step id) (Ok (Fetched id key mod_rev of_rev revision)) log) id)) runs
+    ∙ ap (λ b. Some (record {
+      task = task;
+      failures = failures id log;
+      known = cond b (after_fetch task (answer_at (store start log).history key of_rev) (told start id task log)) (told start id task log);
+    })) (same_number id)
+
+live_is : (a r : Runner) (P : Runner → Type 0) → live_in (Some (Live a)) ≡ Some r → P a → P r
+live_is a r P is p = let same : a ≡ r = cc in subst P same p
+
+fetch_follows : (start : ℕ) (log : List Line) (runners : List Slot) (entries : List Entry) (id : ℕ) (task : Task) (key : List ℕ) (trace : List TraceItem) →
+    Runs start log runners entries id task → run_on task.program (told start id task log).reads ≡ Wants key trace →
+    FollowsStep start log (Step id) (fetch id (runner_for start log id task) key
+    (revision_read (store start log).history (at_of task.level (told start id task log).reads)) (world_at start log runners entries))
+unfolding fetch
+fetch_follows start log runners entries id task key trace x wants =
+    let h : History = (store start log).history in
+    let reads : List ReadAnswer = (told start id task log).reads in
+    let of_rev : ℕ = revision_read h (at_of task.level reads) in
+    let truth : AreTrue h reads = reads_truth start log runners entries id task x in
+    let known : Known = after_fetch task (answer_at h key of_rev) (told start id task log) in
+    let before : Known = record { reads = reads ++ answer_at h key of_rev ∷ []; prefetched = (told start id task log).prefetched } in
+    let new : KnowsTruth h known = served_true h task before (
+      one_more_true h reads (answer_at h key of_rev) truth (answer_true h key of_rev (fetch_reached h task.level reads truth)),
+      (known_truth start log runners entries id task x).1,
+    ) in
+    replied_follows start log runners entries id task
+    (Live (record { task = task; failures = failures id log; known = known }))
+    (Fetched id key (mod_of (key_at h key of_rev)) of_rev (now h)) x
+    (refl, record { trace = trace; wants = wants; shows = refl; modified = refl; carries = refl })
+    refl refl refl
+    (fetched_in_log start log id task key (mod_of (key_at h key of_rev)) of_rev (now h) x.running)
+    (λ r is. live_is (record { task = task; failures = failures id log; known = known }) r (λ q. KnowsTruth h q.known) is new)
+    (λ r is. live_is (record { task = task; failures = failures id log; known = known }) r (λ q. IsBased start q.task q.known) is
+    (fetch_based start task h key (told start id task log) (counter start log runners entries id task x) (known_based start log runners entries id task x)))
+
+-- ---- a commit that failed ----
+
+conflict_in_log : (start : ℕ) (log : List Line) (id : ℕ) (task : Task) (key : List ℕ) (seen modified : ℕ) → running id log ≡ Some task →
+    runner_in_log start (with_line (Step id) (Ok (Conflict id key seen modified)) log) id ≡ Some (record {
+      task = task;
+      failures = failures id log + 1;
+      known = after_conflict task (store start log).history (told start id task log);
+    })
+conflict_in_log start log id task key seen modified runs =
+    ap (option_map (runner_for start (with_line (Step id) (Ok (Conflict id key seen modified)) log) id)) runs
+    ∙ ap (λ b. Some (record {
+      task = task;
+      failures = cond b (failures id log + 1) (failures id log);
+      known = cond b (after_conflict task (store start log).history (told start id task log)) (told start id task log);
+    })) (same_number id)
+
+failed_by : (start : ℕ) (log : List Line) (runners : List Slot) (entries : List Entry) (id : ℕ) (task : Task) (seen : Seen) (modified : ℕ) (more : Bool) →
+    nat_lt (failures id log + 1) task.limit ≡ more → Runs start log runners entries id task →
+    IsConflicted (situation start log id task) seen.key seen.mod_rev modified →
+    FollowsStep start log (Step id) (cond more
+    (replied (Conflict id seen.key seen.mod_rev modified) id (Live (record {
+      task = task;
+      failures = failures id log + 1;
+      known = after_conflict task (store start log).history (told start id task log);
+    })) (world_at start log runners entries))
+    (replied (GaveUp id (failures id log + 1) seen.key seen.mod_rev modified) id Over (world_at start log runners entries)))
+failed_by start log runners entries id task seen modified true left x conflicted =
+    let h : History = (store start log).history in
+    let reads : List ReadAnswer = (told start id task log).reads in
+    let some : failures id log + 1 < task.limit = ltb-true (failures id log + 1) task.limit left in
+    let r : Runner = record { task = task; failures = failures id log + 1; known = after_conflict task h (told start id task log) } in
+    replied_follows start log runners entries id task (Live r) (Conflict id seen.key seen.mod_rev modified) x (refl, some, conflicted) refl refl refl
+    (conflict_in_log start log id task seen.key seen.mod_rev modified x.running)
+    (λ q is. live_is r q (λ y. KnowsTruth h y.known) is
+    (served_true h task (record { reads = []; prefetched = map (answer_now h) (reread_keys task.level reads) })
+    (tt, reread_true h (reread_keys task.level reads))))
+    (λ q is. live_is r q (λ y. IsBased start y.task y.known) is
+    (conflict_based start task h (told start id task log) (counter start log runners entries id task x)))
+failed_by start log runners entries id task seen modified false left x conflicted =
+    let none : task.limit ≤ failures id log + 1 = ltb-false (failures id log + 1) task.limit left in
+    ended_follows start log runners entries id task (GaveUp id (failures id log + 1) seen.key seen.mod_rev modified) x (refl, refl, none, conflicted)
+    refl refl refl refl
+
+-- ---- a commit that succeeded ----
+
+alone_by : (h : History) (task : Task) (reads : List ReadAnswer) (run : Run) (b : Bool) →
+    (b ≡ true → run_over (state_now h) task.program.statements ≡ EndedRun run) → run_over (look_up reads) task.program.statements ≡ EndedRun run →
+    run_over (cond b (state_now h) (look_up reads)) task.program.statements ≡ EndedRun run
+alone_by h task reads run true now_is read_is = now_is refl
+alone_by h task reads run false now_is read_is = read_is
+
+same_seen : (b : Bool) (h : History) (reads : List ReadAnswer) → cond b (state_now h) (look_up (cond b [] reads)) ≡ cond b (state_now h) (look_up reads)
+same_seen true h reads = refl
+same_seen false h reads = refl
+
+told_truth : (b : Bool) (h : History) (reads : List ReadAnswer) → AreTrue h reads → MatchBool b (cond b [] reads ≡ []) (AreTrue h (cond b [] reads))
+told_truth true h reads t = refl
+told_truth false h reads t = t
+
+begun_by : (b : Bool) (o : Option Task) (task : Task) → cond b None o ≡ Some task → o ≡ Some task
+begun_by true o task is = absurd (cc)
+begun_by false o task is = is
+
+left_by_done : (run : Run) (end : End) (r : Replayed) (done : Done) → end ≡ DoneEnd →
+    applied r.history (is_live_in r.live) (map as_change (latest_writes run.writes)) ≡ Ok done →
+    left_by run end r ≡ record { history = done.history; live = r.live }
+left_by_done run end r done is applies =
+    ap (λ (e : End). left_by run e r) is ∙ ap (λ o. record { history = history_left r.history o; live = r.live }) applies
+
+-- the run of a program that committed, at its point
+committed_run : (start : ℕ) (log : List Line) (id : ℕ) (task : Task) (run : Run) → CommitIsTheRunNow →
+    AreTrue (store start log).history (told start id task log).reads →
+    run_on task.program (told start id task log).reads ≡ EndedRun run →
+    conflict_now (store start log).history task.level (told start id task log).reads (latest_writes run.writes) ≡ None →
+    run_over (seen_at task.level (told start id task log).reads (store start log).history) task.program.statements ≡ EndedRun run
+committed_run start log id task run law truth is_run clear =
+    let h : History = (store start log).history in
+    let reads : List ReadAnswer = (told start id task log).reads in
+    alone_by h task reads run (is_comparing task.level)
+    (λ comparing. law h task.level reads (latest_writes run.writes) task.program.statements run comparing truth is_run clear) is_run
+
+-- what a commit leaves, as the log and the entry replay it
+replayed : (s : Standing) (task : Task) (reads : List ReadAnswer) (run : Run) (done : Done) →
+    run_over (seen_at task.level reads s.history) task.program.statements ≡ EndedRun run → run.end ≡ DoneEnd →
+    applied s.history (is_live_in s.live) (map as_change (latest_writes run.writes)) ≡ Ok done →
+    left_by_run (run_over (seen_at task.level (answers_told task.level reads) s.history) task.program.statements) (without_moment s)
+    ≡ record { history = done.history; live = s.live }
+replayed s task reads run done alone is_done applies =
+    ap (λ look. left_by_run (run_over look task.program.statements) (without_moment s)) (same_seen (is_comparing task.level) s.history reads)
+    ∙ ap (λ a. left_by_run a (without_moment s)) alone
+    ∙ left_by_done run run.end (without_moment s) done is_done applies
+
+grown_by : (h : History) (is_live : ℕ → Bool) (changes : List Change) (done : Done) → applied h is_live changes ≡ Ok done → Keeps h done.history
+grown_by h is_live changes done is =
+    subst (λ (x : History). Keeps h x) (applied_history h is_live changes done is) (keeps_changes h (effective h changes))
+
+taken_follows : (start : ℕ) (log : List Line) (runners : List Slot) (entries : List Entry) (id : ℕ) (task : Task) (run : Run) (done : Done) →
+    CommitIsTheRunNow →
+    Runs start log runners entries id task → run_on task.program (told start id task log).reads ≡ EndedRun run → run.end ≡ DoneEnd →
+    committed (store start log).history (is_live_in (store start log).live) task.level (told start id task log).reads run ≡ Ok done →
+    done.answer.failed ≡ None →
+    FollowsStep start log (Step id) (take_commit id (runner_for start log id task) (told start id task log).reads run done
+    (world_at start log runners entries))
+taken_follows start log runners entries id task run done law x is_run is_done is none =
+    let s : Standing = store start log in
+    let reads : List ReadAnswer = (told start id task log).reads in
+    let truth : AreTrue s.history reads = reads_truth start log runners entries id task x in
+    let ok : Succeeds s.history (is_live_in s.live) task.level reads run done = succeeds s.history (is_live_in s.live) task.level reads run done is none in
+    let alone : run_over (seen_at task.level reads s.history) task.program.statements ≡ EndedRun run =
+    committed_run start log id task run law truth is_run ok.no_conflict in
+    let answers : List ReadAnswer = answers_told task.level reads in
+    let reply : Reply = Committed id (now done.history) (failures id log + 1) run.output run.trace answers in
+    let after : List Line = with_line (Step id) (Ok reply) log in
+    let back : left_by_run (run_over (seen_at task.level answers s.history) task.program.statements) (without_moment s)
+    ≡ record { history = done.history; live = s.live } = replayed s task reads run done alone is_done ok.applies in
+    let begun_is : begun id log ≡ Some task = begun_by (is_over id log) (begun id log) task x.running in
+    let same : store start after ≡ with_history s done.history =
+    ap (with_commit s answers) begun_is ∙ ap (λ (r : Replayed). with_history s r.history) back in
+    record {
+      standing = sym same;
+      follows = slot_touched start log runners entries (entry_of task reads run (now done.history) ∷ []) id (runner_for start log id task) Over reply
+          x.follows (there start log runners entries id task x)
+          (is_right start log id task reply x.running (
+            refl,
+            refl,
+            record {
+              done = done;
+              commits = record { run = run; is_run = is_run; is_done = is_done; comes_to = is };
+              succeeds = none;
+              is_alone = alone;
+              emits = refl;
+              sees = refl;
+              reached = refl;
+              told = refl;
+            },
+          ))
+          refl (λ other ne. by_reply other reply ne) (over_now start log id reply refl) (λ r impossible. absurd (cc)) (λ r impossible. absurd (cc))
+          (record {
+            replays = back ∙ ap without_moment (sym same);
+            legal = (
+              record {
+                run = run;
+                is_run = ap (λ look. run_over look task.program.statements) (same_seen (is_comparing task.level) s.history reads) ∙ alone;
+                is_done = is_done;
+                emits = refl;
+                sees = refl;
+                reads_truth = told_truth (is_comparing task.level) s.history reads truth;
+                done = done;
+                applies = ok.applies;
+                reached = refl;
+              },
+              tt,
+            );
+            keeps = subst (λ (x : Standing). Keeps s.history x.history) (sym same)
+                (grown_by s.history (is_live_in s.live) (map as_change (latest_writes run.writes)) done ok.applies);
+          });
+    }
+
+-- ---- the commit ----
+
+conflicted : (start : ℕ) (log : List Line) (runners : List Slot) (entries : List Entry) (id : ℕ) (task : Task) (run : Run) (done : Done)
+    (failed : FailedCompare) → FailedComparesConflict → Runs start log runners entries id task →
+    run_on task.program (told start id task log).reads ≡ EndedRun run → run.end ≡ DoneEnd →
+    committed (store start log).history (is_live_in (store start log).live) task.level (told start id task log).reads run ≡ Ok done →
+    done.answer.failed ≡ Some failed →
+    IsConflicted (situation start log id task)
+    (seen_in (slice_get (seen_by (told start id task log).reads (latest_writes run.writes)) failed.index)).key
+    (seen_in (slice_get (seen_by (told start id task log).reads (latest_writes run.writes)) failed.index)).mod_rev failed.mod_rev
+conflicted start log runners entries id task run done failed law x is_run is_done is some =
+    let s : Standing = store start log in
+    let reads : List ReadAnswer = (told start id task log).reads in
+    let failure : Fails s.history task.level reads run failed done = fails s.history (is_live_in s.live) task.level reads run failed done is some in
+    let conflict : IsConflict s.history reads (latest_writes run.writes) failed =
+    law s.history task.level reads (latest_writes run.writes) failed (reads_truth start log runners entries id task x) failure.conflict in
+    record {
+      done = done;
+      commits = record { run = run; is_run = is_run; is_done = is_done; comes_to = is };
+      failed = failed;
+      fails = some;
+      unchanged = failure.unchanged;
+      conflict = conflict;
+      about = ap (λ (o : Option Seen). (seen_in o).key) conflict.about;
+      was = ap (λ (o : Option Seen). (seen_in o).mod_rev) conflict.about;
+      is = refl;
+    }
+
+-- what the laws of commits say, on which all this stands
+pub record CommitLaws : Type 0 where
+  pub run_now : CommitIsTheRunNow
+  pub conflicts : FailedComparesConflict
+
+decided_follows : (start : ℕ) (log : List Line) (runners : List Slot) (entries : List Entry) (id : ℕ) (task : Task) (run : Run) (done : Done)
+    (o : Option FailedCompare) → CommitLaws → Runs start log runners entries id task →
+    run_on task.program (told start id task log).reads ≡ EndedRun run → run.end ≡ DoneEnd →
+    committed (store start log).history (is_live_in (store start log).live) task.level (told start id task log).reads run ≡ Ok done →
+    done.answer.failed ≡ o →
+    FollowsStep start log (Step id) (decided id (runner_for start log id task) (told start id task log).reads run done o
+    (world_at start log runners entries))
+decided_follows start log runners entries id task run done None laws x is_run is_done is found =
+    taken_follows start log runners entries id task run done laws.run_now x is_run is_done is found
+decided_follows start log runners entries id task run done (Some failed) laws x is_run is_done is found =
+    failed_by start log runners entries id task
+    (seen_in (slice_get (seen_by (told start id task log).reads (latest_writes run.writes)) failed.index)) failed.mod_rev
+    (nat_lt (failures id log + 1) task.limit) refl x
+    (conflicted start log runners entries id task run done failed laws.conflicts x is_run is_done is found)
+
+commit_follows : (start : ℕ) (log : List Line) (runners : List Slot) (entries : List Entry) (id : ℕ) (task : Task) (run : Run) (o : Result Done StoreRefusal) →
+    CommitLaws → Runs start log runners entries id task →
+    run_on task.program (told start id task log).reads ≡ EndedRun run → run.end ≡ DoneEnd →
+    committed (store start log).history (is_live_in (store start log).live) task.level (told start id task log).reads run ≡ o →
+    FollowsStep start log (Step id) (commit_told id (runner_for start log id task) (told start id task log).reads run o
+    (world_at start log runners entries))
+commit_follows start log runners entries id task run (Ok done) laws x is_run is_done is =
+    decided_follows start log runners entries id task run done done.answer.failed laws x is_run is_done is refl
+commit_follows start log runners entries id task run (Err cause) laws x is_run is_done is =
+    ended_follows start log runners entries id task (Ended id cause) x (refl, record { run = run; is_run = is_run; is_done = is_done; comes_to = is })
+    refl refl refl refl
+
+done_follows : (start : ℕ) (log : List Line) (runners : List Slot) (entries : List Entry) (id : ℕ) (task : Task) (run : Run) →
+    CommitLaws → Runs start log runners entries id task →
+    run_on task.program (told start id task log).reads ≡ EndedRun run → run.end ≡ DoneEnd →
+    FollowsStep start log (Step id) (commit id (runner_for start log id task) (told start id task log).reads run
+    (world_at start log runners entries))
+unfolding commit
+done_follows start log runners entries id task run laws x is_run is_done =
+    commit_follows start log runners entries id task run
+    (committed (store start log).history (is_live_in (store start log).live) task.level (told start id task log).reads run)
+    laws x is_run is_done refl
+
+end_follows : (start : ℕ) (log : List Line) (runners : List Slot) (entries : List Entry) (id : ℕ) (task : Task) (run : Run) (end : End) →
+    CommitLaws → Runs start log runners entries id task →
+    run_on task.program (told start id task log).reads ≡ EndedRun run → run.end ≡ end →
+    FollowsStep start log (Step id) (finish id (runner_for start log id task) (told start id task log).reads run end
+    (world_at start log runners entries))
+end_follows start log runners entries id task run DoneEnd laws x is_run ended = done_follows start log runners entries id task run laws x is_run ended
+end_follows start log runners entries id task run (AbortedEnd text) laws x is_run ended =
+    ended_follows start log runners entries id task (Aborted id text) x (refl, record { run = run; is_run = is_run; ended = ended }) refl refl refl refl
+end_follows start log runners entries id task run (FaultedEnd fault) laws x is_run ended =
+    ended_follows start log runners entries id task (Faulted id fault) x (refl, record { run = run; is_run = is_run; ended = ended }) refl refl refl refl
+
+answered_follows : (start : ℕ) (log : List Line) (runners : List Slot) (entries : List Entry) (id : ℕ) (task : Task) (answered : Answered) →
+    CommitLaws → Runs start log runners entries id task → run_on task.program (told start id task log).reads ≡ answered →
+    FollowsStep start log (Step id) (step_on id (runner_for start log id task) (told start id task log).reads answered
+    (world_at start log runners entries))
+answered_follows start log runners entries id task (Wants key trace) laws x is = fetch_follows start log runners entries id task key trace x is
+answered_follows start log runners entries id task (EndedRun run) laws x is = end_follows start log runners entries id task run run.end laws x is refl
+
+-- a step of a runner that runs
+pub live_follows : (start : ℕ) (log : List Line) (runners : List Slot) (entries : List Entry) (id : ℕ) (task : Task) →
+    CommitLaws → Runs start log runners entries id task →
+    FollowsStep start log (Step id) (step_live id (runner_for start log id task) (world_at start log runners entries))
+unfolding step_live
+live_follows start log runners entries id task laws x =
+    answered_follows start log runners entries id task (run_on task.program (told start id task log).reads) laws x refl

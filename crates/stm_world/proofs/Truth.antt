@@ -1,0 +1,125 @@
+-- Answers that are true, and stay so.
+use Rattle.std.proofs.Common.{◌≡◌, ℕ, ◌≤◌, zero, suc, List, [], ◌∷◌, ◌++◌, length, map, filter, Option, Some, None, Bool, true, false, cond, refl, sym, ◌∙◌, ap}
+use Rattle.std.proofs.Common.{subst, arith}
+use Rattle.std.specs.Prelude.{nat_eq, bytes_eq}
+use Rattle.stm_history.specs.declared.change.Change.{Change}
+use Rattle.stm_history.specs.declared.key_state.ReadAnswer.{ReadAnswer}
+use Rattle.stm_history.specs.History.{History, now, add_revision, IsTrueAnswer}
+use Rattle.stm_history.proofs.HistoryLaws.{older_revisions_stay, last_revision_is_now}
+use Rattle.stm_program.specs.Syntax.{ProgramTree}
+use Rattle.stm_program.specs.declared.level.Level.{Level}
+use Rattle.stm_txn.specs.Outcome.{with_changes}
+use Rattle.stm_txn.specs.Commits.{revision_read}
+use Rattle.stm_compile.specs.Levels.{is_serializable}
+use Rattle.stm_compile.specs.Answers.{AreTrue, answer_in, answer_now}
+use Rattle.stm_attempt.specs.Known.{Known, serving, is_of_base}
+use Rattle.stm_attempt.specs.Settled.{run_on, wanted, answer_for, served, taken, settle}
+use Rattle.stm_attempt.specs.Fetches.{base_of, at_of}
+use Rattle.stm_world.specs.Task.{Task, answer_at, with_served}
+
+-- what was true of one history is true of another
+abbrev pub Keeps : History → History → Type 0
+Keeps before after = (answers : List ReadAnswer) → AreTrue before answers → AreTrue after answers
+
+-- all that an attempt knows is true
+abbrev pub KnowsTruth : History → Known → Type 0
+KnowsTruth h known = AreTrue h known.reads × AreTrue h known.prefetched
+
+pub keeps_same : (h : History) → Keeps h h
+keeps_same h answers t = t
+
+pub keeps_twice : (a b c : History) → Keeps a b → Keeps b c → Keeps a c
+keeps_twice a b c first second answers t = second answers (first answers t)
+
+true_in_more : (h : History) (changes : List Change) (a : ReadAnswer) → IsTrueAnswer h a → IsTrueAnswer (add_revision h changes) a
+true_in_more h changes a t =
+    let reached : a.of_rev ≤ now h = t.reached in
+    record { reached = omega arith; shown = older_revisions_stay h changes a.key a.of_rev t.reached ∙ t.shown }
+
+true_after : (h : History) (changes : List Change) (a : ReadAnswer) → IsTrueAnswer h a → IsTrueAnswer (with_changes h changes) a
+true_after h [] a t = t
+true_after h (c ∷ cs) a t = true_in_more h (c ∷ cs) a t
+
+pub keeps_changes : (h : History) (changes : List Change) → Keeps h (with_changes h changes)
+keeps_changes h changes [] t = tt
+keeps_changes h changes (a ∷ answers) t = (true_after h changes a t.0, keeps_changes h changes answers t.1)
+
+pub known_stays : (h after : History) (known : Known) → Keeps h after → KnowsTruth h known → KnowsTruth after known
+known_stays h after known keeps t = (keeps known.reads t.0, keeps known.prefetched t.1)
+
+pub one_more_true : (h : History) (answers : List ReadAnswer) (a : ReadAnswer) → AreTrue h answers → IsTrueAnswer h a → AreTrue h (answers ++ a ∷ [])
+one_more_true h [] a t new = (new, tt)
+one_more_true h (x ∷ answers) a t new = (t.0, one_more_true h answers a t.1 new)
+
+-- ---- what settling takes ----
+
+chosen_true : (h : History) (b : Bool) (x a : ReadAnswer) (rest : Option ReadAnswer) → IsTrueAnswer h x → (rest ≡ Some a → IsTrueAnswer h a) →
+    cond b (Some x) rest ≡ Some a → IsTrueAnswer h a
+chosen_true h true x a rest t later is = let same : x ≡ a = cc in subst (IsTrueAnswer h) same t
+chosen_true h false x a rest t later is = later is
+
+found_true : (h : History) (key : List ℕ) (answers : List ReadAnswer) (a : ReadAnswer) → AreTrue h answers → answer_in key answers ≡ Some a → IsTrueAnswer h a
+found_true h key [] a t is = absurd (cc)
+found_true h key (x ∷ answers) a t is =
+    chosen_true h (bytes_eq x.key key) x a (answer_in key answers) t.0 (found_true h key answers a t.1) is
+
+kept_true : (h : History) (b : Bool) (a : ReadAnswer) (rest : List ReadAnswer) → IsTrueAnswer h a → AreTrue h rest → AreTrue h (cond b (a ∷ rest) rest)
+kept_true h true a rest t later = (t, later)
+kept_true h false a rest t later = later
+
+filter_true : (h : History) (p : ReadAnswer → Bool) (answers : List ReadAnswer) → AreTrue h answers → AreTrue h (filter p answers)
+filter_true h p [] t = tt
+filter_true h p (a ∷ answers) t = kept_true h (p a) a (filter p answers) t.0 (filter_true h p answers t.1)
+
+answer_for_true : (h : History) (key : Option (List ℕ)) (answers : List ReadAnswer) (a : ReadAnswer) → AreTrue h answers →
+    answer_for key answers ≡ Some a → IsTrueAnswer h a
+answer_for_true h None answers a t is = absurd (cc)
+answer_for_true h (Some key) answers a t is = found_true h key answers a t is
+
+taken_true : (h : History) (again : List ReadAnswer → List ReadAnswer) (reads : List ReadAnswer) (o : Option ReadAnswer) →
+    ((more : List ReadAnswer) → AreTrue h more → AreTrue h (again more)) → ((a : ReadAnswer) → o ≡ Some a → IsTrueAnswer h a) → AreTrue h reads →
+    AreTrue h (taken again reads o)
+taken_true h again reads None goes new t = t
+taken_true h again reads (Some a) goes new t = goes (reads ++ a ∷ []) (one_more_true h reads a t (new a refl))
+
+settle_true : (h : History) (n : ℕ) (program : ProgramTree) (prefetched reads : List ReadAnswer) → AreTrue h prefetched → AreTrue h reads →
+    AreTrue h (settle n program prefetched reads)
+unfolding settle
+settle_true h zero program prefetched reads p t = t
+settle_true h (suc n) program prefetched reads p t =
+    taken_true h (settle n program prefetched) reads (served program prefetched reads) (λ more. settle_true h n program prefetched more p)
+    (λ a. answer_for_true h (wanted (run_on program reads)) (serving reads prefetched) a (filter_true h (is_of_base reads) prefetched p)) t
+
+-- what an attempt knows is true, and so it is with what serves among its reads
+pub served_true : (h : History) (task : Task) (known : Known) → KnowsTruth h known → KnowsTruth h (with_served task known)
+served_true h task known t = (settle_true h (length known.prefetched) task.program known.prefetched known.reads t.1 t.0, t.1)
+
+-- ---- answers to reads ----
+
+pub answer_true : (h : History) (key : List ℕ) (r : ℕ) → r ≤ now h → IsTrueAnswer h (answer_at h key r)
+answer_true h key r reached = record { reached = reached; shown = refl }
+
+now_true : (h : History) (key : List ℕ) → IsTrueAnswer h (answer_now h key)
+now_true h key = record { reached = omega arith; shown = last_revision_is_now h key (now h) (omega arith) }
+
+pub reread_true : (h : History) (keys : List (List ℕ)) → AreTrue h (map (answer_now h) keys)
+reread_true h [] = tt
+reread_true h (key ∷ keys) = (now_true h key, reread_true h keys)
+
+base_reached : (h : History) (reads : List ReadAnswer) → AreTrue h reads → base_of reads ≤ now h
+base_reached h [] t = omega arith
+base_reached h (a ∷ reads) t = t.0.reached
+
+either_reached : (b : Bool) (base top : ℕ) → base ≤ top → cond b base 0 ≤ top
+either_reached true base top h = h
+either_reached false base top h = omega arith
+
+read_reached : (b : Bool) (rev top : ℕ) → rev ≤ top → cond b top rev ≤ top
+read_reached true rev top h = omega arith
+read_reached false rev top h = h
+
+-- the revision of a fetch is reached
+pub fetch_reached : (h : History) (level : Level) (reads : List ReadAnswer) → AreTrue h reads → revision_read h (at_of level reads) ≤ now h
+fetch_reached h level reads t =
+    read_reached (nat_eq (at_of level reads) 0) (at_of level reads) (now h)
+    (either_reached (is_serializable level) (base_of reads) (now h) (base_reached h reads t))

@@ -1,0 +1,131 @@
+-- A line that is not about a runner leaves what the log tells of it.
+use Rattle.std.proofs.Common.{◌≡◌, ℕ, ◌+◌, List, [], ◌∷◌, Option, Some, None, Ok, Err, Bool, true, false, cond, refl, sym, ◌∙◌, ap, arith}
+use Rattle.std.specs.Prelude.{nat_eq, option_map, Result, ◌||◌}
+use Rattle.stm_history.specs.History.{History}
+use Rattle.stm_meaning.specs.declared.value.Value.{Value}
+use Rattle.stm_txn.specs.declared.advance.Expired.{Expired}
+use Rattle.stm_txn.specs.declared.refusal.Refusal.{Refusal as StoreRefusal}
+use Rattle.stm_txn.specs.Standing.{Step as StoreStep}
+use Rattle.stm_attempt.specs.Known.{Known}
+use Rattle.stm_world.specs.declared.reply.Reply.{Reply}
+use Rattle.stm_world.specs.declared.reply.Reply.TheVariants.{Started, Fetched, Committed, Conflict, GaveUp, Aborted, Faulted, Ended}
+use Rattle.stm_world.specs.declared.reply.Reply.TheVariants.{Txn as TxnDone, Granted, Kept, Revoked, Advanced}
+use Rattle.stm_world.specs.declared.refusal.Denied.{Denied}
+use Rattle.stm_world.specs.Told.{reply_to, advance_reply}
+use Rattle.stm_world.specs.Task.{Task, nothing_known, answer_at, after_fetch, after_conflict}
+use Rattle.stm_world.specs.Log.{Line, begun, is_over, running, failures, started, is_start, is_id, task_in, store, told, known_after}
+use Rattle.stm_world.specs.Log.{runner_started, runner_ended, runner_in_conflict}
+use Rattle.stm_world.specs.World.{Runner}
+
+-- a runner with this task, as a log tells of it
+abbrev pub runner_for : ℕ → List Line → ℕ → Task → Runner
+runner_for start log id task = record { task = task; failures = failures id log; known = told start id task log }
+
+-- the runner with this number that runs, as a log tells of it
+abbrev pub runner_in_log : ℕ → List Line → ℕ → Option Runner
+runner_in_log start log id = option_map (runner_for start log id) (running id log)
+
+pub record Untouched (id : ℕ) (reply : Result Reply Denied) : Type 0 where
+  pub not_started : is_id id (runner_started reply) ≡ false
+  pub not_ended : is_id id (runner_ended reply) ≡ false
+  pub no_conflict : is_id id (runner_in_conflict reply) ≡ false
+  pub known : (task : Task) (h : History) (k : Known) → known_after id task h reply k ≡ k
+
+pub same_running : (id : ℕ) (line : Line) (log : List Line) → Untouched id line.reply → running id (line ∷ log) ≡ running id log
+same_running id line log u =
+    ap (λ b. cond (b || is_over id log) None (cond (is_id id (runner_started line.reply)) (task_in line.event) (begun id log))) u.not_ended
+    ∙ ap (λ b. cond (is_over id log) None (cond b (task_in line.event) (begun id log))) u.not_started
+
+pub same_failures : (id : ℕ) (line : Line) (log : List Line) → Untouched id line.reply → failures id (line ∷ log) ≡ failures id log
+same_failures id line log u = ap (λ b. cond b (failures id log + 1) (failures id log)) u.no_conflict
+
+pub same_told : (start id : ℕ) (task : Task) (line : Line) (log : List Line) → Untouched id line.reply →
+    told start id task (line ∷ log) ≡ told start id task log
+same_told start id task line log u = u.known task (store start log).history (told start id task log)
+
+same_runner_for : (start id : ℕ) (task : Task) (line : Line) (log : List Line) → Untouched id line.reply →
+    runner_for start (line ∷ log) id task ≡ runner_for start log id task
+same_runner_for start id task line log u = λ i. record { task = task; failures = same_failures id line log u i; known = same_told start id task line log u i }
+
+map_alike : (f g : Task → Runner) (o : Option Task) → ((task : Task) → f task ≡ g task) → option_map f o ≡ option_map g o
+map_alike f g None alike = refl
+map_alike f g (Some task) alike = ap (λ (r : Runner). Some r) (alike task)
+
+pub same_in_log : (start id : ℕ) (line : Line) (log : List Line) → Untouched id line.reply →
+    runner_in_log start (line ∷ log) id ≡ runner_in_log start log id
+same_in_log start id line log u =
+    ap (option_map (runner_for start (line ∷ log) id)) (same_running id line log u)
+    ∙ map_alike (runner_for start (line ∷ log) id) (runner_for start log id) (running id log) (λ task. same_runner_for start id task line log u)
+
+-- ---- numbers that were not given ----
+
+-- the log tells nothing of a number
+pub record IsFresh (start : ℕ) (log : List Line) (id : ℕ) : Type 0 where
+  pub not_begun : begun id log ≡ None
+  pub not_over : is_over id log ≡ false
+  pub no_failures : failures id log ≡ 0
+  pub nothing : (task : Task) → told start id task log ≡ nothing_known
+
+pub none_told : (start id : ℕ) → IsFresh start [] id
+none_told start id = record { not_begun = refl; not_over = refl; no_failures = refl; nothing = λ task. refl }
+
+pub fresh_stays : (start id : ℕ) (line : Line) (log : List Line) → Untouched id line.reply → IsFresh start log id → IsFresh start (line ∷ log) id
+fresh_stays start id line log u fresh = record {
+  not_begun = ap (λ b. cond b (task_in line.event) (begun id log)) u.not_started ∙ fresh.not_begun;
+  not_over = ap (λ b. b || is_over id log) u.not_ended ∙ fresh.not_over;
+  no_failures = same_failures id line log u ∙ fresh.no_failures;
+  nothing = λ task. same_told start id task line log u ∙ fresh.nothing task;
+}
+
+-- ---- replies ----
+
+pub by_refusal : (id : ℕ) (refusal : Denied) → Untouched id (Err refusal)
+by_refusal id refusal = record { not_started = refl; not_ended = refl; no_conflict = refl; known = λ task h k. refl }
+
+pub by_call : {A : Type 0} (id : ℕ) (tell : A → Reply) (o : Result (StoreStep A) StoreRefusal) → ((x : A) → Untouched id (Ok (tell x))) →
+    Untouched id (reply_to tell o)
+by_call id tell (Ok done) each = each done.answer
+by_call id tell (Err cause) each = record { not_started = refl; not_ended = refl; no_conflict = refl; known = λ task h k. refl }
+
+pub by_advance : (id moment : ℕ) (expired : List Expired) (cause : Option StoreRefusal) → Untouched id (advance_reply moment expired cause)
+by_advance id moment expired None = record { not_started = refl; not_ended = refl; no_conflict = refl; known = λ task h k. refl }
+by_advance id moment expired (Some cause) = record { not_started = refl; not_ended = refl; no_conflict = refl; known = λ task h k. refl }
+
+-- the runner of whose step, or start, a reply tells
+abbrev pub runner_named : Reply → Option ℕ
+runner_named (Started runner) = Some runner
+runner_named (Fetched runner key mod_rev of_rev revision) = Some runner
+runner_named (Committed runner revision attempts output trace answers) = Some runner
+runner_named (Conflict runner key seen now) = Some runner
+runner_named (GaveUp runner attempts key seen now) = Some runner
+runner_named (Aborted runner text) = Some runner
+runner_named (Faulted runner fault) = Some runner
+runner_named (Ended runner cause) = Some runner
+runner_named other = None
+
+-- a reply that names one runner, or none, is not about another
+pub by_reply : (id : ℕ) (reply : Reply) → is_id id (runner_named reply) ≡ false → Untouched id (Ok reply)
+by_reply id (Started runner) other = record { not_started = other; not_ended = refl; no_conflict = refl; known = λ task h k. refl }
+by_reply id (Fetched runner key mod_rev of_rev revision) other = record {
+  not_started = refl;
+  not_ended = refl;
+  no_conflict = refl;
+  known = λ task h k. ap (λ b. cond b (after_fetch task (answer_at h key of_rev) k) k) other;
+}
+by_reply id (Committed runner revision attempts output trace answers) other =
+    record { not_started = refl; not_ended = other; no_conflict = refl; known = λ task h k. refl }
+by_reply id (Conflict runner key seen now) other = record {
+  not_started = refl;
+  not_ended = refl;
+  no_conflict = other;
+  known = λ task h k. ap (λ b. cond b (after_conflict task h k) k) other;
+}
+by_reply id (GaveUp runner attempts key seen now) other = record { not_started = refl; not_ended = other; no_conflict = refl; known = λ task h k. refl }
+by_reply id (Aborted runner text) other = record { not_started = refl; not_ended = other; no_conflict = refl; known = λ task h k. refl }
+by_reply id (Faulted runner fault) other = record { not_started = refl; not_ended = other; no_conflict = refl; known = λ task h k. refl }
+by_reply id (Ended runner cause) other = record { not_started = refl; not_ended = other; no_conflict = refl; known = λ task h k. refl }
+by_reply id (TxnDone answer) other = record { not_started = refl; not_ended = refl; no_conflict = refl; known = λ task h k. refl }
+by_reply id (Granted lease) other = record { not_started = refl; not_ended = refl; no_conflict = refl; known = λ task h k. refl }
+by_reply id (Kept lease) other = record { not_started = refl; not_ended = refl; no_conflict = refl; known = λ task h k. refl }
+by_reply id (Revoked lease revision) other = record { not_started = refl; not_ended = refl; no_conflict = refl; known = λ task h k. refl }
+by_reply id (Advanced moment expired) other = record { not_started = refl; not_ended = refl; no_conflict = refl; known = λ task h k. refl }

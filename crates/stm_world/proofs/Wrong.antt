@@ -1,0 +1,154 @@
+-- Wrong logs are none.
+use Rattle.std.proofs.Common.{◌≡◌, ◌≢◌, ℕ, ◌+◌, ◌≤◌, List, [], ◌∷◌, Option, Some, None, Ok, Err, Bool, true, false, cond, refl, sym, ◌∙◌, ap, subst, arith}
+use Rattle.std.specs.Prelude.{nat_eq, Result}
+use Rattle.std.specs.Cmp.{unsigned_Decides}
+use Rattle.stm_program.specs.Syntax.{ProgramTree}
+use Rattle.stm_program.specs.declared.level.Level.{Level}
+use Rattle.stm_meaning.specs.declared.run.End.{End}
+use Rattle.stm_meaning.specs.declared.run.End.TheVariants.{Done as DoneEnd, Aborted as AbortedEnd}
+use Rattle.stm_meaning.specs.declared.run.Run.{Run}
+use Rattle.stm_meaning.specs.declared.run.Answered.{Answered}
+use Rattle.stm_meaning.specs.declared.run.Answered.TheVariants.{Ended as EndedRun}
+use Rattle.stm_attempt.specs.Settled.{run_on}
+use Rattle.stm_world.specs.declared.event.WorldEvent.{WorldEvent}
+use Rattle.stm_world.specs.declared.event.WorldEvent.TheVariants.{Start, Step, Txn, Grant, Keep, Revoke, Advance}
+use Rattle.stm_world.specs.declared.reply.Reply.{Reply}
+use Rattle.stm_world.specs.declared.reply.Reply.TheVariants.{Started, Fetched, Committed, Conflict, GaveUp, Aborted, Faulted, Ended}
+use Rattle.stm_world.specs.declared.reply.Reply.TheVariants.{Txn as TxnDone, Granted, Kept, Revoked, Advanced}
+use Rattle.stm_world.specs.declared.refusal.Denied.{Denied}
+use Rattle.stm_world.specs.declared.refusal.Refusal.TheVariants.{NoRunner}
+use Rattle.stm_txn.specs.declared.advance.Expired.{Expired}
+use Rattle.stm_txn.specs.declared.refusal.Refusal.{Refusal as StoreRefusal}
+use Rattle.stm_txn.specs.Standing.{Step as StoreStep, transacted, granted, kept_alive, revoked, advanced}
+use Rattle.stm_world.specs.Told.{denied, reply_to, advance_reply}
+use Rattle.stm_world.specs.Task.{Task}
+use Rattle.stm_world.specs.Log.{Line, begun, running, started, is_start, runner_started, is_id, task_in, store, told}
+use Rattle.stm_world.specs.Right.{IsRight, AreRight, RunnerIsRight, Situation, ReplyIsRight, EndsWith, situation}
+use Rattle.stm_world.specs.WrongLogs.{WrongLogs, runner_told}
+
+causeless_refusal : (start : ℕ) (log : List Line) (id : ℕ) (task : Task) (refusal : Denied) → running id log ≡ Some task
+    → IsRight start log (Step id) (Err refusal) → ⊥
+causeless_refusal start log id task refusal runs right = subst (λ (o : Option Task). RunnerIsRight start log id o (Err refusal)) runs right
+
+step_of_none : (start : ℕ) (log : List Line) (id : ℕ) (reply : Reply) → running id log ≡ None → IsRight start log (Step id) (Ok reply) → ⊥
+step_of_none start log id reply none right =
+    let same : Ok reply ≡ denied NoRunner = subst (λ (o : Option Task). RunnerIsRight start log id o (Ok reply)) none right in absurd (cc)
+
+-- ---- numbers ----
+
+equal_numbers : (a b : ℕ) → nat_eq a b ≡ true → a ≡ b
+equal_numbers a b h = (unsigned_Decides a b).0 h
+
+-- only a start is told a number
+call_gives_none : {A : Type 0} (tell : A → Reply) (o : Result (StoreStep A) StoreRefusal) → ((x : A) → runner_started (Ok (tell x)) ≡ None) →
+    runner_started (reply_to tell o) ≡ None
+call_gives_none tell (Ok done) none = none done.answer
+call_gives_none tell (Err cause) none = refl
+
+advance_gives_none : (moment : ℕ) (expired : List Expired) (cause : Option StoreRefusal) → runner_started (advance_reply moment expired cause) ≡ None
+advance_gives_none moment expired None = refl
+advance_gives_none moment expired (Some cause) = refl
+
+step_gives_none : (at : Situation) (reply : Reply) → ReplyIsRight at reply → runner_started (Ok reply) ≡ None
+step_gives_none at (Started runner) right = absurd right
+step_gives_none at other right = refl
+
+runner_gives_none : (start : ℕ) (log : List Line) (id : ℕ) (o : Option Task) (reply : Result Reply Denied) → RunnerIsRight start log id o reply →
+    runner_started reply ≡ None
+runner_gives_none start log id None reply right = ap runner_started right
+runner_gives_none start log id (Some task) (Ok reply) right = step_gives_none (situation start log id task) reply right
+runner_gives_none start log id (Some task) (Err refusal) right = refl
+
+-- a start that is right gives the number after those that were given
+pub given_next : (start : ℕ) (log : List Line) (event : WorldEvent) (reply : Result Reply Denied) (id : ℕ) → IsRight start log event reply →
+    runner_started reply ≡ Some id → id ≡ started log + 1
+given_next start log (Start program level limit) (Ok reply) id right named =
+    let next : Some id ≡ Some (started log + 1) = sym named ∙ ap (λ (r : Reply). runner_started (Ok r)) right.0 in cc
+given_next start log (Start program level limit) (Err refusal) id right named = absurd (cc)
+given_next start log (Step runner) reply id right named = let none = runner_gives_none start log runner (running runner log) reply right in absurd (cc)
+given_next start log (Txn txn) reply id right named =
+    let none = ap runner_started right ∙ call_gives_none TxnDone (transacted (store start log) txn) (λ x. refl) in absurd (cc)
+given_next start log (Grant lease ttl) reply id right named =
+    let none = ap runner_started right ∙ call_gives_none (λ _. Granted lease) (granted (store start log) lease ttl) (λ x. refl) in absurd (cc)
+given_next start log (Keep lease) reply id right named =
+    let none = ap runner_started right ∙ call_gives_none (λ _. Kept lease) (kept_alive (store start log) lease) (λ x. refl) in absurd (cc)
+given_next start log (Revoke lease) reply id right named =
+    let none = ap runner_started right ∙ call_gives_none (Revoked lease) (revoked (store start log) lease) (λ x. refl) in absurd (cc)
+given_next start log (Advance moment) reply id right named =
+    let done = advanced (store start log) moment in
+    let none = ap runner_started right ∙ advance_gives_none moment done.expired done.cause in absurd (cc)
+
+begun_here : (id runner count : ℕ) (b : Bool) (here rest : Option Task) (task : Task) → nat_eq runner id ≡ b → runner ≡ count + 1 →
+    (rest ≡ Some task → id ≤ count) → cond b here rest ≡ Some task → id ≤ count + 1
+begun_here id runner count true here rest task same next earlier is = let equal : runner ≡ id = equal_numbers runner id same in omega arith
+begun_here id runner count false here rest task same next earlier is = let known : id ≤ count = earlier is in omega arith
+
+begun_by : (id count : ℕ) (o : Option ℕ) (here rest : Option Task) (task : Task) → ((runner : ℕ) → o ≡ Some runner → runner ≡ count + 1) →
+    (rest ≡ Some task → id ≤ count) → cond (is_id id o) here rest ≡ Some task → id ≤ cond (is_start o) (count + 1) count
+begun_by id count None here rest task next earlier is = earlier is
+begun_by id count (Some runner) here rest task next earlier is =
+    begun_here id runner count (nat_eq runner id) here rest task refl (next runner refl) earlier is
+
+-- a runner that was started has one of the numbers that were given
+pub begun_is_started : (start : ℕ) (log : List Line) (id : ℕ) (task : Task) → AreRight start log → begun id log ≡ Some task → id ≤ started log
+begun_is_started start [] id task right is = absurd (cc)
+begun_is_started start (line ∷ older) id task right is =
+    begun_by id (started older) (runner_started line.reply) (task_in line.event) (begun id older) task
+    (λ runner. given_next start older line.event line.reply runner right.0) (begun_is_started start older id task right.1) is
+
+number_given_twice : (start : ℕ) (log : List Line) (id : ℕ) (task : Task) (program : ProgramTree) (level : Level) (limit : ℕ)
+    → AreRight start log → begun id log ≡ Some task → IsRight start log (Start program level limit) (Ok (Started id)) → ⊥
+number_given_twice start log id task program level limit right is again =
+    let known : id ≤ started log = begun_is_started start log id task right is in
+    let next : id ≡ started log + 1 = given_next start log (Start program level limit) (Ok (Started id)) id again refl in
+    omega arith
+
+-- ---- replies ----
+
+another : (at : Situation) (reply : Reply) (runner : ℕ) → runner_told reply ≡ Some runner → ReplyIsRight at reply → runner ≡ at.id
+another at (Started r) runner named right = absurd right
+another at (Fetched r key mod_rev of_rev revision) runner named right = let same : r ≡ runner = cc in sym same ∙ right.0
+another at (Committed r revision attempts output trace answers) runner named right = let same : r ≡ runner = cc in sym same ∙ right.0
+another at (Conflict r key seen now) runner named right = let same : r ≡ runner = cc in sym same ∙ right.0
+another at (GaveUp r attempts key seen now) runner named right = let same : r ≡ runner = cc in sym same ∙ right.0
+another at (Aborted r text) runner named right = let same : r ≡ runner = cc in sym same ∙ right.0
+another at (Faulted r fault) runner named right = let same : r ≡ runner = cc in sym same ∙ right.0
+another at (Ended r cause) runner named right = let same : r ≡ runner = cc in sym same ∙ right.0
+another at (TxnDone answer) runner named right = absurd right
+another at (Granted lease) runner named right = absurd right
+another at (Kept lease) runner named right = absurd right
+another at (Revoked lease revision) runner named right = absurd right
+another at (Advanced moment expired) runner named right = absurd right
+
+another_by : (start : ℕ) (log : List Line) (id runner : ℕ) (o : Option Task) (reply : Reply) → runner_told reply ≡ Some runner → runner ≢ id
+    → RunnerIsRight start log id o (Ok reply) → ⊥
+another_by start log id runner None reply named other right = absurd (cc)
+another_by start log id runner (Some task) reply named other right = other (another (situation start log id task) reply runner named right)
+
+another_runner : (start : ℕ) (log : List Line) (id runner : ℕ) (reply : Reply) → runner_told reply ≡ Some runner → runner ≢ id
+    → IsRight start log (Step id) (Ok reply) → ⊥
+another_runner start log id runner reply named other right = another_by start log id runner (running id log) reply named other right
+
+not_aborted : (at : Situation) (run : Run) (text : List ℕ) → run_on at.task.program at.reads ≡ EndedRun run → run.end ≡ DoneEnd
+    → EndsWith at (AbortedEnd text) → ⊥
+not_aborted at run text is_run done ends =
+    let one : EndedRun run ≡ EndedRun ends.run = sym is_run ∙ ends.is_run in
+    let same : run ≡ ends.run = cc in
+    let both : DoneEnd ≡ AbortedEnd text = sym done ∙ ap (λ (r : Run). r.end) same ∙ ends.ended in absurd (cc)
+
+another_abort : (start : ℕ) (log : List Line) (id : ℕ) (task : Task) (run : Run) (text : List ℕ) → running id log ≡ Some task
+    → run_on task.program (told start id task log).reads ≡ EndedRun run → run.end ≡ DoneEnd
+    → IsRight start log (Step id) (Ok (Aborted id text)) → ⊥
+another_abort start log id task run text runs is_run done right =
+    not_aborted (situation start log id task) run text is_run done
+    (subst (λ (o : Option Task). RunnerIsRight start log id o (Ok (Aborted id text))) runs right).1
+
+pub wrong_logs : WrongLogs
+wrong_logs = record {
+  causeless_refusal = causeless_refusal;
+  refused_start = λ start log program level limit refusal some right. some right.1;
+  number_given_twice = number_given_twice;
+  step_of_none = step_of_none;
+  another_runner = another_runner;
+  another_abort = another_abort;
+}

@@ -1,0 +1,39 @@
+-- The headline: over every list of events, in any interleaving of any number of runners.
+use Rattle.std.specs.Prelude.{◌≡◌, ℕ, ◌≤◌, true, List, [], ◌∷◌, Some, Result}
+use Rattle.stm_compile.specs.Levels.{is_serializable}
+use Rattle.stm_attempt.specs.Fetches.{HaveOneBase}
+use Rattle.stm_entries.specs.Replayed.{opening, without_moment}
+use Rattle.stm_entries.specs.Replay.{replay}
+use Rattle.stm_entries.specs.Legal.{AreLegal}
+use Rattle.stm_world.specs.declared.event.WorldEvent.{WorldEvent}
+use Rattle.stm_world.specs.declared.reply.Reply.{Reply}
+use Rattle.stm_world.specs.declared.refusal.Denied.{Denied}
+use Rattle.stm_world.specs.Task.{Task}
+use Rattle.stm_world.specs.Log.{Line, running, store, told}
+use Rattle.stm_world.specs.Right.{AreRight}
+use Rattle.stm_world.specs.World.{World, opened, world_after, replies_to}
+
+-- a log with these events and their replies after what it has
+abbrev pub logged : List WorldEvent → List (Result Reply Denied) → List Line → List Line
+logged [] replies log = log
+logged (e ∷ es) [] log = log
+logged (e ∷ es) (reply ∷ replies) log = logged es replies (record { event = e; reply = reply } ∷ log)
+
+-- Each reply is right after the lines before it; the store is what the log says; and the entries replay to it, each legal at
+-- its point.
+pub record Holds (start : ℕ) (log : List Line) (w : World) : Type 0 where
+  pub replies : AreRight start log
+  pub standing : w.standing ≡ store start log
+  pub replays : replay w.entries (opening start) ≡ without_moment w.standing
+  pub legal : AreLegal w.entries (opening start)
+
+abbrev pub Headline : Type 0
+Headline =
+    (start : ℕ) (events : List WorldEvent) → Holds start (logged events (replies_to events (opened start)) []) (world_after events (opened start))
+
+-- What an attempt at a serializable level has read is of one revision, also where its commit will fail.
+abbrev pub OneRevision : Type 0
+OneRevision =
+    (start : ℕ) (events : List WorldEvent) (id : ℕ) (task : Task) → 1 ≤ start
+    → running id (logged events (replies_to events (opened start)) []) ≡ Some task → is_serializable task.level ≡ true
+    → HaveOneBase (told start id task (logged events (replies_to events (opened start)) [])).reads

@@ -1,0 +1,124 @@
+-- A log of events and replies, the newest first, and what it tells of each runner and of the store.
+--
+-- Nothing here knows how a world makes its replies.
+use Rattle.std.specs.Prelude.{ℕ, ◌+◌, nat_eq, Bool, true, false, ◌||◌, if◌then◌else◌, List, [], ◌∷◌, Option, Some, None, Result, Ok, Err}
+use Rattle.stm_history.specs.declared.key_state.ReadAnswer.{ReadAnswer}
+use Rattle.stm_history.specs.History.{History}
+use Rattle.stm_meaning.specs.Meaning.{run_over}
+use Rattle.stm_txn.specs.Standing.{Standing, opening, with_history, transacted, granted, kept_alive, revoked, advanced}
+use Rattle.stm_attempt.specs.Known.{Known}
+use Rattle.stm_entries.specs.Replayed.{without_moment}
+use Rattle.stm_entries.specs.Alone.{seen_at, left_by_run}
+use Rattle.stm_world.specs.declared.event.WorldEvent.{WorldEvent}
+use Rattle.stm_world.specs.declared.event.WorldEvent.TheVariants.{Start, Step, Txn, Grant, Keep, Revoke, Advance}
+use Rattle.stm_world.specs.declared.reply.Reply.{Reply}
+use Rattle.stm_world.specs.declared.reply.Reply.TheVariants.{Started, Fetched, Committed, Conflict, GaveUp, Aborted, Faulted, Ended}
+use Rattle.stm_world.specs.declared.reply.Reply.TheVariants.{Txn as TxnDone, Granted, Kept, Revoked, Advanced}
+use Rattle.stm_world.specs.declared.refusal.Denied.{Denied}
+use Rattle.stm_world.specs.Told.{store_after_call}
+use Rattle.stm_world.specs.Task.{Task, nothing_known, answer_at, after_fetch, after_conflict}
+
+-- an event and the reply to it
+pub record Line : Type 0 where
+  pub event : WorldEvent
+  pub reply : Result Reply Denied
+
+-- ---- runners ----
+
+-- what a start begins
+abbrev pub task_in : WorldEvent → Option Task
+task_in (Start program level limit) = Some record { program = program; level = level; limit = limit }
+task_in other = None
+
+abbrev pub is_id : ℕ → Option ℕ → Bool
+is_id id None = false
+is_id id (Some named) = nat_eq named id
+
+-- the runner that a reply gives its number
+abbrev pub runner_started : Result Reply Denied → Option ℕ
+runner_started (Ok (Started runner)) = Some runner
+runner_started other = None
+
+-- the runner whose run a reply ends
+abbrev pub runner_ended : Result Reply Denied → Option ℕ
+runner_ended (Ok (Committed runner revision attempts output trace answers)) = Some runner
+runner_ended (Ok (GaveUp runner attempts key seen now)) = Some runner
+runner_ended (Ok (Aborted runner text)) = Some runner
+runner_ended (Ok (Faulted runner fault)) = Some runner
+runner_ended (Ok (Ended runner cause)) = Some runner
+runner_ended other = None
+
+-- the runner that a reply tells of a conflict
+abbrev pub runner_in_conflict : Result Reply Denied → Option ℕ
+runner_in_conflict (Ok (Conflict runner key seen now)) = Some runner
+runner_in_conflict other = None
+
+abbrev pub is_start : Option ℕ → Bool
+is_start None = false
+is_start (Some runner) = true
+
+-- how many runners were started
+abbrev pub started : List Line → ℕ
+started [] = 0
+started (line ∷ older) = if is_start (runner_started line.reply) then started older + 1 else started older
+
+-- the start whose reply named the runner
+abbrev pub begun : ℕ → List Line → Option Task
+begun id [] = None
+begun id (line ∷ older) = if is_id id (runner_started line.reply) then task_in line.event else begun id older
+
+-- a reply has ended the runner's run
+abbrev pub is_over : ℕ → List Line → Bool
+is_over id [] = false
+is_over id (line ∷ older) = is_id id (runner_ended line.reply) || is_over id older
+
+-- the run of a runner that was started and has not ended
+abbrev pub running : ℕ → List Line → Option Task
+running id log = if is_over id log then None else begun id log
+
+-- how many conflicts the runner was told
+abbrev pub failures : ℕ → List Line → ℕ
+failures id [] = 0
+failures id (line ∷ older) = if is_id id (runner_in_conflict line.reply) then failures id older + 1 else failures id older
+
+-- ---- the store ----
+
+-- a program that has committed: it is run again alone at this moment, at ReadCommitted on the answers that were told
+abbrev pub with_commit : Standing → List ReadAnswer → Option Task → Standing
+with_commit s answers None = s
+with_commit s answers (Some task) =
+    with_history s (left_by_run (run_over (seen_at task.level answers s.history) task.program.statements) (without_moment s)).history
+
+-- what a step leaves of the store: only a commit changes it
+abbrev pub store_after_step : (ℕ → Option Task) → Standing → Result Reply Denied → Standing
+store_after_step task_of s (Ok (Committed runner revision attempts output trace answers)) = with_commit s answers (task_of runner)
+store_after_step task_of s other = s
+
+-- what an event leaves of the store
+abbrev pub store_after : (ℕ → Option Task) → WorldEvent → Result Reply Denied → Standing → Standing
+store_after task_of (Start program level limit) reply s = s
+store_after task_of (Step runner) reply s = store_after_step task_of s reply
+store_after task_of (Txn txn) reply s = store_after_call s (transacted s txn)
+store_after task_of (Grant id ttl) reply s = store_after_call s (granted s id ttl)
+store_after task_of (Keep id) reply s = store_after_call s (kept_alive s id)
+store_after task_of (Revoke id) reply s = store_after_call s (revoked s id)
+store_after task_of (Advance moment) reply s = (advanced s moment).leaves
+
+-- the store, which opened at a revision, after a log
+abbrev pub store : ℕ → List Line → Standing
+store start [] = opening start
+store start (line ∷ older) = store_after (λ id. begun id older) line.event line.reply (store start older)
+
+-- ---- what a runner knows ----
+
+-- a fetched line adds the key as it was at the revision that is told; a conflict begins a new attempt
+abbrev pub known_after : ℕ → Task → History → Result Reply Denied → Known → Known
+known_after id task h (Ok (Fetched runner key mod_rev of_rev revision)) known =
+    if nat_eq runner id then after_fetch task (answer_at h key of_rev) known else known
+known_after id task h (Ok (Conflict runner key seen now)) known = if nat_eq runner id then after_conflict task h known else known
+known_after id task h other known = known
+
+-- what a runner with this task was told in its attempt
+abbrev pub told : ℕ → ℕ → Task → List Line → Known
+told start id task [] = nothing_known
+told start id task (line ∷ older) = known_after id task (store start older).history line.reply (told start id task older)

@@ -1,0 +1,146 @@
+-- When a reply is right after a log, whatever made it.
+--
+-- The Go package `concurrency`, "STM" and "Isolation", and etcd's API reference, "Transaction" and "Lease". Nothing here knows
+-- how a world makes its replies: a line is judged by the lines before it.
+use Rattle.std.specs.Prelude.{◌≡◌, ◌≢◌, ℕ, ◌+◌, ◌<◌, ◌≤◌, List, [], ◌∷◌, Option, Some, None, Result, Ok, Err, slice_get}
+use Rattle.stm_history.specs.declared.key_state.ReadAnswer.{ReadAnswer}
+use Rattle.stm_history.specs.History.{now, key_at, mod_of}
+use Rattle.stm_leases.specs.Live.{is_live_in}
+use Rattle.stm_program.specs.Writes.{latest_writes}
+use Rattle.stm_meaning.specs.declared.value.Value.{Value}
+use Rattle.stm_meaning.specs.declared.trace_item.TraceItem.{TraceItem}
+use Rattle.stm_meaning.specs.declared.run.End.{End}
+use Rattle.stm_meaning.specs.declared.run.End.TheVariants.{Done as DoneEnd, Aborted as AbortedEnd, Faulted as FaultedEnd}
+use Rattle.stm_meaning.specs.declared.run.Run.{Run}
+use Rattle.stm_meaning.specs.declared.run.Answered.TheVariants.{Ended as EndedRun, Wants}
+use Rattle.stm_meaning.specs.Meaning.{run_over}
+use Rattle.stm_txn.specs.declared.answer.FailedCompare.{FailedCompare}
+use Rattle.stm_txn.specs.declared.refusal.Refusal.{Refusal as StoreRefusal}
+use Rattle.stm_txn.specs.Outcome.{Done}
+use Rattle.stm_txn.specs.Commits.{revision_read}
+use Rattle.stm_txn.specs.Standing.{Standing, transacted, granted, kept_alive, revoked, advanced}
+use Rattle.stm_compile.specs.Committed.{committed}
+use Rattle.stm_compile.specs.Conflicts.{IsConflict}
+use Rattle.stm_attempt.specs.Known.{Known}
+use Rattle.stm_attempt.specs.Settled.{run_on}
+use Rattle.stm_attempt.specs.Fetches.{at_of}
+use Rattle.stm_entries.specs.Alone.{seen_at}
+use Rattle.stm_world.specs.declared.event.WorldEvent.{WorldEvent}
+use Rattle.stm_world.specs.declared.event.WorldEvent.TheVariants.{Start, Step, Txn, Grant, Keep, Revoke, Advance}
+use Rattle.stm_world.specs.declared.reply.Reply.{Reply}
+use Rattle.stm_world.specs.declared.reply.Reply.TheVariants.{Started, Fetched, Committed, Conflict, GaveUp, Aborted, Faulted, Ended}
+use Rattle.stm_world.specs.declared.reply.Reply.TheVariants.{Txn as TxnDone, Granted, Kept, Revoked}
+use Rattle.stm_world.specs.declared.refusal.Refusal.TheVariants.{BadLimit, NoRunner}
+use Rattle.stm_world.specs.declared.refusal.Denied.{Denied}
+use Rattle.stm_world.specs.Told.{denied, reply_to, advance_reply}
+use Rattle.stm_world.specs.Task.{Task, answers_told}
+use Rattle.stm_world.specs.Log.{Line, running, started, failures, store, told}
+
+-- Where a runner stands: its number, its task, what it has read in its attempt (with the prefetched answers that it took), the
+-- conflicts that it was told, and the store.
+pub record Situation : Type 0 where
+  pub id : ℕ
+  pub task : Task
+  pub reads : List ReadAnswer
+  pub failures : ℕ
+  pub store : Standing
+
+-- The program wants a key, which is fetched at the revision of its level: the base at the serializable levels, where something
+-- was read, else the current one. What is told is true.
+pub record IsFetch (at : Situation) (key : List ℕ) (mod_rev of_rev revision : ℕ) : Type 0 where
+  pub trace : List TraceItem
+  pub wants : run_on at.task.program at.reads ≡ Wants key trace
+  pub shows : of_rev ≡ revision_read at.store.history (at_of at.task.level at.reads)
+  pub modified : mod_rev ≡ mod_of (key_at at.store.history key of_rev)
+  pub carries : revision ≡ now at.store.history
+
+-- the program came to this end on what it read
+pub record EndsWith (at : Situation) (end : End) : Type 0 where
+  pub run : Run
+  pub is_run : run_on at.task.program at.reads ≡ EndedRun run
+  pub ended : run.end ≡ end
+
+-- The program is done on what it read, and this is what its commit comes to.
+pub record Commits (at : Situation) (outcome : Result Done StoreRefusal) : Type 0 where
+  pub run : Run
+  pub is_run : run_on at.task.program at.reads ≡ EndedRun run
+  pub is_done : run.end ≡ DoneEnd
+  pub comes_to : committed at.store.history (is_live_in at.store.live) at.task.level at.reads run ≡ outcome
+
+-- A commit that succeeds: at a comparing level output and trace are those of the program run alone on the state of this
+-- moment, at ReadCommitted those of its run on what it read, which is told.
+pub record IsCommitted (at : Situation) (revision : ℕ) (output : List Value) (trace : List TraceItem) (answers : List ReadAnswer) : Type 0 where
+  pub done : Done
+  pub commits : Commits at (Ok done)
+  pub succeeds : done.answer.failed ≡ None
+  pub is_alone : run_over (seen_at at.task.level at.reads at.store.history) at.task.program.statements ≡ EndedRun commits.run
+  pub emits : output ≡ commits.run.output
+  pub sees : trace ≡ commits.run.trace
+  pub reached : revision ≡ now done.history
+  pub told : answers ≡ answers_told at.task.level at.reads
+
+-- A commit that fails changes nothing: a compare failed, it is about this key, and it is a conflict.
+pub record IsConflicted (at : Situation) (key : List ℕ) (seen now_modified : ℕ) : Type 0 where
+  pub done : Done
+  pub commits : Commits at (Ok done)
+  pub failed : FailedCompare
+  pub fails : done.answer.failed ≡ Some failed
+  pub unchanged : done.history ≡ at.store.history
+  pub conflict : IsConflict at.store.history at.reads (latest_writes commits.run.writes) failed
+  pub about : key ≡ conflict.seen.key
+  pub was : seen ≡ conflict.seen.mod_rev
+  pub is : now_modified ≡ failed.mod_rev
+
+-- a reply to the step of a runner that runs
+abbrev pub ReplyIsRight : Situation → Reply → Type 0
+ReplyIsRight at (Fetched runner key mod_rev of_rev revision) = (runner ≡ at.id) × IsFetch at key mod_rev of_rev revision
+ReplyIsRight at (Committed runner revision attempts output trace answers) =
+    (runner ≡ at.id) × (attempts ≡ at.failures + 1) × IsCommitted at revision output trace answers
+ReplyIsRight at (Conflict runner key seen now) = (runner ≡ at.id) × (at.failures + 1 < at.task.limit) × IsConflicted at key seen now
+ReplyIsRight at (GaveUp runner attempts key seen now) =
+    (runner ≡ at.id) × (attempts ≡ at.failures + 1) × (at.task.limit ≤ at.failures + 1) × IsConflicted at key seen now
+ReplyIsRight at (Aborted runner text) = (runner ≡ at.id) × EndsWith at (AbortedEnd text)
+ReplyIsRight at (Faulted runner fault) = (runner ≡ at.id) × EndsWith at (FaultedEnd fault)
+ReplyIsRight at (Ended runner cause) = (runner ≡ at.id) × Commits at (Err cause)
+ReplyIsRight at other = ⊥
+
+-- a step of a runner that runs is never refused
+abbrev pub StepIsRight : Situation → Result Reply Denied → Type 0
+StepIsRight at (Ok reply) = ReplyIsRight at reply
+StepIsRight at (Err refusal) = ⊥
+
+-- where a runner stands after a log
+abbrev pub situation : ℕ → List Line → ℕ → Task → Situation
+situation start log id task = record {
+  id = id;
+  task = task;
+  reads = (told start id task log).reads;
+  failures = failures id log;
+  store = store start log;
+}
+
+-- a step is refused exactly where the runner was not started or its run is over
+abbrev pub RunnerIsRight : ℕ → List Line → ℕ → Option Task → Result Reply Denied → Type 0
+RunnerIsRight start log id None reply = reply ≡ denied NoRunner
+RunnerIsRight start log id (Some task) reply = StepIsRight (situation start log id task) reply
+
+-- a start gets the next number, and is refused exactly where it may send no commit
+abbrev pub StartIsRight : ℕ → ℕ → Result Reply Denied → Type 0
+StartIsRight count limit (Ok reply) = (reply ≡ Started (count + 1)) × (limit ≢ 0)
+StartIsRight count limit (Err refusal) = (refusal ≡ record { cause = BadLimit; expired = [] }) × (limit ≡ 0)
+
+-- the reply to an event after a log, in a world whose store opened at a revision
+abbrev pub IsRight : ℕ → List Line → WorldEvent → Result Reply Denied → Type 0
+IsRight start log (Start program level limit) reply = StartIsRight (started log) limit reply
+IsRight start log (Step id) reply = RunnerIsRight start log id (running id log) reply
+IsRight start log (Txn txn) reply = reply ≡ reply_to TxnDone (transacted (store start log) txn)
+IsRight start log (Grant id ttl) reply = reply ≡ reply_to (λ _. Granted id) (granted (store start log) id ttl)
+IsRight start log (Keep id) reply = reply ≡ reply_to (λ _. Kept id) (kept_alive (store start log) id)
+IsRight start log (Revoke id) reply = reply ≡ reply_to (Revoked id) (revoked (store start log) id)
+IsRight start log (Advance moment) reply =
+    reply ≡ advance_reply moment (advanced (store start log) moment).expired (advanced (store start log) moment).cause
+
+-- each line of a log is right after the lines before it
+abbrev pub AreRight : ℕ → List Line → Type 0
+AreRight start [] = Unit {0}
+AreRight start (line ∷ older) = IsRight start older line.event line.reply × AreRight start older

@@ -1,0 +1,31 @@
+-- What the world replies to the calls of its store that are no runner's.
+--
+-- etcd's API reference, "Transaction" and "Lease": each such call is one of the store, and the reply is its answer.
+use Rattle.std.specs.Prelude.{ℕ, List, [], Option, Some, None, Result, Ok, Err}
+use Rattle.stm_txn.specs.declared.advance.Expired.{Expired}
+use Rattle.stm_txn.specs.declared.refusal.Refusal.{Refusal as StoreRefusal}
+use Rattle.stm_txn.specs.Standing.{Standing, Step, Advance}
+use Rattle.stm_world.specs.declared.reply.Reply.{Reply}
+use Rattle.stm_world.specs.declared.reply.Reply.TheVariants.{Advanced}
+use Rattle.stm_world.specs.declared.refusal.Refusal.{Refusal}
+use Rattle.stm_world.specs.declared.refusal.Refusal.TheVariants.{Store}
+use Rattle.stm_world.specs.declared.refusal.Denied.{Denied}
+
+-- a refusal before which nothing expired
+abbrev pub denied : Refusal → Result Reply Denied
+denied cause = Err (record { cause = cause; expired = [] })
+
+-- the reply to a call of the store, by what it answered
+abbrev pub reply_to : {A : Type 0} → (A → Reply) → Result (Step A) StoreRefusal → Result Reply Denied
+reply_to tell (Ok done) = Ok (tell done.answer)
+reply_to tell (Err cause) = denied (Store cause)
+
+-- the store after a call: a refused one leaves it as it was
+abbrev pub store_after_call : {A : Type 0} → Standing → Result (Step A) StoreRefusal → Standing
+store_after_call s (Ok done) = done.next
+store_after_call s (Err cause) = s
+
+-- the reply to an advance: what expired, also where it was refused
+abbrev pub advance_reply : ℕ → List Expired → Option StoreRefusal → Result Reply Denied
+advance_reply moment expired None = Ok (Advanced moment expired)
+advance_reply moment expired (Some cause) = Err (record { cause = Store cause; expired = expired })

@@ -1,0 +1,46 @@
+-- Logs that are wrong, so that it shows what being right rules out.
+use Rattle.std.specs.Prelude.{◌≡◌, ◌≢◌, ℕ, List, [], Option, Some, None, Ok, Err}
+use Rattle.stm_program.specs.Syntax.{ProgramTree}
+use Rattle.stm_program.specs.declared.level.Level.{Level}
+use Rattle.stm_meaning.specs.declared.run.End.TheVariants.{Done}
+use Rattle.stm_meaning.specs.declared.run.Run.{Run}
+use Rattle.stm_meaning.specs.declared.run.Answered.TheVariants.{Ended}
+use Rattle.stm_attempt.specs.Settled.{run_on}
+use Rattle.stm_world.specs.declared.event.WorldEvent.TheVariants.{Start, Step}
+use Rattle.stm_world.specs.declared.reply.Reply.{Reply}
+use Rattle.stm_world.specs.declared.reply.Reply.TheVariants.{Started, Fetched, Committed, Conflict, GaveUp, Aborted, Faulted, Ended as EndedReply}
+use Rattle.stm_world.specs.declared.refusal.Denied.{Denied}
+use Rattle.stm_world.specs.Task.{Task}
+use Rattle.stm_world.specs.Log.{Line, begun, running, store, told}
+use Rattle.stm_world.specs.Right.{IsRight, AreRight}
+
+-- the runner of whose step a reply tells
+abbrev pub runner_told : Reply → Option ℕ
+runner_told (Fetched runner key mod_rev of_rev revision) = Some runner
+runner_told (Committed runner revision attempts output trace answers) = Some runner
+runner_told (Conflict runner key seen now) = Some runner
+runner_told (GaveUp runner attempts key seen now) = Some runner
+runner_told (Aborted runner text) = Some runner
+runner_told (Faulted runner fault) = Some runner
+runner_told (EndedReply runner cause) = Some runner
+runner_told other = None
+
+pub record WrongLogs : Type 0 where
+  -- a runner that runs is not refused a step, for NoRunner or anything else
+  pub causeless_refusal : (start : ℕ) (log : List Line) (id : ℕ) (task : Task) (refusal : Denied) → running id log ≡ Some task
+      → IsRight start log (Step id) (Err refusal) → ⊥
+  -- a start that may send a commit is not refused
+  pub refused_start : (start : ℕ) (log : List Line) (program : ProgramTree) (level : Level) (limit : ℕ) (refusal : Denied) → limit ≢ 0
+      → IsRight start log (Start program level limit) (Err refusal) → ⊥
+  -- a number that a start was given is given to no other
+  pub number_given_twice : (start : ℕ) (log : List Line) (id : ℕ) (task : Task) (program : ProgramTree) (level : Level) (limit : ℕ)
+      → AreRight start log → begun id log ≡ Some task → IsRight start log (Start program level limit) (Ok (Started id)) → ⊥
+  -- a runner that was not started, or has ended, has no step
+  pub step_of_none : (start : ℕ) (log : List Line) (id : ℕ) (reply : Reply) → running id log ≡ None → IsRight start log (Step id) (Ok reply) → ⊥
+  -- a step of a runner is told of no other runner
+  pub another_runner : (start : ℕ) (log : List Line) (id runner : ℕ) (reply : Reply) → runner_told reply ≡ Some runner → runner ≢ id
+      → IsRight start log (Step id) (Ok reply) → ⊥
+  -- a program that is done on what it was told has not aborted
+  pub another_abort : (start : ℕ) (log : List Line) (id : ℕ) (task : Task) (run : Run) (text : List ℕ) → running id log ≡ Some task
+      → run_on task.program (told start id task log).reads ≡ Ended run → run.end ≡ Done
+      → IsRight start log (Step id) (Ok (Aborted id text)) → ⊥

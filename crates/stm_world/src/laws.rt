@@ -1,0 +1,26 @@
+//! The laws of worlds. Each function does nothing: its contract is the law.
+ghost use Rattle.stm_world.specs.Headline.{Headline, OneRevision};
+ghost use Rattle.stm_world.specs.WrongLogs.{WrongLogs};
+
+/// The headline. Over every list of events, in any interleaving of any number of runners, from every
+/// opening revision: each reply is right after the lines before it, the store is what the log says, and the
+/// entries replay to its history and live leases, each legal at its point.
+///
+/// So a commit that succeeds at a comparing level answers, and changes the store, exactly as its program run
+/// alone on the store of that moment; one at ReadCommitted applies exactly its program's writes on the
+/// answers that it read; a commit that fails changes nothing; and a refusal comes only for its cause.
+pub fn headline()
+    ensures { Headline }
+{}
+
+/// What an attempt at a serializable level has read is of one revision, also where its commit will fail.
+pub fn answers_are_of_one_revision()
+    ensures { OneRevision }
+{}
+
+/// Some logs that are none: a step of a runner that runs is refused, or a start that may send a commit; a
+/// number is given twice; a runner's step is answered with another runner's reply; a program that is done is
+/// told to have aborted.
+pub fn wrong_logs_are_none()
+    ensures { WrongLogs }
+{}

@@ -1,0 +1,20 @@
+//! The world: runners of programs over one store, and everything else that a store is asked for, one event at
+//! a time.
+//!
+//! What stands here so far are the events and the replies as types, the world's step as a function of the
+//! event, and what a log of events and replies has to say for itself to be right.
+#![tactic(auto)]
+
+pub mod event;
+pub mod laws;
+pub mod refusal;
+pub mod reply;
+
+pub use event::WorldEvent;
+pub use refusal::{Denied, Refusal};
+pub use reply::Reply;
+pub use stm_entries::Entry;
+pub use stm_history::{ReadAnswer, Sequence, Text};
+pub use stm_meaning::{Fault, TraceItem, Value};
+pub use stm_program::{Level, Program};
+pub use stm_txn::{Expired, Refusal as StoreRefusal, Txn, TxnAnswer};

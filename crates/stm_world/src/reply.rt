@@ -1,0 +1,87 @@
+//! The replies to events.
+use stm_history::{ReadAnswer, Sequence, Text};
+use stm_meaning::{Fault, TraceItem, Value};
+use stm_txn::{Expired, Refusal, TxnAnswer};
+
+/// The reply to an event that was taken.
+#[derive(Debug, Drop)]
+pub enum Reply {
+    /// A runner was started.
+    Started {
+        runner: u64,
+    },
+    /// A step fetched a key: its modification revision (0 where it is absent), the revision that the
+    /// answer shows, and the one that it carries.
+    Fetched {
+        runner: u64,
+        key: Text,
+        mod_rev: u64,
+        of_rev: u64,
+        revision: u64,
+    },
+    /// A step committed: the revision after it, the commits that the run has sent, the program's output
+    /// and trace, and at ReadCommitted the answers that it read. The run is over.
+    Committed {
+        runner: u64,
+        revision: u64,
+        attempts: u32,
+        output: Sequence<Value>,
+        trace: Sequence<TraceItem>,
+        answers: Sequence<ReadAnswer>,
+    },
+    /// A compare of a step's commit failed: its key, the modification revision that was read (for a written
+    /// key the least revision that an answer carried), and the key's current one. The next step begins a new
+    /// attempt.
+    Conflict {
+        runner: u64,
+        key: Text,
+        seen: u64,
+        now: u64,
+    },
+    /// A compare of the last commit that the run may send failed, as it is told of a conflict. Nothing is
+    /// committed, and the run is over, after so many commits.
+    GaveUp {
+        runner: u64,
+        attempts: u32,
+        key: Text,
+        seen: u64,
+        now: u64,
+    },
+    /// The program aborted. Nothing is committed, and the run is over.
+    Aborted {
+        runner: u64,
+        text: Text,
+    },
+    /// The program was ended by a fault. Nothing is committed, and the run is over.
+    Faulted {
+        runner: u64,
+        fault: Fault,
+    },
+    /// The store refused the commit. Nothing is committed, and the run is over.
+    Ended {
+        runner: u64,
+        cause: Refusal,
+    },
+    /// Another client's transaction was made.
+    Txn {
+        answer: TxnAnswer,
+    },
+    /// A lease was granted.
+    Granted {
+        id: u64,
+    },
+    /// A lease was renewed.
+    Kept {
+        id: u64,
+    },
+    /// A lease was revoked, with the revision after it.
+    Revoked {
+        id: u64,
+        revision: u64,
+    },
+    /// The moment was set, and these leases expired, in their order.
+    Advanced {
+        now: u64,
+        expired: Sequence<Expired>,
+    },
+}

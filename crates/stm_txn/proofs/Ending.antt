@@ -213,7 +213,7 @@ ended_fewer s next id due is =
     one_fewer s.live id (due_lives s.live s.moment id due) ∙ ap (λ (x : Standing). suc (finmap.len x.live)) (ended_is s next id is)
 
 -- One step of an advance.
-none_due : (more : ℕ) (s : Standing) → first_due s.live s.moment ≡ None → expire_up_to more s ≡ record { expired = []; leaves = s; cause = None }
+pub none_due : (more : ℕ) (s : Standing) → first_due s.live s.moment ≡ None → expire_up_to more s ≡ record { expired = []; leaves = s; cause = None }
 none_due zero s none = refl
 none_due (suc more) s none =
     ap (λ (o : Option ℕ). elim o as (λ x. Advance) [
@@ -238,7 +238,7 @@ one_due more id s due =
       ]
     ]) due
 
-one_ended : (more id : ℕ) (s : Standing) (outcome : Result Standing Refusal) → first_due s.live s.moment ≡ Some id → ended s id ≡ outcome →
+pub one_ended : (more id : ℕ) (s : Standing) (outcome : Result Standing Refusal) → first_due s.live s.moment ≡ Some id → ended s id ≡ outcome →
     expire_up_to (suc more) s
     ≡ elim outcome as (λ x. Advance) [
       | Err cause ↦ record { expired = []; leaves = s; cause = Some cause }

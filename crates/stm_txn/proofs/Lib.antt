@@ -5,6 +5,7 @@ pub mod Running
 pub mod Bounding
 pub mod Naming
 pub mod Ending
+pub mod Coming
 pub mod Advancing
 pub mod Applying
 pub mod Fitting

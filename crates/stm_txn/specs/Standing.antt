@@ -3,7 +3,7 @@
 -- etcd's API reference, "Transaction" and "Lease": a transaction is one step; a grant makes a lease live, a keep-alive
 -- renews it, and a revocation or its expiry ends it with its keys. This store's own choices are that the keys go in one
 -- revision, ascending by bytes, and that due leases end by the moment when they were due, then by id.
-use Rattle.std.specs.Prelude.{◌≡◌, ◌⊎◌, ℕ, zero, suc, nat_lt, if◌then◌else◌, List, [], ◌∷◌, ◌++◌, Option, Some, None, IsOk, Result, Ok, Err}
+use Rattle.std.specs.Prelude.{◌≡◌, ◌⊎◌, ℕ, zero, suc, nat_lt, if◌then◌else◌, List, [], ◌∷◌, ◌++◌, length, Option, Some, None, IsOk, Result, Ok, Err}
 use Rattle.std.specs.FinMap as finmap
 use Rattle.stm_history.specs.History.{History, now, opened_at}
 use Rattle.stm_leases.specs.LeaseLog.{LogItem, Expire}
@@ -135,6 +135,10 @@ at_moment s moment = record s { moment = moment }
 abbrev pub advanced : Standing → ℕ → Advance
 advanced s moment =
     if nat_lt moment s.moment then record { expired = []; leaves = s; cause = Some TimeGoesBack } else expire_all (at_moment s moment)
+
+-- From a store on, due leases ended one after another: as many as these, these in order, with this store after them, none refused.
+abbrev pub HasCome : Standing → List Expired → Standing → Type 0
+HasCome start expired left = expire_up_to (length expired) start ≡ record { expired = expired; leaves = left; cause = None }
 
 -- An advance was stopped by want of memory: with what the rest would come to it is the whole one, and a due lease that
 -- can end is next.

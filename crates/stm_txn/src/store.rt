@@ -118,7 +118,7 @@ impl Store {
     ghost use Rattle.stm_txn.specs.Outcome.{with_changes, answer_of};
     ghost use Rattle.stm_txn.specs.Numbers.{AnswerFits, StatesFit, ExpiredFits, AllExpiredFit};
     ghost use Rattle.stm_txn.specs.Standing.{opening, IsRefusalOf, ComesTo, transacted, granted, kept_alive, told, ended, revoked};
-    ghost use Rattle.stm_txn.specs.Standing.{after, expired_in, expire_all, at_moment, advanced, IsStopped, IsCutShort, with_expiries};
+    ghost use Rattle.stm_txn.specs.Standing.{after, expired_in, expire_all, at_moment, advanced, HasCome, IsStopped, IsCutShort, with_expiries};
 
     /// An empty store at revision 1 and moment 0. Want of memory is its only refusal.
     pub fn new(alloc: Global) -> Result<Store, AllocError>
@@ -156,6 +156,13 @@ impl Store {
     {
         let _counter = self.keys.revision();
         &self.keys
+    }
+
+    /// The moment, in whole seconds.
+    pub fn moment(&self) -> u64
+        ensures { result ≡ self.now.standing.moment }
+    {
+        self.moment
     }
 
     /// The number of live leases.
@@ -423,6 +430,8 @@ impl Store {
     fn expire_due(&mut self) -> Result<Vec<Expired>, AdvanceRefused>
         ensures ok { IfOk result (λ expired. expire_all self.old.standing ≡ record { expired = expired.items; leaves = self.new.standing; cause = None }) }
         ensures refused { IfErr result (λ refused. IsCutShort (expire_all self.old.standing) refused.expired refused.cause self.new.standing) }
+        ensures come { IfOk result (λ expired. HasCome self.old.standing expired.items self.new.standing) }
+        ensures come_so_far { IfErr result (λ refused. HasCome self.old.standing refused.expired self.new.standing) }
         ensures logged { IfOk result (λ expired. (log : List LogItem) → StandsFor self.old.standing.live log → StandsFor self.new.standing.live (with_expiries expired.items log)) }
         ensures logged_so_far { IfErr result (λ refused. (log : List LogItem) → StandsFor self.old.standing.live log → StandsFor self.new.standing.live (with_expiries refused.expired log)) }
         ensures numbers { IfOk result (λ expired. AllExpiredFit expired.items) }
@@ -452,6 +461,8 @@ impl Store {
     pub fn advance(&mut self, moment: u64) -> Result<Vec<Expired>, AdvanceRefused>
         ensures ok { IfOk result (λ expired. advanced self.old.standing moment ≡ record { expired = expired.items; leaves = self.new.standing; cause = None }) }
         ensures refused { IfErr result (λ refused. IsCutShort (advanced self.old.standing moment) refused.expired refused.cause self.new.standing) }
+        ensures come { IfOk result (λ expired. HasCome (at_moment self.old.standing moment) expired.items self.new.standing) }
+        ensures come_so_far { IfErr result (λ refused. self.old.standing.moment ≤ moment → HasCome (at_moment self.old.standing moment) refused.expired self.new.standing) }
         ensures logged { IfOk result (λ expired. (log : List LogItem) → StandsFor self.old.standing.live log → StandsFor self.new.standing.live (with_expiries expired.items log)) }
         ensures logged_so_far { IfErr result (λ refused. (log : List LogItem) → StandsFor self.old.standing.live log → StandsFor self.new.standing.live (with_expiries refused.expired log)) }
         ensures numbers { IfOk result (λ expired. AllExpiredFit expired.items) }

@@ -3,14 +3,14 @@ ghost use Rattle.std.specs.Prelude.{◌≡◌};
 ghost use Rattle.stm_txn.specs.Operations.{key_of_op};
 
 use crate::short_list::ShortList;
-use std::alloc::Global;
+use std::alloc::{AllocError, Global};
 use std::default::MadeWith;
 use stm_history::Text;
 
 /// A transaction: where all compares hold the success list runs, otherwise the failure list.
 ///
-/// (etcd's API reference, "Transaction".)
-#[derive(Debug, Drop, Clone)]
+/// (etcd's API reference, "Transaction".) A clone of it, or of a part, is the same: its texts and lists are copies.
+#[derive(Debug, Drop)]
 pub struct Txn {
     /// What has to hold of the keys as they are now, each of it, for the success list to run. At most 128.
     pub compares: ShortList<Compare>,
@@ -21,7 +21,7 @@ pub struct Txn {
 }
 
 /// A test of what a key is now. The stored side stands on the left of the order.
-#[derive(Debug, Drop, Clone)]
+#[derive(Debug, Drop)]
 pub struct Compare {
     /// The key that is looked at. It is not empty.
     pub key: Text,
@@ -34,7 +34,7 @@ pub struct Compare {
 /// What a compare looks at, with what it is compared with.
 ///
 /// An absent key has 0 in the four number targets, and fails every compare of its value.
-#[derive(Debug, Drop, Clone)]
+#[derive(Debug, Drop)]
 pub enum Target {
     /// The number of puts since the key was made.
     Version(u64),
@@ -62,7 +62,7 @@ pub enum Order {
 }
 
 /// One operation of a branch.
-#[derive(Debug, Drop, Clone)]
+#[derive(Debug, Drop)]
 pub enum Op {
     /// Reads the key at a revision. 0 is the current state, with what the branch did before.
     Get { key: Text, rev: u64 },
@@ -100,5 +100,67 @@ impl MadeWith<Global> for Op {
         Op::Del {
             key: Text::new(String::new(alloc)),
         }
+    }
+}
+
+impl Clone for Target {
+    ghost is_clone = { λ target copy. copy ≡ target };
+
+    fn clone(&self) -> Result<Target, AllocError> {
+        match self {
+            Target::Version(n) => Ok(Target::Version(*n)),
+            Target::Create(n) => Ok(Target::Create(*n)),
+            Target::Mod(n) => Ok(Target::Mod(*n)),
+            Target::Lease(n) => Ok(Target::Lease(*n)),
+            Target::Value(text) => Ok(Target::Value(text.clone()?)),
+        }
+    }
+}
+
+impl Clone for Compare {
+    ghost is_clone = { λ compare copy. copy ≡ compare };
+
+    fn clone(&self) -> Result<Compare, AllocError> {
+        let key = self.key.clone()?;
+        let target = self.target.clone()?;
+        Ok(Compare {
+            key,
+            target,
+            order: self.order,
+        })
+    }
+}
+
+impl Clone for Op {
+    ghost is_clone = { λ op copy. copy ≡ op };
+
+    fn clone(&self) -> Result<Op, AllocError> {
+        match self {
+            Op::Get { key, rev } => Ok(Op::Get {
+                key: key.clone()?,
+                rev: *rev,
+            }),
+            Op::Put { key, value, lease } => Ok(Op::Put {
+                key: key.clone()?,
+                value: value.clone()?,
+                lease: *lease,
+            }),
+            Op::Del { key } => Ok(Op::Del { key: key.clone()? }),
+        }
+    }
+}
+
+impl Clone for Txn {
+    ghost is_clone = { λ txn copy. copy ≡ txn };
+
+    fn clone(&self) -> Result<Txn, AllocError> {
+        let compares = self.compares.clone()?;
+        let success = self.success.clone()?;
+        let failure = self.failure.clone()?;
+        Ok(Txn {
+            compares,
+            success,
+            failure,
+        })
     }
 }

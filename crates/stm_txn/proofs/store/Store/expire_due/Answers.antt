@@ -5,9 +5,10 @@ use Rattle.stm_leases.specs.Leases.{StandsFor}
 use Rattle.stm_leases.specs.DueFirst.{first_due}
 use Rattle.stm_txn.specs.declared.advance.Expired.{Expired}
 use Rattle.stm_txn.specs.Numbers.{AllExpiredFit}
-use Rattle.stm_txn.specs.Standing.{Standing, Advance, expire_all, after, with_expiries, expired_in, IsCutShort}
+use Rattle.stm_txn.specs.Standing.{Standing, Advance, expire_all, after, with_expiries, expired_in, IsCutShort, HasCome}
 use Rattle.stm_txn.specs.Store.{StoreView}
 use Rattle.stm_txn.proofs.Ending.{due_lives, ended_fewer, one_more_expired, one_more_logged, cut_short}
+use Rattle.stm_txn.proofs.Coming.{one_more_come}
 use Rattle.stm_txn.proofs.Fitting.{AllExpiredFit-push}
 use Rattle.stm_txn.proofs.store.Store.expire_due.Goals as goal
 
@@ -28,6 +29,8 @@ loop-id-preserved c =
       logged = subst (λ (l : List Expired). (log : List LogItem) → StandsFor first.live log →
           StandsFor next.live (with_expiries l log)) (sym c.in-Ok.ensures.noted)
           (one_more_logged first s next c.in-Some.id c.loop-id.expired.items c.in-Ok.ensures.ok c.loop-id.invariant.logged);
+      come = subst (λ (l : List Expired). HasCome first l next) (sym c.in-Ok.ensures.noted)
+          (one_more_come first s next c.in-Some.id c.loop-id.expired.items c.loop-id.invariant.come due c.in-Ok.ensures.ok);
       fit = subst AllExpiredFit (sym c.in-Ok.ensures.noted)
           (AllExpiredFit-push c.loop-id.expired.items (expired_in c.in-Some.id next) c.loop-id.invariant.fit c.in-Ok.ensures.numbers);
     }
@@ -51,3 +54,9 @@ returns-in-Err-clause-refused c =
 
 pub returns-in-Err-clause-numbers_so_far : goal.returns-in-Err-clause-numbers_so_far
 returns-in-Err-clause-numbers_so_far c = subst AllExpiredFit (sym (c.of.ensures ∙ c.in-Err.ensures.same)) c.loop-id.invariant.fit
+
+pub returns-in-Err-clause-come_so_far : goal.returns-in-Err-clause-come_so_far
+returns-in-Err-clause-come_so_far c =
+    let first : Standing = c.args.self.now.standing in
+    subst (λ (l : List Expired). HasCome first l c.expire.new.self.standing) (sym (c.of.ensures ∙ c.in-Err.ensures.same))
+    (subst (λ (v : StoreView). HasCome first c.loop-id.expired.items v.standing) (sym c.in-Err.ensures.err) c.loop-id.invariant.come)

@@ -1,0 +1,4 @@
+pub mod Codes
+pub mod MachineTells
+pub mod StateOf
+pub mod Tells

@@ -1,0 +1,13 @@
+-- What a call that makes a step of a runner tells and leaves.
+use Rattle.std.specs.Prelude.{◌≡◌, Result, Ok, Err, IsOk}
+use Rattle.std.specs.declared.alloc.AllocError.{AllocError}
+use Rattle.stm_world.specs.declared.reply.Reply.{Reply}
+use Rattle.stm_world.specs.declared.refusal.Denied.{Denied}
+use Rattle.stm_world.specs.Told.{denied}
+use Rattle.stm_world.specs.World.{World, Stepped}
+
+-- The reply and the next world are the step's, unless memory ran out: then the event is one that the step takes, and the
+-- world is as it was.
+abbrev pub Tells : Result (Result Reply Denied) AllocError → World → World → Stepped → Type 0
+Tells (Ok reply) old new s = (s.reply ≡ reply) × (s.next ≡ new)
+Tells (Err e) old new s = (new ≡ old) × IsOk s.reply

@@ -1,0 +1,17 @@
+//! The world: runners of programs over one store, and everything else that a store is asked for, one event at
+//! a time.
+//!
+//! A runner's step evaluates its program on the answers that it has recorded, and then makes at most one
+//! transaction: the fetch of the key that it wants, or its commit.
+#![tactic(auto)]
+
+mod machine;
+mod slots;
+pub mod world;
+
+pub use stm_history::{ReadAnswer, Sequence, Text};
+pub use stm_meaning::{Fault, State, TraceItem, Value};
+pub use stm_program::{Level, Program};
+pub use stm_txn::{Expired, Refusal as StoreRefusal, Store, Txn, TxnAnswer};
+pub use stm_world::{Denied, Entry, Refusal, Reply, WorldEvent};
+pub use world::{RunStop, World};

@@ -11,7 +11,7 @@ ghost use Rattle.stm_compile.specs.CommitTxn.{first_carried as first_of};
 use indexmap::IndexMap;
 use std::alloc::{AllocError, Global};
 use std::marker::Model;
-use stm_history::{HIGHEST_REVISION, KeyState, ReadAnswer};
+use stm_history::{HIGHEST_REVISION, KeyState, ReadAnswer, Sequence};
 use stm_meaning::Lookup;
 
 /// The answers that an attempt has read, one for each key, in the order of first reads. Contracts see the
@@ -107,6 +107,14 @@ impl ReadSet {
         ensures { result.now ≡ self.now }
     {
         self.answers.as_slice()
+    }
+
+    /// The answers in order. It takes no memory.
+    pub fn into_answers(self) -> Sequence<ReadAnswer>
+        ensures { result ≡ self }
+    {
+        let ReadSet { answers, .. } = self;
+        Sequence::of(answers)
     }
 }
 

@@ -5,6 +5,10 @@
 #![tactic(auto)]
 
 #[cfg(test)]
+mod attempts;
+#[cfg(test)]
+mod commits;
+#[cfg(test)]
 mod meaning;
 #[cfg(test)]
 mod program;

@@ -3,8 +3,10 @@
 use serde_json::Value;
 use std::alloc::{AllocError, Global};
 use std::test::Fail;
+use stm_program::{Level, Program};
 use stm_program_json::read_program;
-use stm_retry::{Level, Program, World, WorldEvent};
+use stm_retrz::{World, WorldEvent};
+use stm_txn::Keys;
 
 /// A program that puts "a".
 fn put_program(alloc: Global) -> Result<Program, Fail> {
@@ -21,27 +23,24 @@ fn world_after_put(alloc: Global) -> Result<World, Fail> {
 }
 
 /// The modification revision of a key, 0 where it is absent.
-fn revision_of(world: &World, key: &str) -> Result<u64, AllocError> {
-    match world.key(key)? {
-        None => Ok(0),
-        Some(state) => Ok(state.mod_rev),
+fn revision_of(keys: &Keys, key: &str) -> u64 {
+    match keys.get(key) {
+        None => 0,
+        Some(state) => state.mod_rev,
     }
-}
-
-fn count_present(world: &World) -> Result<usize, AllocError> {
-    let state = world.state()?;
-    Ok(state.len())
 }
 
 /// The counter, the number of entries, the modification revisions of "a" and "b", and the number of present keys.
 fn told_world(alloc: Global, world: &World) -> Result<String, AllocError> {
+    let state = world.state()?;
+    let keys = world.store().keys();
     format!(in alloc;
         "{} {} {} {} {}",
-        world.revision(),
+        keys.revision(),
         world.history().len(),
-        revision_of(world, "a")?,
-        revision_of(world, "b")?,
-        count_present(world)?
+        revision_of(keys, "a"),
+        revision_of(keys, "b"),
+        state.len()
     )
 }
 

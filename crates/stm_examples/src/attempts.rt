@@ -1,0 +1,110 @@
+//! An attempt for which an answer was prefetched. What is expected comes from the rule of the base revision, and never
+//! from a run.
+ghost use Rattle.std.specs.Prelude.{◌≤◌, All, IfOk};
+ghost use Rattle.stm_history.specs.declared.revisions.TheConstants.{HIGHEST_NUMBER};
+ghost use Rattle.stm_txn.specs.Numbers.{ReadFits};
+ghost use Rattle.stm_attempt.specs.Known.{HaveDistinctKeys};
+ghost use Rattle.stm_attempt.specs.Fetches.{ShowOneRevision};
+
+use serde_json::Value as Json;
+use std::alloc::{AllocError, Global};
+use std::test::Fail;
+use stm_attempt::{Attempt, Next, Ready};
+use stm_history::{KeyState, ReadAnswer, Sequence, Text};
+use stm_meaning::Value;
+use stm_program::{Level, Program};
+use stm_program_json::read_program;
+
+/// "a" has the value "1" since revision 2, and was read at revision 5.
+fn read_of_a(alloc: Global) -> Result<ReadAnswer, AllocError>
+    ensures { IfOk result ReadFits }
+{
+    Ok(ReadAnswer {
+        key: Text::copy_of(alloc, "a")?,
+        kv: Some(KeyState {
+            value: Text::copy_of(alloc, "1")?,
+            create_rev: 2,
+            mod_rev: 2,
+            version: 1,
+            lease: 0,
+        }),
+        of_rev: 5,
+        revision: 5,
+    })
+}
+
+fn prefetched(alloc: Global) -> Result<Sequence<ReadAnswer>, AllocError>
+    ensures { IfOk result (λ answers. HaveDistinctKeys answers × All ReadFits answers × ShowOneRevision answers) }
+{
+    let mut answers = Vec::new(alloc);
+    answers.push(read_of_a(alloc)?)?;
+    Ok(Sequence::of(answers))
+}
+
+fn add_value(alloc: Global, value: &Value, line: &mut String) -> Result<(), AllocError> {
+    let shown = match value {
+        Value::Text(text) => format!(in alloc; " \"{}\"", text.as_str()),
+        Value::Number(number) => format!(in alloc; " {number}"),
+    };
+    line.push_str(shown?.as_str())
+}
+
+fn show_ready(alloc: Global, ready: &Ready) -> Result<String, AllocError> {
+    let mut line = String::from_str(alloc, "Ready")?;
+    for value in ready.output.as_slice() {
+        add_value(alloc, value, &mut line)?;
+    }
+    Ok(line)
+}
+
+fn show_next(alloc: Global, next: &Next) -> Result<String, AllocError> {
+    match next {
+        Next::Fetch { key, at } => format!(in alloc; "Fetch {} at {at}", key.as_str()),
+        Next::Ready(ready) => show_ready(alloc, ready),
+        Next::Aborted(_) => String::from_str(alloc, "Aborted"),
+        Next::Faulted(_) => String::from_str(alloc, "Faulted"),
+    }
+}
+
+fn emit_b_and_a(alloc: Global) -> Result<Program, Fail> {
+    let value = Json::from_str(alloc, r#"[["emit",["get","b"]],["emit",["get","a"]]]"#)?;
+    Ok(read_program(alloc, &value)?)
+}
+
+/// What the attempt answers at first, and then once it has taken that the wanted key is absent at a revision.
+fn told(alloc: Global, revision: u64) -> Result<String, Fail>
+    requires { revision ≤ HIGHEST_NUMBER }
+{
+    let program = emit_b_and_a(alloc)?;
+    let mut attempt = Attempt::from_prefetch(alloc, Level::Serializable, prefetched(alloc)?)?;
+    let first = attempt.advance(&program)?;
+    let mut line = show_next(alloc, &first)?;
+    if let Next::Fetch { key, .. } = first {
+        attempt.supply(ReadAnswer {
+            key,
+            kv: None,
+            of_rev: revision,
+            revision,
+        })?;
+        let second = attempt.advance(&program)?;
+        let shown = show_next(alloc, &second)?;
+        line.push_str(", ")?;
+        line.push_str(shown.as_str())?;
+    }
+    Ok(line)
+}
+
+#[test]
+fn prefetched_answers_of_another_revision_are_dropped(rt: HostRuntime) -> Result<(), Fail> {
+    assert_eq!(rt; told(rt.alloc(), 6)?.as_str(), "Fetch b at 0, Fetch a at 6");
+    Ok(())
+}
+
+#[test]
+fn prefetched_answers_of_the_base_are_taken(rt: HostRuntime) -> Result<(), Fail> {
+    assert_eq!(rt;
+        told(rt.alloc(), 5)?.as_str(),
+        "Fetch b at 0, Ready \"\" \"1\""
+    );
+    Ok(())
+}

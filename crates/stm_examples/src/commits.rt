@@ -1,0 +1,134 @@
+//! The transaction that commits one attempt, at each level. What is expected comes from the rules of compares and of the
+//! lists at each level, and never from a run.
+use std::alloc::{AllocError, Global};
+use std::test::Fail;
+use stm_compile::{ReadSet, WriteBuffer, compile};
+use stm_history::{KeyState, ReadAnswer, Text};
+use stm_program::{Level, Write};
+use stm_txn::{Compare, Op, Order, Target, Txn};
+
+fn key(alloc: Global, name: &str) -> Result<Text, AllocError> {
+    Text::copy_of(alloc, name)
+}
+
+/// One answer: "a" was put at revision 2, and read then.
+fn read_of_a(alloc: Global) -> Result<ReadSet, AllocError> {
+    let mut reads = ReadSet::new(alloc);
+    reads.add(ReadAnswer {
+        key: key(alloc, "a")?,
+        kv: Some(KeyState {
+            value: key(alloc, "1")?,
+            create_rev: 2,
+            mod_rev: 2,
+            version: 1,
+            lease: 0,
+        }),
+        of_rev: 2,
+        revision: 2,
+    })?;
+    Ok(reads)
+}
+
+/// "b" is put, and then "a" is deleted.
+fn two_writes(alloc: Global) -> Result<WriteBuffer, AllocError> {
+    let mut writes = WriteBuffer::new(alloc);
+    writes.write(Write::Put {
+        key: key(alloc, "b")?,
+        value: key(alloc, "9")?,
+        lease: 0,
+    })?;
+    writes.write(Write::Del {
+        key: key(alloc, "a")?,
+    })?;
+    Ok(writes)
+}
+
+fn show_target(alloc: Global, target: &Target) -> Result<String, AllocError> {
+    match target {
+        Target::Mod(revision) => format!(in alloc; "mod {revision}"),
+        _ => String::from_str(alloc, "another target"),
+    }
+}
+
+fn sign(order: Order) -> &'static str {
+    match order {
+        Order::Equal => "=",
+        Order::NotEqual => "!=",
+        Order::Greater => ">",
+        Order::Less => "<",
+    }
+}
+
+fn show_compare(alloc: Global, compare: &Compare) -> Result<String, AllocError> {
+    let target = show_target(alloc, &compare.target)?;
+    format!(in alloc;
+        " if {} {} {};",
+        compare.key.as_str(),
+        sign(compare.order),
+        target.as_str()
+    )
+}
+
+fn show_operation(alloc: Global, op: &Op) -> Result<String, AllocError> {
+    match op {
+        Op::Get { key, rev } => format!(in alloc; " get {} {rev};", key.as_str()),
+        Op::Put { key, value, lease } => {
+            format!(in alloc; " put {} {} {lease};", key.as_str(), value.as_str())
+        }
+        Op::Del { key } => format!(in alloc; " del {};", key.as_str()),
+    }
+}
+
+fn add_operations(alloc: Global, ops: &[Op], line: &mut String) -> Result<(), AllocError> {
+    for op in ops {
+        let shown = show_operation(alloc, op)?;
+        line.push_str(shown.as_str())?;
+    }
+    Ok(())
+}
+
+/// A transaction in one line: its compares, its success list, and its failure list.
+fn show_transaction(alloc: Global, txn: &Txn) -> Result<String, AllocError> {
+    let mut line = String::new(alloc);
+    for compare in txn.compares.as_slice() {
+        let shown = show_compare(alloc, compare)?;
+        line.push_str(shown.as_str())?;
+    }
+    line.push_str(" then")?;
+    add_operations(alloc, txn.success.as_slice(), &mut line)?;
+    line.push_str(" else")?;
+    add_operations(alloc, txn.failure.as_slice(), &mut line)?;
+    Ok(line)
+}
+
+/// What commits the read and the two writes at a level.
+fn committing(alloc: Global, level: Level) -> Result<String, AllocError> {
+    let reads = read_of_a(alloc)?;
+    let writes = two_writes(alloc)?;
+    let txn = compile(alloc, level, &reads, &writes)?;
+    show_transaction(alloc, &txn)
+}
+
+const COMMITS: [(Level, &str); 4] = [
+    (
+        Level::SerializableSnapshot,
+        " if a = mod 2; if b < mod 3; if a < mod 3; then put b 9 0; del a; else get a 0;",
+    ),
+    (
+        Level::Serializable,
+        " if a = mod 2; then put b 9 0; del a; else get a 0;",
+    ),
+    (
+        Level::RepeatableReads,
+        " if a = mod 2; then put b 9 0; del a; else",
+    ),
+    (Level::ReadCommitted, " then put b 9 0; del a; else"),
+];
+
+#[test]
+fn levels_differ_in_compares_and_rereads(rt: HostRuntime) -> Result<(), Fail> {
+    for (level, expected) in COMMITS {
+        assert_eq!(rt; committing(rt.alloc(), level)?.as_str(), expected);
+    }
+    Ok(())
+}

@@ -1,6 +1,7 @@
-pub mod NoFloats
 pub mod LineLoops
+pub mod LeaseLemmas
+pub mod LiveLeases
 pub mod OneReport
-pub mod TransferLemmas
 pub mod ScriptLemmas
 pub mod PresentKeys
+pub mod RightRuns

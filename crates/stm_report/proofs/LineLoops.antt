@@ -1,41 +1,15 @@
 -- Adding lines one after the other, as a loop does.
-use Rattle.std.proofs.Common.{◌≡◌, ℕ, zero, suc, ◌+◌, ◌<◌, List, [], ◌∷◌, ◌++◌, length, drop, get_or, slice_get, Some, Result, refl, sym}
-use Rattle.std.proofs.Common.{ap, ◌∙◌, append_assoc, append-nil, arith, add-one}
-use Rattle.std.proofs.Math.Seq.{drop-cons}
+use Rattle.std.proofs.Common.{◌≡◌, ℕ, zero, suc, ◌+◌, List, [], ◌∷◌, ◌++◌, drop, slice_get, Some, refl, sym, ap, ◌∙◌, append_assoc, arith}
 use Rattle.serde_json.specs.Data.{Data}
 use Rattle.stm_history.specs.History.{History, key_now}
 use Rattle.stm_meaning.specs.declared.state.StateEntry.{StateEntry}
-use Rattle.stm_retry.specs.declared.reply.Reply.{Reply}
-use Rattle.stm_retry.specs.declared.refusal.Denied.{Denied}
-use Rattle.stm_report.specs.Lines.{event_line}
-use Rattle.stm_report.specs.Report.{line_text, lines_text, event_lines, line_of_key, key_lines}
+use Rattle.stm_report.specs.Report.{line_text, lines_text, line_of_key, key_lines}
 use Rattle.stm_report.specs.StateKeys.{keys_of}
 
 pub lines_text-append : (ds es : List Data) → lines_text (ds ++ es) ≡ lines_text ds ++ lines_text es
 lines_text-append [] es = refl
 lines_text-append (d ∷ ds) es = ap (λ (t : List ℕ). line_text d ++ t) (lines_text-append ds es)
     ∙ sym (append_assoc (line_text d) (lines_text ds) (lines_text es))
-
--- ---- events
-
-next_reply : (rs : List (Result Reply Denied)) (i : ℕ) (r : Result Reply Denied) → i < length rs → r ≡ get_or rs i r → drop i rs ≡ r ∷ drop (i + 1) rs
-next_reply rs i r h e = drop-cons rs i r h ∙ rw (sym e, add-one) refl
-
-pub next_event : (text total : List ℕ) (rs : List (Result Reply Denied)) (i : ℕ) (r : Result Reply Denied) → i < length rs → r ≡ get_or rs i r
-    → text ++ lines_text (event_lines (i + 1) (drop i rs)) ≡ total
-    → (text ++ line_text (event_line (i + 1) r)) ++ lines_text (event_lines (i + 1 + 1) (drop (i + 1) rs)) ≡ total
-next_event text total rs i r lt at so_far =
-    let k : i + 1 + 1 ≡ suc (i + 1) = omega arith in
-    let one : text ++ lines_text (event_lines (i + 1) (drop i rs))
-    ≡ (text ++ line_text (event_line (i + 1) r)) ++ lines_text (event_lines (i + 1 + 1) (drop (i + 1) rs)) =
-    ap (λ (qs : List (Result Reply Denied)). text ++ lines_text (event_lines (i + 1) qs)) (next_reply rs i r lt at)
-    ∙ sym (append_assoc text (line_text (event_line (i + 1) r)) (lines_text (event_lines (suc (i + 1)) (drop (i + 1) rs)))) ∙ rw k refl in
-    sym one ∙ so_far
-
-pub no_event : (text total : List ℕ) (n : ℕ) (rs : List (Result Reply Denied)) → rs ≡ [] → text ++ lines_text (event_lines n rs) ≡ total → text ≡ total
-no_event text total n rs none so_far = sym (append-nil text) ∙ rw none at so_far
-
--- ---- keys
 
 next_entry : (es : List StateEntry) (i : ℕ) (e : StateEntry) → slice_get es i ≡ Some e → drop i es ≡ e ∷ drop (suc i) es
 next_entry [] i e h = cc

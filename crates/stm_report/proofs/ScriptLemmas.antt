@@ -8,12 +8,12 @@ use Rattle.stm_json.specs.declared.cause.Cause.TheVariants.{TooLong}
 use Rattle.stm_texts.specs.declared.scenario.Scenario.{Scenario}
 use Rattle.stm_json.specs.Outcome.{Outcome, bad}
 use Rattle.stm_texts.specs.declared.reading.TheConstants.{MOST_BYTES}
-use Rattle.stm_report.specs.declared.transfer.TheConstants.{MOST_READ}
+use Rattle.stm_devices.specs.declared.transfer.TheConstants.{MOST_READ}
 use Rattle.stm_texts.specs.Reading.{scenario_in}
 use Rattle.stm_report.specs.declared.run_script.ScriptFault.{ScriptFault}
 use Rattle.stm_report.specs.declared.run_script.ScriptFault.TheVariants.{OutOfMemory, Bad, Read, Write}
 use Rattle.std.specs.Io.KnownBytes.{Appends}
-use Rattle.stm_report.specs.Transfers.{WritesFront}
+use Rattle.stm_devices.specs.Transfers.{WritesFront}
 use Rattle.stm_report.specs.Script.{IsReportOf, Reports, Does, Devices}
 
 scenario_in-long : (bytes : List ℕ) → MOST_BYTES < length bytes → scenario_in bytes ≡ bad TooLong

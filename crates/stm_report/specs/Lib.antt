@@ -1,7 +1,5 @@
-pub mod Lines
 pub mod StateKeys
+pub mod Leases
 pub mod Report
-pub mod Devices
-pub mod Transfers
 pub mod Script
 pub mod Laws

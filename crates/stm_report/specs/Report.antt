@@ -1,5 +1,8 @@
 -- The text of a report.
-use Rattle.std.specs.Prelude.{◌≡◌, ℕ, suc, List, [], ◌∷◌, ◌++◌, length, Bool, bytes_eq, is_some, Option, Some, None, Result}
+--
+-- etcd's API reference, "Range" and "Lease", for what it ends with: the keys that are present now, and the leases that are live.
+use Rattle.std.specs.Prelude.{◌≡◌, ℕ, suc, List, [], ◌∷◌, ◌++◌, length, map, Bool, bytes_eq, is_some, Option, Some, None, Result}
+use Rattle.std.specs.FinMap as finmap
 use Rattle.std.specs.List.{list_any}
 use Rattle.std.specs.Ordering.{nat_cmp}
 use Rattle.std.specs.Cmp.Lexicographic.{slice_cmp}
@@ -8,10 +11,12 @@ use Rattle.serde_json.specs.Data.{Data}
 use Rattle.serde_json.specs.Written.{compact_text}
 use Rattle.stm_history.specs.declared.key_state.KeyState.{KeyState}
 use Rattle.stm_history.specs.History.{History, now, key_now}
-use Rattle.stm_retry.specs.declared.reply.Reply.{Reply}
-use Rattle.stm_retry.specs.declared.refusal.Denied.{Denied}
-use Rattle.stm_retry.specs.World.{World}
-use Rattle.stm_report.specs.Lines.{event_line, key_line, end_line}
+use Rattle.stm_leases.specs.LeaseLog.{Term}
+use Rattle.stm_leases.specs.Live.{Live}
+use Rattle.stm_world.specs.declared.reply.Reply.{Reply}
+use Rattle.stm_world.specs.declared.refusal.Denied.{Denied}
+use Rattle.stm_world.specs.World.{World}
+use Rattle.stm_lines.specs.Lines.{event_line, key_line, lease_line, end_line}
 
 -- a line is compact JSON and a line feed
 abbrev pub line_text : Data → List ℕ
@@ -33,6 +38,13 @@ line_of_key key (Some state) = key_line key state ∷ []
 abbrev pub key_lines : History → List (List ℕ) → List Data
 key_lines h [] = []
 key_lines h (key ∷ keys) = line_of_key key (key_now h key) ++ key_lines h keys
+
+abbrev pub lines_of_leases : List (ℕ × Term) → List Data
+lines_of_leases = map (λ lease. lease_line lease.0 lease.1)
+
+-- a line for each live lease, ascending by id
+abbrev pub lease_lines : Live → List Data
+lease_lines live = lines_of_leases (finmap.entries live)
 
 -- ---- the keys that are present
 
@@ -56,11 +68,14 @@ pub record ArePresentKeys (h : History) (keys : List (List ℕ)) : Type 0 where
 
 -- ---- the whole
 
--- a line for each event, one for each of these keys, and the end line
+-- a line for each event, one for each of these keys, one for each live lease, and the end line
 abbrev pub report_text : World → List (List ℕ) → List (Result Reply Denied) → List ℕ
 report_text w keys replies =
-    lines_text (event_lines 1 replies) ++ lines_text (key_lines w.history keys) ++ line_text (end_line (now w.history) (length w.entries))
+    lines_text (event_lines 1 replies)
+    ++ lines_text (key_lines w.standing.history keys)
+    ++ lines_text (lease_lines w.standing.live)
+    ++ line_text (end_line (now w.standing.history) (length w.entries))
 
 -- the text is the report of these replies and of the world that they left: its keys are those that are present
 abbrev pub IsReport : World → List (Result Reply Denied) → List ℕ → Type 0
-IsReport w replies text = (keys : List (List ℕ)) × ArePresentKeys w.history keys × (text ≡ report_text w keys replies)
+IsReport w replies text = (keys : List (List ℕ)) × ArePresentKeys w.standing.history keys × (text ≡ report_text w keys replies)

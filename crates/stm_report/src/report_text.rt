@@ -2,15 +2,19 @@
 ghost use Rattle.std.specs.Prelude.{◌≡◌, ◌++◌, false, IfOk, OnOk, string_bytes};
 ghost use Rattle.serde_json.specs.View.{view};
 ghost use Rattle.serde_json.specs.Written.{has_float};
-ghost use Rattle.stm_report.specs.Report.{line_text, lines_text, event_lines, line_of_key, key_lines, IsReport};
-ghost use Rattle.stm_report.specs.StateKeys.{keys_of};
 ghost use Rattle.stm_history.specs.History.{key_now};
+ghost use Rattle.stm_leases.specs.Live.{Live};
+ghost use Rattle.stm_report.specs.Leases.{HasLeases};
+ghost use Rattle.stm_report.specs.Report.{line_text, lines_text, event_lines, line_of_key, key_lines, lease_lines, IsReport};
+ghost use Rattle.stm_report.specs.StateKeys.{keys_of};
 
-use crate::lines::{end_json, event_json, key_json};
+use crate::leases::{Lease, live_leases};
 use serde_json::Value as Json;
 use std::alloc::{AllocError, Global};
+use std::collections::BTreeMap;
+use stm_lines::{end_json, event_json, key_json, lease_json};
 use stm_meaning::State;
-use stm_retry::{Denied, Reply, World};
+use stm_retrz::{Denied, Reply, Store, World};
 
 /// Adds a line.
 fn push_line(alloc: Global, text: &mut String, line: &Json) -> Result<(), AllocError>
@@ -38,13 +42,14 @@ fn push_events(
 }
 
 /// Adds the line of a key, if it is present.
-fn push_key(alloc: Global, text: &mut String, world: &World, key: &str) -> Result<(), AllocError>
-    ensures { OnOk result (string_bytes text.new ≡ string_bytes text.old ++ lines_text (line_of_key key.now (key_now world.now.history key.now))) }
+fn push_key(alloc: Global, text: &mut String, store: &Store, key: &str) -> Result<(), AllocError>
+    ensures { OnOk result (string_bytes text.new
+        ≡ string_bytes text.old ++ lines_text (line_of_key key.now (key_now store.now.standing.history key.now))) }
 {
-    match world.key(key)? {
+    match store.keys().get(key) {
         None => Ok(()),
         Some(state) => {
-            let line = key_json(alloc, key, &state)?;
+            let line = key_json(alloc, key, state)?;
             push_line(alloc, text, &line)
         }
     }
@@ -54,19 +59,36 @@ fn push_key(alloc: Global, text: &mut String, world: &World, key: &str) -> Resul
 fn push_keys(
     alloc: Global,
     text: &mut String,
-    world: &World,
+    store: &Store,
     state: &State,
 ) -> Result<(), AllocError>
-    ensures { OnOk result (string_bytes text.new ≡ string_bytes text.old ++ lines_text (key_lines world.now.history (keys_of state.now))) }
+    ensures { OnOk result (string_bytes text.new
+        ≡ string_bytes text.old ++ lines_text (key_lines store.now.standing.history (keys_of state.now))) }
 {
     for i in 0..state.len() {
-        push_key(alloc, text, world, state.at(i).key.as_str())?;
+        push_key(alloc, text, store, state.at(i).key.as_str())?;
+    }
+    Ok(())
+}
+
+/// Adds a line for each lease, ascending by id.
+fn push_leases(
+    alloc: Global,
+    text: &mut String,
+    leases: &BTreeMap<u64, Lease>,
+) -> Result<(), AllocError>
+    ensures { OnOk result ((live : Live) → HasLeases leases.now live → string_bytes text.new ≡ string_bytes text.old ++ lines_text (lease_lines live)) }
+{
+    for (id, lease) in leases {
+        let line = lease_json(alloc, *id, lease.ttl, lease.renewed)?;
+        push_line(alloc, text, &line)?;
     }
     Ok(())
 }
 
 /// The report of a world and the replies that it gave: a line for each event, one for each key that is present,
-/// ascending by bytes, and the end line with the revision and the number of entries.
+/// ascending by bytes, one for each live lease, ascending by id, and the end line with the revision and the
+/// number of entries.
 ///
 /// Each line is a compact JSON array and a line feed. It fails where a growth was refused.
 pub fn report(
@@ -77,10 +99,13 @@ pub fn report(
     ensures { IfOk result (λ text. IsReport world.now replies.now (string_bytes text)) }
 {
     let state = world.state()?;
+    let leases = live_leases(alloc, world.history())?;
     let mut text = String::new(alloc);
     push_events(alloc, &mut text, replies)?;
-    push_keys(alloc, &mut text, world, &state)?;
-    let end = end_json(alloc, world.revision(), world.history().len() as u64)?;
+    push_keys(alloc, &mut text, world.store(), &state)?;
+    push_leases(alloc, &mut text, &leases)?;
+    let revision = world.store().keys().revision();
+    let end = end_json(alloc, revision, world.history().len() as u64)?;
     push_line(alloc, &mut text, &end)?;
     Ok(text)
 }

@@ -3,11 +3,10 @@ ghost use Rattle.std.specs.Prelude.{◌≡◌, false, IfOk, string_bytes};
 ghost use Rattle.stm_report.specs.Script.{IsRunReport, Answers, Reports, Does};
 ghost use Rattle.stm_texts.specs.Reading.{IsOpening};
 
-use crate::devices::{Sink, Source};
 use crate::report_text::report;
-use crate::transfer::{ReadFault, read_all, write_all};
 use std::alloc::{AllocError, Global};
-use stm_retry::World;
+use stm_devices::{ReadFault, Sink, Source, read_all, write_all};
+use stm_retrz::World;
 use stm_texts::{BadInput, ReadError, Scenario, read_scenario};
 use thiserror::Error;
 

@@ -2,7 +2,7 @@
 use Rattle.std.proofs.Common.{ℕ, List, ◌++◌, ◌≡◌, Option, ap, ◌∙◌, append_assoc}
 use Rattle.std.proofs.KnownBytes.{Appends-trans}
 use Rattle.std.specs.Io.KnownBytes.{Appends}
-use Rattle.stm_report.specs.Transfers.{WritesFront}
+use Rattle.stm_devices.specs.Transfers.{WritesFront}
 
 -- a front of a text is one of a longer text
 pub longer : (old new : Option (List ℕ)) (text more : List ℕ) → WritesFront old new text → WritesFront old new (text ++ more)

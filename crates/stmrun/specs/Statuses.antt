@@ -5,7 +5,7 @@ use Rattle.stm_json.specs.declared.read_error.BadInput.{BadInput}
 use Rattle.stm_json.specs.CauseNames.{cause_name}
 use Rattle.stm_report.specs.declared.run_script.ScriptFault.{ScriptFault}
 use Rattle.stm_report.specs.declared.run_script.ScriptFault.TheVariants.{OutOfMemory, Bad, Read, Write}
-use Rattle.stm_report.specs.Transfers.{WritesFront}
+use Rattle.stm_devices.specs.Transfers.{WritesFront}
 use Rattle.stm_report.specs.Script.{Devices, Does}
 
 -- 2 for bad input, 3 for want of memory and a failed device

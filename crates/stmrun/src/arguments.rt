@@ -27,12 +27,22 @@ enum WordsFault {
     NotText,
 }
 
-const EXAMPLE: &str =
-    "A scenario is a JSON array of events. This one starts a program that puts a key, and lets it take a step:
+const EXAMPLE: &str = "A scenario is a JSON array of events, in their order:
 
-  [[\"start\",\"ReadCommitted\",1,[[\"put\",\"a\",\"1\",0]]],[\"step\",1]]
+  [\"start\",LEVEL,LIMIT,PROGRAM]       a runner gets the program, whose run may send so many commits
+  [\"step\",RUNNER]                     the runner fetches a key, or commits
+  [\"txn\",[CMP,..],[OP,..],[OP,..]]    another client's transaction: compares, success, failure
+  [\"grant\",ID,TTL]                    a lease is granted for so many seconds
+  [\"keep\",ID] and [\"revoke\",ID]       a lease is renewed, or ends with its keys
+  [\"advance\",NOW]                     the moment is set, and the leases that are due end with their keys
 
-Its report has a line for each event, one for each key that is present, and the end line:
+LEVEL is ReadCommitted, RepeatableReads, Serializable or SerializableSnapshot. This scenario starts a
+program that puts a key, and lets it take a step:
+
+  [[\"start\",\"Serializable\",1,[[\"put\",\"a\",\"1\",0]]],[\"step\",1]]
+
+Its report has a line for each event, one for each key that is present, one for each live lease, and
+the end line:
 
   [1,\"started\",1]
   [2,\"committed\",1,2,1,[],[],[]]

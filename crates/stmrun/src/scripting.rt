@@ -1,6 +1,6 @@
 //! The command `script` over devices.
 ghost use Rattle.std.specs.Prelude.{◌≡◌, ◌++◌, false};
-ghost use Rattle.stm_report.specs.Transfers.{HasWritten};
+ghost use Rattle.stm_devices.specs.Transfers.{HasWritten};
 ghost use Rattle.stmrun.specs.Statuses.{status_of, bad_message, message_of, SaysOf, Ends};
 
 use std::alloc::Global;

@@ -105,7 +105,7 @@ const FIRST_PUT_REPORT: &str = "[1,\"started\",1]
 ";
 
 /// Scenarios, each with its report.
-const REPORTS: [(&str, &str); 7] = [
+const REPORTS: [(&str, &str); 10] = [
     // An empty scenario.
     ("[]", "[\"end\",1,0]\n"),
     // The first put.
@@ -153,6 +153,44 @@ const REPORTS: [(&str, &str); 7] = [
 [3,\"aborted\",1,\"no\"]
 [4,\"faulted\",2,\"NotANumber\"]
 [\"end\",1,0]
+",
+    ),
+    // A key that comes to be between read and commit, at RepeatableReads.
+    (
+        "[[\"start\",\"RepeatableReads\",2,[[\"emit\",[\"get\",\"k\"]]]],[\"step\",1],[\"txn\",[],[[\"put\",\"k\",\"v\",0]],[]],[\"step\",1],[\"step\",1],[\"step\",1]]",
+        "[1,\"started\",1]
+[2,\"fetched\",1,\"k\",0,1,1]
+[3,\"txn\",true,2,[[\"put\"]]]
+[4,\"conflict\",1,\"k\",0,2]
+[5,\"fetched\",1,\"k\",2,2,2]
+[6,\"committed\",1,2,2,[\"v\"],[[\"get\",\"k\",\"v\"]],[]]
+[\"key\",\"k\",\"v\",2,2,1,0]
+[\"end\",2,2]
+",
+    ),
+    // A written key that another changed, at SerializableSnapshot.
+    (
+        "[[\"txn\",[],[[\"put\",\"a\",\"1\",0],[\"put\",\"b\",\"1\",0]],[]],[\"start\",\"SerializableSnapshot\",1,[[\"set\",0,[\"get\",\"a\"]],[\"put\",\"b\",\"9\",0]]],[\"step\",1],[\"txn\",[],[[\"put\",\"b\",\"2\",0]],[]],[\"step\",1]]",
+        "[1,\"txn\",true,2,[[\"put\"],[\"put\"]]]
+[2,\"started\",1]
+[3,\"fetched\",1,\"a\",2,2,2]
+[4,\"txn\",true,3,[[\"put\"]]]
+[5,\"gaveup\",1,1,\"b\",2,3]
+[\"key\",\"a\",\"1\",2,2,1,0]
+[\"key\",\"b\",\"2\",2,3,2,0]
+[\"end\",3,2]
+",
+    ),
+    // Leases that are due when the revisions are nearly used up.
+    (
+        "[[\"begin\",9223372036854775804],[\"grant\",1,5],[\"grant\",2,5],[\"txn\",[],[[\"put\",\"a\",\"1\",1],[\"put\",\"b\",\"1\",2]],[]],[\"advance\",5]]",
+        "[1,\"granted\",1]
+[2,\"granted\",2]
+[3,\"txn\",true,9223372036854775805,[[\"put\"],[\"put\"]]]
+[4,\"refused\",\"RevisionsUsedUp\",[[1,9223372036854775806]]]
+[\"key\",\"b\",\"1\",9223372036854775805,9223372036854775805,1,2]
+[\"lease\",2,5,0]
+[\"end\",9223372036854775806,4]
 ",
     ),
 ];

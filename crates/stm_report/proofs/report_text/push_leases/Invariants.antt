@@ -1,0 +1,10 @@
+use Rattle.std.proofs.Common.{◌≡◌, ◌++◌, string_bytes}
+use Rattle.stm_report.specs.Report.{lines_text, lines_of_leases}
+use Rattle.stm_report.proofs.LiveLeases.{terms}
+use Rattle.stm_report.proofs.report_text.push_leases.Given as goal
+
+-- the text so far, and the lines of the leases that are left
+abbrev pub invariant-loop-id : goal.invariant-loop-id
+invariant-loop-id l =
+    string_bytes l.text ++ lines_text (lines_of_leases (terms l.id-iterator))
+    ≡ string_bytes l.fn.text ++ lines_text (lines_of_leases (terms l.leases.entries))

@@ -1,11 +1,11 @@
 -- The places of the answers of an attempt, as an answer is added.
 use Rattle.std.proofs.Common.{◌≡◌, ℕ, ◌<◌, Bool, true, false, cond, List, [], ◌∷◌, ◌++◌, length, Option, None, Some, refl, sym, ◌∙◌, ap, arith}
-use Rattle.std.proofs.Common.{length-append, IfSome, All, String}
+use Rattle.std.proofs.Common.{length-append, IfSome, All, String, map}
 use Rattle.std.specs.Prelude.{bytes_eq, slice_get, string_bytes}
 use Rattle.std.specs.Map.{update, lookup}
-use Rattle.std.specs.List.{AllByRecursion, AllZip}
+use Rattle.std.specs.List.{AllByRecursion, AllZip, IsDistinct}
 use Rattle.std.proofs.lemmas.List.{get_or_append_left}
-use Rattle.std.proofs.lemmas.List.Elements.{recursion_from_All}
+use Rattle.std.proofs.lemmas.List.Elements.{recursion_from_All, All-from_recursion}
 use Rattle.std.proofs.lemmas.Option.{slice_get-get_or, none-some, same_Some}
 use Rattle.std.proofs.Math.Seq.{get_or-append_seam}
 use Rattle.stm_history.specs.declared.key_state.ReadAnswer.{ReadAnswer}
@@ -39,14 +39,46 @@ answer_in-more (x ∷ answers) a key new =
     absurd (cc))
     (answer_in-more answers a key parts.1)
 
+-- ---- keys that differ
+
+none_alike : IsDistinct bytes_eq (map (λ (a : ReadAnswer). a.key) [])
+unfolding IsDistinct
+none_alike = tt
+
+others_and_one : (key : List ℕ) (answers : List ReadAnswer) (a : ReadAnswer) →
+    AllByRecursion (λ k. bytes_eq key k ≡ false) (map (λ (x : ReadAnswer). x.key) answers) → bytes_eq key a.key ≡ false →
+    AllByRecursion (λ k. bytes_eq key k ≡ false) (map (λ (x : ReadAnswer). x.key) (answers ++ a ∷ []))
+others_and_one key [] a others other = (other, tt)
+others_and_one key (x ∷ answers) a others other = (others.0, others_and_one key answers a others.1 other)
+
+-- with an answer of a new key
+distinct_added : (answers : List ReadAnswer) (a : ReadAnswer) → IsDistinct bytes_eq (map (λ (x : ReadAnswer). x.key) answers) →
+    answer_in a.key answers ≡ None → IsDistinct bytes_eq (map (λ (x : ReadAnswer). x.key) (answers ++ a ∷ []))
+unfolding IsDistinct
+distinct_added [] a distinct new = (tt, tt)
+distinct_added (x ∷ answers) a distinct new =
+    let parts = none_first (bytes_eq x.key a.key) x (answer_in a.key answers) new in
+    (others_and_one x.key answers a distinct.0 parts.0, distinct_added answers a distinct.1 parts.1)
+
 -- ---- places
 
 -- no answers, and no places
-pub none_read : (places : List ℕ → Option ℕ) → ((key : List ℕ) → places key ≡ None) → AreAnswerPlaces [] places
+none_read : (places : List ℕ → Option ℕ) → ((key : List ℕ) → places key ≡ None) → AreAnswerPlaces [] places
 none_read places none = record {
   within = λ key i at. absurd (none-some i (sym (none key) ∙ at));
   answer = λ key. ap (λ place. answer_at [] place) (none key);
+  distinct = none_alike;
 }
+
+pub nothing_found : {A : Type 0} (es : List (String A × ℕ)) (key : List ℕ) → es ≡ [] → lookup (λ k. bytes_eq key (string_bytes k)) es ≡ None
+nothing_found [] key none = refl
+nothing_found (e ∷ es) key none = absurd (cc)
+
+-- a set of which nothing was read
+pub none_kept : (answers : List ReadAnswer) (places : List ℕ → Option ℕ) → answers ≡ [] → ((key : List ℕ) → places key ≡ None) →
+    All ReadFits answers × AreAnswerPlaces answers places
+none_kept [] places none absent = (All-from_recursion ReadFits [] tt, none_read places absent)
+none_kept (a ∷ answers) places none absent = absurd (cc)
 
 -- the added answer stands at the end
 last_place : (answers : List ReadAnswer) (a : ReadAnswer) → slice_get (answers ++ a ∷ []) (length answers) ≡ Some a
@@ -87,6 +119,7 @@ place_added answers a places after kept new told = record {
       ∙ answer_after (bytes_eq a.key key) answers a (places key) (kept.within key)
       ∙ ap (λ found. cond (bytes_eq a.key key) (Some a) found) (kept.answer key)
       ∙ sym (answer_in-more answers a key new);
+  distinct = distinct_added answers a kept.distinct new;
 }
 
 -- ---- an answer that is found fits where all do
@@ -109,6 +142,7 @@ pub places_copied : (answers : List ReadAnswer) (places copy : List ℕ → Opti
 places_copied answers places copy kept same = record {
   within = λ key i at. kept.within key i (sym (same key) ∙ at);
   answer = λ key. ap (answer_at answers) (same key) ∙ kept.answer key;
+  distinct = kept.distinct;
 }
 
 -- copies of texts and numbers are found like their originals

@@ -1,5 +1,6 @@
 //! What an attempt has read.
-ghost use Rattle.std.specs.Prelude.{◌≡◌, ℕ, List, ◌<◌, ◌≤◌, fold, min, [], ◌∷◌, ◌++◌, length, slice_get, option_copied, OnOk, OnErr, IfOk, IfSome, Some};
+ghost use Rattle.std.specs.Prelude.{◌≡◌, ℕ, List, ◌<◌, ◌≤◌, bytes_eq, fold, min, [], ◌∷◌, ◌++◌, length, map, slice_get, option_copied, OnOk, OnErr, IfOk, IfSome, Some};
+ghost use Rattle.std.specs.List.{IsDistinct};
 ghost use Rattle.indexmap.specs.IndexMap.{get_by_text};
 ghost use Rattle.stm_history.specs.History.{value_of, mod_of};
 ghost use Rattle.stm_history.specs.declared.key_state.ReadAnswer.{ReadAnswer as Answer};
@@ -44,10 +45,9 @@ impl ReadSet {
     pub fn new(alloc: Global) -> ReadSet
         ensures { result ≡ [] }
     {
-        ReadSet {
-            answers: Vec::new(alloc),
-            places: IndexMap::new(alloc),
-        }
+        let answers = Vec::new(alloc);
+        let places = IndexMap::new(alloc);
+        ReadSet { answers, places }
     }
 
     /// Adds an answer at the end, of a key that has none yet. Its revisions are at most `HIGHEST_NUMBER`.
@@ -102,9 +102,10 @@ impl ReadSet {
         }
     }
 
-    /// The answers in order.
+    /// The answers in order. No two are of one key.
     pub fn as_slice(&self) -> &[ReadAnswer]
-        ensures { result.now ≡ self.now }
+        ensures answers { result.now ≡ self.now }
+        ensures distinct { IsDistinct bytes_eq (map (λ (a : Answer). a.key) self.now) }
     {
         self.answers.as_slice()
     }

@@ -433,7 +433,7 @@ same_leases s next live moment = λ i. record { history = next.history; live = s
 abbrev answered : TxnAnswer → Standing → Result (Step TxnAnswer) Refusal
 answered a next = Ok record { answer = a; next = next }
 
-as_run : (s : Standing) (txn : Txn) (failed : Option FailedCompare) (ops : List Op) → fault_of txn ≡ None →
+pub as_run : (s : Standing) (txn : Txn) (failed : Option FailedCompare) (ops : List Op) → fault_of txn ≡ None →
     first_failed (key_now s.history) 0 txn.compares ≡ failed → chosen failed txn ≡ ops →
     outcome s.history (is_live_in s.live) txn ≡ outcome_copied s.history (is_live_in s.live) failed ops
 as_run s txn failed ops whole first branch =

@@ -6,6 +6,7 @@ pub mod Bounding
 pub mod Naming
 pub mod Ending
 pub mod Coming
+pub mod Refusing
 pub mod Advancing
 pub mod Applying
 pub mod Fitting

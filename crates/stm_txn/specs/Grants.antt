@@ -1,5 +1,5 @@
 -- The refusals of a grant, as the store tells them. No public clause cites this module.
-use Rattle.std.specs.Prelude.{Result, Ok, Err}
+use Rattle.std.specs.Prelude.{Option, Some, None, Result, Ok, Err}
 use Rattle.stm_leases.specs.declared.errors.GrantError.{GrantError}
 use Rattle.stm_leases.specs.declared.errors.GrantError.TheVariants.{LeaseIdOutOfRange, TtlOutOfRange, LeaseExists, OutOfMemory}
 use Rattle.stm_txn.specs.declared.refusal.Refusal.{Refusal}
@@ -15,3 +15,7 @@ grant_refusal_of OutOfMemory = MemoryRefusal
 abbrev pub grant_told : Result (Unit {0}) GrantError → Result (Unit {0}) Refusal
 grant_told (Ok done) = Ok done
 grant_told (Err cause) = Err (grant_refusal_of cause)
+
+abbrev pub told_refusal : Option GrantError → Option Refusal
+told_refusal None = None
+told_refusal (Some cause) = Some (grant_refusal_of cause)

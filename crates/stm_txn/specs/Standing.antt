@@ -43,6 +43,11 @@ abbrev pub ComesTo : {A : Type 0} → Result (Step A) Refusal → Result A Refus
 ComesTo defined (Ok answer) next = defined ≡ Ok record { answer = answer; next = next }
 ComesTo defined (Err refusal) next = IsRefusalOf defined refusal
 
+-- why a call is refused, if it is
+abbrev pub refusal_of : {A : Type 0} → Result A Refusal → Option Refusal
+refusal_of (Ok done) = None
+refusal_of (Err cause) = Some cause
+
 -- the store with another history
 abbrev pub with_history : Standing → History → Standing
 with_history s h = record s { history = h }

@@ -13,6 +13,7 @@ mod hang;
 pub mod laws;
 pub mod refusal;
 mod refuse;
+mod refused;
 pub mod short_list;
 pub mod store;
 pub mod txn;

@@ -22,6 +22,7 @@ use crate::compare::find_failed;
 use crate::hang::{move_keys, prepare_hangs};
 use crate::refusal::Refusal;
 use crate::refuse::find_refusal;
+use crate::refused::{find_grant_refusal, find_txn_refusal};
 use crate::txn::{Op, Txn};
 use std::alloc::{AllocError, Global};
 use std::marker::Model;
@@ -60,7 +61,7 @@ impl Model for Store {
 }
 
 /// Whether a branch is to change something at the highest revision.
-fn uses_up(keys: &Keys, ops: &[Op]) -> bool
+pub(crate) fn uses_up(keys: &Keys, ops: &[Op]) -> bool
     ensures { result ≡ is_used_up keys.now.history (changes_copied keys.now.history [] ops.now) }
 {
     let is_highest = keys.revision() == HIGHEST_REVISION;
@@ -68,7 +69,7 @@ fn uses_up(keys: &Keys, ops: &[Op]) -> bool
 }
 
 /// The operations of the branch that runs.
-fn choose(txn: &Txn, failed: Option<FailedCompare>) -> &[Op]
+pub(crate) fn choose(txn: &Txn, failed: Option<FailedCompare>) -> &[Op]
     ensures { result.now ≡ chosen failed txn.now }
 {
     match failed {
@@ -117,7 +118,7 @@ impl Store {
     ghost use Rattle.stm_txn.specs.LeaseKeys.{deletions_of};
     ghost use Rattle.stm_txn.specs.Outcome.{with_changes, answer_of};
     ghost use Rattle.stm_txn.specs.Numbers.{AnswerFits, StatesFit, ExpiredFits, AllExpiredFit};
-    ghost use Rattle.stm_txn.specs.Standing.{opening, IsRefusalOf, ComesTo, transacted, granted, kept_alive, told, ended, revoked};
+    ghost use Rattle.stm_txn.specs.Standing.{opening, IsRefusalOf, ComesTo, refusal_of, transacted, granted, kept_alive, told, ended, revoked};
     ghost use Rattle.stm_txn.specs.Standing.{after, expired_in, expire_all, at_moment, advanced, HasCome, IsStopped, IsCutShort, with_expiries};
 
     /// An empty store at revision 1 and moment 0. Want of memory is its only refusal.
@@ -477,5 +478,32 @@ impl Store {
         self.moment = moment;
         let expired = self.expire_due()?;
         Ok(expired)
+    }
+
+    /// Why a transaction would be refused now, other than for want of memory. It takes no memory.
+    pub fn txn_refusal(&self, txn: &Txn) -> Option<Refusal>
+        ensures { result ≡ refusal_of (transacted self.now.standing txn.now) }
+    {
+        find_txn_refusal(&self.keys, &self.leases, txn)
+    }
+
+    /// Why a grant would be refused now, other than for want of memory. It takes no memory.
+    pub fn grant_refusal(&self, id: u64, ttl: u64) -> Option<Refusal>
+        ensures { result ≡ refusal_of (granted self.now.standing id ttl) }
+    {
+        find_grant_refusal(&self.leases, id, ttl)
+    }
+
+    /// Why a revocation would be refused now, other than for want of memory. It takes no memory.
+    pub fn revoke_refusal(&self, id: u64) -> Option<Refusal>
+        ensures { result ≡ refusal_of (revoked self.now.standing id) }
+    {
+        if !self.leases.is_live(id) {
+            Some(Refusal::LeaseNotFound)
+        } else if self.is_stuck(id) {
+            Some(Refusal::RevisionsUsedUp)
+        } else {
+            None
+        }
     }
 }

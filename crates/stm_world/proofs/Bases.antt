@@ -1,8 +1,7 @@
 -- What an attempt at a serializable level knows is of one revision.
-use Rattle.std.proofs.Common.{◌≡◌, ℕ, ◌+◌, ◌≤◌, List, [], ◌∷◌, ◌++◌, length, map, true, refl, sym, ◌∙◌, ap, subst, arith, All, length-append}
+use Rattle.std.proofs.Common.{◌≡◌, ℕ, ◌≤◌, List, [], ◌∷◌, ◌++◌, map, true, refl, subst, arith}
 use Rattle.std.specs.List.{AllByRecursion}
 use Rattle.std.proofs.lemmas.List.Elements.{All-from_recursion}
-use Rattle.stm_history.specs.declared.change.Change.{Change}
 use Rattle.stm_history.specs.declared.key_state.ReadAnswer.{ReadAnswer}
 use Rattle.stm_history.specs.History.{History, now}
 use Rattle.stm_txn.specs.Commits.{revision_read}
@@ -19,7 +18,6 @@ use Rattle.stm_entries.specs.Replay.{replay}
 use Rattle.stm_entries.specs.Laws.{AddsTo}
 use Rattle.stm_entries.proofs.Adding.{replay_only_adds}
 use Rattle.stm_world.specs.Task.{Task, answer_at, with_served, after_fetch, after_conflict}
-use Rattle.stm_world.specs.World.{Runner}
 
 -- the answers that were read have one base, and those that were prefetched show no revision 0
 abbrev pub HasBase : Known → Type 0

@@ -1,5 +1,6 @@
 -- The calls of the store that are no runner's: what each leaves is what its entry replays to.
-use Rattle.std.proofs.Common.{◌≡◌, ℕ, ◌+◌, ◌<◌, ◌≤◌, List, [], ◌∷◌, Option, Some, None, Ok, Err, Bool, true, false, cond, refl, sym, ◌∙◌, ap, subst, arith}
+use Rattle.std.proofs.Common.{◌≡◌, ℕ, ◌<◌, ◌≤◌, zero, suc, List, [], ◌∷◌, Option, Some, None, Ok, Err, Bool, true, false, cond, refl, sym, ◌∙◌, ap}
+use Rattle.std.proofs.Common.{subst, arith}
 use Rattle.std.proofs.lemmas.Bool.{ltb-true, ltb-false}
 use Rattle.std.specs.Prelude.{nat_lt, is_some, Result}
 use Rattle.std.specs.FinMap as finmap
@@ -8,7 +9,7 @@ use Rattle.stm_history.specs.History.{History, now, HasDistinctKeys}
 use Rattle.stm_leases.specs.LeaseLog.{Term}
 use Rattle.stm_leases.specs.Live.{is_live_in, grant_refusal}
 use Rattle.stm_leases.specs.declared.errors.GrantError.{GrantError}
-use Rattle.stm_leases.specs.DueFirst.{IsNextDue}
+use Rattle.stm_leases.specs.DueFirst.{first_due}
 use Rattle.stm_txn.specs.declared.txn.Txn.{Txn}
 use Rattle.stm_txn.specs.declared.advance.Expired.{Expired}
 use Rattle.stm_txn.specs.declared.refusal.Refusal.{Refusal}
@@ -17,24 +18,18 @@ use Rattle.stm_txn.specs.Outcome.{Done, outcome, with_changes, is_used_up}
 use Rattle.stm_txn.specs.Grants.{grant_refusal_of}
 use Rattle.stm_txn.specs.LeaseKeys.{deletions_of}
 use Rattle.stm_txn.specs.Standing.{Standing, Step, Advance, step_of, transacted, granted, with_lease, kept_alive, without_lease, ended, with_revision, revoked}
-use Rattle.stm_txn.specs.Standing.{at_moment, expire_all, expired_in, advanced}
-use Rattle.stm_txn.specs.Advances.{Expiries, none, more}
+use Rattle.stm_txn.specs.Standing.{at_moment, after, expired_in, expire_up_to, expire_all, advanced}
 use Rattle.stm_txn.proofs.Applying.{history_grows}
-use Rattle.stm_txn.proofs.Ending.{ended_is}
-use Rattle.stm_txn.proofs.Advancing.{advance_expires}
-use Rattle.stm_entries.specs.declared.entry.Entry.{Entry}
+use Rattle.stm_txn.proofs.Ending.{ended_is, due_lives}
 use Rattle.stm_entries.specs.declared.entry.Entry.TheVariants.{Foreign, Grant as GrantEntry, Renew, Revoke as RevokeEntry, Expire}
-use Rattle.stm_entries.specs.Replayed.{Replayed, with_history, with_live, without_moment}
+use Rattle.stm_entries.specs.Replayed.{with_history, with_live, without_moment}
 use Rattle.stm_entries.specs.Alone.{history_left}
 use Rattle.stm_entries.specs.Replay.{replay, renewed_at}
 use Rattle.stm_entries.specs.Legal.{AreLegal}
 use Rattle.stm_world.specs.Told.{store_after_call}
 use Rattle.stm_world.specs.World.{if_taken, if_changed, expiries}
 use Rattle.stm_world.proofs.Truth.{Keeps, keeps_same, keeps_changes, keeps_twice}
-use Rattle.stm_world.proofs.Following.{EntriesFollow}
-
-pub nothing_follows : (s : Standing) → EntriesFollow s s []
-nothing_follows s = record { replays = refl; legal = tt; keeps = keeps_same s.history }
+use Rattle.stm_world.proofs.Entered.{EntriesFollow, nothing_follows}
 
 -- ---- a transaction ----
 
@@ -153,22 +148,53 @@ one_more_expiry s next last id expired live is rest =
           (subst (λ (x : Standing). Keeps s.history x.history) same (keeps_changes s.history (deletions_of s.history id))) rest.keeps;
     }
 
-expiries_follow : (s last : Standing) (expired : List Expired) → Expiries s expired last → EntriesFollow s last (expiries expired)
-expiries_follow s last expired (none _) = nothing_follows s
-expiries_follow s last expired (more _ next _ id rest due is later) =
-    one_more_expiry s next last id rest (ap (λ (o : Option Term). is_some o) due.live_now) is (expiries_follow next last rest later)
+-- what a lease that is due makes of the rest of an advance
+abbrev advance_ended : ℕ → Standing → ℕ → Result Standing Refusal → Advance
+advance_ended many s id o =
+    elim o [
+      | Err cause ↦ record { expired = []; leaves = s; cause = Some cause }
+      | Ok next ↦ after (expired_in id next ∷ []) (expire_up_to many next)
+    ]
 
-advance_by : (s : Standing) (moment : ℕ) (back : Bool) → nat_lt moment s.moment ≡ back →
-    EntriesFollow s (advanced s moment).leaves (expiries (advanced s moment).expired)
-advance_by s moment true back =
-    subst (λ (a : Advance). EntriesFollow s a.leaves (expiries a.expired))
-    (sym (ap (λ b. cond b (record { expired = []; leaves = s; cause = Some TimeGoesBack }) (expire_all (at_moment s moment))) back))
-    (nothing_follows s)
-advance_by s moment false back =
-    let e : EntriesFollow (at_moment s moment) (advanced s moment).leaves (expiries (advanced s moment).expired) =
-    expiries_follow (at_moment s moment) (advanced s moment).leaves (advanced s moment).expired
-    (advance_expires s moment (ltb-false moment s.moment back)).expiries in
+abbrev advance_due : ℕ → Standing → Option ℕ → Advance
+advance_due many s o =
+    elim o [
+      | None ↦ record { expired = []; leaves = s; cause = None }
+      | Some id ↦ advance_ended many s id (ended s id)
+    ]
+
+ended_by : (many : ℕ) (s : Standing) (id : ℕ) (o : Result Standing Refusal) → ended s id ≡ o → is_live_in s.live id ≡ true →
+    ((next : Standing) → EntriesFollow next (expire_up_to many next).leaves (expiries (expire_up_to many next).expired)) →
+    EntriesFollow s (advance_ended many s id o).leaves (expiries (advance_ended many s id o).expired)
+ended_by many s id (Err cause) is live goes = nothing_follows s
+ended_by many s id (Ok next) is live goes =
+    one_more_expiry s next (expire_up_to many next).leaves id (expire_up_to many next).expired live is (goes next)
+
+due_by : (many : ℕ) (s : Standing) (o : Option ℕ) → first_due s.live s.moment ≡ o →
+    ((next : Standing) → EntriesFollow next (expire_up_to many next).leaves (expiries (expire_up_to many next).expired)) →
+    EntriesFollow s (advance_due many s o).leaves (expiries (advance_due many s o).expired)
+due_by many s None due goes = nothing_follows s
+due_by many s (Some id) due goes = ended_by many s id (ended s id) refl (due_lives s.live s.moment id due) goes
+
+-- so many expiries at most
+pub expiries_follow : (many : ℕ) (s : Standing) → EntriesFollow s (expire_up_to many s).leaves (expiries (expire_up_to many s).expired)
+expiries_follow zero s = nothing_follows s
+expiries_follow (suc many) s = due_by many s (first_due s.live s.moment) refl (λ next. expiries_follow many next)
+
+-- the moment is no part of what is replayed
+pub at_moment_follows : (many : ℕ) (s : Standing) (moment : ℕ) →
+    EntriesFollow s (expire_up_to many (at_moment s moment)).leaves (expiries (expire_up_to many (at_moment s moment)).expired)
+at_moment_follows many s moment =
+    let e = expiries_follow many (at_moment s moment) in
     record { replays = e.replays; legal = e.legal; keeps = e.keeps }
 
+abbrev advance_back : Standing → ℕ → Bool → Advance
+advance_back s moment back = cond back (record { expired = []; leaves = s; cause = Some TimeGoesBack }) (expire_all (at_moment s moment))
+
+advance_by : (s : Standing) (moment : ℕ) (back : Bool) →
+    EntriesFollow s (advance_back s moment back).leaves (expiries (advance_back s moment back).expired)
+advance_by s moment true = nothing_follows s
+advance_by s moment false = at_moment_follows (finmap.len s.live) s moment
+
 pub advance_follows : (s : Standing) (moment : ℕ) → EntriesFollow s (advanced s moment).leaves (expiries (advanced s moment).expired)
-advance_follows s moment = advance_by s moment (nat_lt moment s.moment) refl
+advance_follows s moment = advance_by s moment (nat_lt moment s.moment)

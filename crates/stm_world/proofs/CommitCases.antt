@@ -1,6 +1,5 @@
 -- What a commit comes to, by whether a compare failed.
 use Rattle.std.proofs.Common.{◌≡◌, ℕ, List, map, Option, Some, None, Ok, Err, Bool, true, false, cond, refl, sym, ◌∙◌, ap}
-use Rattle.std.specs.Prelude.{Result}
 use Rattle.std.specs.List.{list_any}
 use Rattle.stm_history.specs.declared.change.Change.{Change}
 use Rattle.stm_history.specs.declared.key_state.ReadAnswer.{ReadAnswer}
@@ -8,9 +7,7 @@ use Rattle.stm_history.specs.History.{History}
 use Rattle.stm_program.specs.declared.level.Level.{Level}
 use Rattle.stm_program.specs.Writes.{latest_writes}
 use Rattle.stm_meaning.specs.declared.run.Run.{Run}
-use Rattle.stm_txn.specs.declared.answer.OpAnswer.{OpAnswer}
 use Rattle.stm_txn.specs.declared.answer.FailedCompare.{FailedCompare}
-use Rattle.stm_txn.specs.declared.refusal.Refusal.{Refusal}
 use Rattle.stm_txn.specs.declared.refusal.Refusal.TheVariants.{TooManyOps, LeaseNotFound, RevisionsUsedUp}
 use Rattle.stm_txn.specs.Outcome.{Done, is_used_up, with_changes}
 use Rattle.stm_txn.specs.Commits.{applied, effective, is_on_dead_lease, turned_down}

@@ -1,29 +1,27 @@
 -- A world follows a log: it has what the log tells of each runner and of the store, and its entries replay to that.
-use Rattle.std.proofs.Common.{◌≡◌, ◌≢◌, ℕ, ◌+◌, ◌<◌, ◌≤◌, List, [], ◌∷◌, ◌++◌, length, Option, Some, None, Ok, Err, Bool, true, false, cond, refl, sym, ◌∙◌}
+use Rattle.std.proofs.Common.{◌≡◌, ℕ, ◌+◌, ◌<◌, ◌≤◌, List, [], ◌∷◌, ◌++◌, length, Some, None, Ok, true, false, cond, refl, sym, ◌∙◌}
 use Rattle.std.proofs.Common.{ap, subst, arith}
 use Rattle.std.proofs.lemmas.List.{append-nil}
 use Rattle.std.specs.Prelude.{nat_eq, Result}
-use Rattle.stm_history.specs.History.{History}
-use Rattle.stm_txn.specs.Standing.{Standing}
 use Rattle.stm_entries.specs.declared.entry.Entry.{Entry}
-use Rattle.stm_entries.specs.Replayed.{Replayed, opening, without_moment}
+use Rattle.stm_entries.specs.Replayed.{opening, without_moment}
 use Rattle.stm_entries.specs.Replay.{replay}
 use Rattle.stm_entries.specs.Legal.{AreLegal}
 use Rattle.stm_entries.proofs.Replaying.{replay_goes_on, all_legal}
 use Rattle.stm_world.specs.declared.event.WorldEvent.{WorldEvent}
-use Rattle.stm_world.specs.declared.event.WorldEvent.TheVariants.{Start, Step}
+use Rattle.stm_world.specs.declared.event.WorldEvent.TheVariants.{Step}
 use Rattle.stm_world.specs.declared.reply.Reply.{Reply}
-use Rattle.stm_world.specs.declared.reply.Reply.TheVariants.{Started}
 use Rattle.stm_world.specs.declared.refusal.Denied.{Denied}
-use Rattle.stm_world.specs.Task.{Task, nothing_known}
-use Rattle.stm_world.specs.Log.{Line, begun, is_over, failures, started, is_start, is_id, runner_started, store, told}
+use Rattle.stm_world.specs.Log.{Line, started, is_start, runner_started, store}
 use Rattle.stm_world.specs.Right.{IsRight, AreRight}
-use Rattle.stm_world.specs.World.{World, Stepped, Runner, Slot, Over, Live, live_in, runner_at, with_slot, begin}
-use Rattle.stm_world.proofs.Truth.{Keeps, KnowsTruth, known_stays}
+use Rattle.stm_world.specs.World.{World, Stepped, Runner, Slot, live_in, runner_at, with_slot}
+use Rattle.stm_world.specs.Sound.{KnowsTruth}
+use Rattle.stm_world.proofs.Truth.{known_stays}
+use Rattle.stm_world.proofs.Entered.{EntriesFollow}
 use Rattle.stm_world.proofs.Bases.{IsBased}
-use Rattle.stm_world.proofs.Slots.{equal_numbers, same_number, other_number, differ, runner_there, runner_own, runner_other, runner_new, runner_old}
-use Rattle.stm_world.proofs.Slots.{count_stays, count_grows}
-use Rattle.stm_world.proofs.Untouched.{runner_for, runner_in_log, Untouched, IsFresh, same_in_log, fresh_stays, by_reply}
+use Rattle.stm_world.proofs.Slots.{equal_numbers, other_number, differ, runner_there, runner_own, runner_other}
+use Rattle.stm_world.proofs.Slots.{count_stays}
+use Rattle.stm_world.proofs.Untouched.{runner_in_log, Untouched, IsFresh, same_in_log, fresh_stays}
 
 -- these places and entries are what the log tells
 pub record FollowsAt (start : ℕ) (log : List Line) (runners : List Slot) (entries : List Entry) : Type 0 where
@@ -49,12 +47,6 @@ pub record FollowsStep (start : ℕ) (log : List Line) (event : WorldEvent) (s :
   pub standing : s.next.standing ≡ store start (with_line event s.reply log)
   pub follows : FollowsAt start (with_line event s.reply log) s.next.runners s.next.entries
 
--- what an event leaves of history and live leases is what its entries replay to
-pub record EntriesFollow (before after : Standing) (more : List Entry) : Type 0 where
-  pub replays : replay more (without_moment before) ≡ without_moment after
-  pub legal : AreLegal more (without_moment before)
-  pub keeps : Keeps before.history after.history
-
 replays_more : (start : ℕ) (log after : List Line) (runners : List Slot) (entries more : List Entry) → FollowsAt start log runners entries →
     EntriesFollow (store start log) (store start after) more → replay (entries ++ more) (opening start) ≡ without_moment (store start after)
 replays_more start log after runners entries more f e =
@@ -70,9 +62,10 @@ same_count : (event : WorldEvent) (reply : Result Reply Denied) (log : List Line
 same_count event reply log none = ap (λ o. cond (is_start o) (started log + 1) (started log)) none
 
 -- an event that is about no runner
-pub no_runner_touched : (start : ℕ) (log : List Line) (runners : List Slot) (entries more : List Entry) (event : WorldEvent) (reply : Result Reply Denied) →
-    FollowsAt start log runners entries → IsRight start log event reply → runner_started reply ≡ None → ((id : ℕ) → Untouched id reply) →
-    EntriesFollow (store start log) (store start (with_line event reply log)) more → FollowsAt start (with_line event reply log) runners (entries ++ more)
+pub no_runner_touched : (start : ℕ) (log : List Line) (runners : List Slot) (entries more : List Entry) (event : WorldEvent)
+    (reply : Result Reply Denied) → FollowsAt start log runners entries → IsRight start log event reply → runner_started reply ≡ None →
+    ((id : ℕ) → Untouched id reply) → EntriesFollow (store start log) (store start (with_line event reply log)) more →
+    FollowsAt start (with_line event reply log) runners (entries ++ more)
 no_runner_touched start log runners entries more event reply f right none untouched e =
     let line : Line = record { event = event; reply = reply } in
     let count : started (line ∷ log) ≡ started log = same_count event reply log none in
@@ -115,7 +108,8 @@ slot_touched start log runners entries more id r slot reply f found right none o
       count = count_stays id runners slot ∙ f.count ∙ sym count;
       slots = λ other. elim (nat_eq id other) as (λ b. nat_eq id other ≡ b → runner_at other (with_slot id slot runners)
           ≡ runner_in_log start (line ∷ log) other) [
-            | true ↦ λ is. subst (λ n. runner_at n (with_slot id slot runners) ≡ runner_in_log start (line ∷ log) n) (equal_numbers id other is) (own ∙ sym mine)
+            | true ↦ λ is. subst (λ n. runner_at n (with_slot id slot runners) ≡ runner_in_log start (line ∷ log) n) (equal_numbers id other is)
+                (own ∙ sym mine)
             | false ↦ λ is. runner_other id other runners slot there.0 (differ id other is) ∙ f.slots other
                 ∙ sym (same_in_log start other line log (others other is))
           ] refl;

@@ -1,7 +1,7 @@
 -- The headline: each step leads to a world that follows its log.
 use Rattle.std.proofs.Common.{◌≡◌, ◌≢◌, ℕ, ◌+◌, ◌<◌, List, [], ◌∷◌, ◌++◌, length, Option, Some, None, Ok, Err, Bool, true, false, cond, refl, sym, ◌∙◌, ap}
 use Rattle.std.proofs.Common.{subst, arith}
-use Rattle.std.specs.Prelude.{nat_eq, option_map, Result, slice_get, ◌||◌}
+use Rattle.std.specs.Prelude.{nat_eq, option_map, Result}
 use Rattle.stm_txn.specs.declared.refusal.Refusal.{Refusal as StoreRefusal}
 use Rattle.stm_txn.specs.Standing.{Standing, Step as StoreStep, Advance as StoreAdvance, transacted, granted, kept_alive, revoked, advanced}
 use Rattle.stm_entries.specs.declared.entry.Entry.{Entry}
@@ -11,24 +11,24 @@ use Rattle.stm_world.specs.declared.event.WorldEvent.{WorldEvent}
 use Rattle.stm_world.specs.declared.event.WorldEvent.TheVariants.{Start, Step, Txn, Grant, Keep, Revoke, Advance}
 use Rattle.stm_world.specs.declared.reply.Reply.{Reply}
 use Rattle.stm_world.specs.declared.reply.Reply.TheVariants.{Started, Txn as TxnDone, Granted, Kept, Revoked}
-use Rattle.stm_world.specs.declared.refusal.Denied.{Denied}
 use Rattle.stm_world.specs.declared.refusal.Refusal.TheVariants.{BadLimit, NoRunner}
 use Rattle.stm_world.specs.Told.{denied, reply_to, store_after_call, advance_reply}
-use Rattle.stm_world.specs.Task.{Task, nothing_known}
-use Rattle.stm_world.specs.Log.{Line, begun, is_over, running, failures, started, is_id, store, told, runner_started}
-use Rattle.stm_world.specs.Right.{IsRight, RunnerIsRight}
-use Rattle.stm_world.specs.World.{World, Stepped, Runner, Slot, Live, live_in, runner_at, begin, opened, refused, start_runner, step_runner, if_changed}
+use Rattle.stm_world.specs.Task.{Task}
+use Rattle.stm_world.specs.Log.{Line, begun, running, started, store, runner_started}
+use Rattle.stm_world.specs.Right.{RunnerIsRight}
+use Rattle.stm_world.specs.World.{World, Runner, Slot, Live, live_in, runner_at, begin, opened, refused, start_runner, step_runner, if_changed}
 use Rattle.stm_world.specs.World.{if_taken, expiries, step}
 use Rattle.stm_world.specs.World.{world_after, replies_to}
 use Rattle.stm_world.specs.Headline.{logged, Headline, OneRevision}
-use Rattle.stm_world.proofs.Truth.{KnowsTruth}
+use Rattle.stm_world.specs.Sound.{KnowsTruth}
 use Rattle.stm_world.proofs.Bases.{IsBased}
-use Rattle.stm_world.proofs.Slots.{equal_numbers, same_number, other_number, differ, runner_new, runner_old, count_grows}
-use Rattle.stm_world.proofs.Untouched.{runner_for, runner_in_log, Untouched, IsFresh, none_told, same_in_log, fresh_stays, by_refusal, by_call, by_advance}
+use Rattle.stm_world.proofs.Slots.{equal_numbers, same_number, other_number, differ, runner_new, runner_old, count_grows, no_runner}
+use Rattle.stm_world.proofs.Untouched.{runner_for, runner_in_log, IsFresh, none_told, same_in_log, fresh_stays, by_refusal, by_call, by_advance}
 use Rattle.stm_world.proofs.Untouched.{by_reply}
-use Rattle.stm_world.proofs.Following.{FollowsAt, FollowsStep, EntriesFollow, with_line, world_at, no_runner_touched, nothing_touched}
+use Rattle.stm_world.proofs.Following.{FollowsAt, FollowsStep, with_line, world_at, no_runner_touched, nothing_touched}
 use Rattle.stm_world.proofs.RunnerSteps.{CommitLaws, live_follows}
-use Rattle.stm_world.proofs.Calls.{nothing_follows, txn_follows, grant_follows, keep_follows, revoke_follows, advance_follows}
+use Rattle.stm_world.proofs.Entered.{nothing_follows}
+use Rattle.stm_world.proofs.Calls.{txn_follows, grant_follows, keep_follows, revoke_follows, advance_follows}
 
 -- ---- starts ----
 
@@ -67,7 +67,10 @@ started_follows start log runners entries task f some =
       ] refl;
       fresh = λ other beyond.
           let ne : nat_eq id other ≡ false =
-          other_number id other (λ same. let count : length runners ≡ started log = f.count in let far : started log + 1 < other = beyond in omega (arith, same)) in
+          other_number id other (λ same.
+          let count : length runners ≡ started log = f.count in
+          let far : started log + 1 < other = beyond in
+          omega (arith, same)) in
           let more : started log < other = let far : started log + 1 < other = beyond in omega arith in
           fresh_stays start other line log (by_reply other (Started id) ne) (f.fresh other more);
       truth = λ other x found. elim (nat_eq id other) as (λ b. nat_eq id other ≡ b → KnowsTruth (store start log).history x.known) [
@@ -202,20 +205,16 @@ run_follows start (e ∷ es) log w laws f =
     let s : FollowsStep start log e (step e w) = step_follows start log e w laws f in
     run_follows start es (with_line e (step e w).reply log) (step e w).next laws (record { standing = s.standing; at = s.follows })
 
-no_runner : (b : Bool) → cond b None None ≡ (let o : Option Runner = None in o)
-no_runner true = refl
-no_runner false = refl
-
 opened_follows : (start : ℕ) → Follows start [] (opened start)
 opened_follows start = record {
   standing = refl;
   at = record {
     right = tt;
     count = refl;
-    slots = λ id. no_runner (nat_eq id 0);
+    slots = no_runner;
     fresh = λ id above. none_told start id;
-    truth = λ id r found. let none : runner_at id [] ≡ None = no_runner (nat_eq id 0) in absurd (cc);
-    based = λ id r found. let none : runner_at id [] ≡ None = no_runner (nat_eq id 0) in absurd (cc);
+    truth = λ id r found. let none : runner_at id [] ≡ None = no_runner id in absurd (cc);
+    based = λ id r found. let none : runner_at id [] ≡ None = no_runner id in absurd (cc);
     replays = refl;
     legal = tt;
   };

@@ -1,10 +1,14 @@
 pub mod Wrong
 pub mod Truth
+pub mod Entered
 pub mod Slots
 pub mod Untouched
 pub mod Bases
 pub mod Following
 pub mod CommitCases
+pub mod CommitEntries
 pub mod RunnerSteps
 pub mod Calls
+pub mod SoundSteps
+pub mod Sound
 pub mod Headlines

@@ -1,15 +1,12 @@
 -- The steps of a runner, as the log tells of it.
-use Rattle.std.proofs.Common.{◌≡◌, ◌≢◌, ℕ, ◌+◌, ◌<◌, ◌≤◌, List, [], ◌∷◌, ◌++◌, length, map, Option, Some, None, Ok, Err, Bool, true, false, cond, refl, sym}
-use Rattle.std.proofs.Common.{◌∙◌, ap, subst, arith}
+use Rattle.std.proofs.Common.{◌≡◌, ℕ, ◌+◌, ◌<◌, ◌≤◌, List, [], ◌∷◌, Option, Some, None, Ok, Err, Bool, true, false, cond, refl, sym}
+use Rattle.std.proofs.Common.{◌∙◌, ap, subst}
 use Rattle.std.proofs.lemmas.List.{append-nil}
 use Rattle.std.proofs.lemmas.Bool.{ltb-true, ltb-false}
-use Rattle.std.specs.Prelude.{nat_eq, nat_lt, option_map, Result, slice_get, MatchBool, ◌||◌}
-use Rattle.stm_history.specs.declared.change.Change.{Change}
+use Rattle.std.specs.Prelude.{nat_lt, option_map, Result, slice_get, ◌||◌}
 use Rattle.stm_history.specs.declared.key_state.ReadAnswer.{ReadAnswer}
 use Rattle.stm_history.specs.History.{History, now, key_at, mod_of}
 use Rattle.stm_leases.specs.Live.{is_live_in}
-use Rattle.stm_program.specs.Syntax.{ProgramTree, Block}
-use Rattle.stm_program.specs.declared.level.Level.{Level}
 use Rattle.stm_program.specs.Writes.{latest_writes}
 use Rattle.stm_meaning.specs.declared.trace_item.TraceItem.{TraceItem}
 use Rattle.stm_meaning.specs.declared.run.End.{End}
@@ -17,17 +14,13 @@ use Rattle.stm_meaning.specs.declared.run.End.TheVariants.{Done as DoneEnd, Abor
 use Rattle.stm_meaning.specs.declared.run.Run.{Run}
 use Rattle.stm_meaning.specs.declared.run.Answered.{Answered}
 use Rattle.stm_meaning.specs.declared.run.Answered.TheVariants.{Ended as EndedRun, Wants}
-use Rattle.stm_meaning.specs.Meaning.{run_over}
 use Rattle.stm_txn.specs.declared.answer.FailedCompare.{FailedCompare}
 use Rattle.stm_txn.specs.declared.refusal.Refusal.{Refusal as StoreRefusal}
 use Rattle.stm_txn.specs.Outcome.{Done}
-use Rattle.stm_txn.specs.Commits.{revision_read, applied, effective}
+use Rattle.stm_txn.specs.Commits.{revision_read}
 use Rattle.stm_txn.specs.Standing.{Standing, with_history}
-use Rattle.stm_compile.specs.Levels.{is_comparing}
-use Rattle.stm_compile.specs.Answers.{AreTrue, look_up, state_now, answer_now}
-use Rattle.stm_compile.specs.Now.{as_change}
-use Rattle.stm_compile.specs.CommitTxn.{reread_keys}
-use Rattle.stm_compile.specs.Committed.{conflict_now, committed}
+use Rattle.stm_compile.specs.Answers.{AreTrue}
+use Rattle.stm_compile.specs.Committed.{committed}
 use Rattle.stm_compile.specs.Conflicts.{Seen, seen_by, IsConflict}
 use Rattle.stm_compile.specs.Laws.{CommitIsTheRunNow, FailedComparesConflict}
 use Rattle.stm_attempt.specs.Known.{Known}
@@ -35,24 +28,24 @@ use Rattle.stm_attempt.specs.Settled.{run_on}
 use Rattle.stm_attempt.specs.Fetches.{at_of}
 use Rattle.stm_entries.specs.declared.entry.Entry.{Entry}
 use Rattle.stm_entries.specs.Replayed.{Replayed, without_moment}
-use Rattle.stm_entries.specs.Alone.{seen_at, history_left, left_by, left_by_run}
-use Rattle.stm_entries.specs.Replay.{replay}
-use Rattle.stm_entries.specs.Legal.{IsCommit, IsLegal, AreLegal, AnswersAreTrue}
 use Rattle.stm_world.specs.declared.event.WorldEvent.TheVariants.{Step}
 use Rattle.stm_world.specs.declared.reply.Reply.{Reply}
 use Rattle.stm_world.specs.declared.reply.Reply.TheVariants.{Fetched, Committed, Conflict, GaveUp, Aborted, Faulted, Ended}
 use Rattle.stm_world.specs.Task.{Task, answer_at, after_fetch, after_conflict, answers_told}
-use Rattle.stm_world.specs.Log.{Line, begun, is_over, running, failures, is_id, runner_started, runner_ended, task_in, store, told, with_commit}
-use Rattle.stm_world.specs.Right.{IsRight, RunnerIsRight, Situation, situation, ReplyIsRight, IsConflicted}
-use Rattle.stm_world.specs.World.{World, Stepped, Runner, Slot, Over, Live, live_in, runner_at, with_slot, replied, fetch, entry_of, take_commit, fail_commit}
+use Rattle.stm_world.specs.Log.{Line, begun, is_over, running, failures, is_id, runner_started, runner_ended, store, told, with_commit}
+use Rattle.stm_world.specs.Right.{IsRight, RunnerIsRight, situation, ReplyIsRight, IsConflicted}
+use Rattle.stm_world.specs.World.{Runner, Slot, Over, Live, live_in, runner_at, with_slot, replied, fetch, entry_of, take_commit}
 use Rattle.stm_world.specs.World.{seen_in, decided}
 use Rattle.stm_world.specs.World.{commit_told, commit, finish, step_on, step_live}
-use Rattle.stm_world.proofs.Truth.{Keeps, KnowsTruth, keeps_same, keeps_changes, served_true, one_more_true, answer_true, reread_true, fetch_reached}
+use Rattle.stm_world.specs.Sound.{KnowsTruth}
+use Rattle.stm_world.proofs.Truth.{Keeps, keeps_same, fetch_true, conflict_true}
+use Rattle.stm_world.proofs.Entered.{EntriesFollow}
 use Rattle.stm_world.proofs.Bases.{IsBased, counter_some, fetch_based, conflict_based}
 use Rattle.stm_world.proofs.Slots.{same_number}
 use Rattle.stm_world.proofs.Untouched.{runner_for, runner_in_log, runner_named, by_reply}
-use Rattle.stm_world.proofs.Following.{FollowsAt, FollowsStep, EntriesFollow, with_line, world_at, slot_touched}
-use Rattle.stm_world.proofs.CommitCases.{Succeeds, Fails, succeeds, fails, applied_history}
+use Rattle.stm_world.proofs.Following.{FollowsAt, FollowsStep, with_line, world_at, slot_touched}
+use Rattle.stm_world.proofs.CommitCases.{Fails, fails}
+use Rattle.stm_world.proofs.CommitEntries.{Takes, Taken, taken, commit_follows_entry}
 
 -- a runner of a world that follows its log, which the log tells to run this task
 pub record Runs (start : ℕ) (log : List Line) (runners : List Slot) (entries : List Entry) (id : ℕ) (task : Task) : Type 0 where
@@ -153,13 +146,8 @@ fetch_follows start log runners entries id task key trace x wants =
     let h : History = (store start log).history in
     let reads : List ReadAnswer = (told start id task log).reads in
     let of_rev : ℕ = revision_read h (at_of task.level reads) in
-    let truth : AreTrue h reads = reads_truth start log runners entries id task x in
     let known : Known = after_fetch task (answer_at h key of_rev) (told start id task log) in
-    let before : Known = record { reads = reads ++ answer_at h key of_rev ∷ []; prefetched = (told start id task log).prefetched } in
-    let new : KnowsTruth h known = served_true h task before (
-      one_more_true h reads (answer_at h key of_rev) truth (answer_true h key of_rev (fetch_reached h task.level reads truth)),
-      (known_truth start log runners entries id task x).1,
-    ) in
+    let new : KnowsTruth h known = fetch_true h task key (told start id task log) (known_truth start log runners entries id task x) in
     replied_follows start log runners entries id task
     (Live (record { task = task; failures = failures id log; known = known }))
     (Fetched id key (mod_of (key_at h key of_rev)) of_rev (now h)) x
@@ -198,14 +186,11 @@ failed_by : (start : ℕ) (log : List Line) (runners : List Slot) (entries : Lis
     (replied (GaveUp id (failures id log + 1) seen.key seen.mod_rev modified) id Over (world_at start log runners entries)))
 failed_by start log runners entries id task seen modified true left x conflicted =
     let h : History = (store start log).history in
-    let reads : List ReadAnswer = (told start id task log).reads in
     let some : failures id log + 1 < task.limit = ltb-true (failures id log + 1) task.limit left in
     let r : Runner = record { task = task; failures = failures id log + 1; known = after_conflict task h (told start id task log) } in
     replied_follows start log runners entries id task (Live r) (Conflict id seen.key seen.mod_rev modified) x (refl, some, conflicted) refl refl refl
     (conflict_in_log start log id task seen.key seen.mod_rev modified x.running)
-    (λ q is. live_is r q (λ y. KnowsTruth h y.known) is
-    (served_true h task (record { reads = []; prefetched = map (answer_now h) (reread_keys task.level reads) })
-    (tt, reread_true h (reread_keys task.level reads))))
+    (λ q is. live_is r q (λ y. KnowsTruth h y.known) is (conflict_true h task (told start id task log)))
     (λ q is. live_is r q (λ y. IsBased start y.task y.known) is
     (conflict_based start task h (told start id task log) (counter start log runners entries id task x)))
 failed_by start log runners entries id task seen modified false left x conflicted =
@@ -215,56 +200,9 @@ failed_by start log runners entries id task seen modified false left x conflicte
 
 -- ---- a commit that succeeded ----
 
-alone_by : (h : History) (task : Task) (reads : List ReadAnswer) (run : Run) (b : Bool) →
-    (b ≡ true → run_over (state_now h) task.program.statements ≡ EndedRun run) → run_over (look_up reads) task.program.statements ≡ EndedRun run →
-    run_over (cond b (state_now h) (look_up reads)) task.program.statements ≡ EndedRun run
-alone_by h task reads run true now_is read_is = now_is refl
-alone_by h task reads run false now_is read_is = read_is
-
-same_seen : (b : Bool) (h : History) (reads : List ReadAnswer) → cond b (state_now h) (look_up (cond b [] reads)) ≡ cond b (state_now h) (look_up reads)
-same_seen true h reads = refl
-same_seen false h reads = refl
-
-told_truth : (b : Bool) (h : History) (reads : List ReadAnswer) → AreTrue h reads → MatchBool b (cond b [] reads ≡ []) (AreTrue h (cond b [] reads))
-told_truth true h reads t = refl
-told_truth false h reads t = t
-
 begun_by : (b : Bool) (o : Option Task) (task : Task) → cond b None o ≡ Some task → o ≡ Some task
 begun_by true o task is = absurd (cc)
 begun_by false o task is = is
-
-left_by_done : (run : Run) (end : End) (r : Replayed) (done : Done) → end ≡ DoneEnd →
-    applied r.history (is_live_in r.live) (map as_change (latest_writes run.writes)) ≡ Ok done →
-    left_by run end r ≡ record { history = done.history; live = r.live }
-left_by_done run end r done is applies =
-    ap (λ (e : End). left_by run e r) is ∙ ap (λ o. record { history = history_left r.history o; live = r.live }) applies
-
--- the run of a program that committed, at its point
-committed_run : (start : ℕ) (log : List Line) (id : ℕ) (task : Task) (run : Run) → CommitIsTheRunNow →
-    AreTrue (store start log).history (told start id task log).reads →
-    run_on task.program (told start id task log).reads ≡ EndedRun run →
-    conflict_now (store start log).history task.level (told start id task log).reads (latest_writes run.writes) ≡ None →
-    run_over (seen_at task.level (told start id task log).reads (store start log).history) task.program.statements ≡ EndedRun run
-committed_run start log id task run law truth is_run clear =
-    let h : History = (store start log).history in
-    let reads : List ReadAnswer = (told start id task log).reads in
-    alone_by h task reads run (is_comparing task.level)
-    (λ comparing. law h task.level reads (latest_writes run.writes) task.program.statements run comparing truth is_run clear) is_run
-
--- what a commit leaves, as the log and the entry replay it
-replayed : (s : Standing) (task : Task) (reads : List ReadAnswer) (run : Run) (done : Done) →
-    run_over (seen_at task.level reads s.history) task.program.statements ≡ EndedRun run → run.end ≡ DoneEnd →
-    applied s.history (is_live_in s.live) (map as_change (latest_writes run.writes)) ≡ Ok done →
-    left_by_run (run_over (seen_at task.level (answers_told task.level reads) s.history) task.program.statements) (without_moment s)
-    ≡ record { history = done.history; live = s.live }
-replayed s task reads run done alone is_done applies =
-    ap (λ look. left_by_run (run_over look task.program.statements) (without_moment s)) (same_seen (is_comparing task.level) s.history reads)
-    ∙ ap (λ a. left_by_run a (without_moment s)) alone
-    ∙ left_by_done run run.end (without_moment s) done is_done applies
-
-grown_by : (h : History) (is_live : ℕ → Bool) (changes : List Change) (done : Done) → applied h is_live changes ≡ Ok done → Keeps h done.history
-grown_by h is_live changes done is =
-    subst (λ (x : History). Keeps h x) (applied_history h is_live changes done is) (keeps_changes h (effective h changes))
 
 taken_follows : (start : ℕ) (log : List Line) (runners : List Slot) (entries : List Entry) (id : ℕ) (task : Task) (run : Run) (done : Done) →
     CommitIsTheRunNow →
@@ -276,22 +214,20 @@ taken_follows : (start : ℕ) (log : List Line) (runners : List Slot) (entries :
 taken_follows start log runners entries id task run done law x is_run is_done is none =
     let s : Standing = store start log in
     let reads : List ReadAnswer = (told start id task log).reads in
-    let truth : AreTrue s.history reads = reads_truth start log runners entries id task x in
-    let ok : Succeeds s.history (is_live_in s.live) task.level reads run done = succeeds s.history (is_live_in s.live) task.level reads run done is none in
-    let alone : run_over (seen_at task.level reads s.history) task.program.statements ≡ EndedRun run =
-    committed_run start log id task run law truth is_run ok.no_conflict in
+    let takes : Takes s task reads run done =
+    record { truth = reads_truth start log runners entries id task x; is_run = is_run; is_done = is_done; comes_to = is; succeeds = none } in
+    let came : Taken s task reads run done = taken s task reads run done law takes in
     let answers : List ReadAnswer = answers_told task.level reads in
     let reply : Reply = Committed id (now done.history) (failures id log + 1) run.output run.trace answers in
     let after : List Line = with_line (Step id) (Ok reply) log in
-    let back : left_by_run (run_over (seen_at task.level answers s.history) task.program.statements) (without_moment s)
-    ≡ record { history = done.history; live = s.live } = replayed s task reads run done alone is_done ok.applies in
     let begun_is : begun id log ≡ Some task = begun_by (is_over id log) (begun id log) task x.running in
     let same : store start after ≡ with_history s done.history =
-    ap (with_commit s answers) begun_is ∙ ap (λ (r : Replayed). with_history s r.history) back in
+    ap (with_commit s answers) begun_is ∙ ap (λ (r : Replayed). with_history s r.history) came.replayed in
+    let entry : Entry = entry_of task reads run (now done.history) in
     record {
       standing = sym same;
-      follows = slot_touched start log runners entries (entry_of task reads run (now done.history) ∷ []) id (runner_for start log id task) Over reply
-          x.follows (there start log runners entries id task x)
+      follows = slot_touched start log runners entries (entry ∷ []) id (runner_for start log id task) Over reply x.follows
+          (there start log runners entries id task x)
           (is_right start log id task reply x.running (
             refl,
             refl,
@@ -299,7 +235,7 @@ taken_follows start log runners entries id task run done law x is_run is_done is
               done = done;
               commits = record { run = run; is_run = is_run; is_done = is_done; comes_to = is };
               succeeds = none;
-              is_alone = alone;
+              is_alone = came.alone;
               emits = refl;
               sees = refl;
               reached = refl;
@@ -307,25 +243,7 @@ taken_follows start log runners entries id task run done law x is_run is_done is
             },
           ))
           refl (λ other ne. by_reply other reply ne) (over_now start log id reply refl) (λ r impossible. absurd (cc)) (λ r impossible. absurd (cc))
-          (record {
-            replays = back ∙ ap without_moment (sym same);
-            legal = (
-              record {
-                run = run;
-                is_run = ap (λ look. run_over look task.program.statements) (same_seen (is_comparing task.level) s.history reads) ∙ alone;
-                is_done = is_done;
-                emits = refl;
-                sees = refl;
-                reads_truth = told_truth (is_comparing task.level) s.history reads truth;
-                done = done;
-                applies = ok.applies;
-                reached = refl;
-              },
-              tt,
-            );
-            keeps = subst (λ (x : Standing). Keeps s.history x.history) (sym same)
-                (grown_by s.history (is_live_in s.live) (map as_change (latest_writes run.writes)) done ok.applies);
-          });
+          (subst (λ (y : Standing). EntriesFollow s y (entry ∷ [])) (sym same) (commit_follows_entry s task reads run done takes came));
     }
 
 -- ---- the commit ----

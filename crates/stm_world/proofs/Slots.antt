@@ -1,9 +1,9 @@
 -- The places of runners.
-use Rattle.std.proofs.Common.{◌≡◌, ◌≢◌, ℕ, ◌+◌, ◌-◌, ◌<◌, ◌≤◌, zero, suc, List, [], ◌∷◌, ◌++◌, length, Option, Some, None, Bool, true, false, cond, refl, sym}
+use Rattle.std.proofs.Common.{◌≡◌, ◌≢◌, ℕ, ◌+◌, ◌-◌, ◌<◌, ◌≤◌, zero, suc, List, [], ◌∷◌, ◌++◌, length, Option, Some, None, Bool, true, false, cond, refl}
 use Rattle.std.proofs.Common.{◌∙◌, ap, arith}
 use Rattle.std.specs.Prelude.{nat_eq, slice_get, slice_set}
 use Rattle.std.specs.Cmp.{unsigned_Decides}
-use Rattle.stm_world.specs.World.{Runner, Slot, Over, Live, live_in, runner_at, with_slot}
+use Rattle.stm_world.specs.World.{Runner, Slot, live_in, runner_at, with_slot}
 
 pub equal_numbers : (a b : ℕ) → nat_eq a b ≡ true → a ≡ b
 equal_numbers a b h = (unsigned_Decides a b).0 h
@@ -107,3 +107,11 @@ runner_old slots slot other ne =
 pub count_grows : (slots : List Slot) (slot : Slot) → length (slots ++ slot ∷ []) ≡ length slots + 1
 count_grows [] slot = refl
 count_grows (x ∷ slots) slot = let rest : length (slots ++ slot ∷ []) ≡ length slots + 1 = count_grows slots slot in omega arith
+
+none_either_way : (b : Bool) → cond b None None ≡ (let o : Option Runner = None in o)
+none_either_way true = refl
+none_either_way false = refl
+
+-- where there is no place there is no runner
+pub no_runner : (id : ℕ) → runner_at id [] ≡ None
+no_runner id = none_either_way (nat_eq id 0)

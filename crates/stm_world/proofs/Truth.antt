@@ -1,29 +1,27 @@
 -- Answers that are true, and stay so.
-use Rattle.std.proofs.Common.{◌≡◌, ℕ, ◌≤◌, zero, suc, List, [], ◌∷◌, ◌++◌, length, map, filter, Option, Some, None, Bool, true, false, cond, refl, sym, ◌∙◌, ap}
+use Rattle.std.proofs.Common.{◌≡◌, ℕ, ◌≤◌, zero, suc, List, [], ◌∷◌, ◌++◌, length, map, filter, Option, Some, None, Bool, true, false, cond, refl}
 use Rattle.std.proofs.Common.{subst, arith}
 use Rattle.std.specs.Prelude.{nat_eq, bytes_eq}
 use Rattle.stm_history.specs.declared.change.Change.{Change}
 use Rattle.stm_history.specs.declared.key_state.ReadAnswer.{ReadAnswer}
-use Rattle.stm_history.specs.History.{History, now, add_revision, IsTrueAnswer}
-use Rattle.stm_history.proofs.HistoryLaws.{older_revisions_stay, last_revision_is_now}
+use Rattle.stm_history.specs.History.{History, now, IsTrueAnswer}
 use Rattle.stm_program.specs.Syntax.{ProgramTree}
 use Rattle.stm_program.specs.declared.level.Level.{Level}
 use Rattle.stm_txn.specs.Outcome.{with_changes}
 use Rattle.stm_txn.specs.Commits.{revision_read}
 use Rattle.stm_compile.specs.Levels.{is_serializable}
 use Rattle.stm_compile.specs.Answers.{AreTrue, answer_in, answer_now}
+use Rattle.stm_compile.specs.CommitTxn.{reread_keys}
+use Rattle.stm_compile.proofs.AgreeLemmas.{true_answers_stay, now_are_true}
 use Rattle.stm_attempt.specs.Known.{Known, serving, is_of_base}
 use Rattle.stm_attempt.specs.Settled.{run_on, wanted, answer_for, served, taken, settle}
 use Rattle.stm_attempt.specs.Fetches.{base_of, at_of}
-use Rattle.stm_world.specs.Task.{Task, answer_at, with_served}
+use Rattle.stm_world.specs.Task.{Task, answer_at, with_served, after_fetch, after_conflict}
+use Rattle.stm_world.specs.Sound.{KnowsTruth}
 
 -- what was true of one history is true of another
 abbrev pub Keeps : History → History → Type 0
 Keeps before after = (answers : List ReadAnswer) → AreTrue before answers → AreTrue after answers
-
--- all that an attempt knows is true
-abbrev pub KnowsTruth : History → Known → Type 0
-KnowsTruth h known = AreTrue h known.reads × AreTrue h known.prefetched
 
 pub keeps_same : (h : History) → Keeps h h
 keeps_same h answers t = t
@@ -31,18 +29,8 @@ keeps_same h answers t = t
 pub keeps_twice : (a b c : History) → Keeps a b → Keeps b c → Keeps a c
 keeps_twice a b c first second answers t = second answers (first answers t)
 
-true_in_more : (h : History) (changes : List Change) (a : ReadAnswer) → IsTrueAnswer h a → IsTrueAnswer (add_revision h changes) a
-true_in_more h changes a t =
-    let reached : a.of_rev ≤ now h = t.reached in
-    record { reached = omega arith; shown = older_revisions_stay h changes a.key a.of_rev t.reached ∙ t.shown }
-
-true_after : (h : History) (changes : List Change) (a : ReadAnswer) → IsTrueAnswer h a → IsTrueAnswer (with_changes h changes) a
-true_after h [] a t = t
-true_after h (c ∷ cs) a t = true_in_more h (c ∷ cs) a t
-
 pub keeps_changes : (h : History) (changes : List Change) → Keeps h (with_changes h changes)
-keeps_changes h changes [] t = tt
-keeps_changes h changes (a ∷ answers) t = (true_after h changes a t.0, keeps_changes h changes answers t.1)
+keeps_changes h changes answers t = true_answers_stay h changes answers t
 
 pub known_stays : (h after : History) (known : Known) → Keeps h after → KnowsTruth h known → KnowsTruth after known
 known_stays h after known keeps t = (keeps known.reads t.0, keeps known.prefetched t.1)
@@ -99,13 +87,6 @@ served_true h task known t = (settle_true h (length known.prefetched) task.progr
 pub answer_true : (h : History) (key : List ℕ) (r : ℕ) → r ≤ now h → IsTrueAnswer h (answer_at h key r)
 answer_true h key r reached = record { reached = reached; shown = refl }
 
-now_true : (h : History) (key : List ℕ) → IsTrueAnswer h (answer_now h key)
-now_true h key = record { reached = omega arith; shown = last_revision_is_now h key (now h) (omega arith) }
-
-pub reread_true : (h : History) (keys : List (List ℕ)) → AreTrue h (map (answer_now h) keys)
-reread_true h [] = tt
-reread_true h (key ∷ keys) = (now_true h key, reread_true h keys)
-
 base_reached : (h : History) (reads : List ReadAnswer) → AreTrue h reads → base_of reads ≤ now h
 base_reached h [] t = omega arith
 base_reached h (a ∷ reads) t = t.0.reached
@@ -114,12 +95,31 @@ either_reached : (b : Bool) (base top : ℕ) → base ≤ top → cond b base 0 
 either_reached true base top h = h
 either_reached false base top h = omega arith
 
+-- the base is reached
+pub base_is_reached : (h : History) (level : Level) (reads : List ReadAnswer) → AreTrue h reads → at_of level reads ≤ now h
+base_is_reached h level reads t = either_reached (is_serializable level) (base_of reads) (now h) (base_reached h reads t)
+
 read_reached : (b : Bool) (rev top : ℕ) → rev ≤ top → cond b top rev ≤ top
 read_reached true rev top h = omega arith
 read_reached false rev top h = h
 
 -- the revision of a fetch is reached
 pub fetch_reached : (h : History) (level : Level) (reads : List ReadAnswer) → AreTrue h reads → revision_read h (at_of level reads) ≤ now h
-fetch_reached h level reads t =
-    read_reached (nat_eq (at_of level reads) 0) (at_of level reads) (now h)
-    (either_reached (is_serializable level) (base_of reads) (now h) (base_reached h reads t))
+fetch_reached h level reads t = read_reached (nat_eq (at_of level reads) 0) (at_of level reads) (now h) (base_is_reached h level reads t)
+
+-- ---- what an attempt knows goes on true ----
+
+pub fetch_true : (h : History) (task : Task) (key : List ℕ) (known : Known) → KnowsTruth h known →
+    KnowsTruth h (after_fetch task (answer_at h key (revision_read h (at_of task.level known.reads))) known)
+fetch_true h task key known t =
+    let of_rev : ℕ = revision_read h (at_of task.level known.reads) in
+    let a : ReadAnswer = answer_at h key of_rev in
+    served_true h task (record { reads = known.reads ++ a ∷ []; prefetched = known.prefetched }) (
+      one_more_true h known.reads a t.0 (answer_true h key of_rev (fetch_reached h task.level known.reads t.0)),
+      t.1,
+    )
+
+pub conflict_true : (h : History) (task : Task) (known : Known) → KnowsTruth h (after_conflict task h known)
+conflict_true h task known =
+    let keys : List (List ℕ) = reread_keys task.level known.reads in
+    served_true h task (record { reads = []; prefetched = map (answer_now h) keys }) (tt, now_are_true h keys)

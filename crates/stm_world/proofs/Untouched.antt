@@ -1,8 +1,7 @@
 -- A line that is not about a runner leaves what the log tells of it.
-use Rattle.std.proofs.Common.{◌≡◌, ℕ, ◌+◌, List, [], ◌∷◌, Option, Some, None, Ok, Err, Bool, true, false, cond, refl, sym, ◌∙◌, ap, arith}
-use Rattle.std.specs.Prelude.{nat_eq, option_map, Result, ◌||◌}
+use Rattle.std.proofs.Common.{◌≡◌, ℕ, ◌+◌, List, [], ◌∷◌, Option, Some, None, Ok, Err, false, cond, refl, ◌∙◌, ap}
+use Rattle.std.specs.Prelude.{option_map, Result, ◌||◌}
 use Rattle.stm_history.specs.History.{History}
-use Rattle.stm_meaning.specs.declared.value.Value.{Value}
 use Rattle.stm_txn.specs.declared.advance.Expired.{Expired}
 use Rattle.stm_txn.specs.declared.refusal.Refusal.{Refusal as StoreRefusal}
 use Rattle.stm_txn.specs.Standing.{Step as StoreStep}
@@ -13,7 +12,7 @@ use Rattle.stm_world.specs.declared.reply.Reply.TheVariants.{Txn as TxnDone, Gra
 use Rattle.stm_world.specs.declared.refusal.Denied.{Denied}
 use Rattle.stm_world.specs.Told.{reply_to, advance_reply}
 use Rattle.stm_world.specs.Task.{Task, nothing_known, answer_at, after_fetch, after_conflict}
-use Rattle.stm_world.specs.Log.{Line, begun, is_over, running, failures, started, is_start, is_id, task_in, store, told, known_after}
+use Rattle.stm_world.specs.Log.{Line, begun, is_over, running, failures, is_id, task_in, store, told, known_after}
 use Rattle.stm_world.specs.Log.{runner_started, runner_ended, runner_in_conflict}
 use Rattle.stm_world.specs.World.{Runner}
 

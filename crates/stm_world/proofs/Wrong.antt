@@ -4,10 +4,8 @@ use Rattle.std.specs.Prelude.{nat_eq, Result}
 use Rattle.std.specs.Cmp.{unsigned_Decides}
 use Rattle.stm_program.specs.Syntax.{ProgramTree}
 use Rattle.stm_program.specs.declared.level.Level.{Level}
-use Rattle.stm_meaning.specs.declared.run.End.{End}
 use Rattle.stm_meaning.specs.declared.run.End.TheVariants.{Done as DoneEnd, Aborted as AbortedEnd}
 use Rattle.stm_meaning.specs.declared.run.Run.{Run}
-use Rattle.stm_meaning.specs.declared.run.Answered.{Answered}
 use Rattle.stm_meaning.specs.declared.run.Answered.TheVariants.{Ended as EndedRun}
 use Rattle.stm_attempt.specs.Settled.{run_on}
 use Rattle.stm_world.specs.declared.event.WorldEvent.{WorldEvent}

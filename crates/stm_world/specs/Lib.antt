@@ -4,5 +4,6 @@ pub mod Task
 pub mod Log
 pub mod Right
 pub mod World
+pub mod Sound
 pub mod Headline
 pub mod WrongLogs

@@ -1,7 +1,7 @@
 -- A log of events and replies, the newest first, and what it tells of each runner and of the store.
 --
 -- Nothing here knows how a world makes its replies.
-use Rattle.std.specs.Prelude.{ℕ, ◌+◌, nat_eq, Bool, true, false, ◌||◌, if◌then◌else◌, List, [], ◌∷◌, Option, Some, None, Result, Ok, Err}
+use Rattle.std.specs.Prelude.{ℕ, ◌+◌, nat_eq, Bool, true, false, ◌||◌, if◌then◌else◌, List, [], ◌∷◌, Option, Some, None, Result, Ok}
 use Rattle.stm_history.specs.declared.key_state.ReadAnswer.{ReadAnswer}
 use Rattle.stm_history.specs.History.{History}
 use Rattle.stm_meaning.specs.Meaning.{run_over}
@@ -13,7 +13,6 @@ use Rattle.stm_world.specs.declared.event.WorldEvent.{WorldEvent}
 use Rattle.stm_world.specs.declared.event.WorldEvent.TheVariants.{Start, Step, Txn, Grant, Keep, Revoke, Advance}
 use Rattle.stm_world.specs.declared.reply.Reply.{Reply}
 use Rattle.stm_world.specs.declared.reply.Reply.TheVariants.{Started, Fetched, Committed, Conflict, GaveUp, Aborted, Faulted, Ended}
-use Rattle.stm_world.specs.declared.reply.Reply.TheVariants.{Txn as TxnDone, Granted, Kept, Revoked, Advanced}
 use Rattle.stm_world.specs.declared.refusal.Denied.{Denied}
 use Rattle.stm_world.specs.Told.{store_after_call}
 use Rattle.stm_world.specs.Task.{Task, nothing_known, answer_at, after_fetch, after_conflict}

@@ -8,8 +8,6 @@ use Rattle.std.specs.Prelude.{slice_get, slice_set, Result, Ok, Err}
 use Rattle.stm_history.specs.declared.key_state.ReadAnswer.{ReadAnswer}
 use Rattle.stm_history.specs.History.{now, key_at, mod_of}
 use Rattle.stm_leases.specs.Live.{is_live_in}
-use Rattle.stm_program.specs.Syntax.{ProgramTree}
-use Rattle.stm_program.specs.declared.level.Level.{Level}
 use Rattle.stm_program.specs.Writes.{latest_writes}
 use Rattle.stm_meaning.specs.declared.run.End.{End}
 use Rattle.stm_meaning.specs.declared.run.End.TheVariants.{Done as DoneEnd, Aborted as AbortedEnd, Faulted as FaultedEnd}
@@ -22,7 +20,7 @@ use Rattle.stm_txn.specs.declared.answer.FailedCompare.{FailedCompare}
 use Rattle.stm_txn.specs.declared.refusal.Refusal.{Refusal as StoreRefusal}
 use Rattle.stm_txn.specs.Outcome.{Done}
 use Rattle.stm_txn.specs.Commits.{revision_read}
-use Rattle.stm_txn.specs.Standing.{Standing, opening, with_history, transacted, granted, kept_alive, revoked, advanced, Advance as StoreAdvance}
+use Rattle.stm_txn.specs.Standing.{Standing, opening, with_history, transacted, granted, kept_alive, revoked, advanced}
 use Rattle.stm_compile.specs.Committed.{committed}
 use Rattle.stm_compile.specs.Conflicts.{Seen, seen_by}
 use Rattle.stm_attempt.specs.Known.{Known}

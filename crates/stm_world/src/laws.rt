@@ -1,5 +1,6 @@
 //! The laws of worlds. Each function does nothing: its contract is the law.
 ghost use Rattle.stm_world.specs.Headline.{Headline, OneRevision};
+ghost use Rattle.stm_world.specs.Sound.{WorldsAreSound};
 ghost use Rattle.stm_world.specs.WrongLogs.{WrongLogs};
 
 /// The headline. Over every list of events, in any interleaving of any number of runners, from every
@@ -23,4 +24,13 @@ pub fn answers_are_of_one_revision()
 /// told to have aborted.
 pub fn wrong_logs_are_none()
     ensures { WrongLogs }
+{}
+
+/// A world opens sound, and every step keeps it so: its entries replay to its store, each legal at its point,
+/// and what each runner that has not ended has read, or has prefetched for it, is true of the store's
+/// history. So does an advance that was cut short after some expiries.
+///
+/// In a sound world the revision that a runner's next fetch names is one that the store has reached.
+pub fn worlds_are_sound()
+    ensures { WorldsAreSound }
 {}

@@ -1,0 +1,145 @@
+//! The line of each event.
+ghost use Rattle.std.specs.Prelude.{◌≡◌, [], ◌∷◌, false, IfOk};
+ghost use Rattle.serde_json.specs.View.{view};
+ghost use Rattle.serde_json.specs.Data.{string};
+ghost use Rattle.serde_json.specs.Written.{has_float};
+ghost use Rattle.stm_world.specs.declared.reply.Reply.TheVariants.{Txn, Advanced};
+ghost use Rattle.stm_lines.specs.Lines.{list, whole, reply_line, event_line};
+
+use crate::runners::{Commit, committed_json, conflict_json, fetched_json, gave_up_json};
+use crate::spelled::array;
+use serde_json::{Value as Json, json};
+use std::alloc::{AllocError, Global};
+use stm_txn::{Expired, TxnAnswer};
+use stm_world::{Denied, Reply};
+
+/// The line of a runner or a lease that is named and no more.
+fn named_json(alloc: Global, number: u64, word: &str, id: u64) -> Result<Json, AllocError>
+    ensures { IfOk result (λ v. view v ≡ list (whole number ∷ string word.now ∷ whole id ∷ [])) }
+{
+    json!(in alloc; [number, word, id])
+}
+
+/// The line of a runner's end, with what tells why.
+fn told_json(
+    alloc: Global,
+    number: u64,
+    word: &str,
+    runner: u64,
+    text: &str,
+) -> Result<Json, AllocError>
+    ensures { IfOk result (λ v. view v ≡ list (whole number ∷ string word.now ∷ whole runner ∷ string text.now ∷ [])) }
+{
+    json!(in alloc; [number, word, runner, text])
+}
+
+/// The line of another client's transaction.
+fn txn_json(alloc: Global, number: u64, answer: &TxnAnswer) -> Result<Json, AllocError>
+    ensures { IfOk result (λ v. view v ≡ reply_line number (Txn answer.now)) }
+{
+    let answers = array(alloc, answer.answers.as_slice())?;
+    json!(in alloc; [number, "txn", answer.succeeded, answer.revision, answers])
+}
+
+/// The line of an advance.
+fn advanced_json(
+    alloc: Global,
+    number: u64,
+    now: u64,
+    expired: &[Expired],
+) -> Result<Json, AllocError>
+    ensures { IfOk result (λ v. view v ≡ reply_line number (Advanced now expired.now)) }
+{
+    let expired = array(alloc, expired)?;
+    json!(in alloc; [number, "advanced", now, expired])
+}
+
+/// The line of an event that was taken.
+fn reply_json(alloc: Global, number: u64, reply: &Reply) -> Result<Json, AllocError>
+    ensures { IfOk result (λ v. view v ≡ reply_line number reply.now) }
+{
+    match reply {
+        Reply::Started { runner } => named_json(alloc, number, "started", *runner),
+        Reply::Fetched {
+            runner,
+            key,
+            mod_rev,
+            of_rev,
+            revision,
+        } => {
+            let key = key.as_str();
+            fetched_json(alloc, number, *runner, key, *mod_rev, *of_rev, *revision)
+        }
+        Reply::Committed {
+            runner,
+            revision,
+            attempts,
+            output,
+            trace,
+            answers,
+        } => {
+            let commit = Commit {
+                runner: *runner,
+                revision: *revision,
+                attempts: *attempts,
+                output: output.as_slice(),
+                trace: trace.as_slice(),
+                answers: answers.as_slice(),
+            };
+            committed_json(alloc, number, commit)
+        }
+        Reply::Conflict {
+            runner,
+            key,
+            seen,
+            now,
+        } => conflict_json(alloc, number, *runner, key.as_str(), *seen, *now),
+        Reply::GaveUp {
+            runner,
+            attempts,
+            key,
+            seen,
+            now,
+        } => gave_up_json(alloc, number, *runner, *attempts, key.as_str(), *seen, *now),
+        Reply::Aborted { runner, text } => {
+            told_json(alloc, number, "aborted", *runner, text.as_str())
+        }
+        Reply::Faulted { runner, fault } => {
+            told_json(alloc, number, "faulted", *runner, fault.name())
+        }
+        Reply::Ended { runner, cause } => {
+            told_json(alloc, number, "ended", *runner, cause.name())
+        }
+        Reply::Txn { answer } => txn_json(alloc, number, answer),
+        Reply::Granted { id } => named_json(alloc, number, "granted", *id),
+        Reply::Kept { id } => named_json(alloc, number, "kept", *id),
+        Reply::Revoked { id, revision } => { json!(in alloc; [number, "revoked", *id, *revision]) }
+        Reply::Advanced { now, expired } => {
+            advanced_json(alloc, number, *now, expired.as_slice())
+        }
+    }
+}
+
+/// The line of a refused event.
+fn refused_json(alloc: Global, number: u64, denied: &Denied) -> Result<Json, AllocError>
+    ensures { IfOk result (λ v. view v ≡ event_line number (Err denied.now)) }
+{
+    let cause = denied.cause.name();
+    let expired = array(alloc, denied.expired.as_slice())?;
+    json!(in alloc; [number, "refused", cause, expired])
+}
+
+/// The line of the event with this number, by the reply to it. It fails where a growth was refused.
+pub fn event_json(
+    alloc: Global,
+    number: u64,
+    reply: &Result<Reply, Denied>,
+) -> Result<Json, AllocError>
+    ensures line { IfOk result (λ v. view v ≡ event_line number reply.now) }
+    ensures no_float { IfOk result (λ v. has_float (view v) ≡ false) }
+{
+    match reply {
+        Ok(reply) => reply_json(alloc, number, reply),
+        Err(denied) => refused_json(alloc, number, denied),
+    }
+}

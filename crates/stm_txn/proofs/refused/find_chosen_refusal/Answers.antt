@@ -1,0 +1,12 @@
+use Rattle.std.proofs.Common.{sym, ap, ◌∙◌}
+use Rattle.stm_history.specs.History.{History, key_now}
+use Rattle.stm_txn.specs.Compares.{first_failed}
+use Rattle.stm_txn.proofs.Refusing.{chosen_refused}
+use Rattle.stm_txn.proofs.refused.find_chosen_refusal.Goals as goal
+
+pub returns : goal.returns
+returns c =
+    let h : History = c.args.keys.now.history in
+    chosen_refused h c.args.leases.now.live c.args.txn.now c.find_failed-failed.result c.choose.result.now c.find_run_refusal.result c.requires
+    (sym (c.find_failed-failed.ensures ∙ ap (first_failed (key_now h) 0) c.as_slice.ensures))
+    (sym c.choose.ensures) (c.find_run_refusal.ensures c.find_failed-failed.result)

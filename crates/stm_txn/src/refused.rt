@@ -1,0 +1,78 @@
+//! Why a call would be refused, found without changing anything.
+ghost use Rattle.std.specs.Prelude.{◌≡◌, Option, None};
+ghost use Rattle.stm_leases.specs.Live.{is_live_in, is_id, is_ttl, grant_refusal};
+ghost use Rattle.stm_txn.specs.declared.answer.FailedCompare.{FailedCompare as AFailedCompare};
+ghost use Rattle.stm_txn.specs.Checks.{fault_of, has_clash};
+ghost use Rattle.stm_txn.specs.LookUps.{outcome_copied};
+ghost use Rattle.stm_txn.specs.Outcome.{outcome};
+ghost use Rattle.stm_txn.specs.Grants.{told_refusal};
+ghost use Rattle.stm_txn.specs.Standing.{refusal_of};
+
+use crate::check::find_fault;
+use crate::compare::find_failed;
+use crate::refusal::Refusal;
+use crate::refuse::find_refusal;
+use crate::store::{choose, uses_up};
+use crate::txn::{Op, Txn};
+use stm_keys::Keys;
+use stm_leases::{HIGHEST_ID, HIGHEST_TTL, Leases};
+
+/// Why a branch would be refused, whose first failed compare does not matter for that.
+fn find_run_refusal(keys: &Keys, leases: &Leases, ops: &[Op]) -> Option<Refusal>
+    ensures { (failed : Option AFailedCompare) → result ≡ refusal_of (outcome_copied keys.now.history (is_live_in leases.now.live) failed ops.now) }
+{
+    if let Some(refusal) = find_refusal(ops, keys.revision(), leases) {
+        return Some(refusal);
+    }
+    if uses_up(keys, ops) {
+        Some(Refusal::RevisionsUsedUp)
+    } else {
+        None
+    }
+}
+
+/// Why the branch that the compares pick would be refused, of a transaction that is right as a whole.
+fn find_chosen_refusal(keys: &Keys, leases: &Leases, txn: &Txn) -> Option<Refusal>
+    requires { fault_of txn.now ≡ None }
+    ensures { result ≡ refusal_of (outcome keys.now.history (is_live_in leases.now.live) txn.now) }
+{
+    let failed = find_failed(txn.compares.as_slice(), keys);
+    find_run_refusal(keys, leases, choose(txn, failed))
+}
+
+/// Why a transaction would be refused.
+pub(crate) fn find_txn_refusal(keys: &Keys, leases: &Leases, txn: &Txn) -> Option<Refusal>
+    ensures { result ≡ refusal_of (outcome keys.now.history (is_live_in leases.now.live) txn.now) }
+{
+    match find_fault(txn) {
+        Some(refusal) => Some(refusal),
+        None => find_chosen_refusal(keys, leases, txn),
+    }
+}
+
+fn is_id(id: u64) -> bool
+    ensures { result ≡ is_id id }
+{
+    1 <= id && id <= HIGHEST_ID
+}
+
+fn is_ttl(ttl: u64) -> bool
+    ensures { result ≡ is_ttl ttl }
+{
+    1 <= ttl && ttl <= HIGHEST_TTL
+}
+
+/// Why a grant would be refused.
+pub(crate) fn find_grant_refusal(leases: &Leases, id: u64, ttl: u64) -> Option<Refusal>
+    ensures { result ≡ told_refusal (grant_refusal leases.now.live id ttl) }
+{
+    if !is_id(id) {
+        Some(Refusal::LeaseIdOutOfRange)
+    } else if !is_ttl(ttl) {
+        Some(Refusal::TtlOutOfRange)
+    } else if leases.is_live(id) {
+        Some(Refusal::LeaseExists)
+    } else {
+        None
+    }
+}

@@ -1,27 +1,15 @@
 -- Reading events one after the other, as a loop does.
-use Rattle.std.proofs.Common.{◌≡◌, ℕ, suc, ◌+◌, ◌<◌, List, [], ◌∷◌, ◌++◌, length, drop, get_or, Ok, Err, refl, sym, ap, ◌∙◌, append_assoc, arith, add-one}
+use Rattle.std.proofs.Common.{◌≡◌, ℕ, suc, ◌+◌, ◌<◌, List, [], ◌∷◌, ◌++◌, length, drop, get_or, Ok, Err, refl, sym, ap, ◌∙◌, arith}
 use Rattle.std.proofs.lemmas.List.{append-nil}
-use Rattle.std.proofs.Math.Seq.{drop-cons}
 use Rattle.serde_json.specs.View.{view, items_view}
 use Rattle.serde_json.specs.declared.value.Value.{Value}
-use Rattle.stm_retry.specs.declared.event.WorldEvent.{WorldEvent}
+use Rattle.stm_txn_json.proofs.ListLemmas.{with_front, regroup, one_more}
+use Rattle.stm_world.specs.declared.event.WorldEvent.{WorldEvent}
 use Rattle.stm_json.specs.declared.read_error.ReadError.{ReadError}
 use Rattle.stm_json.specs.declared.read_error.ReadError.TheVariants as error
-use Rattle.stm_json.specs.Outcome.{Outcome, ◌>>=◌, within}
+use Rattle.stm_json.specs.Outcome.{Outcome, within}
 use Rattle.stm_json.specs.Tells.{TellsFault}
 use Rattle.stm_texts.specs.Reading.{event_after, events_from}
-
--- the events read before, and what is still read
-abbrev pub with_front : List WorldEvent → Outcome (List WorldEvent) → Outcome (List WorldEvent)
-with_front front reading = reading >>= λ es. Ok (front ++ es)
-
-regroup : (front : List WorldEvent) (e : WorldEvent) (reading : Outcome (List WorldEvent))
-    → with_front front (reading >>= λ es. Ok (e ∷ es)) ≡ with_front (front ++ e ∷ []) reading
-regroup front e (Ok es) = ap (λ (x : List WorldEvent). Ok x) (simp append_assoc)
-regroup front e (Err f) = refl
-
-one_more : (vs : List Value) (i : ℕ) (v : Value) → i < length vs → v ≡ get_or vs i v → drop i vs ≡ v ∷ drop (i + 1) vs
-one_more vs i v h e = drop-cons vs i v h ∙ rw (sym e, add-one) refl
 
 pub goes_on : (first : ℕ) (front : List WorldEvent) (vs : List Value) (i : ℕ) (v : Value) (e : WorldEvent) (total : Outcome (List WorldEvent))
     → i < length vs → v ≡ get_or vs i v → within (first + i) (event_after i (view v)) ≡ Ok e

@@ -1,13 +1,13 @@
 -- Which bytes spell which scenario: the grammar, apart from reading.
-use Rattle.std.specs.Prelude.{◌≡◌, ℕ, ◌≤◌, pos, List, [], ◌∷◌, length, Option, Some, None, codes}
-use Rattle.serde_json.specs.Data.{Data, string, array, Items, no_items, item}
-use Rattle.stm_json.specs.Elements.{SpellsNumber}
-use Rattle.stm_retry.specs.declared.level.Level.{Level}
-use Rattle.stm_retry.specs.declared.level.Level.TheVariants.{ReadCommitted}
-use Rattle.stm_program_json.specs.Grammar.{spelled, SpellsProgram}
+use Rattle.std.specs.Prelude.{◌≡◌, ℕ, ◌≤◌, List, [], ◌∷◌, length, Option, Some, None, codes}
+use Rattle.serde_json.specs.Data.{Data, string, array, Items, item}
 use Rattle.stm_program.specs.Limits.{Fits}
-use Rattle.stm_retry.specs.declared.event.WorldEvent.{WorldEvent}
-use Rattle.stm_retry.specs.declared.event.WorldEvent.TheVariants.{Start, Step}
+use Rattle.stm_program.specs.declared.level.Level.{Level}
+use Rattle.stm_program.specs.declared.level.Level.TheVariants.{SerializableSnapshot, Serializable, RepeatableReads, ReadCommitted}
+use Rattle.stm_program_json.specs.Grammar.{SpellsProgram}
+use Rattle.stm_txn_json.specs.Grammar.{spelled, SpellsNumberIn, SpellsEach, SpellsTxn}
+use Rattle.stm_world.specs.declared.event.WorldEvent.{WorldEvent}
+use Rattle.stm_world.specs.declared.event.WorldEvent.TheVariants.{Start, Step, Txn, Grant, Keep, Revoke, Advance}
 use Rattle.stm_texts.specs.declared.scenario.Scenario.{Scenario}
 use Rattle.stm_history.specs.declared.revisions.TheConstants.{HIGHEST_NUMBER, HIGHEST_REVISION}
 use Rattle.stm_texts.specs.declared.events.TheConstants.{HIGHEST_LIMIT, MOST_EVENTS}
@@ -16,28 +16,32 @@ use Rattle.stm_texts.specs.Bytes.{data_of}
 
 -- the word of a level
 abbrev pub level_text : Level → List ℕ
+level_text SerializableSnapshot = codes "SerializableSnapshot"
+level_text Serializable = codes "Serializable"
+level_text RepeatableReads = codes "RepeatableReads"
 level_text ReadCommitted = codes "ReadCommitted"
 
--- a whole number from a least to a most
-abbrev pub SpellsNumberIn : ℕ → ℕ → Data → ℕ → Type 0
-SpellsNumberIn least most d n = SpellsNumber d (pos n) × (least ≤ n) × (n ≤ most)
+-- an array of a word and one number
+abbrev pub SpellsNumbered : List ℕ → Data → ℕ → Type 0
+SpellsNumbered word d n = (a : Data) × (d ≡ spelled word (a ∷ [])) × SpellsNumberIn 0 HIGHEST_NUMBER a n
 
 -- an event is spelled by an array of its word and its parts; a program in it is within the limits
 abbrev pub SpellsEvent : Data → WorldEvent → Type 0
 SpellsEvent d (Start program level limit) = (a : Data) × (b : Data) × (c : Data) × (d ≡ spelled (codes "start") (a ∷ b ∷ c ∷ []))
     × (a ≡ string (level_text level)) × SpellsNumberIn 0 HIGHEST_LIMIT b limit × SpellsProgram c program × Fits program
-SpellsEvent d (Step runner) = (a : Data) × (d ≡ spelled (codes "step") (a ∷ [])) × SpellsNumberIn 0 HIGHEST_NUMBER a runner
+SpellsEvent d (Step runner) = SpellsNumbered (codes "step") d runner
+SpellsEvent d (Txn txn) = SpellsTxn d txn
+SpellsEvent d (Grant id ttl) = (a : Data) × (b : Data) × (d ≡ spelled (codes "grant") (a ∷ b ∷ []))
+    × SpellsNumberIn 0 HIGHEST_NUMBER a id × SpellsNumberIn 0 HIGHEST_NUMBER b ttl
+SpellsEvent d (Keep id) = SpellsNumbered (codes "keep") d id
+SpellsEvent d (Revoke id) = SpellsNumbered (codes "revoke") d id
+SpellsEvent d (Advance now) = SpellsNumbered (codes "advance") d now
 
--- events one after the other
-abbrev pub SpellsEvents : Items → List WorldEvent → Type 0
-SpellsEvents ds [] = ds ≡ no_items
-SpellsEvents ds (e ∷ es) = (a : Data) × (rest : Items) × (ds ≡ item a rest) × SpellsEvent a e × SpellsEvents rest es
-
--- the events alone, or behind an array of the word begin and the opening revision
+-- events one after the other, alone or behind an array of the word begin and the opening revision
 abbrev pub SpellsElements : Items → Option ℕ → List WorldEvent → Type 0
-SpellsElements ds None es = SpellsEvents ds es
+SpellsElements ds None es = SpellsEach SpellsEvent ds es
 SpellsElements ds (Some opening) es = (a : Data) × (rest : Items) × (ds ≡ item (spelled (codes "begin") (a ∷ [])) rest)
-    × SpellsNumberIn 1 HIGHEST_REVISION a opening × SpellsEvents rest es
+    × SpellsNumberIn 1 HIGHEST_REVISION a opening × SpellsEach SpellsEvent rest es
 
 -- an array of not too many events
 abbrev pub SpellsData : Data → Scenario → Type 0

@@ -3,14 +3,15 @@
 use Rattle.std.specs.Prelude.{ℕ, suc, ◌+◌, ◌≤◌, List, [], ◌∷◌, length, Option, Some, None, Ok, if◌then◌else◌, nat_lt, codes}
 use Rattle.serde_json.specs.Data.{Data, Items, no_items, item}
 use Rattle.serde_json.specs.Find.{as_str, as_array}
-use Rattle.stm_json.specs.Elements.{worded, one_of, three_of, number_up_to, number_in}
+use Rattle.stm_json.specs.Elements.{worded, one_of, two_of, three_of, number_up_to, number_in}
 use Rattle.stm_history.specs.declared.revisions.TheConstants.{HIGHEST_NUMBER, HIGHEST_REVISION}
+use Rattle.stm_program.specs.declared.level.Level.{Level}
+use Rattle.stm_program.specs.declared.level.Level.TheVariants.{SerializableSnapshot, Serializable, RepeatableReads, ReadCommitted}
 use Rattle.stm_program_json.specs.Reading.{program_of}
-use Rattle.stm_program_json.specs.Words.{same}
-use Rattle.stm_retry.specs.declared.level.Level.{Level}
-use Rattle.stm_retry.specs.declared.level.Level.TheVariants.{ReadCommitted}
-use Rattle.stm_retry.specs.declared.event.WorldEvent.{WorldEvent}
-use Rattle.stm_retry.specs.declared.event.WorldEvent.TheVariants.{Start, Step}
+use Rattle.stm_txn_json.specs.Reading.{on_text, txn_of}
+use Rattle.stm_txn_json.specs.Words.{same}
+use Rattle.stm_world.specs.declared.event.WorldEvent.{WorldEvent}
+use Rattle.stm_world.specs.declared.event.WorldEvent.TheVariants.{Start, Step, Txn, Grant, Keep, Revoke, Advance}
 use Rattle.stm_json.specs.declared.cause.Cause.TheVariants.{NotJson, Shape, TooLong, TooMany}
 use Rattle.stm_texts.specs.declared.events.TheConstants.{HIGHEST_LIMIT, MOST_EVENTS}
 use Rattle.stm_texts.specs.declared.reading.TheConstants.{MOST_BYTES}
@@ -20,12 +21,16 @@ use Rattle.stm_json.specs.Outcome.{Outcome, bad, ◌>>=◌, within}
 
 -- ---- words
 
-abbrev pub level_named : Option (List ℕ) → Outcome Level
-level_named None = bad Shape
-level_named (Some w) = if same w (codes "ReadCommitted") then Ok ReadCommitted else bad Shape
+unfoldable pub level_named : List ℕ → Outcome Level
+level_named w =
+    if same w (codes "SerializableSnapshot") then Ok SerializableSnapshot
+    else (if same w (codes "Serializable") then Ok Serializable
+    else (if same w (codes "RepeatableReads") then Ok RepeatableReads
+    else (if same w (codes "ReadCommitted") then Ok ReadCommitted
+    else bad Shape)))
 
 unfoldable pub level_of : Data → Outcome Level
-level_of d = level_named (as_str d)
+level_of d = on_text level_named (as_str d)
 
 -- ---- events
 
@@ -35,18 +40,46 @@ start_of (Some p) =
     within 1 (level_of p.0) >>= λ level. within 2 (number_up_to HIGHEST_LIMIT p.1) >>= λ limit. within 3 (program_of p.2) >>= λ program. Ok
     (Start program level limit)
 
-abbrev pub step_of : Option Data → Outcome WorldEvent
-step_of None = bad Shape
-step_of (Some d) = within 1 (number_up_to HIGHEST_NUMBER d) >>= λ runner. Ok (Step runner)
+abbrev pub grant_of : Option (Data × Data) → Outcome WorldEvent
+grant_of None = bad Shape
+grant_of (Some p) =
+    within 1 (number_up_to HIGHEST_NUMBER p.0) >>= λ id. within 2 (number_up_to HIGHEST_NUMBER p.1) >>= λ ttl. Ok (Grant id ttl)
 
-abbrev pub event_worded : Option (List ℕ × Items) → Outcome WorldEvent
-event_worded None = bad Shape
-event_worded (Some p) =
+-- the one number behind a word
+abbrev pub number_alone : Option Data → Outcome ℕ
+number_alone None = bad Shape
+number_alone (Some d) = within 1 (number_up_to HIGHEST_NUMBER d)
+
+abbrev pub step_of : Option Data → Outcome WorldEvent
+step_of o = number_alone o >>= λ runner. Ok (Step runner)
+
+abbrev pub keep_of : Option Data → Outcome WorldEvent
+keep_of o = number_alone o >>= λ id. Ok (Keep id)
+
+abbrev pub revoke_of : Option Data → Outcome WorldEvent
+revoke_of o = number_alone o >>= λ id. Ok (Revoke id)
+
+abbrev pub advance_of : Option Data → Outcome WorldEvent
+advance_of o = number_alone o >>= λ now. Ok (Advance now)
+
+abbrev pub txn_event : Data → Outcome WorldEvent
+txn_event d = txn_of d >>= λ t. Ok (Txn t)
+
+-- the event of data that are an array of a word and elements
+abbrev pub event_worded : Data → Option (List ℕ × Items) → Outcome WorldEvent
+event_worded d None = bad Shape
+event_worded d (Some p) =
     if same p.0 (codes "start") then start_of (three_of p.1)
-    else (if same p.0 (codes "step") then step_of (one_of p.1) else bad Shape)
+    else (if same p.0 (codes "step") then step_of (one_of p.1)
+    else (if same p.0 (codes "txn") then txn_event d
+    else (if same p.0 (codes "grant") then grant_of (two_of p.1)
+    else (if same p.0 (codes "keep") then keep_of (one_of p.1)
+    else (if same p.0 (codes "revoke") then revoke_of (one_of p.1)
+    else (if same p.0 (codes "advance") then advance_of (one_of p.1)
+    else bad Shape))))))
 
 unfoldable pub event_of : Data → Outcome WorldEvent
-event_of d = event_worded (worded d)
+event_of d = event_worded d (worded d)
 
 -- an event that so many others stand before: at most MOST_EVENTS are read
 unfoldable pub event_after : ℕ → Data → Outcome WorldEvent

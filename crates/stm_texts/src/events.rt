@@ -1,17 +1,20 @@
 //! Reading events.
 ghost use Rattle.std.specs.Prelude.{◌<◌, ◌+◌, ◌^◌, length};
 ghost use Rattle.serde_json.specs.View.{view, items_view};
-ghost use Rattle.stm_texts.specs.Reading.{level_of, start_of, step_of, event_of, event_after, events_from};
-ghost use Rattle.stm_json.specs.Elements.{number_up_to, one_of, three_of};
+ghost use Rattle.stm_texts.specs.Reading.{level_named, level_of, start_of, grant_of, number_alone, step_of, keep_of, revoke_of, advance_of};
+ghost use Rattle.stm_texts.specs.Reading.{txn_event, event_of, event_after, events_from};
+ghost use Rattle.stm_json.specs.Elements.{number_up_to, one_of, two_of, three_of};
 ghost use Rattle.stm_json.specs.Outcome.{within as within_list};
 ghost use Rattle.stm_json.specs.Tells.{Tells};
 
 use serde_json::Value;
 use std::alloc::Global;
 use stm_history::HIGHEST_NUMBER;
-use stm_json::{Cause, ReadError, fault, number_within, one, three, within, worded_array};
+use stm_json::{Cause, ReadError, fault, number_within, one, three, two, within, worded_array};
+use stm_program::Level;
 use stm_program_json::read_program;
-use stm_retry::{Level, WorldEvent};
+use stm_txn_json::read_txn;
+use stm_world::WorldEvent;
 
 /// A scenario has at most so many events.
 pub const MOST_EVENTS: usize = 100000;
@@ -20,18 +23,29 @@ pub const MOST_EVENTS: usize = 100000;
 const HIGHEST_LIMIT: u64 = 4294967295;
 
 /// The level of a word.
+#[tactic(auto, unfolding(crate::specs::Reading::level_named))]
+fn level_word(alloc: Global, word: &str) -> Result<Level, ReadError>
+    ensures { Tells (λ l. l) result (level_named word.now) }
+{
+    if word == "SerializableSnapshot" {
+        Ok(Level::SerializableSnapshot)
+    } else if word == "Serializable" {
+        Ok(Level::Serializable)
+    } else if word == "RepeatableReads" {
+        Ok(Level::RepeatableReads)
+    } else if word == "ReadCommitted" {
+        Ok(Level::ReadCommitted)
+    } else {
+        Err(fault(alloc, Cause::Shape))
+    }
+}
+
 #[tactic(auto, unfolding(crate::specs::Reading::level_of))]
 fn level(alloc: Global, value: &Value) -> Result<Level, ReadError>
     ensures { Tells (λ l. l) result (level_of (view value.now)) }
 {
     match value.as_str() {
-        Some(word) => {
-            if word == "ReadCommitted" {
-                Ok(Level::ReadCommitted)
-            } else {
-                Err(fault(alloc, Cause::Shape))
-            }
-        }
+        Some(word) => level_word(alloc, word),
         None => Err(fault(alloc, Cause::Shape)),
     }
 }
@@ -60,14 +74,60 @@ fn start(alloc: Global, elements: &[Value]) -> Result<WorldEvent, ReadError>
     })
 }
 
-fn step(alloc: Global, elements: &[Value]) -> Result<WorldEvent, ReadError>
-    ensures { Tells (λ e. e) result (step_of (one_of (items_view elements.now))) }
+fn grant(alloc: Global, elements: &[Value]) -> Result<WorldEvent, ReadError>
+    ensures { Tells (λ e. e) result (grant_of (two_of (items_view elements.now))) }
+{
+    let Some((first, second)) = two(elements) else {
+        return Err(fault(alloc, Cause::Shape));
+    };
+    let id = within(alloc, 1, number_within(alloc, HIGHEST_NUMBER, first))?;
+    let ttl = within(alloc, 2, number_within(alloc, HIGHEST_NUMBER, second))?;
+    Ok(WorldEvent::Grant { id, ttl })
+}
+
+/// The one number behind the word of an event.
+fn one_number(alloc: Global, elements: &[Value]) -> Result<u64, ReadError>
+    ensures { Tells (λ n. n) result (number_alone (one_of (items_view elements.now))) }
 {
     let Some(first) = one(elements) else {
         return Err(fault(alloc, Cause::Shape));
     };
-    let runner = within(alloc, 1, number_within(alloc, HIGHEST_NUMBER, first))?;
+    within(alloc, 1, number_within(alloc, HIGHEST_NUMBER, first))
+}
+
+fn step(alloc: Global, elements: &[Value]) -> Result<WorldEvent, ReadError>
+    ensures { Tells (λ e. e) result (step_of (one_of (items_view elements.now))) }
+{
+    let runner = one_number(alloc, elements)?;
     Ok(WorldEvent::Step { runner })
+}
+
+fn keep(alloc: Global, elements: &[Value]) -> Result<WorldEvent, ReadError>
+    ensures { Tells (λ e. e) result (keep_of (one_of (items_view elements.now))) }
+{
+    let id = one_number(alloc, elements)?;
+    Ok(WorldEvent::Keep { id })
+}
+
+fn revoke(alloc: Global, elements: &[Value]) -> Result<WorldEvent, ReadError>
+    ensures { Tells (λ e. e) result (revoke_of (one_of (items_view elements.now))) }
+{
+    let id = one_number(alloc, elements)?;
+    Ok(WorldEvent::Revoke { id })
+}
+
+fn advance(alloc: Global, elements: &[Value]) -> Result<WorldEvent, ReadError>
+    ensures { Tells (λ e. e) result (advance_of (one_of (items_view elements.now))) }
+{
+    let now = one_number(alloc, elements)?;
+    Ok(WorldEvent::Advance { now })
+}
+
+fn txn(alloc: Global, value: &Value) -> Result<WorldEvent, ReadError>
+    ensures { Tells (λ e. e) result (txn_event (view value.now)) }
+{
+    let txn = read_txn(alloc, value)?;
+    Ok(WorldEvent::Txn { txn })
 }
 
 /// An event.
@@ -82,6 +142,16 @@ fn event(alloc: Global, value: &Value) -> Result<WorldEvent, ReadError>
         start(alloc, elements)
     } else if word == "step" {
         step(alloc, elements)
+    } else if word == "txn" {
+        txn(alloc, value)
+    } else if word == "grant" {
+        grant(alloc, elements)
+    } else if word == "keep" {
+        keep(alloc, elements)
+    } else if word == "revoke" {
+        revoke(alloc, elements)
+    } else if word == "advance" {
+        advance(alloc, elements)
     } else {
         Err(fault(alloc, Cause::Shape))
     }

@@ -10,4 +10,4 @@ pub use reading::{MOST_BYTES, read_scenario};
 pub use scenario::Scenario;
 pub use stm_history::{Sequence, Text};
 pub use stm_json::{BadInput, Cause, ReadError};
-pub use stm_retry::WorldEvent;
+pub use stm_world::WorldEvent;

@@ -1,6 +1,6 @@
 //! Scenarios.
 use stm_history::Sequence;
-use stm_retry::WorldEvent;
+use stm_world::WorldEvent;
 
 /// What a world is to do.
 #[derive(Debug, Drop)]

@@ -1,15 +1,17 @@
 -- The first of some faults beside the fault that reading answers at the same place.
-use Rattle.std.proofs.Common.{◌≡◌, ℕ, ◌^◌, ◌<◌, ℤ, pos, negsuc, List, [], ◌∷◌, ◌++◌, Bool, true, false, cond, Option, Some, None, Ok, Err, refl}
+use Rattle.std.proofs.Common.{◌≡◌, ℕ, suc, ◌^◌, ◌<◌, ℤ, pos, negsuc, List, [], ◌∷◌, ◌++◌, Bool, true, false, cond, Option, Some, None, Ok, Err, refl}
 use Rattle.std.proofs.Common.{sym, ap, ◌∙◌, append_assoc, arith, leb, ltb, leb-true, lt-ltb, le-leb, option_and_then, ◌&&◌}
 use Rattle.std.proofs.lemmas.List.{append-nil}
-use Rattle.serde_json.specs.Data.{unsigned, negative, float, Data, null, boolean, number, string, array, object}
-use Rattle.serde_json.specs.Find.{as_number, as_integer}
+use Rattle.serde_json.specs.Data.{unsigned, negative, float, Data, null, boolean, number, string, array, object, Items, no_items, item}
+use Rattle.serde_json.specs.Find.{as_str, as_array, as_number, as_integer}
 use Rattle.stm_json.specs.declared.cause.Cause.{Cause}
 use Rattle.stm_json.specs.declared.cause.Cause.TheVariants.{Shape, Range}
 use Rattle.stm_json.specs.declared.read_error.BadInput.{BadInput}
 use Rattle.stm_json.specs.Outcome.{Outcome, bad, ◌>>=◌, within, step}
 use Rattle.stm_json.specs.Elements.{whole_number, in_64_bits, in_range, from_least, number_up_to, number_in}
-use Rattle.stm_texts.specs.FirstFault.{Faults, wrong, at, number_faults, program_faults, first_of}
+use Rattle.stm_txn_json.specs.Faults.{Faults, first_of, wrong, at, Table, AnyText, text_faults, number_faults, faults_by, worded_faults}
+use Rattle.stm_txn_json.specs.Faults.{each_faults, list_faults}
+use Rattle.stm_txn_json.specs.Reading.{on_text, text_of, each_from, list_of}
 
 abbrev pub fault_at : List ℕ → Cause → Option BadInput
 fault_at p cause = Some (record { place = p; cause = cause })
@@ -46,12 +48,15 @@ pub made : {A B : Type 0} (p : List ℕ) (reading : Outcome A) (make : A → B) 
 made p (Ok x) make faults h = h
 made p (Err e) make faults h = h
 
--- ---- programs
+-- ---- texts
 
-pub program_faulted : {A : Type 0} (p : List ℕ) (reading : Outcome A) (told : Option BadInput) → told ≡ fault_of [] reading
-    → first_of (program_faults p told) ≡ fault_of p reading
-program_faulted p (Ok x) told e = rw e refl
-program_faulted p (Err f) told e = rw e refl
+text_told : (p : List ℕ) (o : Option (List ℕ)) → first_of (text_faults p o) ≡ fault_of p (on_text (λ s. Ok s) o)
+text_told p (Some s) = refl
+text_told p None = wrong_is {A = List ℕ} p Shape (bad Shape) refl
+
+pub text_faulted : (p : List ℕ) (d : Data) → first_of (faults_by AnyText p d) ≡ fault_of p (text_of d)
+unfolding text_of
+text_faulted p d = text_told p (as_str d)
 
 -- ---- numbers
 
@@ -107,3 +112,25 @@ pub number_up_faulted : (p : List ℕ) (most : ℕ) (d : Data) → most < 2 ^ 63
     → first_of (number_faults p 0 most (option_and_then as_integer (as_number d))) ≡ fault_of p (number_up_to most d)
 unfolding number_in
 number_up_faulted p most d small = number_faulted p 0 most d small ∙ ap (λ (reading : Outcome ℕ). fault_of p reading) (from_zero (number_up_to most d))
+
+-- ---- lists
+
+pub each_faulted : {A : Type 0} (table : Table) (read : Data → Outcome A)
+    → ((p : List ℕ) (d : Data) → first_of (worded_faults table p d) ≡ fault_of p (read d))
+    → (p : List ℕ) (index : ℕ) (ds : Items) → first_of (each_faults table p index ds) ≡ fault_of p (each_from read index ds)
+unfolding each_from
+each_faulted table read told p index no_items = refl
+each_faulted {A} table read told p index (item d ds) =
+    part_then p index (read d) _ (worded_faults table (at p index) d) (each_faults table p (suc index) ds) (told (at p index) d)
+    (λ (x : A). made p (each_from read (suc index) ds) (λ (xs : List A). x ∷ xs) (each_faults table p (suc index) ds)
+    (each_faulted table read told p (suc index) ds))
+
+pub list_faulted : {A : Type 0} (table : Table) (read : Data → Outcome A)
+    → ((p : List ℕ) (d : Data) → first_of (worded_faults table p d) ≡ fault_of p (read d))
+    → (p : List ℕ) (d : Data) → first_of (list_faults table p d) ≡ fault_of p (list_of read (as_array d))
+list_faulted table read told p (array ds) = each_faulted table read told p 0 ds
+list_faulted {A} table read told p null = wrong_is {A = List A} p Shape (bad Shape) refl
+list_faulted {A} table read told p (boolean b) = wrong_is {A = List A} p Shape (bad Shape) refl
+list_faulted {A} table read told p (number n) = wrong_is {A = List A} p Shape (bad Shape) refl
+list_faulted {A} table read told p (string s) = wrong_is {A = List A} p Shape (bad Shape) refl
+list_faulted {A} table read told p (object ms) = wrong_is {A = List A} p Shape (bad Shape) refl

@@ -1,0 +1,67 @@
+-- A word is found by its own text and by no other.
+use Rattle.std.proofs.Common.{◌≡◌, ℕ, List, Bool, true, false, cond, Ok, refl, sym, ap, ◌∙◌, codes}
+use Rattle.std.proofs.lemmas.Slice.Eq.{bytes_eq-Decides}
+use Rattle.stm_json.specs.declared.cause.Cause.TheVariants.{Shape}
+use Rattle.stm_json.specs.Outcome.{Outcome, bad}
+use Rattle.stm_txn.specs.declared.txn.Order.{Order}
+use Rattle.stm_txn.specs.declared.txn.Order.TheVariants.{Equal, NotEqual, Greater, Less}
+use Rattle.stm_txn_json.specs.declared.words.TargetWord.{TargetWord}
+use Rattle.stm_txn_json.specs.declared.words.TargetWord.TheVariants as word
+use Rattle.stm_txn_json.specs.Grammar.{order_text}
+use Rattle.stm_txn_json.specs.Words.{same, order_named, target_named}
+
+abbrev pub target_text : TargetWord → List ℕ
+target_text word.Version = codes "version"
+target_text word.Create = codes "create"
+target_text word.Mod = codes "mod"
+target_text word.Lease = codes "lease"
+target_text word.Value = codes "value"
+
+-- the answer of one test, or of the tests behind it
+chosen_by : {W : Type 0} (text : W → List ℕ) (w t : List ℕ) (b : Bool) (y x : W) (rest : Outcome W) → (b ≡ true → w ≡ t) → text y ≡ t
+    → (rest ≡ Ok x → w ≡ text x) → cond b (Ok y) rest ≡ Ok x → w ≡ text x
+chosen_by text w t true y x rest found named others h =
+    let e : y ≡ x = cc in
+    found refl ∙ sym named ∙ ap text e
+chosen_by text w t false y x rest found named others h = others h
+
+pub chosen : {W : Type 0} (text : W → List ℕ) (w t : List ℕ) (y x : W) (rest : Outcome W) → text y ≡ t → (rest ≡ Ok x → w ≡ text x)
+    → cond (same w t) (Ok y) rest ≡ Ok x → w ≡ text x
+chosen text w t y x rest named others h = chosen_by text w t (same w t) y x rest (bytes_eq-Decides w t).0 named others h
+
+pub no_word : {W : Type 0} (text : W → List ℕ) (w : List ℕ) (x : W) → bad Shape ≡ Ok x → w ≡ text x
+no_word text w x h = cc
+
+pub order_named-is : (w : List ℕ) (x : Order) → order_named w ≡ Ok x → w ≡ order_text x
+unfolding order_named
+order_named-is w x h =
+    chosen order_text w (codes "=") Equal x _ refl
+    (chosen order_text w (codes "!=") NotEqual x _ refl
+    (chosen order_text w (codes ">") Greater x _ refl
+    (chosen order_text w (codes "<") Less x _ refl (no_word order_text w x))))
+    h
+
+pub order_named-text : (x : Order) → order_named (order_text x) ≡ Ok x
+unfolding order_named
+order_named-text Equal = refl
+order_named-text NotEqual = refl
+order_named-text Greater = refl
+order_named-text Less = refl
+
+pub target_named-is : (w : List ℕ) (x : TargetWord) → target_named w ≡ Ok x → w ≡ target_text x
+unfolding target_named
+target_named-is w x h =
+    chosen target_text w (codes "version") word.Version x _ refl
+    (chosen target_text w (codes "create") word.Create x _ refl
+    (chosen target_text w (codes "mod") word.Mod x _ refl
+    (chosen target_text w (codes "lease") word.Lease x _ refl
+    (chosen target_text w (codes "value") word.Value x _ refl (no_word target_text w x)))))
+    h
+
+pub target_named-text : (x : TargetWord) → target_named (target_text x) ≡ Ok x
+unfolding target_named
+target_named-text word.Version = refl
+target_named-text word.Create = refl
+target_named-text word.Mod = refl
+target_named-text word.Lease = refl
+target_named-text word.Value = refl

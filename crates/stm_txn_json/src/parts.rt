@@ -1,0 +1,39 @@
+//! Reading the parts of compares and operations.
+ghost use Rattle.serde_json.specs.View.{view};
+ghost use Rattle.stm_json.specs.Elements.{number_up_to};
+ghost use Rattle.stm_json.specs.Outcome.{within as within_list};
+ghost use Rattle.stm_json.specs.Tells.{Tells};
+ghost use Rattle.stm_txn_json.specs.Reading.{text_of};
+
+use serde_json::Value;
+use std::alloc::Global;
+use stm_history::{HIGHEST_NUMBER, Text};
+use stm_json::{Cause, ReadError, fault, number_within, within};
+
+/// A text, of any length.
+#[tactic(auto, unfolding(crate::specs::Reading::text_of))]
+pub(crate) fn text(alloc: Global, value: &Value) -> Result<Text, ReadError>
+    ensures { Tells (λ t. t) result (text_of (view value.now)) }
+{
+    match value.as_str() {
+        Some(text) => {
+            let text = Text::copy_of(alloc, text)?;
+            Ok(text)
+        }
+        None => Err(fault(alloc, Cause::Shape)),
+    }
+}
+
+/// A text that is an element of an array. A fault's place is that in the array.
+pub(crate) fn text_part(alloc: Global, index: usize, value: &Value) -> Result<Text, ReadError>
+    ensures { Tells (λ t. t) result (within_list index (text_of (view value.now))) }
+{
+    within(alloc, index, text(alloc, value))
+}
+
+/// A number that is an element of an array. A fault's place is that in the array.
+pub(crate) fn number_part(alloc: Global, index: usize, value: &Value) -> Result<u64, ReadError>
+    ensures { Tells (λ n. n) result (within_list index (number_up_to HIGHEST_NUMBER (view value.now))) }
+{
+    within(alloc, index, number_within(alloc, HIGHEST_NUMBER, value))
+}

@@ -1,0 +1,60 @@
+//! The words that compares are spelled with.
+ghost use Rattle.stm_json.specs.Tells.{Tells};
+ghost use Rattle.stm_txn_json.specs.Words.{order_named, target_named};
+
+use std::alloc::Global;
+use stm_json::{Cause, ReadError, fault};
+use stm_txn::Order;
+
+/// The first word of a compare: what it looks at.
+#[derive(Clone, Copy, Debug, PartialEq, Eq)]
+pub enum TargetWord {
+    /// `version`
+    Version,
+    /// `create`
+    Create,
+    /// `mod`
+    Mod,
+    /// `lease`
+    Lease,
+    /// `value`
+    Value,
+}
+
+/// What a compare that begins with a word looks at.
+#[tactic(auto, unfolding(crate::specs::Words::target_named))]
+pub(crate) fn target_word(alloc: Global, word: &str) -> Result<TargetWord, ReadError>
+    ensures { Tells (λ t. t) result (target_named word.now) }
+{
+    if word == "version" {
+        Ok(TargetWord::Version)
+    } else if word == "create" {
+        Ok(TargetWord::Create)
+    } else if word == "mod" {
+        Ok(TargetWord::Mod)
+    } else if word == "lease" {
+        Ok(TargetWord::Lease)
+    } else if word == "value" {
+        Ok(TargetWord::Value)
+    } else {
+        Err(fault(alloc, Cause::Shape))
+    }
+}
+
+/// The order of a word.
+#[tactic(auto, unfolding(crate::specs::Words::order_named))]
+pub(crate) fn order_word(alloc: Global, word: &str) -> Result<Order, ReadError>
+    ensures { Tells (λ o. o) result (order_named word.now) }
+{
+    if word == "=" {
+        Ok(Order::Equal)
+    } else if word == "!=" {
+        Ok(Order::NotEqual)
+    } else if word == ">" {
+        Ok(Order::Greater)
+    } else if word == "<" {
+        Ok(Order::Less)
+    } else {
+        Err(fault(alloc, Cause::Shape))
+    }
+}

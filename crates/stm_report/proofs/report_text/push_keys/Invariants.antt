@@ -6,5 +6,5 @@ use Rattle.stm_report.proofs.report_text.push_keys.Given as goal
 -- the text so far, and the lines of the keys that are left
 abbrev pub invariant-loop-i : goal.invariant-loop-i
 invariant-loop-i l =
-    string_bytes l.text ++ lines_text (key_lines l.world.history (keys_of (drop l.i l.state)))
-    ≡ string_bytes l.fn.text ++ lines_text (key_lines l.world.history (keys_of l.state))
+    string_bytes l.text ++ lines_text (key_lines l.store.standing.history (keys_of (drop l.i l.state)))
+    ≡ string_bytes l.fn.text ++ lines_text (key_lines l.store.standing.history (keys_of l.state))

@@ -1,6 +1,8 @@
 pub mod Wrong
 pub mod Truth
 pub mod Entered
+pub mod ReadOrder
+pub mod Asked
 pub mod Slots
 pub mod Untouched
 pub mod Bases

@@ -1,6 +1,7 @@
 pub mod Names
 pub mod Told
 pub mod Task
+pub mod Asked
 pub mod Log
 pub mod Right
 pub mod World

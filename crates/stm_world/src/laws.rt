@@ -1,4 +1,5 @@
 //! The laws of worlds. Each function does nothing: its contract is the law.
+ghost use Rattle.stm_world.specs.Asked.{AnswersAreTheReads};
 ghost use Rattle.stm_world.specs.Headline.{Headline, OneRevision};
 ghost use Rattle.stm_world.specs.Sound.{WorldsAreSound};
 ghost use Rattle.stm_world.specs.WrongLogs.{WrongLogs};
@@ -33,4 +34,12 @@ pub fn wrong_logs_are_none()
 /// In a sound world the revision that a runner's next fetch names is one that the store has reached.
 pub fn worlds_are_sound()
     ensures { WorldsAreSound }
+{}
+
+/// Where a program's run ends on answers each of which was added when the run wanted its key, the keys of the
+/// answers are the keys that the run reads, in the order of its first reads.
+///
+/// The answers that a commit was made on are such, and the headline says so of each.
+pub fn answers_are_the_reads()
+    ensures { AnswersAreTheReads }
 {}

@@ -1,0 +1,196 @@
+-- Answers that were added when their keys were wanted are of the keys that the run reads.
+use Rattle.std.proofs.Common.{◌≡◌, ℕ, zero, suc, Bool, true, false, cond, List, [], ◌∷◌, ◌++◌, length, Option, Some, None, refl, sym, ◌∙◌, ap, subst}
+use Rattle.std.proofs.Common.{append_assoc, append-nil}
+use Rattle.std.specs.Prelude.{bytes_eq, is_some, option_map, ◌||◌}
+use Rattle.std.specs.List.{list_any}
+use Rattle.std.proofs.lemmas.Slice.Eq.{bytes_eq-Decides}
+use Rattle.stm_history.specs.declared.key_state.ReadAnswer.{ReadAnswer}
+use Rattle.stm_history.specs.History.{History}
+use Rattle.stm_program.specs.Syntax.{ProgramTree}
+use Rattle.stm_program.specs.declared.write.Write.{Write}
+use Rattle.stm_program.specs.Writes.{last_write}
+use Rattle.stm_program.proofs.WriteLemmas.{bytes_eq-flip}
+use Rattle.stm_steps.specs.declared.stop.Stop.TheVariants.{Aborted, Faulted, Wants as WantsStop}
+use Rattle.stm_steps.specs.Answer.{Answer}
+use Rattle.stm_steps.specs.Session.{Session, fresh, with_key}
+use Rattle.stm_steps.specs.Outcome.{Outcome, Gives, Stops}
+use Rattle.stm_meaning.specs.declared.trace_item.TraceItem.{TraceItem}
+use Rattle.stm_meaning.specs.declared.run.End.TheVariants.{Done, Aborted as EndAborted, Faulted as EndFaulted}
+use Rattle.stm_meaning.specs.declared.run.Run.{Run}
+use Rattle.stm_meaning.specs.declared.run.Answered.TheVariants.{Ended, Wants}
+use Rattle.stm_meaning.specs.Meaning.{get_of, get_key, rev_key, run_of, answered, run_block, run_over}
+use Rattle.stm_meaning.proofs.KeepLemmas.{session_of, StepsKeep, kept_by_run}
+use Rattle.stm_compile.specs.Answers.{answer_in, said, look_up}
+use Rattle.stm_attempt.specs.Known.{Known, serving}
+use Rattle.stm_attempt.specs.Settled.{run_on, wanted, answer_for, served, taken, settle}
+use Rattle.stm_attempt.proofs.SettleLemmas.{wanted_is_new}
+use Rattle.stm_attempt.proofs.Unread.{found_key, same_bytes}
+use Rattle.stm_world.specs.Task.{Task, answer_at, after_fetch, after_conflict}
+use Rattle.stm_world.specs.Asked.{AskedBehind, AreAsked, keys_read, AnswersAreTheReads}
+use Rattle.stm_world.proofs.ReadOrder.{reads_of, OneKeyMore, wanted_is_read}
+
+-- ---- one more answer ----
+
+more_by : (b : Bool) (x : ReadAnswer) (few many : Option ReadAnswer) (s : Answer) → (option_map said few ≡ Some s → option_map said many ≡ Some s) →
+    option_map said (cond b (Some x) few) ≡ Some s → option_map said (cond b (Some x) many) ≡ Some s
+more_by true x few many s rest is = is
+more_by false x few many s rest is = rest is
+
+still_known : (key : List ℕ) (reads : List ReadAnswer) (a : ReadAnswer) (s : Answer) → look_up reads key ≡ Some s → look_up (reads ++ a ∷ []) key ≡ Some s
+still_known key [] a s is = absurd (cc)
+still_known key (x ∷ reads) a s is =
+    more_by (bytes_eq x.key key) x (answer_in key reads) (answer_in key (reads ++ a ∷ [])) s (still_known key reads a s) is
+
+known_by : (b : Bool) (x : ReadAnswer) (rest : Option ReadAnswer) → (s : Answer) × (option_map said rest ≡ Some s) →
+    (s : Answer) × (option_map said (cond b (Some x) rest) ≡ Some s)
+known_by true x rest known = (said x, refl)
+known_by false x rest known = known
+
+last_known : (reads : List ReadAnswer) (a : ReadAnswer) → (s : Answer) × (look_up (reads ++ a ∷ []) a.key ≡ Some s)
+last_known [] a = (said a, ap (λ b. option_map said (cond b (Some a) None)) (same_bytes a.key))
+last_known (x ∷ reads) a = known_by (bytes_eq x.key a.key) x (answer_in a.key (reads ++ a ∷ [])) (last_known reads a)
+
+-- a key stands among those of the answers where the look-up knows it
+any_by : (b c : Bool) (x : ReadAnswer) (o : Option ReadAnswer) → c ≡ is_some (option_map said o) → (b || c) ≡ is_some (option_map said (cond b (Some x) o))
+any_by true c x o is = refl
+any_by false c x o is = is
+
+any_key : (key : List ℕ) (reads : List ReadAnswer) → list_any (bytes_eq key) (keys_read reads) ≡ is_some (look_up reads key)
+any_key key [] = refl
+any_key key (x ∷ reads) =
+    ap (λ b. b || list_any (bytes_eq key) (keys_read reads)) (bytes_eq-flip key x.key)
+    ∙ any_by (bytes_eq x.key key) (list_any (bytes_eq key) (keys_read reads)) x (answer_in key reads) (any_key key reads)
+
+keys_more : (reads : List ReadAnswer) (a : ReadAnswer) → keys_read reads ++ a.key ∷ [] ≡ keys_read (reads ++ a ∷ [])
+keys_more [] a = refl
+keys_more (x ∷ reads) a = ap (λ (keys : List (List ℕ)). x.key ∷ keys) (keys_more reads a)
+
+key_joins : (reads : List ReadAnswer) (a : ReadAnswer) → answer_in a.key reads ≡ None → with_key a.key (keys_read reads) ≡ keys_read (reads ++ a ∷ [])
+key_joins reads a none =
+    ap (λ b. cond b (keys_read reads) (keys_read reads ++ a.key ∷ []))
+    (any_key a.key reads ∙ ap (λ (o : Option ReadAnswer). is_some (option_map said o)) none)
+    ∙ keys_more reads a
+
+key_is_there : (key : List ℕ) (reads : List ReadAnswer) (s : Answer) → look_up reads key ≡ Some s → with_key key (keys_read reads) ≡ keys_read reads
+key_is_there key reads s is =
+    ap (λ b. cond b (keys_read reads) (keys_read reads ++ key ∷ [])) (any_key key reads ∙ ap (λ (o : Option Answer). is_some o) is)
+
+one_key_more : (reads : List ReadAnswer) (a : ReadAnswer) → answer_in a.key reads ≡ None →
+    OneKeyMore (look_up reads) (look_up (reads ++ a ∷ [])) (keys_read reads) (keys_read (reads ++ a ∷ [])) a.key
+one_key_more reads a none =
+    let last : (s : Answer) × (look_up (reads ++ a ∷ []) a.key ≡ Some s) = last_known reads a in
+    record {
+      agrees = λ key. still_known key reads a;
+      answer = last.0;
+      knows = last.1;
+      adds = key_joins reads a none;
+      is_all = λ key. key_is_there key (reads ++ a ∷ []);
+    }
+
+-- ---- runs ----
+
+abbrev run_with : ProgramTree → List ReadAnswer → Outcome (Unit {0})
+run_with program reads = run_block (look_up reads) program.statements fresh
+
+wanting : (o : Outcome (Unit {0})) (key : List ℕ) → wanted (answered o) ≡ Some key → (s : Session) × (o ≡ Stops (WantsStop key) s)
+wanting (Gives x s) key is = absurd (cc)
+wanting (Stops (Aborted t) s) key is = absurd (cc)
+wanting (Stops (Faulted fault) s) key is = absurd (cc)
+wanting (Stops (WantsStop k) s) key is = let same : k ≡ key = cc in (s, ap (λ (x : List ℕ). Stops (WantsStop x) s) same)
+
+ended_reads : (o : Outcome (Unit {0})) (run : Run) → answered o ≡ Ended run → run.reads ≡ reads_of o
+ended_reads (Gives x s) run is = let same : run_of Done s ≡ run = cc in ap (λ (r : Run). r.reads) (sym same)
+ended_reads (Stops (Aborted t) s) run is = let same : run_of (EndAborted t) s ≡ run = cc in ap (λ (r : Run). r.reads) (sym same)
+ended_reads (Stops (Faulted fault) s) run is = let same : run_of (EndFaulted fault) s ≡ run = cc in ap (λ (r : Run). r.reads) (sym same)
+ended_reads (Stops (WantsStop key) s) run is = absurd (cc)
+
+one_more_read : (program : ProgramTree) (reads : List ReadAnswer) (a : ReadAnswer) → wanted (run_on program reads) ≡ Some a.key →
+    reads_of (run_with program reads) ≡ keys_read reads → reads_of (run_with program (reads ++ a ∷ [])) ≡ keys_read (reads ++ a ∷ [])
+unfolding run_over
+one_more_read program reads a wants is =
+    let stopped : (s : Session) × (run_with program reads ≡ Stops (WantsStop a.key) s) = wanting (run_with program reads) a.key wants in
+    wanted_is_read (look_up reads) (look_up (reads ++ a ∷ [])) (keys_read reads) (keys_read (reads ++ a ∷ [])) a.key
+    (one_key_more reads a (wanted_is_new program reads a.key wants)) program.statements stopped.0 stopped.1
+    (sym (ap (λ (o : Outcome (Unit {0})). reads_of o) stopped.1) ∙ is)
+
+-- a run that knows no key reads none
+get_of-reads : (key : List ℕ) (w : Option Write) (s : Session) → s.reads ≡ [] → (session_of (get_of (look_up []) key w s)).reads ≡ []
+get_of-reads key (Some w) s is = is
+get_of-reads key None s is = is
+
+steps_read_none : StepsKeep (look_up []) (λ s. s.reads ≡ [])
+unfolding get_key rev_key
+steps_read_none = record {
+  set = λ v x s is. is;
+  turn = λ s is. is;
+  emit = λ x s is. is;
+  write = λ w s long is. is;
+  get = λ key s long is. get_of-reads key (last_write key s.writes) s is;
+  rev = λ key s long is. is;
+}
+
+same_reads : (o : Outcome (Unit {0})) → reads_of o ≡ (session_of o).reads
+same_reads (Gives x s) = refl
+same_reads (Stops stop s) = refl
+
+none_read : (program : ProgramTree) → reads_of (run_with program []) ≡ []
+unfolding fresh
+none_read program = same_reads (run_with program []) ∙ kept_by_run (look_up []) (λ s. s.reads ≡ []) steps_read_none program.statements refl
+
+reads_behind : (program : ProgramTree) (before reads : List ReadAnswer) → AskedBehind program before reads →
+    reads_of (run_with program before) ≡ keys_read before → reads_of (run_with program (before ++ reads)) ≡ keys_read (before ++ reads)
+reads_behind program before [] asked is =
+    subst (λ (l : List ReadAnswer). reads_of (run_with program l) ≡ keys_read l) (sym (append-nil before)) is
+reads_behind program before (a ∷ reads) asked is =
+    subst (λ (l : List ReadAnswer). reads_of (run_with program l) ≡ keys_read l) (append_assoc before (a ∷ []) reads)
+    (reads_behind program (before ++ a ∷ []) reads asked.1 (one_more_read program before a asked.0 is))
+
+pub answers_are_the_reads : AnswersAreTheReads
+unfolding run_over
+answers_are_the_reads program reads run asked is =
+    ended_reads (run_with program reads) run is ∙ reads_behind program [] reads asked (none_read program)
+
+-- ---- what an attempt has read was asked for ----
+
+asked_behind : (program : ProgramTree) (before reads : List ReadAnswer) (a : ReadAnswer) → AskedBehind program before reads →
+    wanted (run_on program (before ++ reads)) ≡ Some a.key → AskedBehind program before (reads ++ a ∷ [])
+asked_behind program before [] a asked wants =
+    (subst (λ (l : List ReadAnswer). wanted (run_on program l) ≡ Some a.key) (append-nil before) wants, tt)
+asked_behind program before (x ∷ reads) a asked wants = (
+  asked.0,
+  asked_behind program (before ++ x ∷ []) reads a asked.1
+      (subst (λ (l : List ReadAnswer). wanted (run_on program l) ≡ Some a.key) (sym (append_assoc before (x ∷ []) reads)) wants),
+)
+
+one_more_asked : (program : ProgramTree) (reads : List ReadAnswer) (a : ReadAnswer) → AreAsked program reads →
+    wanted (run_on program reads) ≡ Some a.key → AreAsked program (reads ++ a ∷ [])
+one_more_asked program reads a asked wants = asked_behind program [] reads a asked wants
+
+is_for : (o : Option (List ℕ)) (answers : List ReadAnswer) (a : ReadAnswer) → answer_for o answers ≡ Some a → o ≡ Some a.key
+is_for None answers a is = absurd (cc)
+is_for (Some key) answers a is = ap (λ (k : List ℕ). Some k) (sym ((bytes_eq-Decides a.key key).0 (found_key key answers a is)))
+
+taken_asked : (program : ProgramTree) (again : List ReadAnswer → List ReadAnswer) (reads : List ReadAnswer) (o : Option ReadAnswer) →
+    ((more : List ReadAnswer) → AreAsked program more → AreAsked program (again more)) →
+    ((a : ReadAnswer) → o ≡ Some a → wanted (run_on program reads) ≡ Some a.key) → AreAsked program reads → AreAsked program (taken again reads o)
+taken_asked program again reads None goes wants asked = asked
+taken_asked program again reads (Some a) goes wants asked = goes (reads ++ a ∷ []) (one_more_asked program reads a asked (wants a refl))
+
+settle_asked : (n : ℕ) (program : ProgramTree) (prefetched reads : List ReadAnswer) → AreAsked program reads →
+    AreAsked program (settle n program prefetched reads)
+unfolding settle
+settle_asked zero program prefetched reads asked = asked
+settle_asked (suc n) program prefetched reads asked =
+    taken_asked program (settle n program prefetched) reads (served program prefetched reads) (λ more. settle_asked n program prefetched more)
+    (λ a. is_for (wanted (run_on program reads)) (serving reads prefetched) a) asked
+
+pub fetch_asked : (task : Task) (h : History) (key : List ℕ) (r : ℕ) (trace : List TraceItem) (known : Known) →
+    run_on task.program known.reads ≡ Wants key trace → AreAsked task.program known.reads →
+    AreAsked task.program (after_fetch task (answer_at h key r) known).reads
+fetch_asked task h key r trace known wants asked =
+    settle_asked (length known.prefetched) task.program known.prefetched (known.reads ++ answer_at h key r ∷ [])
+    (one_more_asked task.program known.reads (answer_at h key r) asked (ap wanted wants))
+
+pub conflict_asked : (task : Task) (h : History) (known : Known) → AreAsked task.program (after_conflict task h known).reads
+conflict_asked task h known =
+    settle_asked (length (after_conflict task h known).prefetched) task.program (after_conflict task h known).prefetched [] tt

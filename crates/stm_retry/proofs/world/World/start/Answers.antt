@@ -1,7 +1,0 @@
-use Rattle.stm_retry.proofs.WorldLemmas.{started_is_sound}
-use Rattle.stm_retry.proofs.world.World.start.Goals as goal
-
-pub invariant_of-self : goal.invariant_of-self
-invariant_of-self c =
-    started_is_sound c.self.inside.machine c.add_runner.new.self c.args.program c.args.level c.args.limit c.add_runner.result c.self.invariant
-    c.add_runner.ensures.ok c.add_runner.ensures.err

@@ -1,50 +1,67 @@
 -- A scenario that bytes spell is read.
-use Rattle.std.proofs.Common.{◌≡◌, ℕ, suc, ◌+◌, ◌^◌, ◌<◌, ◌≤◌, List, [], ◌∷◌, length, le-leb, lt-ltb, Option, Some, None, Result, Ok, refl}
+use Rattle.std.proofs.Common.{◌≡◌, ℕ, suc, ◌+◌, ◌<◌, ◌≤◌, List, [], ◌∷◌, length, lt-ltb, Option, Some, None, Result, Ok, refl, codes}
 use Rattle.std.proofs.Common.{ap, subst, ◌∙◌, arith}
 use Rattle.serde_json.specs.Data.{Data, string, Items, item}
 use Rattle.stm_json.specs.declared.read_error.ReadError.{ReadError}
-use Rattle.stm_json.specs.Outcome.{Outcome}
+use Rattle.stm_json.specs.Outcome.{Outcome, ◌>>=◌}
 use Rattle.stm_json.specs.Tells.{Tells}
-use Rattle.stm_json.specs.Elements.{worded, number_in}
-use Rattle.stm_json.proofs.ElementLemmas.{number_up_to-reads}
-use Rattle.stm_retry.specs.declared.level.Level.{Level}
-use Rattle.stm_retry.specs.declared.level.Level.TheVariants.{ReadCommitted}
+use Rattle.stm_json.specs.Elements.{worded, number_up_to}
+use Rattle.stm_program.specs.declared.level.Level.{Level}
+use Rattle.stm_program.specs.declared.level.Level.TheVariants.{SerializableSnapshot, Serializable, RepeatableReads, ReadCommitted}
 use Rattle.stm_program_json.proofs.StatementComplete.{program_reads}
-use Rattle.stm_retry.specs.declared.event.WorldEvent.{WorldEvent}
-use Rattle.stm_retry.specs.declared.event.WorldEvent.TheVariants.{Start, Step}
+use Rattle.stm_txn_json.specs.Grammar.{spelled, SpellsEach}
+use Rattle.stm_txn_json.specs.Reading.{txn_of}
+use Rattle.stm_txn_json.proofs.GrammarComplete.{txn_reads}
+use Rattle.stm_txn_json.proofs.PartLemmas.{number_reads, up_to_reads}
+use Rattle.stm_world.specs.declared.event.WorldEvent.{WorldEvent}
+use Rattle.stm_world.specs.declared.event.WorldEvent.TheVariants.{Start, Step, Txn, Grant, Keep, Revoke, Advance}
 use Rattle.stm_texts.specs.declared.scenario.Scenario.{Scenario}
 use Rattle.stm_history.specs.declared.revisions.TheConstants.{HIGHEST_NUMBER, HIGHEST_REVISION}
 use Rattle.stm_texts.specs.declared.events.TheConstants.{HIGHEST_LIMIT, MOST_EVENTS}
-use Rattle.stm_texts.specs.Grammar.{level_text, SpellsNumberIn, SpellsEvent, SpellsEvents, SpellsElements, SpellsData, SpellsScenario}
-use Rattle.stm_texts.specs.Reading.{level_of, event_of, event_after, events_from, begins, scenario_list, scenario_of, scenario_read}
+use Rattle.stm_texts.specs.Grammar.{level_text, SpellsNumbered, SpellsEvent, SpellsElements, SpellsData, SpellsScenario}
+use Rattle.stm_texts.specs.Reading.{level_named, level_of, event_of, event_after, events_from, begins, scenario_list, scenario_of, scenario_read}
 use Rattle.stm_texts.specs.Reading.{scenario_in}
 use Rattle.stm_texts.proofs.ScenarioLemmas.{scenario_in-short}
 
--- ---- parts
+-- ---- levels
 
 level_reads : (l : Level) → level_of (string (level_text l)) ≡ Ok l
-unfolding level_of
+unfolding level_of level_named
+level_reads SerializableSnapshot = refl
+level_reads Serializable = refl
+level_reads RepeatableReads = refl
 level_reads ReadCommitted = refl
-
-number_reads : (least most : ℕ) (d : Data) (n : ℕ) → most < 2 ^ 63 → SpellsNumberIn least most d n → number_in least most d ≡ Ok n
-unfolding number_in
-number_reads least most d n small s =
-    let up = number_up_to-reads most d n small s.0 s.2 in
-    let from = le-leb least n s.1 in
-    rw up (rw from refl)
 
 -- ---- events
 
+numbered_reads : (word : List ℕ) (make : ℕ → WorldEvent)
+    → ((a : Data) (n : ℕ) → number_up_to HIGHEST_NUMBER a ≡ Ok n → event_of (spelled word (a ∷ [])) ≡ Ok (make n))
+    → (d : Data) (n : ℕ) → SpellsNumbered word d n → event_of d ≡ Ok (make n)
+numbered_reads word make reads d n (a, is, in_range) = ap event_of is ∙ reads a n (up_to_reads HIGHEST_NUMBER a n (omega arith) in_range)
+
+-- a transaction is an event of its word
+txn_event_reads : (d : Data) (a b c : Data) → d ≡ spelled (codes "txn") (a ∷ b ∷ c ∷ []) → event_of d ≡ (txn_of d >>= λ t. Ok (Txn t))
+unfolding event_of
+txn_event_reads d a b c is = rw is refl
+
 event_reads : (d : Data) (e : WorldEvent) → SpellsEvent d e → event_of d ≡ Ok e
 unfolding event_of
-event_reads d (Start program level limit) (a, b, c, is, word, within_limit, spelled, fits) =
+event_reads d (Start program level limit) (a, b, c, is, word, within_limit, of_program, fits) =
     let l : level_of a ≡ Ok level = ap level_of word ∙ level_reads level in
-    let n = number_up_to-reads HIGHEST_LIMIT b limit (omega arith) within_limit.0 within_limit.2 in
-    let p = program_reads c program spelled fits in
+    let n = up_to_reads HIGHEST_LIMIT b limit (omega arith) within_limit in
+    let p = program_reads c program of_program fits in
     ap event_of is ∙ rw (l, n, p) refl
-event_reads d (Step runner) (a, is, in_range) =
-    let n = number_up_to-reads HIGHEST_NUMBER a runner (omega arith) in_range.0 in_range.2 in
-    ap event_of is ∙ rw n refl
+event_reads d (Step runner) s = numbered_reads (codes "step") Step (λ a n e. rw e refl) d runner s
+event_reads d (Txn t) (a, b, c, is, compares, success, failure) =
+    let r = txn_reads d t (a, b, c, is, compares, success, failure) in
+    txn_event_reads d _ _ _ is ∙ rw r refl
+event_reads d (Grant id ttl) (a, b, is, of_id, of_ttl) =
+    let i = up_to_reads HIGHEST_NUMBER a id (omega arith) of_id in
+    let t = up_to_reads HIGHEST_NUMBER b ttl (omega arith) of_ttl in
+    ap event_of is ∙ rw (i, t) refl
+event_reads d (Keep id) s = numbered_reads (codes "keep") Keep (λ a n e. rw e refl) d id s
+event_reads d (Revoke id) s = numbered_reads (codes "revoke") Revoke (λ a n e. rw e refl) d id s
+event_reads d (Advance now) s = numbered_reads (codes "advance") Advance (λ a n e. rw e refl) d now s
 
 event_after-reads : (before : ℕ) (d : Data) (e : WorldEvent) → before < MOST_EVENTS → SpellsEvent d e → event_after before d ≡ Ok e
 unfolding event_after
@@ -52,7 +69,7 @@ event_after-reads before d e few s =
     let b = lt-ltb before MOST_EVENTS few in
     rw b (event_reads d e s)
 
-events_read : (first before : ℕ) (ds : Items) (es : List WorldEvent) → before + length es ≤ MOST_EVENTS → SpellsEvents ds es
+events_read : (first before : ℕ) (ds : Items) (es : List WorldEvent) → before + length es ≤ MOST_EVENTS → SpellsEach SpellsEvent ds es
     → events_from first before ds ≡ Ok es
 unfolding events_from
 events_read first before ds [] few is = rw is refl
@@ -63,8 +80,13 @@ events_read first before ds (e ∷ es) few (d, rest, is, s, others) =
 
 -- an event begins with another word than the opening revision
 no_opening : (d : Data) (e : WorldEvent) → SpellsEvent d e → begins (worded d) ≡ None
-no_opening d (Start program level limit) (a, b, c, is, word, within_limit, spelled, fits) = ap (λ (x : Data). begins (worded x)) is
+no_opening d (Start program level limit) (a, b, c, is, word, within_limit, of_program, fits) = ap (λ (x : Data). begins (worded x)) is
 no_opening d (Step runner) (a, is, in_range) = ap (λ (x : Data). begins (worded x)) is
+no_opening d (Txn t) (a, b, c, is, compares, success, failure) = ap (λ (x : Data). begins (worded x)) is
+no_opening d (Grant id ttl) (a, b, is, of_id, of_ttl) = ap (λ (x : Data). begins (worded x)) is
+no_opening d (Keep id) (a, is, in_range) = ap (λ (x : Data). begins (worded x)) is
+no_opening d (Revoke id) (a, is, in_range) = ap (λ (x : Data). begins (worded x)) is
+no_opening d (Advance now) (a, is, in_range) = ap (λ (x : Data). begins (worded x)) is
 
 -- ---- scenarios
 

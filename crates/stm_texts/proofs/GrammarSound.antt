@@ -1,78 +1,56 @@
 -- What is read of a scenario is spelled by the bytes.
-use Rattle.std.proofs.Common.{◌≡◌, ℕ, suc, ◌+◌, ◌<◌, ◌≤◌, List, [], ◌∷◌, length, Bool, true, false, cond, leb, ltb, leb-true, ltb-true, Option}
+use Rattle.std.proofs.Common.{◌≡◌, ℕ, suc, ◌+◌, ◌<◌, ◌≤◌, List, [], ◌∷◌, length, Bool, true, false, cond, ltb, ltb-true, Option}
 use Rattle.std.proofs.Common.{Some, None, Result, Ok, Err, refl, ap, subst, ◌∙◌, arith, codes, IfOk}
 use Rattle.std.proofs.lemmas.Bool.Decides.{nat_tests}
 use Rattle.std.proofs.lemmas.Slice.Eq.{bytes_eq-Decides}
-use Rattle.serde_json.specs.Data.{Data, null, boolean, number, string, array, object, Items, no_items, item}
-use Rattle.serde_json.specs.Find.{as_str, as_array}
+use Rattle.serde_json.specs.Data.{Data, string, array, Items, no_items, item}
+use Rattle.serde_json.specs.Find.{as_array}
 use Rattle.serde_json.specs.View.{items_of}
 use Rattle.stm_json.specs.declared.cause.Cause.TheVariants.{Shape, TooMany, TooLong}
 use Rattle.stm_json.specs.declared.read_error.ReadError.{ReadError}
 use Rattle.stm_json.specs.Outcome.{bad, ◌>>=◌, within}
 use Rattle.stm_json.specs.Tells.{Tells}
-use Rattle.stm_json.specs.Elements.{worded, one_of, three_of, number_up_to, from_least, number_in}
-use Rattle.stm_json.proofs.OutcomeLemmas.{bind_ok, within_ok, guard_ok}
-use Rattle.stm_json.proofs.ElementLemmas.{worded-is, one_of-is, three_of-is, number_up_to-is}
-use Rattle.stm_retry.specs.declared.level.Level.{Level}
-use Rattle.stm_retry.specs.declared.level.Level.TheVariants.{ReadCommitted}
-use Rattle.stm_program_json.specs.Grammar.{spelled}
+use Rattle.stm_json.specs.Elements.{worded, one_of, two_of, three_of, number_up_to}
+use Rattle.stm_json.proofs.OutcomeLemmas.{bind_ok, within_ok}
+use Rattle.stm_json.proofs.ElementLemmas.{worded-is, one_of-is, two_of-is, three_of-is}
+use Rattle.stm_program.specs.declared.level.Level.{Level}
+use Rattle.stm_program.specs.declared.level.Level.TheVariants.{SerializableSnapshot, Serializable, RepeatableReads, ReadCommitted}
 use Rattle.stm_program_json.specs.Reading.{program_of}
-use Rattle.stm_program_json.proofs.ExpressionSound.{words_and}
 use Rattle.stm_program_json.proofs.ProgramLemmas.{program_sound}
-use Rattle.stm_retry.specs.declared.event.WorldEvent.{WorldEvent}
-use Rattle.stm_retry.specs.declared.event.WorldEvent.TheVariants.{Start, Step}
+use Rattle.stm_txn_json.specs.Grammar.{spelled, SpellsNumberIn, SpellsEach}
+use Rattle.stm_txn_json.specs.Reading.{txn_of}
+use Rattle.stm_txn_json.specs.Words.{same}
+use Rattle.stm_txn_json.proofs.GrammarSound.{txn_sound}
+use Rattle.stm_txn_json.proofs.PartLemmas.{on_text-is, list_is, number_is, up_to_is, word_and}
+use Rattle.stm_txn_json.proofs.WordLemmas.{chosen, no_word}
+use Rattle.stm_world.specs.declared.event.WorldEvent.{WorldEvent}
+use Rattle.stm_world.specs.declared.event.WorldEvent.TheVariants.{Start, Step, Txn, Grant, Keep, Revoke, Advance}
 use Rattle.stm_texts.specs.declared.scenario.Scenario.{Scenario}
 use Rattle.stm_history.specs.declared.revisions.TheConstants.{HIGHEST_NUMBER, HIGHEST_REVISION}
 use Rattle.stm_texts.specs.declared.events.TheConstants.{HIGHEST_LIMIT, MOST_EVENTS}
 use Rattle.stm_texts.specs.declared.reading.TheConstants.{MOST_BYTES}
 use Rattle.stm_texts.specs.Bytes.{data_of}
-use Rattle.stm_program_json.specs.Words.{same}
-use Rattle.stm_texts.specs.Grammar.{level_text, SpellsNumberIn, SpellsEvent, SpellsEvents, SpellsElements, SpellsData, SpellsScenario}
-use Rattle.stm_texts.specs.Reading.{level_named, level_of, start_of, step_of, event_worded, event_of, event_after, events_from, begins, opening_of}
+use Rattle.stm_texts.specs.Grammar.{level_text, SpellsNumbered, SpellsEvent, SpellsElements, SpellsData, SpellsScenario}
+use Rattle.stm_texts.specs.Reading.{level_named, level_of, start_of, grant_of, number_alone, step_of, keep_of, revoke_of, advance_of, txn_event}
+use Rattle.stm_texts.specs.Reading.{event_worded, event_of, event_after, events_from, begins, opening_of}
 use Rattle.stm_texts.specs.Reading.{scenario_after, scenario_list, scenario_of, scenario_read, scenario_in}
 
--- ---- parts
+-- ---- levels
 
-text_is : (d : Data) (s : List ℕ) → as_str d ≡ Some s → d ≡ string s
-text_is (string t) s h = ap string cc
-text_is null s h = cc
-text_is (boolean b) s h = cc
-text_is (number n) s h = cc
-text_is (array ds) s h = cc
-text_is (object ms) s h = cc
-
-list_is : (d : Data) (ds : Items) → as_array d ≡ Some ds → d ≡ array ds
-list_is (array es) ds h = ap array cc
-list_is null ds h = cc
-list_is (boolean b) ds h = cc
-list_is (number n) ds h = cc
-list_is (string s) ds h = cc
-list_is (object ms) ds h = cc
-
-word_is : (w : List ℕ) (l : Level) → level_named (Some w) ≡ Ok l → w ≡ level_text l
-word_is w ReadCommitted h = (bytes_eq-Decides w (codes "ReadCommitted")).0 (guard_ok (same w (codes "ReadCommitted")) ReadCommitted ReadCommitted Shape h).0
-
-level_named-is : (d : Data) (o : Option (List ℕ)) (l : Level) → as_str d ≡ o → level_named o ≡ Ok l → d ≡ string (level_text l)
-level_named-is d None l e h = cc
-level_named-is d (Some w) l e h = text_is d w e ∙ ap string (word_is w l h)
+level_named-is : (w : List ℕ) (l : Level) → level_named w ≡ Ok l → w ≡ level_text l
+unfolding level_named
+level_named-is w l h =
+    chosen level_text w (codes "SerializableSnapshot") SerializableSnapshot l _ refl
+    (chosen level_text w (codes "Serializable") Serializable l _ refl
+    (chosen level_text w (codes "RepeatableReads") RepeatableReads l _ refl
+    (chosen level_text w (codes "ReadCommitted") ReadCommitted l _ refl (no_word level_text w l))))
+    h
 
 level_is : (d : Data) (l : Level) → level_of d ≡ Ok l → d ≡ string (level_text l)
 unfolding level_of
-level_is d l h = level_named-is d (as_str d) l refl h
-
-number_is : (least most : ℕ) (d : Data) (n : ℕ) → number_in least most d ≡ Ok n → SpellsNumberIn least most d n
-unfolding number_in
-number_is least most d n h =
-    let q = bind_ok (number_up_to most d) (from_least least) n h in
-    let up = number_up_to-is most d q.0 q.1 in
-    let from = guard_ok (leb least q.0) q.0 n _ q.2 in
-    let low : least ≤ q.0 = leb-true least q.0 from.0 in
-    subst (λ (m : ℕ). SpellsNumberIn least most d m) from.1 (up.0, low, up.1)
-
-up_to_is : (most : ℕ) (d : Data) (n : ℕ) → number_up_to most d ≡ Ok n → SpellsNumberIn 0 most d n
-up_to_is most d n h =
-    let up = number_up_to-is most d n h in
-    (up.0, omega arith, up.1)
+level_is d l h =
+    let t = on_text-is level_named d l h in
+    t.1 ∙ ap string (level_named-is t.0 l t.2)
 
 -- ---- events
 
@@ -89,35 +67,74 @@ start_sound d p (Some q) e w t i h =
       q.0,
       q.1,
       q.2,
-      words_and d p (codes "start") (q.0 ∷ q.1 ∷ q.2 ∷ []) w t (three_of-is p.1 q i),
+      word_and d p (codes "start") (q.0 ∷ q.1 ∷ q.2 ∷ []) w t (three_of-is p.1 q i),
       level_is q.0 level.0 (within_ok 1 _ _ level.1),
       up_to_is HIGHEST_LIMIT q.1 limit.0 (within_ok 2 _ _ limit.1),
       sound.0,
       sound.1,
     )
 
-step_sound : (d : Data) (p : List ℕ × Items) (o : Option Data) (e : WorldEvent) → worded d ≡ Some p → p.0 ≡ codes "step" → one_of p.1 ≡ o → step_of o ≡ Ok e
-    → SpellsEvent d e
-step_sound d p None e w t i h = cc
-step_sound d p (Some a) e w t i h =
-    let runner = bind_ok (within 1 (number_up_to HIGHEST_NUMBER a)) _ e h in
-    let is : Step runner.0 ≡ e = cc runner.2 in
+grant_sound : (d : Data) (p : List ℕ × Items) (o : Option (Data × Data)) (e : WorldEvent) → worded d ≡ Some p → p.0 ≡ codes "grant" → two_of p.1 ≡ o
+    → grant_of o ≡ Ok e → SpellsEvent d e
+grant_sound d p None e w t i h = cc
+grant_sound d p (Some q) e w t i h =
+    let id = bind_ok (within 1 (number_up_to HIGHEST_NUMBER q.0)) _ e h in
+    let ttl = bind_ok (within 2 (number_up_to HIGHEST_NUMBER q.1)) _ e id.2 in
+    let is : Grant id.0 ttl.0 ≡ e = cc ttl.2 in
     subst (λ (x : WorldEvent). SpellsEvent d x) is (
-      a,
-      words_and d p (codes "step") (a ∷ []) w t (one_of-is p.1 a i),
-      up_to_is HIGHEST_NUMBER a runner.0 (within_ok 1 _ _ runner.1),
+      q.0,
+      q.1,
+      word_and d p (codes "grant") (q.0 ∷ q.1 ∷ []) w t (two_of-is p.1 q i),
+      up_to_is HIGHEST_NUMBER q.0 id.0 (within_ok 1 _ _ id.1),
+      up_to_is HIGHEST_NUMBER q.1 ttl.0 (within_ok 2 _ _ ttl.1),
     )
 
-word_sound : (d : Data) (p : List ℕ × Items) (e : WorldEvent) (starts steps : Bool) → worded d ≡ Some p → same p.0 (codes "start") ≡ starts
-    → same p.0 (codes "step") ≡ steps
-    → cond starts (start_of (three_of p.1)) (cond steps (step_of (one_of p.1)) (bad Shape)) ≡ Ok e → SpellsEvent d e
-word_sound d p e true steps w s t h = start_sound d p (three_of p.1) e w ((bytes_eq-Decides p.0 (codes "start")).0 s) refl h
-word_sound d p e false true w s t h = step_sound d p (one_of p.1) e w ((bytes_eq-Decides p.0 (codes "step")).0 t) refl h
-word_sound d p e false false w s t h = cc
+numbered_at : (word : List ℕ) (d : Data) (p : List ℕ × Items) (o : Option Data) (n : ℕ) → worded d ≡ Some p → p.0 ≡ word → one_of p.1 ≡ o
+    → number_alone o ≡ Ok n → SpellsNumbered word d n
+numbered_at word d p None n w t i h = cc
+numbered_at word d p (Some a) n w t i h = (a, word_and d p word (a ∷ []) w t (one_of-is p.1 a i), up_to_is HIGHEST_NUMBER a n (within_ok 1 _ _ h))
 
-array_sound : (d : Data) (o : Option (List ℕ × Items)) (e : WorldEvent) → worded d ≡ o → event_worded o ≡ Ok e → SpellsEvent d e
+-- an event made of the one number behind its word
+numbered_sound : (word : List ℕ) (make : ℕ → WorldEvent) → ((x : Data) (n : ℕ) → SpellsNumbered word x n → SpellsEvent x (make n))
+    → (d : Data) (p : List ℕ × Items) (e : WorldEvent) → worded d ≡ Some p → p.0 ≡ word
+    → (number_alone (one_of p.1) >>= λ n. Ok (make n)) ≡ Ok e → SpellsEvent d e
+numbered_sound word make spells d p e w t h =
+    let n = bind_ok (number_alone (one_of p.1)) _ e h in
+    let is : make n.0 ≡ e = cc n.2 in
+    subst (λ (x : WorldEvent). SpellsEvent d x) is (spells d n.0 (numbered_at word d p (one_of p.1) n.0 w t refl n.1))
+
+txn_event-sound : (d : Data) (e : WorldEvent) → txn_event d ≡ Ok e → SpellsEvent d e
+txn_event-sound d e h =
+    let t = bind_ok (txn_of d) _ e h in
+    let is : Txn t.0 ≡ e = cc t.2 in
+    subst (λ (x : WorldEvent). SpellsEvent d x) is (txn_sound d t.0 t.1)
+
+word_sound : (d : Data) (p : List ℕ × Items) (e : WorldEvent) (start step txn grant keep revoke advance : Bool) → worded d ≡ Some p
+    → same p.0 (codes "start") ≡ start → same p.0 (codes "step") ≡ step → same p.0 (codes "txn") ≡ txn → same p.0 (codes "grant") ≡ grant
+    → same p.0 (codes "keep") ≡ keep → same p.0 (codes "revoke") ≡ revoke → same p.0 (codes "advance") ≡ advance
+    → cond start (start_of (three_of p.1)) (cond step (step_of (one_of p.1)) (cond txn (txn_event d) (cond grant (grant_of (two_of p.1))
+    (cond keep (keep_of (one_of p.1)) (cond revoke (revoke_of (one_of p.1)) (cond advance (advance_of (one_of p.1)) (bad Shape))))))) ≡ Ok e
+    → SpellsEvent d e
+word_sound d p e true step txn grant keep revoke advance w s1 s2 s3 s4 s5 s6 s7 h =
+    start_sound d p (three_of p.1) e w ((bytes_eq-Decides p.0 (codes "start")).0 s1) refl h
+word_sound d p e false true txn grant keep revoke advance w s1 s2 s3 s4 s5 s6 s7 h =
+    numbered_sound (codes "step") Step (λ x n s. s) d p e w ((bytes_eq-Decides p.0 (codes "step")).0 s2) h
+word_sound d p e false false true grant keep revoke advance w s1 s2 s3 s4 s5 s6 s7 h = txn_event-sound d e h
+word_sound d p e false false false true keep revoke advance w s1 s2 s3 s4 s5 s6 s7 h =
+    grant_sound d p (two_of p.1) e w ((bytes_eq-Decides p.0 (codes "grant")).0 s4) refl h
+word_sound d p e false false false false true revoke advance w s1 s2 s3 s4 s5 s6 s7 h =
+    numbered_sound (codes "keep") Keep (λ x n s. s) d p e w ((bytes_eq-Decides p.0 (codes "keep")).0 s5) h
+word_sound d p e false false false false false true advance w s1 s2 s3 s4 s5 s6 s7 h =
+    numbered_sound (codes "revoke") Revoke (λ x n s. s) d p e w ((bytes_eq-Decides p.0 (codes "revoke")).0 s6) h
+word_sound d p e false false false false false false true w s1 s2 s3 s4 s5 s6 s7 h =
+    numbered_sound (codes "advance") Advance (λ x n s. s) d p e w ((bytes_eq-Decides p.0 (codes "advance")).0 s7) h
+word_sound d p e false false false false false false false w s1 s2 s3 s4 s5 s6 s7 h = cc
+
+array_sound : (d : Data) (o : Option (List ℕ × Items)) (e : WorldEvent) → worded d ≡ o → event_worded d o ≡ Ok e → SpellsEvent d e
 array_sound d None e w h = cc
-array_sound d (Some p) e w h = word_sound d p e (same p.0 (codes "start")) (same p.0 (codes "step")) w refl refl h
+array_sound d (Some p) e w h =
+    word_sound d p e (same p.0 (codes "start")) (same p.0 (codes "step")) (same p.0 (codes "txn")) (same p.0 (codes "grant")) (same p.0 (codes "keep"))
+    (same p.0 (codes "revoke")) (same p.0 (codes "advance")) w refl refl refl refl refl refl refl h
 
 event_sound : (d : Data) (e : WorldEvent) → event_of d ≡ Ok e → SpellsEvent d e
 unfolding event_of
@@ -135,7 +152,7 @@ event_after-sound before d e h =
 
 -- events that were read, so many others before them
 abbrev EventsRead : ℕ → Items → List WorldEvent → Type 0
-EventsRead before ds es = SpellsEvents ds es × (before + length es ≤ MOST_EVENTS)
+EventsRead before ds es = SpellsEach SpellsEvent ds es × (before + length es ≤ MOST_EVENTS)
 
 events_sound : (first before : ℕ) (ds : Items) (es : List WorldEvent) → before ≤ MOST_EVENTS → events_from first before ds ≡ Ok es → EventsRead before ds es
 unfolding events_from

@@ -1,47 +1,58 @@
 -- The first fault of a scenario is the fault that reading it answers.
 use Rattle.std.proofs.Common.{◌≡◌, ℕ, suc, ◌+◌, arith, List, [], ◌∷◌, ◌++◌, length, Bool, true, false, cond, ltb, Option, Some, None, Result, Ok}
-use Rattle.std.proofs.Common.{Err, refl, ap, ◌∙◌, codes}
+use Rattle.std.proofs.Common.{Err, refl, ap, subst, ◌∙◌, codes}
 use Rattle.std.specs.Prelude.{MatchResult}
 use Rattle.serde_json.specs.Data.{Data, string, array, Items, no_items, item}
 use Rattle.serde_json.specs.Find.{as_str}
 use Rattle.stm_json.specs.declared.cause.Cause.TheVariants.{Shape, TooMany, TooLong, NotJson}
+use Rattle.stm_json.specs.declared.read_error.BadInput.{BadInput}
 use Rattle.stm_json.specs.declared.read_error.ReadError.{ReadError}
 use Rattle.stm_json.specs.declared.read_error.ReadError.TheVariants as error
 use Rattle.stm_json.specs.Outcome.{Outcome, bad, ◌>>=◌, step}
 use Rattle.stm_json.specs.Tells.{Tells}
-use Rattle.stm_json.specs.Elements.{worded, one_of, three_of, number_up_to, number_in}
-use Rattle.stm_retry.specs.declared.level.Level.{Level}
-use Rattle.stm_retry.specs.declared.level.Level.TheVariants.{ReadCommitted}
+use Rattle.stm_json.specs.Elements.{worded, one_of, two_of, three_of, number_up_to, number_in}
+use Rattle.stm_program.specs.declared.level.Level.{Level}
+use Rattle.stm_program.specs.declared.level.Level.TheVariants.{SerializableSnapshot, Serializable, RepeatableReads, ReadCommitted}
 use Rattle.stm_program_json.specs.Reading.{program_of}
 use Rattle.stm_program_json.specs.FirstFault.{first_fault as program_fault}
 use Rattle.stm_program_json.proofs.StatementMarks.{program_fault as program_fault-is, fault_of as fault_of_program}
-use Rattle.stm_retry.specs.declared.event.WorldEvent.{WorldEvent}
-use Rattle.stm_retry.specs.declared.event.WorldEvent.TheVariants.{Start, Step}
+use Rattle.stm_txn_json.specs.Faults.{Sort, WordOf, NumberIn, By, first_of, wrong, at, word_faults, faults_by, sorted_faults, worded_faults}
+use Rattle.stm_txn_json.specs.FirstFault.{any_number, txn_sorts}
+use Rattle.stm_txn_json.specs.Reading.{on_text, txn_of}
+use Rattle.stm_txn_json.specs.Words.{same}
+use Rattle.stm_txn_json.proofs.FaultLemmas.{fault_of, wrong_is, part_then, inside_of, made, number_faulted, number_up_faulted}
+use Rattle.stm_txn_json.proofs.TxnFaults.{number_told, txn_faulted}
+use Rattle.stm_world.specs.declared.event.WorldEvent.{WorldEvent}
+use Rattle.stm_world.specs.declared.event.WorldEvent.TheVariants.{Start, Step, Txn, Grant, Keep, Revoke, Advance}
 use Rattle.stm_texts.specs.declared.scenario.Scenario.{Scenario}
 use Rattle.stm_history.specs.declared.revisions.TheConstants.{HIGHEST_NUMBER, HIGHEST_REVISION}
 use Rattle.stm_texts.specs.declared.events.TheConstants.{HIGHEST_LIMIT, MOST_EVENTS}
 use Rattle.stm_texts.specs.declared.reading.TheConstants.{MOST_BYTES}
 use Rattle.stm_texts.specs.Bytes.{data_of}
-use Rattle.stm_program_json.specs.Words.{same}
-use Rattle.stm_texts.specs.Grammar.{level_text}
-use Rattle.stm_texts.specs.Reading.{level_named, level_of, start_of, step_of, event_of, event_after, events_from, begins, opening_of, scenario_after}
-use Rattle.stm_texts.specs.Reading.{scenario_of, scenario_read, scenario_in}
-use Rattle.stm_texts.specs.FirstFault.{Sort, LevelWord, NumberIn, WholeProgram, wrong, at, level_faults, faults_by, sorted_faults, worded_faults}
-use Rattle.stm_texts.specs.FirstFault.{event_table, event_faults, events_faults, elements_faults, data_faults, first_of, first_fault}
-use Rattle.stm_texts.specs.FirstFault.{IsFirstFault}
-use Rattle.stm_texts.proofs.FaultLemmas.{fault_of, wrong_is, part_then, inside_of, made, program_faulted, number_faulted, number_up_faulted}
+use Rattle.stm_texts.specs.Reading.{level_named, level_of, start_of, grant_of, number_alone, step_of, keep_of, revoke_of, advance_of, txn_event}
+use Rattle.stm_texts.specs.Reading.{event_of, event_after, events_from, begins, opening_of, scenario_after, scenario_of, scenario_read, scenario_in}
+use Rattle.stm_texts.specs.FirstFault.{level_words, placed, program_faults, event_table, event_faults, events_faults, elements_faults, data_faults}
+use Rattle.stm_texts.specs.FirstFault.{first_fault, IsFirstFault}
 
 -- ---- parts
 
-level_tested : (p : List ℕ) (b : Bool) → first_of (cond b [] (wrong p Shape)) ≡ fault_of p (cond b (Ok ReadCommitted) (bad Shape))
-level_tested p true = refl
-level_tested p false = wrong_is {A = Level} p Shape (bad Shape) refl
+level_tested : (p : List ℕ) (snapshot serializable repeatable committed : Bool)
+    → first_of (cond (cond snapshot true (cond serializable true (cond repeatable true (cond committed true false)))) [] (wrong p Shape))
+    ≡ fault_of p (cond snapshot (Ok SerializableSnapshot) (cond serializable (Ok Serializable) (cond repeatable (Ok RepeatableReads)
+    (cond committed (Ok ReadCommitted) (bad Shape)))))
+level_tested p true serializable repeatable committed = refl
+level_tested p false true repeatable committed = refl
+level_tested p false false true committed = refl
+level_tested p false false false true = refl
+level_tested p false false false false = wrong_is {A = Level} p Shape (bad Shape) refl
 
-level_told : (p : List ℕ) (o : Option (List ℕ)) → first_of (level_faults p o) ≡ fault_of p (level_named o)
-level_told p (Some w) = level_tested p (same w (level_text ReadCommitted))
+level_told : (p : List ℕ) (o : Option (List ℕ)) → first_of (word_faults level_words p o) ≡ fault_of p (on_text level_named o)
+unfolding level_named
+level_told p (Some w) =
+    level_tested p (same w (codes "SerializableSnapshot")) (same w (codes "Serializable")) (same w (codes "RepeatableReads")) (same w (codes "ReadCommitted"))
 level_told p None = wrong_is {A = Level} p Shape (bad Shape) refl
 
-level_faulted : (p : List ℕ) (d : Data) → first_of (faults_by LevelWord p d) ≡ fault_of p (level_of d)
+level_faulted : (p : List ℕ) (d : Data) → first_of (faults_by (WordOf level_words) p d) ≡ fault_of p (level_of d)
 unfolding level_of
 level_faulted p d = level_told p (as_str d)
 
@@ -49,46 +60,84 @@ program_told_by : {P : Type 0} (reading : Outcome P) → fault_of_program readin
 program_told_by (Ok x) = refl
 program_told_by (Err f) = refl
 
-program_told : (d : Data) → program_fault d ≡ fault_of [] (program_of d)
-program_told d = program_fault-is d ∙ program_told_by (program_of d)
+placed_is : {P : Type 0} (p : List ℕ) (reading : Outcome P) (told : Option BadInput) → told ≡ fault_of [] reading
+    → first_of (placed p told) ≡ fault_of p reading
+placed_is p (Ok x) told e = rw e refl
+placed_is p (Err f) told e = rw e refl
+
+program_faulted : (p : List ℕ) (d : Data) → first_of (program_faults p d) ≡ fault_of p (program_of d)
+program_faulted p d = placed_is p (program_of d) (program_fault d) (program_fault-is d ∙ program_told_by (program_of d))
 
 -- ---- events
 
 abbrev start_sorts : List Sort
-start_sorts = LevelWord ∷ NumberIn 0 HIGHEST_LIMIT ∷ WholeProgram ∷ []
+start_sorts = WordOf level_words ∷ NumberIn 0 HIGHEST_LIMIT ∷ By program_faults ∷ []
 
-abbrev step_sorts : List Sort
-step_sorts = NumberIn 0 HIGHEST_NUMBER ∷ []
+abbrev numbered_sorts : List Sort
+numbered_sorts = any_number ∷ []
+
+abbrev grant_sorts : List Sort
+grant_sorts = any_number ∷ any_number ∷ []
 
 start_faulted : (p : List ℕ) (ds : Items) → first_of (sorted_faults p (Some start_sorts) ds) ≡ fault_of p (start_of (three_of ds))
 start_faulted p no_items = wrong_is p Shape (start_of None) refl
 start_faulted p (item a no_items) = wrong_is p Shape (start_of None) refl
 start_faulted p (item a (item b no_items)) = wrong_is p Shape (start_of None) refl
 start_faulted p (item a (item b (item c no_items))) =
-    part_then p 1 (level_of a) _ (faults_by LevelWord (at p 1) a) _ (level_faulted (at p 1) a) (λ (l : Level).
+    part_then p 1 (level_of a) _ (faults_by (WordOf level_words) (at p 1) a) _ (level_faulted (at p 1) a) (λ (l : Level).
     part_then p 2 (number_up_to HIGHEST_LIMIT b) _ (faults_by (NumberIn 0 HIGHEST_LIMIT) (at p 2) b) _
     (number_up_faulted (at p 2) HIGHEST_LIMIT b (omega arith)) (λ (n : ℕ).
-    part_then p 3 (program_of c) (λ program. Ok (Start program l n)) (faults_by WholeProgram (at p 3) c) []
-    (program_faulted (at p 3) (program_of c) (program_fault c) (program_told c)) (λ program. refl)))
+    part_then p 3 (program_of c) (λ program. Ok (Start program l n)) (program_faults (at p 3) c) [] (program_faulted (at p 3) c) (λ program. refl)))
 start_faulted p (item a (item b (item c (item d ds)))) = wrong_is p Shape (start_of None) refl
 
-step_faulted : (p : List ℕ) (ds : Items) → first_of (sorted_faults p (Some step_sorts) ds) ≡ fault_of p (step_of (one_of ds))
-step_faulted p no_items = wrong_is p Shape (step_of None) refl
-step_faulted p (item a no_items) =
-    part_then p 1 (number_up_to HIGHEST_NUMBER a) (λ (n : ℕ). Ok (Step n)) (faults_by (NumberIn 0 HIGHEST_NUMBER) (at p 1) a) []
-    (number_up_faulted (at p 1) HIGHEST_NUMBER a (omega arith)) (λ n. refl)
-step_faulted p (item a (item b ds)) = wrong_is p Shape (step_of None) refl
+grant_faulted : (p : List ℕ) (ds : Items) → first_of (sorted_faults p (Some grant_sorts) ds) ≡ fault_of p (grant_of (two_of ds))
+grant_faulted p no_items = wrong_is p Shape (grant_of None) refl
+grant_faulted p (item a no_items) = wrong_is p Shape (grant_of None) refl
+grant_faulted p (item a (item b no_items)) =
+    part_then p 1 (number_up_to HIGHEST_NUMBER a) _ (faults_by any_number (at p 1) a) _ (number_told (at p 1) a) (λ (id : ℕ).
+    part_then p 2 (number_up_to HIGHEST_NUMBER b) (λ ttl. Ok (Grant id ttl)) (faults_by any_number (at p 2) b) [] (number_told (at p 2) b) (λ ttl. refl))
+grant_faulted p (item a (item b (item c ds))) = wrong_is p Shape (grant_of None) refl
 
-word_tested : (p : List ℕ) (ds : Items) (starts steps : Bool)
-    → first_of (sorted_faults p (cond starts (Some start_sorts) (cond steps (Some step_sorts) None)) ds)
-    ≡ fault_of p (cond starts (start_of (three_of ds)) (cond steps (step_of (one_of ds)) (bad Shape)))
-word_tested p ds true steps = start_faulted p ds
-word_tested p ds false true = step_faulted p ds
-word_tested p ds false false = wrong_is {A = WorldEvent} p Shape (bad Shape) refl
+number_alone-faulted : (p : List ℕ) (ds : Items) → first_of (sorted_faults p (Some numbered_sorts) ds) ≡ fault_of p (number_alone (one_of ds))
+number_alone-faulted p no_items = wrong_is p Shape (number_alone None) refl
+number_alone-faulted p (item a no_items) = inside_of p 1 (number_up_to HIGHEST_NUMBER a) (faults_by any_number (at p 1) a) (number_told (at p 1) a)
+number_alone-faulted p (item a (item b ds)) = wrong_is p Shape (number_alone None) refl
+
+-- an event made of the one number behind its word
+numbered_faulted : (make : ℕ → WorldEvent) (p : List ℕ) (ds : Items)
+    → first_of (sorted_faults p (Some numbered_sorts) ds) ≡ fault_of p (number_alone (one_of ds) >>= λ n. Ok (make n))
+numbered_faulted make p ds = made p (number_alone (one_of ds)) make (sorted_faults p (Some numbered_sorts) ds) (number_alone-faulted p ds)
+
+-- an array of the word of a transaction
+abbrev txn_array : List ℕ → Items → Data
+txn_array w ds = array (item (string w) ds)
+
+txn_event-faulted : (p w : List ℕ) (ds : Items) → same w (codes "txn") ≡ true
+    → first_of (sorted_faults p (Some txn_sorts) ds) ≡ fault_of p (txn_event (txn_array w ds))
+txn_event-faulted p w ds is =
+    made p (txn_of (txn_array w ds)) Txn (sorted_faults p (Some txn_sorts) ds)
+    (subst (λ (b : Bool). first_of (sorted_faults p (cond b (Some txn_sorts) None) ds) ≡ fault_of p (txn_of (txn_array w ds))) is
+    (txn_faulted p (txn_array w ds)))
+
+word_tested : (p w : List ℕ) (ds : Items) (start step txn grant keep revoke advance : Bool) → same w (codes "txn") ≡ txn
+    → first_of (sorted_faults p (cond start (Some start_sorts) (cond step (Some numbered_sorts) (cond txn (Some txn_sorts) (cond grant (Some grant_sorts)
+    (cond keep (Some numbered_sorts) (cond revoke (Some numbered_sorts) (cond advance (Some numbered_sorts) None))))))) ds)
+    ≡ fault_of p (cond start (start_of (three_of ds)) (cond step (step_of (one_of ds)) (cond txn (txn_event (txn_array w ds)) (cond grant (grant_of (two_of ds))
+    (cond keep (keep_of (one_of ds)) (cond revoke (revoke_of (one_of ds)) (cond advance (advance_of (one_of ds)) (bad Shape))))))))
+word_tested p w ds true step txn grant keep revoke advance is = start_faulted p ds
+word_tested p w ds false true txn grant keep revoke advance is = numbered_faulted Step p ds
+word_tested p w ds false false true grant keep revoke advance is = txn_event-faulted p w ds is
+word_tested p w ds false false false true keep revoke advance is = grant_faulted p ds
+word_tested p w ds false false false false true revoke advance is = numbered_faulted Keep p ds
+word_tested p w ds false false false false false true advance is = numbered_faulted Revoke p ds
+word_tested p w ds false false false false false false true is = numbered_faulted Advance p ds
+word_tested p w ds false false false false false false false is = wrong_is {A = WorldEvent} p Shape (bad Shape) refl
 
 worded_faulted : (p : List ℕ) (d : Data) → first_of (worded_faults event_table p d) ≡ fault_of p (event_of d)
 unfolding event_of
-worded_faulted p (array (item (string w) ds)) = word_tested p ds (same w (codes "start")) (same w (codes "step"))
+worded_faulted p (array (item (string w) ds)) =
+    word_tested p w ds (same w (codes "start")) (same w (codes "step")) (same w (codes "txn")) (same w (codes "grant")) (same w (codes "keep"))
+    (same w (codes "revoke")) (same w (codes "advance")) refl
 worded_faulted p _ = wrong_is {A = WorldEvent} p Shape (bad Shape) refl
 
 count_tested : (p : List ℕ) (d : Data) (b : Bool) → first_of (cond b (worded_faults event_table p d) (wrong p TooMany)) ≡ fault_of p

@@ -21,7 +21,7 @@ use Rattle.stm_world.specs.World.{if_taken, expiries, step}
 use Rattle.stm_world.specs.World.{world_after, replies_to}
 use Rattle.stm_world.specs.Headline.{logged, Headline, OneRevision}
 use Rattle.stm_world.specs.Sound.{KnowsTruth}
-use Rattle.stm_world.proofs.Bases.{IsBased}
+use Rattle.stm_world.proofs.Bases.{IsWellRead, nothing_read}
 use Rattle.stm_world.proofs.Slots.{equal_numbers, same_number, other_number, differ, runner_new, runner_old, count_grows, no_runner}
 use Rattle.stm_world.proofs.Untouched.{runner_for, runner_in_log, IsFresh, none_told, same_in_log, fresh_stays, by_refusal, by_call, by_advance}
 use Rattle.stm_world.proofs.Untouched.{by_reply}
@@ -44,9 +44,9 @@ nothing_true : (start : ℕ) (log : List Line) (task : Task) (r : Runner) → li
     KnowsTruth (store start log).history r.known
 nothing_true start log task r is = let same : begin task ≡ r = cc in subst (λ (x : Runner). KnowsTruth (store start log).history x.known) same (tt, tt)
 
-nothing_based : (start : ℕ) (task : Task) (r : Runner) → live_in (Some (Live (begin task))) ≡ Some r → IsBased start r.task r.known
-nothing_based start task r is =
-    let same : begin task ≡ r = cc in subst (λ (x : Runner). IsBased start x.task x.known) same (λ some serializable. (tt, tt))
+begun_read : (start : ℕ) (task : Task) (r : Runner) → live_in (Some (Live (begin task))) ≡ Some r → IsWellRead start r.task r.known
+begun_read start task r is =
+    let same : begin task ≡ r = cc in subst (λ (x : Runner). IsWellRead start x.task x.known) same (nothing_read start task)
 
 started_follows : (start : ℕ) (log : List Line) (runners : List Slot) (entries : List Entry) (task : Task) → FollowsAt start log runners entries →
     task.limit ≢ 0 →
@@ -78,10 +78,10 @@ started_follows start log runners entries task f some =
             (sym (runner_new runners slot) ∙ subst (λ n. runner_at n (runners ++ slot ∷ []) ≡ Some x) (sym (equal_numbers id other is)) found)
         | false ↦ λ is. f.truth other x (sym (runner_old runners slot other (λ e. differ id other is (sym e))) ∙ found)
       ] refl;
-      based = λ other x found. elim (nat_eq id other) as (λ b. nat_eq id other ≡ b → IsBased start x.task x.known) [
-        | true ↦ λ is. nothing_based start task x
+      well_read = λ other x found. elim (nat_eq id other) as (λ b. nat_eq id other ≡ b → IsWellRead start x.task x.known) [
+        | true ↦ λ is. begun_read start task x
             (sym (runner_new runners slot) ∙ subst (λ n. runner_at n (runners ++ slot ∷ []) ≡ Some x) (sym (equal_numbers id other is)) found)
-        | false ↦ λ is. f.based other x (sym (runner_old runners slot other (λ e. differ id other is (sym e))) ∙ found)
+        | false ↦ λ is. f.well_read other x (sym (runner_old runners slot other (λ e. differ id other is (sym e))) ∙ found)
       ] refl;
       replays = f.replays;
       legal = f.legal;
@@ -214,7 +214,7 @@ opened_follows start = record {
     slots = no_runner;
     fresh = λ id above. none_told start id;
     truth = λ id r found. let none : runner_at id [] ≡ None = no_runner id in absurd (cc);
-    based = λ id r found. let none : runner_at id [] ≡ None = no_runner id in absurd (cc);
+    well_read = λ id r found. let none : runner_at id [] ≡ None = no_runner id in absurd (cc);
     replays = refl;
     legal = tt;
   };
@@ -238,4 +238,4 @@ one_revision laws start events id task some runs serializable =
     let w : World = world_after events (opened start) in
     let f : Follows start log w = run_follows start events [] (opened start) laws (opened_follows start) in
     let found : runner_at id w.runners ≡ Some (runner_for start log id task) = f.at.slots id ∙ ap (option_map (runner_for start log id)) runs in
-    (f.at.based id (runner_for start log id task) found some serializable).0
+    ((f.at.well_read id (runner_for start log id task) found).based some serializable).0

@@ -40,7 +40,8 @@ use Rattle.stm_world.specs.World.{commit_told, commit, finish, step_on, step_liv
 use Rattle.stm_world.specs.Sound.{KnowsTruth}
 use Rattle.stm_world.proofs.Truth.{Keeps, keeps_same, fetch_true, conflict_true}
 use Rattle.stm_world.proofs.Entered.{EntriesFollow}
-use Rattle.stm_world.proofs.Bases.{IsBased, counter_some, fetch_based, conflict_based}
+use Rattle.stm_world.proofs.Bases.{IsWellRead, counter_some, fetch_reads, conflict_reads}
+use Rattle.stm_world.proofs.Asked.{answers_are_the_reads}
 use Rattle.stm_world.proofs.Slots.{same_number}
 use Rattle.stm_world.proofs.Untouched.{runner_for, runner_in_log, runner_named, by_reply}
 use Rattle.stm_world.proofs.Following.{FollowsAt, FollowsStep, with_line, world_at, slot_touched}
@@ -60,9 +61,9 @@ known_truth : (start : ℕ) (log : List Line) (runners : List Slot) (entries : L
     KnowsTruth (store start log).history (told start id task log)
 known_truth start log runners entries id task x = x.follows.truth id (runner_for start log id task) (there start log runners entries id task x)
 
-known_based : (start : ℕ) (log : List Line) (runners : List Slot) (entries : List Entry) (id : ℕ) (task : Task) → Runs start log runners entries id task →
-    IsBased start task (told start id task log)
-known_based start log runners entries id task x = x.follows.based id (runner_for start log id task) (there start log runners entries id task x)
+known_read : (start : ℕ) (log : List Line) (runners : List Slot) (entries : List Entry) (id : ℕ) (task : Task) → Runs start log runners entries id task →
+    IsWellRead start task (told start id task log)
+known_read start log runners entries id task x = x.follows.well_read id (runner_for start log id task) (there start log runners entries id task x)
 
 counter : (start : ℕ) (log : List Line) (runners : List Slot) (entries : List Entry) (id : ℕ) (task : Task) → Runs start log runners entries id task →
     1 ≤ start → 1 ≤ now (store start log).history
@@ -91,9 +92,9 @@ replied_follows : (start : ℕ) (log : List Line) (runners : List Slot) (entries
     runner_started (Ok reply) ≡ None → store start (with_line (Step id) (Ok reply) log) ≡ store start log →
     runner_in_log start (with_line (Step id) (Ok reply) log) id ≡ live_in (Some slot) →
     ((r : Runner) → live_in (Some slot) ≡ Some r → KnowsTruth (store start log).history r.known) →
-    ((r : Runner) → live_in (Some slot) ≡ Some r → IsBased start r.task r.known) →
+    ((r : Runner) → live_in (Some slot) ≡ Some r → IsWellRead start r.task r.known) →
     FollowsStep start log (Step id) (replied reply id slot (world_at start log runners entries))
-replied_follows start log runners entries id task slot reply x right named none same mine truth based =
+replied_follows start log runners entries id task slot reply x right named none same mine truth read =
     let after : List Line = with_line (Step id) (Ok reply) log in
     record {
       standing = sym same;
@@ -101,7 +102,7 @@ replied_follows start log runners entries id task slot reply x right named none 
           (slot_touched start log runners entries [] id (runner_for start log id task) slot reply x.follows
           (there start log runners entries id task x) (is_right start log id task reply x.running right) none
           (λ other ne. by_reply other reply (ap (is_id other) named ∙ ne)) mine
-          (λ r is. subst (λ (s : Standing). KnowsTruth s.history r.known) (sym same) (truth r is)) based
+          (λ r is. subst (λ (s : Standing). KnowsTruth s.history r.known) (sym same) (truth r is)) read
           (record {
             replays = ap without_moment (sym same);
             legal = tt;
@@ -155,8 +156,9 @@ fetch_follows start log runners entries id task key trace x wants =
     refl refl refl
     (fetched_in_log start log id task key (mod_of (key_at h key of_rev)) of_rev (now h) x.running)
     (λ r is. live_is (record { task = task; failures = failures id log; known = known }) r (λ q. KnowsTruth h q.known) is new)
-    (λ r is. live_is (record { task = task; failures = failures id log; known = known }) r (λ q. IsBased start q.task q.known) is
-    (fetch_based start task h key (told start id task log) (counter start log runners entries id task x) (known_based start log runners entries id task x)))
+    (λ r is. live_is (record { task = task; failures = failures id log; known = known }) r (λ q. IsWellRead start q.task q.known) is
+    (fetch_reads start task h key trace (told start id task log) (counter start log runners entries id task x) wants
+    (known_read start log runners entries id task x)))
 
 -- ---- a commit that failed ----
 
@@ -191,8 +193,8 @@ failed_by start log runners entries id task seen modified true left x conflicted
     replied_follows start log runners entries id task (Live r) (Conflict id seen.key seen.mod_rev modified) x (refl, some, conflicted) refl refl refl
     (conflict_in_log start log id task seen.key seen.mod_rev modified x.running)
     (λ q is. live_is r q (λ y. KnowsTruth h y.known) is (conflict_true h task (told start id task log)))
-    (λ q is. live_is r q (λ y. IsBased start y.task y.known) is
-    (conflict_based start task h (told start id task log) (counter start log runners entries id task x)))
+    (λ q is. live_is r q (λ y. IsWellRead start y.task y.known) is
+    (conflict_reads start task h (told start id task log) (counter start log runners entries id task x)))
 failed_by start log runners entries id task seen modified false left x conflicted =
     let none : task.limit ≤ failures id log + 1 = ltb-false (failures id log + 1) task.limit left in
     ended_follows start log runners entries id task (GaveUp id (failures id log + 1) seen.key seen.mod_rev modified) x (refl, refl, none, conflicted)
@@ -240,6 +242,7 @@ taken_follows start log runners entries id task run done law x is_run is_done is
               sees = refl;
               reached = refl;
               told = refl;
+              in_order = answers_are_the_reads task.program reads run (known_read start log runners entries id task x).asked is_run;
             },
           ))
           refl (λ other ne. by_reply other reply ne) (over_now start log id reply refl) (λ r impossible. absurd (cc)) (λ r impossible. absurd (cc))

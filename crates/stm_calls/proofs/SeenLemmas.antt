@@ -1,13 +1,11 @@
 -- What the compare at a place is about.
-use Rattle.std.proofs.Common.{◌≡◌, ℕ, suc, zero, ◌+◌, ◌<◌, ◌≤◌, List, [], ◌∷◌, ◌++◌, map, length, Option, Some, None, refl, sym, ◌∙◌, ap, arith, length-append}
+use Rattle.std.proofs.Common.{◌≡◌, ℕ, suc, zero, ◌+◌, ◌<◌, ◌≤◌, List, [], ◌∷◌, ◌++◌, map, length, Option, Some, refl, ◌∙◌, ap, arith, length-append}
 use Rattle.std.proofs.lemmas.List.{length-map}
 use Rattle.std.specs.Prelude.{slice_get}
 use Rattle.stm_history.specs.declared.key_state.ReadAnswer.{ReadAnswer}
-use Rattle.stm_history.specs.History.{mod_of}
 use Rattle.stm_program.specs.declared.level.Level.{Level}
 use Rattle.stm_program.specs.declared.level.Level.TheVariants.{SerializableSnapshot, Serializable, RepeatableReads, ReadCommitted}
 use Rattle.stm_program.specs.declared.write.Write.{Write}
-use Rattle.stm_program.specs.Writes.{key_of}
 use Rattle.stm_compile.specs.CommitTxn.{first_carried, is_as_read, is_unmodified, compares_of}
 use Rattle.stm_compile.specs.Conflicts.{Seen, seen_of_read, seen_of_write, seen_by}
 use Rattle.stm_calls.specs.Sent.{seen_in}

@@ -12,7 +12,7 @@ use Rattle.stm_world.specs.declared.event.WorldEvent.{WorldEvent}
 use Rattle.stm_world.specs.declared.event.WorldEvent.TheVariants.{Step}
 use Rattle.stm_world.specs.declared.reply.Reply.{Reply}
 use Rattle.stm_world.specs.declared.refusal.Denied.{Denied}
-use Rattle.stm_world.specs.Log.{Line, started, is_start, runner_started, store}
+use Rattle.stm_world.specs.Log.{Line, started, is_start, runner_started, store, line_entries, entries_told}
 use Rattle.stm_world.specs.Right.{IsRight, AreRight}
 use Rattle.stm_world.specs.World.{World, Stepped, Runner, Slot, live_in, runner_at, with_slot}
 use Rattle.stm_world.specs.Sound.{KnowsTruth}
@@ -31,6 +31,7 @@ pub record FollowsAt (start : ℕ) (log : List Line) (runners : List Slot) (entr
   pub fresh : (id : ℕ) → started log < id → IsFresh start log id
   pub truth : (id : ℕ) (r : Runner) → runner_at id runners ≡ Some r → KnowsTruth (store start log).history r.known
   pub well_read : (id : ℕ) (r : Runner) → runner_at id runners ≡ Some r → IsWellRead start r.task r.known
+  pub told : entries ≡ entries_told start log
   pub replays : replay entries (opening start) ≡ without_moment (store start log)
   pub legal : AreLegal entries (opening start)
 
@@ -57,6 +58,11 @@ legal_more : (start : ℕ) (log after : List Line) (runners : List Slot) (entrie
 legal_more start log after runners entries more f e =
     all_legal entries more (opening start) f.legal (subst (AreLegal more) (sym f.replays) e.legal)
 
+-- the entries with those of one more line
+entries_more : (start : ℕ) (log : List Line) (runners : List Slot) (entries more : List Entry) (line : Line) → FollowsAt start log runners entries →
+    more ≡ line_entries start line log → entries ++ more ≡ entries_told start (line ∷ log)
+entries_more start log runners entries more line f is = ap (λ (es : List Entry). es ++ more) f.told ∙ ap (λ (es : List Entry). entries_told start log ++ es) is
+
 same_count : (event : WorldEvent) (reply : Result Reply Denied) (log : List Line) → runner_started reply ≡ None →
     started (with_line event reply log) ≡ started log
 same_count event reply log none = ap (λ o. cond (is_start o) (started log + 1) (started log)) none
@@ -64,9 +70,9 @@ same_count event reply log none = ap (λ o. cond (is_start o) (started log + 1) 
 -- an event that is about no runner
 pub no_runner_touched : (start : ℕ) (log : List Line) (runners : List Slot) (entries more : List Entry) (event : WorldEvent)
     (reply : Result Reply Denied) → FollowsAt start log runners entries → IsRight start log event reply → runner_started reply ≡ None →
-    ((id : ℕ) → Untouched id reply) → EntriesFollow (store start log) (store start (with_line event reply log)) more →
-    FollowsAt start (with_line event reply log) runners (entries ++ more)
-no_runner_touched start log runners entries more event reply f right none untouched e =
+    ((id : ℕ) → Untouched id reply) → more ≡ line_entries start (record { event = event; reply = reply }) log →
+    EntriesFollow (store start log) (store start (with_line event reply log)) more → FollowsAt start (with_line event reply log) runners (entries ++ more)
+no_runner_touched start log runners entries more event reply f right none untouched entered e =
     let line : Line = record { event = event; reply = reply } in
     let count : started (line ∷ log) ≡ started log = same_count event reply log none in
     record {
@@ -76,6 +82,7 @@ no_runner_touched start log runners entries more event reply f right none untouc
       fresh = λ id above. fresh_stays start id line log (untouched id) (f.fresh id (subst (λ n. n < id) count above));
       truth = λ id r found. known_stays (store start log).history (store start (line ∷ log)).history r.known e.keeps (f.truth id r found);
       well_read = f.well_read;
+      told = entries_more start log runners entries more line f entered;
       replays = replays_more start log (line ∷ log) runners entries more f e;
       legal = legal_more start log (line ∷ log) runners entries more f e;
     }
@@ -83,10 +90,11 @@ no_runner_touched start log runners entries more event reply f right none untouc
 -- an event that changes nothing at all
 pub nothing_touched : (start : ℕ) (log : List Line) (runners : List Slot) (entries : List Entry) (event : WorldEvent) (reply : Result Reply Denied) →
     FollowsAt start log runners entries → IsRight start log event reply → runner_started reply ≡ None → ((id : ℕ) → Untouched id reply) →
+    [] ≡ line_entries start (record { event = event; reply = reply }) log →
     EntriesFollow (store start log) (store start (with_line event reply log)) [] → FollowsAt start (with_line event reply log) runners entries
-nothing_touched start log runners entries event reply f right none untouched e =
+nothing_touched start log runners entries event reply f right none untouched entered e =
     subst (λ (es : List Entry). FollowsAt start (with_line event reply log) runners es) (append-nil entries)
-    (no_runner_touched start log runners entries [] event reply f right none untouched e)
+    (no_runner_touched start log runners entries [] event reply f right none untouched entered e)
 
 -- a step that leads a runner to another place
 pub slot_touched : (start : ℕ) (log : List Line) (runners : List Slot) (entries more : List Entry) (id : ℕ) (r : Runner) (slot : Slot) (reply : Reply) →
@@ -95,9 +103,10 @@ pub slot_touched : (start : ℕ) (log : List Line) (runners : List Slot) (entrie
     runner_in_log start (with_line (Step id) (Ok reply) log) id ≡ live_in (Some slot) →
     ((r : Runner) → live_in (Some slot) ≡ Some r → KnowsTruth (store start (with_line (Step id) (Ok reply) log)).history r.known) →
     ((r : Runner) → live_in (Some slot) ≡ Some r → IsWellRead start r.task r.known) →
+    more ≡ line_entries start (record { event = Step id; reply = Ok reply }) log →
     EntriesFollow (store start log) (store start (with_line (Step id) (Ok reply) log)) more →
     FollowsAt start (with_line (Step id) (Ok reply) log) (with_slot id slot runners) (entries ++ more)
-slot_touched start log runners entries more id r slot reply f found right none others mine truth read e =
+slot_touched start log runners entries more id r slot reply f found right none others mine truth read entered e =
     let line : Line = record { event = Step id; reply = Ok reply } in
     let count : started (line ∷ log) ≡ started log = same_count (Step id) (Ok reply) log none in
     let there : (0 < id) × (id ≤ length runners) = runner_there id runners r found in
@@ -127,6 +136,7 @@ slot_touched start log runners entries more id r slot reply f found right none o
         | true ↦ λ is. read x (sym own ∙ subst (λ n. runner_at n (with_slot id slot runners) ≡ Some x) (sym (equal_numbers id other is)) at)
         | false ↦ λ is. f.well_read other x (sym (runner_other id other runners slot there.0 (differ id other is)) ∙ at)
       ] refl;
+      told = entries_more start log runners entries more line f entered;
       replays = replays_more start log (line ∷ log) runners entries more f e;
       legal = legal_more start log (line ∷ log) runners entries more f e;
     }

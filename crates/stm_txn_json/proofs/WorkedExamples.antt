@@ -1,7 +1,7 @@
 -- Worked examples of the grammar and of the first fault.
 use Rattle.std.proofs.Common.{◌≡◌, ℕ, List, [], ◌∷◌, negsuc, None, refl, arith, codes}
 use Rattle.std.specs.Fmt.{digits}
-use Rattle.serde_json.specs.Data.{Data, number, unsigned, negative, string, array, Items, no_items, item}
+use Rattle.serde_json.specs.Data.{Data, number, unsigned, negative, string, array, no_items}
 use Rattle.serde_json.specs.View.{items_of}
 use Rattle.stm_json.specs.declared.cause.Cause.TheVariants.{Shape, Range}
 use Rattle.stm_txn.specs.declared.txn.Op.TheVariants.{Get, Put}

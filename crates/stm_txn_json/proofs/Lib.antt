@@ -6,3 +6,4 @@ pub mod GrammarSound
 pub mod GrammarComplete
 pub mod TxnFaults
 pub mod TxnLemmas
+pub mod WorkedExamples

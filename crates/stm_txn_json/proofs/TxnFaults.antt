@@ -42,7 +42,7 @@ order_faulted : (p : List ℕ) (d : Data) → first_of (faults_by (WordOf order_
 unfolding order_of
 order_faulted p d = order_told p (as_str d)
 
-number_told : (p : List ℕ) (d : Data) → first_of (faults_by any_number p d) ≡ fault_of p (number_up_to HIGHEST_NUMBER d)
+pub number_told : (p : List ℕ) (d : Data) → first_of (faults_by any_number p d) ≡ fault_of p (number_up_to HIGHEST_NUMBER d)
 number_told p d = number_up_faulted p HIGHEST_NUMBER d (omega arith)
 
 -- the sort of the compare's side

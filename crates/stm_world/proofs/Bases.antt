@@ -1,4 +1,4 @@
--- What an attempt at a serializable level knows is of one revision.
+-- What an attempt at a serializable level knows is of one revision, and what any attempt has read was asked for.
 use Rattle.std.proofs.Common.{◌≡◌, ℕ, ◌≤◌, List, [], ◌∷◌, ◌++◌, map, true, refl, subst, arith}
 use Rattle.std.specs.List.{AllByRecursion}
 use Rattle.std.proofs.lemmas.List.Elements.{All-from_recursion}
@@ -17,7 +17,12 @@ use Rattle.stm_entries.specs.Replayed.{Replayed, opening, without_moment}
 use Rattle.stm_entries.specs.Replay.{replay}
 use Rattle.stm_entries.specs.Laws.{AddsTo}
 use Rattle.stm_entries.proofs.Adding.{replay_only_adds}
-use Rattle.stm_world.specs.Task.{Task, answer_at, with_served, after_fetch, after_conflict}
+use Rattle.stm_meaning.specs.declared.trace_item.TraceItem.{TraceItem}
+use Rattle.stm_meaning.specs.declared.run.Answered.TheVariants.{Wants}
+use Rattle.stm_attempt.specs.Settled.{run_on}
+use Rattle.stm_world.specs.Task.{Task, nothing_known, answer_at, with_served, after_fetch, after_conflict}
+use Rattle.stm_world.specs.Asked.{AreAsked}
+use Rattle.stm_world.proofs.Asked.{fetch_asked, conflict_asked}
 
 -- the answers that were read have one base, and those that were prefetched show no revision 0
 abbrev pub HasBase : Known → Type 0
@@ -44,7 +49,7 @@ counter_some start entries s replays some =
     subst (λ (r : Replayed). 1 ≤ now r.history) replays
     (added_count (opening start).history (replay entries (opening start)).history (replay_only_adds entries (opening start)) some)
 
-pub fetch_based : (start : ℕ) (task : Task) (h : History) (key : List ℕ) (known : Known) → (1 ≤ start → 1 ≤ now h) → IsBased start task known →
+fetch_based : (start : ℕ) (task : Task) (h : History) (key : List ℕ) (known : Known) → (1 ≤ start → 1 ≤ now h) → IsBased start task known →
     IsBased start task (after_fetch task (answer_at h key (revision_read h (at_of task.level known.reads))) known)
 fetch_based start task h key known counter based some serializable =
     let before : HasBase known = based some serializable in
@@ -52,7 +57,27 @@ fetch_based start task h key known counter based some serializable =
     served_base task (record { reads = known.reads ++ a ∷ []; prefetched = known.prefetched })
     (fetching_keeps_the_base h task.level known.reads a serializable (counter some) refl before.0, before.1)
 
-pub conflict_based : (start : ℕ) (task : Task) (h : History) (known : Known) → (1 ≤ start → 1 ≤ now h) → IsBased start task (after_conflict task h known)
+conflict_based : (start : ℕ) (task : Task) (h : History) (known : Known) → (1 ≤ start → 1 ≤ now h) → IsBased start task (after_conflict task h known)
 conflict_based start task h known counter some serializable =
     served_base task (record { reads = []; prefetched = map (answer_now h) (reread_keys task.level known.reads) })
     (tt, rereads_show h (reread_keys task.level known.reads) (counter some))
+
+-- ---- how an attempt has read ----
+
+pub record IsWellRead (start : ℕ) (task : Task) (known : Known) : Type 0 where
+  pub based : IsBased start task known
+  pub asked : AreAsked task.program known.reads
+
+pub nothing_read : (start : ℕ) (task : Task) → IsWellRead start task nothing_known
+nothing_read start task = record { based = λ some serializable. (tt, tt); asked = tt }
+
+pub fetch_reads : (start : ℕ) (task : Task) (h : History) (key : List ℕ) (trace : List TraceItem) (known : Known) → (1 ≤ start → 1 ≤ now h) →
+    run_on task.program known.reads ≡ Wants key trace → IsWellRead start task known →
+    IsWellRead start task (after_fetch task (answer_at h key (revision_read h (at_of task.level known.reads))) known)
+fetch_reads start task h key trace known counter wants read = record {
+  based = fetch_based start task h key known counter read.based;
+  asked = fetch_asked task h key (revision_read h (at_of task.level known.reads)) trace known wants read.asked;
+}
+
+pub conflict_reads : (start : ℕ) (task : Task) (h : History) (known : Known) → (1 ≤ start → 1 ≤ now h) → IsWellRead start task (after_conflict task h known)
+conflict_reads start task h known counter = record { based = conflict_based start task h known counter; asked = conflict_asked task h known }

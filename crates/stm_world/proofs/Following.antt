@@ -12,13 +12,13 @@ use Rattle.stm_world.specs.declared.event.WorldEvent.{WorldEvent}
 use Rattle.stm_world.specs.declared.event.WorldEvent.TheVariants.{Step}
 use Rattle.stm_world.specs.declared.reply.Reply.{Reply}
 use Rattle.stm_world.specs.declared.refusal.Denied.{Denied}
-use Rattle.stm_world.specs.Log.{Line, started, is_start, runner_started, store}
+use Rattle.stm_world.specs.Log.{Line, started, is_start, runner_started, store, line_entries, entries_told}
 use Rattle.stm_world.specs.Right.{IsRight, AreRight}
 use Rattle.stm_world.specs.World.{World, Stepped, Runner, Slot, live_in, runner_at, with_slot}
 use Rattle.stm_world.specs.Sound.{KnowsTruth}
 use Rattle.stm_world.proofs.Truth.{known_stays}
 use Rattle.stm_world.proofs.Entered.{EntriesFollow}
-use Rattle.stm_world.proofs.Bases.{IsBased}
+use Rattle.stm_world.proofs.Bases.{IsWellRead}
 use Rattle.stm_world.proofs.Slots.{equal_numbers, other_number, differ, runner_there, runner_own, runner_other}
 use Rattle.stm_world.proofs.Slots.{count_stays}
 use Rattle.stm_world.proofs.Untouched.{runner_in_log, Untouched, IsFresh, same_in_log, fresh_stays}
@@ -30,7 +30,8 @@ pub record FollowsAt (start : ℕ) (log : List Line) (runners : List Slot) (entr
   pub slots : (id : ℕ) → runner_at id runners ≡ runner_in_log start log id
   pub fresh : (id : ℕ) → started log < id → IsFresh start log id
   pub truth : (id : ℕ) (r : Runner) → runner_at id runners ≡ Some r → KnowsTruth (store start log).history r.known
-  pub based : (id : ℕ) (r : Runner) → runner_at id runners ≡ Some r → IsBased start r.task r.known
+  pub well_read : (id : ℕ) (r : Runner) → runner_at id runners ≡ Some r → IsWellRead start r.task r.known
+  pub told : entries ≡ entries_told start log
   pub replays : replay entries (opening start) ≡ without_moment (store start log)
   pub legal : AreLegal entries (opening start)
 
@@ -57,6 +58,11 @@ legal_more : (start : ℕ) (log after : List Line) (runners : List Slot) (entrie
 legal_more start log after runners entries more f e =
     all_legal entries more (opening start) f.legal (subst (AreLegal more) (sym f.replays) e.legal)
 
+-- the entries with those of one more line
+entries_more : (start : ℕ) (log : List Line) (runners : List Slot) (entries more : List Entry) (line : Line) → FollowsAt start log runners entries →
+    more ≡ line_entries start line log → entries ++ more ≡ entries_told start (line ∷ log)
+entries_more start log runners entries more line f is = ap (λ (es : List Entry). es ++ more) f.told ∙ ap (λ (es : List Entry). entries_told start log ++ es) is
+
 same_count : (event : WorldEvent) (reply : Result Reply Denied) (log : List Line) → runner_started reply ≡ None →
     started (with_line event reply log) ≡ started log
 same_count event reply log none = ap (λ o. cond (is_start o) (started log + 1) (started log)) none
@@ -64,9 +70,9 @@ same_count event reply log none = ap (λ o. cond (is_start o) (started log + 1) 
 -- an event that is about no runner
 pub no_runner_touched : (start : ℕ) (log : List Line) (runners : List Slot) (entries more : List Entry) (event : WorldEvent)
     (reply : Result Reply Denied) → FollowsAt start log runners entries → IsRight start log event reply → runner_started reply ≡ None →
-    ((id : ℕ) → Untouched id reply) → EntriesFollow (store start log) (store start (with_line event reply log)) more →
-    FollowsAt start (with_line event reply log) runners (entries ++ more)
-no_runner_touched start log runners entries more event reply f right none untouched e =
+    ((id : ℕ) → Untouched id reply) → more ≡ line_entries start (record { event = event; reply = reply }) log →
+    EntriesFollow (store start log) (store start (with_line event reply log)) more → FollowsAt start (with_line event reply log) runners (entries ++ more)
+no_runner_touched start log runners entries more event reply f right none untouched entered e =
     let line : Line = record { event = event; reply = reply } in
     let count : started (line ∷ log) ≡ started log = same_count event reply log none in
     record {
@@ -75,7 +81,8 @@ no_runner_touched start log runners entries more event reply f right none untouc
       slots = λ id. f.slots id ∙ sym (same_in_log start id line log (untouched id));
       fresh = λ id above. fresh_stays start id line log (untouched id) (f.fresh id (subst (λ n. n < id) count above));
       truth = λ id r found. known_stays (store start log).history (store start (line ∷ log)).history r.known e.keeps (f.truth id r found);
-      based = f.based;
+      well_read = f.well_read;
+      told = entries_more start log runners entries more line f entered;
       replays = replays_more start log (line ∷ log) runners entries more f e;
       legal = legal_more start log (line ∷ log) runners entries more f e;
     }
@@ -83,10 +90,11 @@ no_runner_touched start log runners entries more event reply f right none untouc
 -- an event that changes nothing at all
 pub nothing_touched : (start : ℕ) (log : List Line) (runners : List Slot) (entries : List Entry) (event : WorldEvent) (reply : Result Reply Denied) →
     FollowsAt start log runners entries → IsRight start log event reply → runner_started reply ≡ None → ((id : ℕ) → Untouched id reply) →
+    [] ≡ line_entries start (record { event = event; reply = reply }) log →
     EntriesFollow (store start log) (store start (with_line event reply log)) [] → FollowsAt start (with_line event reply log) runners entries
-nothing_touched start log runners entries event reply f right none untouched e =
+nothing_touched start log runners entries event reply f right none untouched entered e =
     subst (λ (es : List Entry). FollowsAt start (with_line event reply log) runners es) (append-nil entries)
-    (no_runner_touched start log runners entries [] event reply f right none untouched e)
+    (no_runner_touched start log runners entries [] event reply f right none untouched entered e)
 
 -- a step that leads a runner to another place
 pub slot_touched : (start : ℕ) (log : List Line) (runners : List Slot) (entries more : List Entry) (id : ℕ) (r : Runner) (slot : Slot) (reply : Reply) →
@@ -94,10 +102,11 @@ pub slot_touched : (start : ℕ) (log : List Line) (runners : List Slot) (entrie
     ((other : ℕ) → nat_eq id other ≡ false → Untouched other (Ok reply)) →
     runner_in_log start (with_line (Step id) (Ok reply) log) id ≡ live_in (Some slot) →
     ((r : Runner) → live_in (Some slot) ≡ Some r → KnowsTruth (store start (with_line (Step id) (Ok reply) log)).history r.known) →
-    ((r : Runner) → live_in (Some slot) ≡ Some r → IsBased start r.task r.known) →
+    ((r : Runner) → live_in (Some slot) ≡ Some r → IsWellRead start r.task r.known) →
+    more ≡ line_entries start (record { event = Step id; reply = Ok reply }) log →
     EntriesFollow (store start log) (store start (with_line (Step id) (Ok reply) log)) more →
     FollowsAt start (with_line (Step id) (Ok reply) log) (with_slot id slot runners) (entries ++ more)
-slot_touched start log runners entries more id r slot reply f found right none others mine truth based e =
+slot_touched start log runners entries more id r slot reply f found right none others mine truth read entered e =
     let line : Line = record { event = Step id; reply = Ok reply } in
     let count : started (line ∷ log) ≡ started log = same_count (Step id) (Ok reply) log none in
     let there : (0 < id) × (id ≤ length runners) = runner_there id runners r found in
@@ -123,10 +132,11 @@ slot_touched start log runners entries more id r slot reply f found right none o
         | false ↦ λ is. known_stays (store start log).history (store start (line ∷ log)).history x.known e.keeps
             (f.truth other x (sym (runner_other id other runners slot there.0 (differ id other is)) ∙ at))
       ] refl;
-      based = λ other x at. elim (nat_eq id other) as (λ b. nat_eq id other ≡ b → IsBased start x.task x.known) [
-        | true ↦ λ is. based x (sym own ∙ subst (λ n. runner_at n (with_slot id slot runners) ≡ Some x) (sym (equal_numbers id other is)) at)
-        | false ↦ λ is. f.based other x (sym (runner_other id other runners slot there.0 (differ id other is)) ∙ at)
+      well_read = λ other x at. elim (nat_eq id other) as (λ b. nat_eq id other ≡ b → IsWellRead start x.task x.known) [
+        | true ↦ λ is. read x (sym own ∙ subst (λ n. runner_at n (with_slot id slot runners) ≡ Some x) (sym (equal_numbers id other is)) at)
+        | false ↦ λ is. f.well_read other x (sym (runner_other id other runners slot there.0 (differ id other is)) ∙ at)
       ] refl;
+      told = entries_more start log runners entries more line f entered;
       replays = replays_more start log (line ∷ log) runners entries more f e;
       legal = legal_more start log (line ∷ log) runners entries more f e;
     }

@@ -1,7 +1,9 @@
 -- The headline: each step leads to a world that follows its log.
 use Rattle.std.proofs.Common.{◌≡◌, ◌≢◌, ℕ, ◌+◌, ◌<◌, List, [], ◌∷◌, ◌++◌, length, Option, Some, None, Ok, Err, Bool, true, false, cond, refl, sym, ◌∙◌, ap}
 use Rattle.std.proofs.Common.{subst, arith}
+use Rattle.std.proofs.lemmas.List.{append-nil}
 use Rattle.std.specs.Prelude.{nat_eq, option_map, Result}
+use Rattle.stm_txn.specs.declared.advance.Expired.{Expired}
 use Rattle.stm_txn.specs.declared.refusal.Refusal.{Refusal as StoreRefusal}
 use Rattle.stm_txn.specs.Standing.{Standing, Step as StoreStep, Advance as StoreAdvance, transacted, granted, kept_alive, revoked, advanced}
 use Rattle.stm_entries.specs.declared.entry.Entry.{Entry}
@@ -14,14 +16,14 @@ use Rattle.stm_world.specs.declared.reply.Reply.TheVariants.{Started, Txn as Txn
 use Rattle.stm_world.specs.declared.refusal.Refusal.TheVariants.{BadLimit, NoRunner}
 use Rattle.stm_world.specs.Told.{denied, reply_to, store_after_call, advance_reply}
 use Rattle.stm_world.specs.Task.{Task}
-use Rattle.stm_world.specs.Log.{Line, begun, running, started, store, runner_started}
+use Rattle.stm_world.specs.Log.{Line, begun, running, started, store, runner_started, if_told, expired_told, entries_told}
 use Rattle.stm_world.specs.Right.{RunnerIsRight}
 use Rattle.stm_world.specs.World.{World, Runner, Slot, Live, live_in, runner_at, begin, opened, refused, start_runner, step_runner, if_changed}
 use Rattle.stm_world.specs.World.{if_taken, expiries, step}
 use Rattle.stm_world.specs.World.{world_after, replies_to}
 use Rattle.stm_world.specs.Headline.{logged, Headline, OneRevision}
 use Rattle.stm_world.specs.Sound.{KnowsTruth}
-use Rattle.stm_world.proofs.Bases.{IsBased}
+use Rattle.stm_world.proofs.Bases.{IsWellRead, nothing_read}
 use Rattle.stm_world.proofs.Slots.{equal_numbers, same_number, other_number, differ, runner_new, runner_old, count_grows, no_runner}
 use Rattle.stm_world.proofs.Untouched.{runner_for, runner_in_log, IsFresh, none_told, same_in_log, fresh_stays, by_refusal, by_call, by_advance}
 use Rattle.stm_world.proofs.Untouched.{by_reply}
@@ -44,9 +46,9 @@ nothing_true : (start : ℕ) (log : List Line) (task : Task) (r : Runner) → li
     KnowsTruth (store start log).history r.known
 nothing_true start log task r is = let same : begin task ≡ r = cc in subst (λ (x : Runner). KnowsTruth (store start log).history x.known) same (tt, tt)
 
-nothing_based : (start : ℕ) (task : Task) (r : Runner) → live_in (Some (Live (begin task))) ≡ Some r → IsBased start r.task r.known
-nothing_based start task r is =
-    let same : begin task ≡ r = cc in subst (λ (x : Runner). IsBased start x.task x.known) same (λ some serializable. (tt, tt))
+begun_read : (start : ℕ) (task : Task) (r : Runner) → live_in (Some (Live (begin task))) ≡ Some r → IsWellRead start r.task r.known
+begun_read start task r is =
+    let same : begin task ≡ r = cc in subst (λ (x : Runner). IsWellRead start x.task x.known) same (nothing_read start task)
 
 started_follows : (start : ℕ) (log : List Line) (runners : List Slot) (entries : List Entry) (task : Task) → FollowsAt start log runners entries →
     task.limit ≢ 0 →
@@ -78,11 +80,12 @@ started_follows start log runners entries task f some =
             (sym (runner_new runners slot) ∙ subst (λ n. runner_at n (runners ++ slot ∷ []) ≡ Some x) (sym (equal_numbers id other is)) found)
         | false ↦ λ is. f.truth other x (sym (runner_old runners slot other (λ e. differ id other is (sym e))) ∙ found)
       ] refl;
-      based = λ other x found. elim (nat_eq id other) as (λ b. nat_eq id other ≡ b → IsBased start x.task x.known) [
-        | true ↦ λ is. nothing_based start task x
+      well_read = λ other x found. elim (nat_eq id other) as (λ b. nat_eq id other ≡ b → IsWellRead start x.task x.known) [
+        | true ↦ λ is. begun_read start task x
             (sym (runner_new runners slot) ∙ subst (λ n. runner_at n (runners ++ slot ∷ []) ≡ Some x) (sym (equal_numbers id other is)) found)
-        | false ↦ λ is. f.based other x (sym (runner_old runners slot other (λ e. differ id other is (sym e))) ∙ found)
+        | false ↦ λ is. f.well_read other x (sym (runner_old runners slot other (λ e. differ id other is (sym e))) ∙ found)
       ] refl;
+      told = f.told ∙ sym (append-nil (entries_told start log));
       replays = f.replays;
       legal = f.legal;
     }
@@ -96,7 +99,8 @@ start_by : (start : ℕ) (log : List Line) (runners : List Slot) (entries : List
 start_by start log runners entries task true none f = record {
   standing = refl;
   follows = nothing_touched start log runners entries (Start task.program task.level task.limit) (denied BadLimit) f
-      (refl, equal_numbers task.limit 0 none) refl (λ id. by_refusal id (record { cause = BadLimit; expired = [] })) (nothing_follows (store start log));
+      (refl, equal_numbers task.limit 0 none) refl (λ id. by_refusal id (record { cause = BadLimit; expired = [] })) refl
+      (nothing_follows (store start log));
 }
 start_by start log runners entries task false none f =
     record { standing = refl; follows = started_follows start log runners entries task f (differ task.limit 0 none) }
@@ -115,7 +119,7 @@ runner_by start log runners entries id None laws f runs = record {
   standing = refl;
   follows = nothing_touched start log runners entries (Step id) (denied NoRunner) f
       (subst (λ (o : Option Task). RunnerIsRight start log id o (denied NoRunner)) (sym runs) refl) refl
-      (λ other. by_refusal other (record { cause = NoRunner; expired = [] })) (nothing_follows (store start log));
+      (λ other. by_refusal other (record { cause = NoRunner; expired = [] })) refl (nothing_follows (store start log));
 }
 runner_by start log runners entries id (Some task) laws f runs = live_follows start log runners entries id task laws (record { follows = f; running = runs })
 
@@ -139,6 +143,16 @@ no_number_at moment a = by_cause a.cause
     by_cause None = refl
     by_cause (Some cause) = refl
 
+-- an entry of the call is one of its reply
+call_entered : {A : Type 0} (tell : A → Reply) (o : Result (StoreStep A) StoreRefusal) (entry : Entry) → if_taken o entry ≡ if_told (reply_to tell o) entry
+call_entered tell (Ok done) entry = refl
+call_entered tell (Err cause) entry = refl
+
+-- an advance tells what expired, also where it was refused
+expiries_told : (moment : ℕ) (expired : List Expired) (cause : Option StoreRefusal) → expired_told (advance_reply moment expired cause) ≡ expired
+expiries_told moment expired None = refl
+expiries_told moment expired (Some cause) = refl
+
 -- each event
 pub event_follows : (start : ℕ) (log : List Line) (runners : List Slot) (entries : List Entry) (event : WorldEvent) → CommitLaws →
     FollowsAt start log runners entries → FollowsStep start log event (step event (world_at start log runners entries))
@@ -151,7 +165,8 @@ event_follows start log runners entries (Txn txn) laws f =
     record {
       standing = refl;
       follows = no_runner_touched start log runners entries (if_changed s (store_after_call s o) txn) (Txn txn) (reply_to (TxnDone) o) f refl
-          (no_number (TxnDone) o (λ x. refl)) (λ id. by_call id (TxnDone) o (λ x. by_reply id (TxnDone x) refl)) (txn_follows s txn);
+          (no_number (TxnDone) o (λ x. refl)) (λ id. by_call id (TxnDone) o (λ x. by_reply id (TxnDone x) refl)) refl
+          (txn_follows s txn);
     }
 event_follows start log runners entries (Grant lease ttl) laws f =
     let s : Standing = store start log in
@@ -160,7 +175,8 @@ event_follows start log runners entries (Grant lease ttl) laws f =
       standing = refl;
       follows = no_runner_touched start log runners entries (if_taken o (GrantEntry lease ttl s.moment)) (Grant lease ttl)
           (reply_to (λ _. Granted lease) o) f refl (no_number (λ _. Granted lease) o (λ x. refl))
-          (λ id. by_call id (λ _. Granted lease) o (λ x. by_reply id (Granted lease) refl)) (grant_follows s lease ttl);
+          (λ id. by_call id (λ _. Granted lease) o (λ x. by_reply id (Granted lease) refl))
+          (call_entered (λ _. Granted lease) o (GrantEntry lease ttl s.moment)) (grant_follows s lease ttl);
     }
 event_follows start log runners entries (Keep lease) laws f =
     let s : Standing = store start log in
@@ -168,7 +184,8 @@ event_follows start log runners entries (Keep lease) laws f =
     record {
       standing = refl;
       follows = no_runner_touched start log runners entries (if_taken o (Renew lease s.moment)) (Keep lease) (reply_to (λ _. Kept lease) o) f refl
-          (no_number (λ _. Kept lease) o (λ x. refl)) (λ id. by_call id (λ _. Kept lease) o (λ x. by_reply id (Kept lease) refl)) (keep_follows s lease);
+          (no_number (λ _. Kept lease) o (λ x. refl)) (λ id. by_call id (λ _. Kept lease) o (λ x. by_reply id (Kept lease) refl))
+          (call_entered (λ _. Kept lease) o (Renew lease s.moment)) (keep_follows s lease);
     }
 event_follows start log runners entries (Revoke lease) laws f =
     let s : Standing = store start log in
@@ -176,14 +193,16 @@ event_follows start log runners entries (Revoke lease) laws f =
     record {
       standing = refl;
       follows = no_runner_touched start log runners entries (if_taken o (RevokeEntry lease)) (Revoke lease) (reply_to (Revoked lease) o) f refl
-          (no_number (Revoked lease) o (λ x. refl)) (λ id. by_call id (Revoked lease) o (λ x. by_reply id (Revoked lease x) refl)) (revoke_follows s lease);
+          (no_number (Revoked lease) o (λ x. refl)) (λ id. by_call id (Revoked lease) o (λ x. by_reply id (Revoked lease x) refl))
+          (call_entered (Revoked lease) o (RevokeEntry lease)) (revoke_follows s lease);
     }
 event_follows start log runners entries (Advance moment) laws f =
     let a : StoreAdvance = advanced (store start log) moment in
     record {
       standing = refl;
       follows = no_runner_touched start log runners entries (expiries a.expired) (Advance moment) (advance_reply moment a.expired a.cause) f refl
-          (no_number_at moment a) (λ id. by_advance id moment a.expired a.cause) (advance_follows (store start log) moment);
+          (no_number_at moment a) (λ id. by_advance id moment a.expired a.cause)
+          (ap expiries (sym (expiries_told moment a.expired a.cause))) (advance_follows (store start log) moment);
     }
 
 -- ---- whole runs ----
@@ -214,7 +233,8 @@ opened_follows start = record {
     slots = no_runner;
     fresh = λ id above. none_told start id;
     truth = λ id r found. let none : runner_at id [] ≡ None = no_runner id in absurd (cc);
-    based = λ id r found. let none : runner_at id [] ≡ None = no_runner id in absurd (cc);
+    well_read = λ id r found. let none : runner_at id [] ≡ None = no_runner id in absurd (cc);
+    told = refl;
     replays = refl;
     legal = tt;
   };
@@ -227,6 +247,7 @@ headline laws start events =
     record {
       replies = f.at.right;
       standing = f.standing;
+      entries = f.at.told;
       replays = f.at.replays ∙ ap without_moment (sym f.standing);
       legal = f.at.legal;
     }
@@ -238,4 +259,4 @@ one_revision laws start events id task some runs serializable =
     let w : World = world_after events (opened start) in
     let f : Follows start log w = run_follows start events [] (opened start) laws (opened_follows start) in
     let found : runner_at id w.runners ≡ Some (runner_for start log id task) = f.at.slots id ∙ ap (option_map (runner_for start log id)) runs in
-    (f.at.based id (runner_for start log id task) found some serializable).0
+    ((f.at.well_read id (runner_for start log id task) found).based some serializable).0

@@ -32,7 +32,8 @@ use Rattle.stm_world.specs.declared.event.WorldEvent.TheVariants.{Step}
 use Rattle.stm_world.specs.declared.reply.Reply.{Reply}
 use Rattle.stm_world.specs.declared.reply.Reply.TheVariants.{Fetched, Committed, Conflict, GaveUp, Aborted, Faulted, Ended}
 use Rattle.stm_world.specs.Task.{Task, answer_at, after_fetch, after_conflict, answers_told}
-use Rattle.stm_world.specs.Log.{Line, begun, is_over, running, failures, is_id, runner_started, runner_ended, store, told, with_commit}
+use Rattle.stm_world.specs.Log.{Line, begun, is_over, running, failures, is_id, runner_started, runner_ended, store, told, with_commit, commit_entry}
+use Rattle.stm_world.specs.Log.{line_entries}
 use Rattle.stm_world.specs.Right.{IsRight, RunnerIsRight, situation, ReplyIsRight, IsConflicted}
 use Rattle.stm_world.specs.World.{Runner, Slot, Over, Live, live_in, runner_at, with_slot, replied, fetch, entry_of, take_commit}
 use Rattle.stm_world.specs.World.{seen_in, decided}
@@ -40,7 +41,8 @@ use Rattle.stm_world.specs.World.{commit_told, commit, finish, step_on, step_liv
 use Rattle.stm_world.specs.Sound.{KnowsTruth}
 use Rattle.stm_world.proofs.Truth.{Keeps, keeps_same, fetch_true, conflict_true}
 use Rattle.stm_world.proofs.Entered.{EntriesFollow}
-use Rattle.stm_world.proofs.Bases.{IsBased, counter_some, fetch_based, conflict_based}
+use Rattle.stm_world.proofs.Bases.{IsWellRead, counter_some, fetch_reads, conflict_reads}
+use Rattle.stm_world.proofs.Asked.{answers_are_the_reads}
 use Rattle.stm_world.proofs.Slots.{same_number}
 use Rattle.stm_world.proofs.Untouched.{runner_for, runner_in_log, runner_named, by_reply}
 use Rattle.stm_world.proofs.Following.{FollowsAt, FollowsStep, with_line, world_at, slot_touched}
@@ -60,9 +62,9 @@ known_truth : (start : ℕ) (log : List Line) (runners : List Slot) (entries : L
     KnowsTruth (store start log).history (told start id task log)
 known_truth start log runners entries id task x = x.follows.truth id (runner_for start log id task) (there start log runners entries id task x)
 
-known_based : (start : ℕ) (log : List Line) (runners : List Slot) (entries : List Entry) (id : ℕ) (task : Task) → Runs start log runners entries id task →
-    IsBased start task (told start id task log)
-known_based start log runners entries id task x = x.follows.based id (runner_for start log id task) (there start log runners entries id task x)
+known_read : (start : ℕ) (log : List Line) (runners : List Slot) (entries : List Entry) (id : ℕ) (task : Task) → Runs start log runners entries id task →
+    IsWellRead start task (told start id task log)
+known_read start log runners entries id task x = x.follows.well_read id (runner_for start log id task) (there start log runners entries id task x)
 
 counter : (start : ℕ) (log : List Line) (runners : List Slot) (entries : List Entry) (id : ℕ) (task : Task) → Runs start log runners entries id task →
     1 ≤ start → 1 ≤ now (store start log).history
@@ -89,11 +91,12 @@ over_now start log id reply ended =
 replied_follows : (start : ℕ) (log : List Line) (runners : List Slot) (entries : List Entry) (id : ℕ) (task : Task) (slot : Slot) (reply : Reply) →
     Runs start log runners entries id task → ReplyIsRight (situation start log id task) reply → runner_named reply ≡ Some id →
     runner_started (Ok reply) ≡ None → store start (with_line (Step id) (Ok reply) log) ≡ store start log →
+    [] ≡ line_entries start (record { event = Step id; reply = Ok reply }) log →
     runner_in_log start (with_line (Step id) (Ok reply) log) id ≡ live_in (Some slot) →
     ((r : Runner) → live_in (Some slot) ≡ Some r → KnowsTruth (store start log).history r.known) →
-    ((r : Runner) → live_in (Some slot) ≡ Some r → IsBased start r.task r.known) →
+    ((r : Runner) → live_in (Some slot) ≡ Some r → IsWellRead start r.task r.known) →
     FollowsStep start log (Step id) (replied reply id slot (world_at start log runners entries))
-replied_follows start log runners entries id task slot reply x right named none same mine truth based =
+replied_follows start log runners entries id task slot reply x right named none same entered mine truth read =
     let after : List Line = with_line (Step id) (Ok reply) log in
     record {
       standing = sym same;
@@ -101,7 +104,7 @@ replied_follows start log runners entries id task slot reply x right named none 
           (slot_touched start log runners entries [] id (runner_for start log id task) slot reply x.follows
           (there start log runners entries id task x) (is_right start log id task reply x.running right) none
           (λ other ne. by_reply other reply (ap (is_id other) named ∙ ne)) mine
-          (λ r is. subst (λ (s : Standing). KnowsTruth s.history r.known) (sym same) (truth r is)) based
+          (λ r is. subst (λ (s : Standing). KnowsTruth s.history r.known) (sym same) (truth r is)) read entered
           (record {
             replays = ap without_moment (sym same);
             legal = tt;
@@ -113,9 +116,10 @@ replied_follows start log runners entries id task slot reply x right named none 
 ended_follows : (start : ℕ) (log : List Line) (runners : List Slot) (entries : List Entry) (id : ℕ) (task : Task) (reply : Reply) →
     Runs start log runners entries id task → ReplyIsRight (situation start log id task) reply → runner_named reply ≡ Some id →
     runner_started (Ok reply) ≡ None → runner_ended (Ok reply) ≡ Some id → store start (with_line (Step id) (Ok reply) log) ≡ store start log →
+    [] ≡ line_entries start (record { event = Step id; reply = Ok reply }) log →
     FollowsStep start log (Step id) (replied reply id Over (world_at start log runners entries))
-ended_follows start log runners entries id task reply x right named none ended same =
-    replied_follows start log runners entries id task Over reply x right named none same (over_now start log id reply ended) (λ r is. absurd (cc))
+ended_follows start log runners entries id task reply x right named none ended same entered =
+    replied_follows start log runners entries id task Over reply x right named none same entered (over_now start log id reply ended) (λ r is. absurd (cc))
     (λ r is. absurd (cc))
 
 -- ---- a fetch ----
@@ -152,11 +156,12 @@ fetch_follows start log runners entries id task key trace x wants =
     (Live (record { task = task; failures = failures id log; known = known }))
     (Fetched id key (mod_of (key_at h key of_rev)) of_rev (now h)) x
     (refl, record { trace = trace; wants = wants; shows = refl; modified = refl; carries = refl })
-    refl refl refl
+    refl refl refl refl
     (fetched_in_log start log id task key (mod_of (key_at h key of_rev)) of_rev (now h) x.running)
     (λ r is. live_is (record { task = task; failures = failures id log; known = known }) r (λ q. KnowsTruth h q.known) is new)
-    (λ r is. live_is (record { task = task; failures = failures id log; known = known }) r (λ q. IsBased start q.task q.known) is
-    (fetch_based start task h key (told start id task log) (counter start log runners entries id task x) (known_based start log runners entries id task x)))
+    (λ r is. live_is (record { task = task; failures = failures id log; known = known }) r (λ q. IsWellRead start q.task q.known) is
+    (fetch_reads start task h key trace (told start id task log) (counter start log runners entries id task x) wants
+    (known_read start log runners entries id task x)))
 
 -- ---- a commit that failed ----
 
@@ -188,15 +193,15 @@ failed_by start log runners entries id task seen modified true left x conflicted
     let h : History = (store start log).history in
     let some : failures id log + 1 < task.limit = ltb-true (failures id log + 1) task.limit left in
     let r : Runner = record { task = task; failures = failures id log + 1; known = after_conflict task h (told start id task log) } in
-    replied_follows start log runners entries id task (Live r) (Conflict id seen.key seen.mod_rev modified) x (refl, some, conflicted) refl refl refl
+    replied_follows start log runners entries id task (Live r) (Conflict id seen.key seen.mod_rev modified) x (refl, some, conflicted) refl refl refl refl
     (conflict_in_log start log id task seen.key seen.mod_rev modified x.running)
     (λ q is. live_is r q (λ y. KnowsTruth h y.known) is (conflict_true h task (told start id task log)))
-    (λ q is. live_is r q (λ y. IsBased start y.task y.known) is
-    (conflict_based start task h (told start id task log) (counter start log runners entries id task x)))
+    (λ q is. live_is r q (λ y. IsWellRead start y.task y.known) is
+    (conflict_reads start task h (told start id task log) (counter start log runners entries id task x)))
 failed_by start log runners entries id task seen modified false left x conflicted =
     let none : task.limit ≤ failures id log + 1 = ltb-false (failures id log + 1) task.limit left in
     ended_follows start log runners entries id task (GaveUp id (failures id log + 1) seen.key seen.mod_rev modified) x (refl, refl, none, conflicted)
-    refl refl refl refl
+    refl refl refl refl refl
 
 -- ---- a commit that succeeded ----
 
@@ -240,9 +245,11 @@ taken_follows start log runners entries id task run done law x is_run is_done is
               sees = refl;
               reached = refl;
               told = refl;
+              in_order = answers_are_the_reads task.program reads run (known_read start log runners entries id task x).asked is_run;
             },
           ))
           refl (λ other ne. by_reply other reply ne) (over_now start log id reply refl) (λ r impossible. absurd (cc)) (λ r impossible. absurd (cc))
+          (sym (ap (commit_entry (now done.history) run.output run.trace answers) begun_is))
           (subst (λ (y : Standing). EntriesFollow s y (entry ∷ [])) (sym same) (commit_follows_entry s task reads run done takes came));
     }
 
@@ -304,7 +311,7 @@ commit_follows start log runners entries id task run (Ok done) laws x is_run is_
     decided_follows start log runners entries id task run done done.answer.failed laws x is_run is_done is refl
 commit_follows start log runners entries id task run (Err cause) laws x is_run is_done is =
     ended_follows start log runners entries id task (Ended id cause) x (refl, record { run = run; is_run = is_run; is_done = is_done; comes_to = is })
-    refl refl refl refl
+    refl refl refl refl refl
 
 done_follows : (start : ℕ) (log : List Line) (runners : List Slot) (entries : List Entry) (id : ℕ) (task : Task) (run : Run) →
     CommitLaws → Runs start log runners entries id task →
@@ -324,9 +331,9 @@ end_follows : (start : ℕ) (log : List Line) (runners : List Slot) (entries : L
     (world_at start log runners entries))
 end_follows start log runners entries id task run DoneEnd laws x is_run ended = done_follows start log runners entries id task run laws x is_run ended
 end_follows start log runners entries id task run (AbortedEnd text) laws x is_run ended =
-    ended_follows start log runners entries id task (Aborted id text) x (refl, record { run = run; is_run = is_run; ended = ended }) refl refl refl refl
+    ended_follows start log runners entries id task (Aborted id text) x (refl, record { run = run; is_run = is_run; ended = ended }) refl refl refl refl refl
 end_follows start log runners entries id task run (FaultedEnd fault) laws x is_run ended =
-    ended_follows start log runners entries id task (Faulted id fault) x (refl, record { run = run; is_run = is_run; ended = ended }) refl refl refl refl
+    ended_follows start log runners entries id task (Faulted id fault) x (refl, record { run = run; is_run = is_run; ended = ended }) refl refl refl refl refl
 
 answered_follows : (start : ℕ) (log : List Line) (runners : List Slot) (entries : List Entry) (id : ℕ) (task : Task) (answered : Answered) →
     CommitLaws → Runs start log runners entries id task → run_on task.program (told start id task log).reads ≡ answered →

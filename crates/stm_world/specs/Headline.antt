@@ -9,7 +9,7 @@ use Rattle.stm_world.specs.declared.event.WorldEvent.{WorldEvent}
 use Rattle.stm_world.specs.declared.reply.Reply.{Reply}
 use Rattle.stm_world.specs.declared.refusal.Denied.{Denied}
 use Rattle.stm_world.specs.Task.{Task}
-use Rattle.stm_world.specs.Log.{Line, running, store, told}
+use Rattle.stm_world.specs.Log.{Line, running, store, entries_told, told}
 use Rattle.stm_world.specs.Right.{AreRight}
 use Rattle.stm_world.specs.World.{World, opened, world_after, replies_to}
 
@@ -19,11 +19,12 @@ logged [] replies log = log
 logged (e ∷ es) [] log = log
 logged (e ∷ es) (reply ∷ replies) log = logged es replies (record { event = e; reply = reply } ∷ log)
 
--- Each reply is right after the lines before it; the store is what the log says; and the entries replay to it, each legal at
--- its point.
+-- Each reply is right after the lines before it; store and entries are what the log says; and the entries replay to the store,
+-- each legal at its point.
 pub record Holds (start : ℕ) (log : List Line) (w : World) : Type 0 where
   pub replies : AreRight start log
   pub standing : w.standing ≡ store start log
+  pub entries : w.entries ≡ entries_told start log
   pub replays : replay w.entries (opening start) ≡ without_moment w.standing
   pub legal : AreLegal w.entries (opening start)
 

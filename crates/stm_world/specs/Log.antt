@@ -1,18 +1,24 @@
--- A log of events and replies, the newest first, and what it tells of each runner and of the store.
+-- A log of events and replies, the newest first, and what it tells of each runner, of the store and of the entries.
 --
 -- Nothing here knows how a world makes its replies.
-use Rattle.std.specs.Prelude.{ℕ, ◌+◌, nat_eq, Bool, true, false, ◌||◌, if◌then◌else◌, List, [], ◌∷◌, Option, Some, None, Result, Ok}
+use Rattle.std.specs.Prelude.{ℕ, ◌+◌, nat_eq, nat_lt, Bool, true, false, ◌||◌, if◌then◌else◌, List, [], ◌∷◌, ◌++◌, map, Option, Some, None}
+use Rattle.std.specs.Prelude.{Result, Ok, Err}
 use Rattle.stm_history.specs.declared.key_state.ReadAnswer.{ReadAnswer}
-use Rattle.stm_history.specs.History.{History}
+use Rattle.stm_history.specs.History.{History, now}
+use Rattle.stm_meaning.specs.declared.value.Value.{Value}
+use Rattle.stm_meaning.specs.declared.trace_item.TraceItem.{TraceItem}
 use Rattle.stm_meaning.specs.Meaning.{run_over}
+use Rattle.stm_txn.specs.declared.advance.Expired.{Expired}
 use Rattle.stm_txn.specs.Standing.{Standing, opening, with_history, transacted, granted, kept_alive, revoked, advanced}
 use Rattle.stm_attempt.specs.Known.{Known}
+use Rattle.stm_entries.specs.declared.entry.Entry.{Entry}
+use Rattle.stm_entries.specs.declared.entry.Entry.TheVariants.{Program, Foreign, Grant as GrantEntry, Renew, Revoke as RevokeEntry, Expire}
 use Rattle.stm_entries.specs.Replayed.{without_moment}
 use Rattle.stm_entries.specs.Alone.{seen_at, left_by_run}
 use Rattle.stm_world.specs.declared.event.WorldEvent.{WorldEvent}
 use Rattle.stm_world.specs.declared.event.WorldEvent.TheVariants.{Start, Step, Txn, Grant, Keep, Revoke, Advance}
 use Rattle.stm_world.specs.declared.reply.Reply.{Reply}
-use Rattle.stm_world.specs.declared.reply.Reply.TheVariants.{Started, Fetched, Committed, Conflict, GaveUp, Aborted, Faulted, Ended}
+use Rattle.stm_world.specs.declared.reply.Reply.TheVariants.{Started, Fetched, Committed, Conflict, GaveUp, Aborted, Faulted, Ended, Advanced}
 use Rattle.stm_world.specs.declared.refusal.Denied.{Denied}
 use Rattle.stm_world.specs.Told.{store_after_call}
 use Rattle.stm_world.specs.Task.{Task, nothing_known, answer_at, after_fetch, after_conflict}
@@ -107,6 +113,49 @@ store_after task_of (Advance moment) reply s = (advanced s moment).leaves
 abbrev pub store : ℕ → List Line → Standing
 store start [] = opening start
 store start (line ∷ older) = store_after (λ id. begun id older) line.event line.reply (store start older)
+
+-- ---- entries ----
+
+-- the entry of a program that has committed, as it is told
+abbrev pub commit_entry : ℕ → List Value → List TraceItem → List ReadAnswer → Option Task → List Entry
+commit_entry revision output trace answers None = []
+commit_entry revision output trace answers (Some task) = Program task.program task.level answers output trace revision ∷ []
+
+-- of the replies to a step only a commit is an entry
+abbrev pub entries_of_step : (ℕ → Option Task) → Result Reply Denied → List Entry
+entries_of_step task_of (Ok (Committed runner revision attempts output trace answers)) = commit_entry revision output trace answers (task_of runner)
+entries_of_step task_of other = []
+
+-- a call that was not refused is an entry
+abbrev pub if_told : Result Reply Denied → Entry → List Entry
+if_told (Ok reply) entry = entry ∷ []
+if_told (Err refusal) entry = []
+
+-- the leases that an advance expired, also where it was refused
+abbrev pub expired_told : Result Reply Denied → List Expired
+expired_told (Ok (Advanced moment expired)) = expired
+expired_told (Ok other) = []
+expired_told (Err refusal) = refusal.expired
+
+-- what an event is entered as: a transaction where it changed something, and each lease that an advance expired
+abbrev pub entries_of : (ℕ → Option Task) → Standing → Standing → WorldEvent → Result Reply Denied → List Entry
+entries_of task_of before after (Start program level limit) reply = []
+entries_of task_of before after (Step runner) reply = entries_of_step task_of reply
+entries_of task_of before after (Txn txn) reply = if nat_lt (now before.history) (now after.history) then Foreign txn ∷ [] else []
+entries_of task_of before after (Grant id ttl) reply = if_told reply (GrantEntry id ttl before.moment)
+entries_of task_of before after (Keep id) reply = if_told reply (Renew id before.moment)
+entries_of task_of before after (Revoke id) reply = if_told reply (RevokeEntry id)
+entries_of task_of before after (Advance moment) reply = map (λ (e : Expired). Expire e.id) (expired_told reply)
+
+-- what a line adds to the entries
+abbrev pub line_entries : ℕ → Line → List Line → List Entry
+line_entries start line older =
+    entries_of (λ id. begun id older) (store start older) (store start (line ∷ older)) line.event line.reply
+
+-- the entries of a log, the oldest first
+abbrev pub entries_told : ℕ → List Line → List Entry
+entries_told start [] = []
+entries_told start (line ∷ older) = entries_told start older ++ line_entries start line older
 
 -- ---- what a runner knows ----
 

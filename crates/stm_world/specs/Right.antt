@@ -33,6 +33,7 @@ use Rattle.stm_world.specs.declared.refusal.Refusal.TheVariants.{BadLimit, NoRun
 use Rattle.stm_world.specs.declared.refusal.Denied.{Denied}
 use Rattle.stm_world.specs.Told.{denied, reply_to, advance_reply}
 use Rattle.stm_world.specs.Task.{Task, answers_told}
+use Rattle.stm_world.specs.Asked.{keys_read}
 use Rattle.stm_world.specs.Log.{Line, running, started, failures, store, told}
 
 -- Where a runner stands: its number, its task, what it has read in its attempt (with the prefetched answers that it took), the
@@ -67,7 +68,8 @@ pub record Commits (at : Situation) (outcome : Result Done StoreRefusal) : Type 
   pub comes_to : committed at.store.history (is_live_in at.store.live) at.task.level at.reads run ≡ outcome
 
 -- A commit that succeeds: at a comparing level output and trace are those of the program run alone on the state of this
--- moment, at ReadCommitted those of its run on what it read, which is told.
+-- moment, at ReadCommitted those of its run on what it read, which is told. What it read are the keys that the run reads, in the
+-- order of its first reads.
 pub record IsCommitted (at : Situation) (revision : ℕ) (output : List Value) (trace : List TraceItem) (answers : List ReadAnswer) : Type 0 where
   pub done : Done
   pub commits : Commits at (Ok done)
@@ -77,6 +79,7 @@ pub record IsCommitted (at : Situation) (revision : ℕ) (output : List Value) (
   pub sees : trace ≡ commits.run.trace
   pub reached : revision ≡ now done.history
   pub told : answers ≡ answers_told at.task.level at.reads
+  pub in_order : commits.run.reads ≡ keys_read at.reads
 
 -- A commit that fails changes nothing: a compare failed, it is about this key, and it is a conflict.
 pub record IsConflicted (at : Situation) (key : List ℕ) (seen now_modified : ℕ) : Type 0 where

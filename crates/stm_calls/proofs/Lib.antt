@@ -1,0 +1,6 @@
+pub mod ReadLemmas
+pub mod FetchLemmas
+pub mod SeenLemmas
+pub mod CommitLemmas
+pub mod PrefetchLemmas
+pub mod Cases

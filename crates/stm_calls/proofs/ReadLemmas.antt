@@ -1,0 +1,62 @@
+-- The answers of reads, among those of a transaction.
+use Rattle.std.proofs.Common.{◌≡◌, List, [], ◌∷◌, ◌++◌, map, refl, sym, ◌∙◌, ap, append_assoc, All}
+use Rattle.std.specs.List.{AllByRecursion}
+use Rattle.std.proofs.lemmas.List.Elements.{All-from_recursion}
+use Rattle.stm_history.specs.declared.key_state.ReadAnswer.{ReadAnswer}
+use Rattle.stm_txn.specs.declared.answer.OpAnswer.{OpAnswer}
+use Rattle.stm_txn.specs.declared.answer.OpAnswer.TheVariants.{Get, Put, Del}
+use Rattle.stm_txn.specs.Numbers.{ReadFits, OpsFit}
+use Rattle.stm_calls.specs.Reads.{reads_in, IsRead, IsOneRead}
+
+-- ---- one after another
+
+first_apart : (answer : OpAnswer) (rest : List OpAnswer) → reads_in (answer ∷ rest) ≡ reads_in (answer ∷ []) ++ reads_in rest
+first_apart (Get read) rest = refl
+first_apart Put rest = refl
+first_apart (Del count) rest = refl
+
+-- one more answer is taken
+pub one_taken : (before after : List ReadAnswer) (answer : OpAnswer) (left rest : List OpAnswer) (all : List ReadAnswer) →
+    after ≡ before ++ reads_in (answer ∷ []) → left ≡ answer ∷ rest → before ++ reads_in left ≡ all → after ++ reads_in rest ≡ all
+one_taken before after answer left rest all added first told =
+    ap (λ (l : List ReadAnswer). l ++ reads_in rest) added
+    ∙ append_assoc before (reads_in (answer ∷ [])) (reads_in rest)
+    ∙ ap (λ (l : List ReadAnswer). before ++ l) (sym (first_apart answer rest))
+    ∙ ap (λ (l : List OpAnswer). before ++ reads_in l) (sym first)
+    ∙ told
+
+-- answers that are all of reads
+pub all_reads : (reads : List ReadAnswer) → reads_in (map (λ a. Get a) reads) ≡ reads
+all_reads [] = refl
+all_reads (a ∷ reads) = ap (λ l. a ∷ l) (all_reads reads)
+
+-- ---- one read
+
+nothing_ends : (before : List OpAnswer) (last : OpAnswer) → [] ≡ before ++ last ∷ [] → ⊥
+nothing_ends [] last is = absurd (cc)
+nothing_ends (x ∷ before) last is = absurd (cc)
+
+last_is_all : (before : List OpAnswer) (last first : OpAnswer) → first ∷ [] ≡ before ++ last ∷ [] → first ≡ last
+last_is_all [] last first is = cc
+last_is_all (x ∷ before) last first is = let rest : [] ≡ before ++ last ∷ [] = cc in absurd (nothing_ends before last rest)
+
+-- the last answer where one read was answered
+pub last_of_one : (answers items before : List OpAnswer) (last : OpAnswer) → IsOneRead answers → items ≡ answers → items ≡ before ++ last ∷ [] →
+    answers ≡ last ∷ []
+last_of_one answers items before last one same ends =
+    one.1 ∙ ap (λ (a : OpAnswer). a ∷ []) (last_is_all before last (Get one.0) (sym one.1 ∙ sym same ∙ ends))
+
+pub last_is_read : (answers items before : List OpAnswer) (last : OpAnswer) → IsOneRead answers → items ≡ answers → items ≡ before ++ last ∷ [] →
+    IsRead last
+last_is_read answers items before last one same ends = (one.0, sym (last_is_all before last (Get one.0) (sym one.1 ∙ sym same ∙ ends)))
+
+-- ---- numbers
+
+reads_are_small : (answers : List OpAnswer) → OpsFit answers → AllByRecursion ReadFits (reads_in answers)
+reads_are_small [] fit = tt
+reads_are_small (Get read ∷ answers) fit = (fit.0, reads_are_small answers fit.1)
+reads_are_small (Put ∷ answers) fit = reads_are_small answers fit.1
+reads_are_small (Del count ∷ answers) fit = reads_are_small answers fit.1
+
+pub reads_fit : (answers : List OpAnswer) → OpsFit answers → All ReadFits (reads_in answers)
+reads_fit answers fit = All-from_recursion ReadFits (reads_in answers) (reads_are_small answers fit)

@@ -1,0 +1,5 @@
+pub mod Reads
+pub mod Fetched
+pub mod Sent
+pub mod Prefetch
+pub mod Numbers

@@ -1,0 +1,20 @@
+-- The answers of reads, among those of a transaction.
+use Rattle.std.specs.Prelude.{◌≡◌, List, [], ◌∷◌}
+use Rattle.stm_history.specs.declared.key_state.ReadAnswer.{ReadAnswer}
+use Rattle.stm_txn.specs.declared.answer.OpAnswer.{OpAnswer}
+use Rattle.stm_txn.specs.declared.answer.OpAnswer.TheVariants.{Get, Put, Del}
+
+-- what the reads answered, in order
+abbrev pub reads_in : List OpAnswer → List ReadAnswer
+reads_in [] = []
+reads_in (Get read ∷ answers) = read ∷ reads_in answers
+reads_in (Put ∷ answers) = reads_in answers
+reads_in (Del count ∷ answers) = reads_in answers
+
+-- an answer is that of a read
+abbrev pub IsRead : OpAnswer → Type 0
+IsRead answer = (read : ReadAnswer) × (answer ≡ Get read)
+
+-- one read was answered, and nothing else
+abbrev pub IsOneRead : List OpAnswer → Type 0
+IsOneRead answers = (read : ReadAnswer) × (answers ≡ Get read ∷ [])

@@ -1,0 +1,46 @@
+//! The fetch of a key.
+ghost use Rattle.std.specs.Prelude.{◌≡◌, ◌<◌, ◌≤◌, length, IfOk};
+ghost use Rattle.stm_history.specs.History.{now};
+ghost use Rattle.stm_txn.specs.Numbers.{ReadFits};
+ghost use Rattle.stm_calls.specs.Fetched.{fetched, fetch_of};
+
+use crate::answers::take_only_read;
+use std::alloc::{AllocError, Global};
+use stm_history::{ReadAnswer, Text};
+use stm_txn::{Op, Refusal, ShortList, Store, Txn};
+
+/// The transaction that reads one key.
+fn read_one(alloc: Global, key: &str, at: u64) -> Result<Txn, AllocError>
+    ensures { IfOk result (λ txn. txn ≡ fetch_of key.now at) }
+{
+    let key = Text::copy_of(alloc, key)?;
+    let mut success = ShortList::new(alloc);
+    success.push(Op::Get { key, rev: at })?;
+    Ok(Txn {
+        compares: ShortList::new(alloc),
+        success,
+        failure: ShortList::new(alloc),
+    })
+}
+
+/// Fetches a key at a revision that the store has reached, 0 for the current one, by one transaction.
+///
+/// The answer shows the key at that revision, and carries the store's. The store is as it was, also where a
+/// growth is refused, which is the only refusal. (etcd's API reference, "Range".)
+pub fn fetch(alloc: Global, store: &mut Store, key: &str, at: u64) -> Result<ReadAnswer, AllocError>
+    requires named { 0 < length key.now }
+    requires reached { at ≤ now store.old.standing.history }
+    ensures answer { IfOk result (λ answer. answer ≡ fetched store.old.standing.history key.now at) }
+    ensures in_range { IfOk result ReadFits }
+    ensures store { store.new.standing ≡ store.old.standing }
+{
+    let txn = read_one(alloc, key, at)?;
+    match store.txn(&txn) {
+        Ok(done) => {
+            let read = take_only_read(done.answers)?;
+            Ok(read)
+        }
+        Err(Refusal::OutOfMemory) => Err(AllocError),
+        Err(_) => unreachable!(),
+    }
+}

@@ -23,7 +23,7 @@ use Rattle.stm_compile.specs.Conflicts.{Seen, seen_by}
 use Rattle.stm_calls.specs.declared.sent.Sent.{Sent}
 use Rattle.stm_calls.specs.declared.sent.Sent.TheVariants.{Committed, Failed}
 
--- what the failed compare is about
+-- what the failed compare is about; the place that is told is that of a compare, so there always is one
 abbrev pub seen_in : Option Seen → Seen
 seen_in None = record { key = []; mod_rev = 0; at = 0 }
 seen_in (Some seen) = seen

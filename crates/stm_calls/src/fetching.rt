@@ -23,10 +23,11 @@ fn read_one(alloc: Global, key: &str, at: u64) -> Result<Txn, AllocError>
     })
 }
 
-/// Fetches a key at a revision that the store has reached, 0 for the current one, by one transaction.
+/// Fetches a key, which is not empty, at a revision that the store has reached, 0 for the current one. It is one
+/// transaction, which reads and nothing else.
 ///
-/// The answer shows the key at that revision, and carries the store's. The store is as it was, also where a
-/// growth is refused, which is the only refusal. (etcd's API reference, "Range".)
+/// The answer shows the key at that revision, and carries the store's. Want of memory is the only refusal. The
+/// store is as it was, refused or not. (etcd's API reference, "Range".)
 pub fn fetch(alloc: Global, store: &mut Store, key: &str, at: u64) -> Result<ReadAnswer, AllocError>
     requires named { 0 < length key.now }
     requires reached { at ≤ now store.old.standing.history }

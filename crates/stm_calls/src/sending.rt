@@ -83,12 +83,14 @@ fn conflict(
 
 /// Commits an attempt that is ready, by one transaction.
 ///
-/// `Committed` says that no compare failed and the writes are applied. `Failed` says that one did, and the
-/// store is as it was; its answers may be prefetched for the next attempt: they are of keys that differ, all
-/// of one revision. So says a refusal, of any cause: `TooManyOps` where it compares or writes more than a
-/// transaction may, `LeaseNotFound` where a put names a lease that is not live, `RevisionsUsedUp` where
-/// something would change at the highest revision; `OutOfMemory` may come before any of these. (The Go
-/// package `clientv3/concurrency`, "STM".)
+/// None of the keys that it read is empty. `Committed` says that no compare failed, and the writes are
+/// applied. `Failed` says that one did, and the store is as it was. Its answers may be prefetched for the next
+/// attempt: they are of keys that differ, and all of one revision.
+///
+/// A refusal leaves the store as it was too. `TooManyOps`: the attempt compares or writes more keys than a
+/// transaction may. Where no compare fails, `LeaseNotFound`: a put names a lease that is not live; then
+/// `RevisionsUsedUp`: something would change at the highest revision. `OutOfMemory` may come before each of
+/// these. (The Go package `clientv3/concurrency`, "STM"; the order of the refusals is this store's own.)
 pub fn commit(alloc: Global, store: &mut Store, ready: &Ready) -> Result<Sent, Refusal>
     requires named { All (λ (a : Answer). 0 < length a.key) ready.now.answers }
     ensures step { (run : Run) → run_on ready.now.program ready.now.answers ≡ Ended run → IsSent (sent store.old.standing ready.now.level ready.now.answers run) store.old.standing result store.new.standing }

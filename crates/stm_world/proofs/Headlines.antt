@@ -21,9 +21,10 @@ use Rattle.stm_world.specs.Right.{RunnerIsRight}
 use Rattle.stm_world.specs.World.{World, Runner, Slot, Live, live_in, runner_at, begin, opened, refused, start_runner, step_runner, if_changed}
 use Rattle.stm_world.specs.World.{if_taken, expiries, step}
 use Rattle.stm_world.specs.World.{world_after, replies_to}
-use Rattle.stm_world.specs.Headline.{logged, Headline, OneRevision}
+use Rattle.stm_world.specs.Headline.{logged, Headline, OneState}
 use Rattle.stm_world.specs.Sound.{KnowsTruth}
 use Rattle.stm_world.proofs.Bases.{IsWellRead, nothing_read}
+use Rattle.stm_world.proofs.OneState.{are_of_one_state}
 use Rattle.stm_world.proofs.Slots.{equal_numbers, same_number, other_number, differ, runner_new, runner_old, count_grows, no_runner}
 use Rattle.stm_world.proofs.Untouched.{runner_for, runner_in_log, IsFresh, none_told, same_in_log, fresh_stays, by_refusal, by_call, by_advance}
 use Rattle.stm_world.proofs.Untouched.{by_reply}
@@ -252,11 +253,12 @@ headline laws start events =
       legal = f.at.legal;
     }
 
--- what an attempt at a serializable level has read is of one revision, whatever comes of it
-pub one_revision : CommitLaws → OneRevision
-one_revision laws start events id task some runs serializable =
+-- what an attempt at a serializable level has read is of one state, whatever comes of it
+pub one_state : CommitLaws → OneState
+one_state laws start events id task some runs serializable =
     let log : List Line = logged events (replies_to events (opened start)) [] in
     let w : World = world_after events (opened start) in
+    let r : Runner = runner_for start log id task in
     let f : Follows start log w = run_follows start events [] (opened start) laws (opened_follows start) in
-    let found : runner_at id w.runners ≡ Some (runner_for start log id task) = f.at.slots id ∙ ap (option_map (runner_for start log id)) runs in
-    ((f.at.well_read id (runner_for start log id task) found).based some serializable).0
+    let found : runner_at id w.runners ≡ Some r = f.at.slots id ∙ ap (option_map (runner_for start log id)) runs in
+    are_of_one_state (store start log).history task r.known.reads ((f.at.well_read id r found).based some serializable).0 (f.at.truth id r found).0

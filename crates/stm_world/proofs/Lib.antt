@@ -3,6 +3,7 @@ pub mod Truth
 pub mod Entered
 pub mod ReadOrder
 pub mod Asked
+pub mod OneState
 pub mod Slots
 pub mod Untouched
 pub mod Bases

@@ -1,7 +1,13 @@
 -- The headline: over every list of events, in any interleaving of any number of runners.
 use Rattle.std.specs.Prelude.{◌≡◌, ℕ, ◌≤◌, true, List, [], ◌∷◌, Some, Result}
+use Rattle.stm_history.specs.declared.key_state.ReadAnswer.{ReadAnswer}
+use Rattle.stm_history.specs.History.{History}
+use Rattle.stm_meaning.specs.Laws.{IsContinuedBy}
+use Rattle.stm_meaning.specs.Meaning.{run_over}
 use Rattle.stm_compile.specs.Levels.{is_serializable}
-use Rattle.stm_attempt.specs.Fetches.{HaveOneBase}
+use Rattle.stm_compile.specs.Answers.{AreTrue, state_as_of}
+use Rattle.stm_attempt.specs.Settled.{run_on}
+use Rattle.stm_attempt.specs.Fetches.{base_of, HaveOneBase}
 use Rattle.stm_entries.specs.Replayed.{opening, without_moment}
 use Rattle.stm_entries.specs.Replay.{replay}
 use Rattle.stm_entries.specs.Legal.{AreLegal}
@@ -32,9 +38,17 @@ abbrev pub Headline : Type 0
 Headline =
     (start : ℕ) (events : List WorldEvent) → Holds start (logged events (replies_to events (opened start)) []) (world_after events (opened start))
 
--- What an attempt at a serializable level has read is of one revision, also where its commit will fail.
-abbrev pub OneRevision : Type 0
-OneRevision =
+-- What was read is true and of one revision. The run on it is continued by the program's run on the state at that revision: an
+-- abort or a fault is that run's end, and what was seen is the beginning of what that run sees.
+pub record AreOfOneState (h : History) (task : Task) (reads : List ReadAnswer) : Type 0 where
+  pub one_revision : HaveOneBase reads
+  pub truth : AreTrue h reads
+  pub continued : IsContinuedBy (run_on task.program reads) (run_over (state_as_of h (base_of reads)) task.program.statements)
+
+-- What an attempt at a serializable level has read is of one state, also where its commit will fail.
+abbrev pub OneState : Type 0
+OneState =
     (start : ℕ) (events : List WorldEvent) (id : ℕ) (task : Task) → 1 ≤ start
     → running id (logged events (replies_to events (opened start)) []) ≡ Some task → is_serializable task.level ≡ true
-    → HaveOneBase (told start id task (logged events (replies_to events (opened start)) [])).reads
+    → AreOfOneState (store start (logged events (replies_to events (opened start)) [])).history task
+    (told start id task (logged events (replies_to events (opened start)) [])).reads

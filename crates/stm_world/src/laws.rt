@@ -1,6 +1,6 @@
 //! The laws of worlds. Each function does nothing: its contract is the law.
 ghost use Rattle.stm_world.specs.Asked.{AnswersAreTheReads};
-ghost use Rattle.stm_world.specs.Headline.{Headline, OneRevision};
+ghost use Rattle.stm_world.specs.Headline.{Headline, OneState};
 ghost use Rattle.stm_world.specs.Sound.{WorldsAreSound};
 ghost use Rattle.stm_world.specs.WrongLogs.{WrongLogs};
 
@@ -15,9 +15,11 @@ pub fn headline()
     ensures { Headline }
 {}
 
-/// What an attempt at a serializable level has read is of one revision, also where its commit will fail.
-pub fn answers_are_of_one_revision()
-    ensures { OneRevision }
+/// What an attempt at a serializable level has read is true, and of one revision, also where its commit will
+/// fail. The run on it is the beginning of the program's run on the state at that revision: an abort or a
+/// fault is that run's end, and the trace so far is a beginning of its trace.
+pub fn answers_are_of_one_state()
+    ensures { OneState }
 {}
 
 /// Some logs that are none: a step of a runner that runs is refused, or a start that may send a commit; a

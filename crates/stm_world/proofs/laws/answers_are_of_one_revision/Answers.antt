@@ -1,7 +1,0 @@
-use Rattle.stm_compile.proofs.AgreeLemmas.{commit_is_the_run_now}
-use Rattle.stm_compile.proofs.ConflictLemmas.{failed_compares_conflict}
-use Rattle.stm_world.proofs.Headlines.{one_revision}
-use Rattle.stm_world.proofs.laws.answers_are_of_one_revision.Goals as goal
-
-pub returns : goal.returns
-returns c = one_revision (record { run_now = commit_is_the_run_now; conflicts = failed_compares_conflict })

@@ -1,5 +1,5 @@
 -- The headline holds of the run that a report tells of.
-use Rattle.std.proofs.Common.{List, ℕ, [], unwrap_or}
+use Rattle.std.proofs.Common.{List, ℕ, unwrap_or}
 use Rattle.stm_compile.proofs.AgreeLemmas.{commit_is_the_run_now}
 use Rattle.stm_compile.proofs.ConflictLemmas.{failed_compares_conflict}
 use Rattle.stm_world.specs.World.{opened, world_after, replies_to}

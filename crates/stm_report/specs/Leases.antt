@@ -1,5 +1,5 @@
 -- The leases of a map.
-use Rattle.std.specs.Prelude.{◌≡◌, ℕ, List, Option, option_map, map}
+use Rattle.std.specs.Prelude.{◌≡◌, ℕ, option_map}
 use Rattle.std.specs.BTreeMap as tree
 use Rattle.std.specs.BTreeMap.{BTreeMap}
 use Rattle.std.specs.Ordering.{nat_cmp}

@@ -1,6 +1,5 @@
-use Rattle.std.proofs.Common.{◌≡◌, ◌++◌, List, ℕ, [], ap, ◌∙◌, string_bytes}
+use Rattle.std.proofs.Common.{◌≡◌, ◌++◌, [], ap, ◌∙◌, string_bytes}
 use Rattle.stm_report.specs.Report.{lines_text, lines_of_leases}
-use Rattle.stm_report.specs.declared.leases.Lease.{Lease}
 use Rattle.stm_report.proofs.LiveLeases.{terms, no_lease, lines_of_map}
 use Rattle.stm_report.proofs.report_text.push_leases.Goals as goal
 

@@ -1,5 +1,6 @@
 -- What the transaction of a commit comes to.
-use Rattle.std.proofs.Common.{◌≡◌, ◌⊎◌, inl, inr, ℕ, ◌<◌, List, map, length, Bool, true, false, cond, All, Option, Some, None, Ok, Err, refl, sym, ◌∙◌, ap, subst}
+use Rattle.std.proofs.Common.{◌≡◌, ◌⊎◌, inl, inr, ℕ, ◌<◌, List, map, length, Bool, true, false, cond, All, Option, Some, None, Ok, Err}
+use Rattle.std.proofs.Common.{refl, sym, ◌∙◌, ap, subst}
 use Rattle.std.specs.Prelude.{Result, slice_get}
 use Rattle.std.specs.List.{list_any}
 use Rattle.stm_history.specs.declared.change.Change.{Change}

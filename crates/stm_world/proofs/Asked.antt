@@ -21,7 +21,7 @@ use Rattle.stm_meaning.specs.declared.run.Answered.TheVariants.{Ended, Wants}
 use Rattle.stm_meaning.specs.Meaning.{get_of, get_key, rev_key, run_of, answered, run_block, run_over}
 use Rattle.stm_meaning.proofs.KeepLemmas.{session_of, StepsKeep, kept_by_run}
 use Rattle.stm_compile.specs.Answers.{answer_in, said, look_up}
-use Rattle.stm_attempt.specs.Known.{Known, serving}
+use Rattle.stm_attempt.specs.Known.{HaveDistinctKeys, Known, serving}
 use Rattle.stm_attempt.specs.Settled.{run_on, wanted, answer_for, served, taken, settle}
 use Rattle.stm_attempt.proofs.SettleLemmas.{wanted_is_new}
 use Rattle.stm_attempt.proofs.Unread.{found_key, same_bytes}
@@ -149,6 +149,35 @@ pub answers_are_the_reads : AnswersAreTheReads
 unfolding run_over
 answers_are_the_reads program reads run asked is =
     ended_reads (run_with program reads) run is ∙ reads_behind program [] reads asked (none_read program)
+
+-- ---- no key is asked for twice ----
+
+apart_by : (b : Bool) (x : ReadAnswer) (o : Option ReadAnswer) → cond b (Some x) o ≡ None → (b ≡ false) × (o ≡ None)
+apart_by true x o none = absurd (cc)
+apart_by false x o none = (refl, none)
+
+still_none : (key : List ℕ) (reads : List ReadAnswer) (a : ReadAnswer) → answer_in key reads ≡ None → bytes_eq a.key key ≡ false →
+    answer_in key (reads ++ a ∷ []) ≡ None
+still_none key [] a none other = ap (λ b. cond b (Some a) None) other
+still_none key (x ∷ reads) a none other =
+    let apart : (bytes_eq x.key key ≡ false) × (answer_in key reads ≡ None) = apart_by (bytes_eq x.key key) x (answer_in key reads) none in
+    ap (λ b. cond b (Some x) (answer_in key (reads ++ a ∷ []))) apart.0 ∙ still_none key reads a apart.1 other
+
+distinct_more : (reads : List ReadAnswer) (a : ReadAnswer) → HaveDistinctKeys reads → answer_in a.key reads ≡ None → HaveDistinctKeys (reads ++ a ∷ [])
+distinct_more [] a distinct new = (refl, tt)
+distinct_more (x ∷ reads) a distinct new =
+    let apart : (bytes_eq x.key a.key ≡ false) × (answer_in a.key reads ≡ None) = apart_by (bytes_eq x.key a.key) x (answer_in a.key reads) new in
+    (still_none x.key reads a distinct.0 (bytes_eq-flip a.key x.key ∙ apart.0), distinct_more reads a distinct.1 apart.1)
+
+distinct_behind : (program : ProgramTree) (before reads : List ReadAnswer) → AskedBehind program before reads → HaveDistinctKeys before →
+    HaveDistinctKeys (before ++ reads)
+distinct_behind program before [] asked distinct = subst HaveDistinctKeys (sym (append-nil before)) distinct
+distinct_behind program before (a ∷ reads) asked distinct =
+    subst HaveDistinctKeys (append_assoc before (a ∷ []) reads)
+    (distinct_behind program (before ++ a ∷ []) reads asked.1 (distinct_more before a distinct (wanted_is_new program before a.key asked.0)))
+
+pub asked_are_distinct : (program : ProgramTree) (reads : List ReadAnswer) → AreAsked program reads → HaveDistinctKeys reads
+asked_are_distinct program reads asked = distinct_behind program [] reads asked tt
 
 -- ---- what an attempt has read was asked for ----
 

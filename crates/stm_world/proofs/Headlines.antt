@@ -16,14 +16,15 @@ use Rattle.stm_world.specs.declared.reply.Reply.TheVariants.{Started, Txn as Txn
 use Rattle.stm_world.specs.declared.refusal.Refusal.TheVariants.{BadLimit, NoRunner}
 use Rattle.stm_world.specs.Told.{denied, reply_to, store_after_call, advance_reply}
 use Rattle.stm_world.specs.Task.{Task}
-use Rattle.stm_world.specs.Log.{Line, begun, running, started, store, runner_started, if_told, expired_told, entries_told}
+use Rattle.stm_world.specs.Log.{Line, begun, running, started, store, runner_started, if_told, expired_told, entries_told, told}
 use Rattle.stm_world.specs.Right.{RunnerIsRight}
 use Rattle.stm_world.specs.World.{World, Runner, Slot, Live, live_in, runner_at, begin, opened, refused, start_runner, step_runner, if_changed}
 use Rattle.stm_world.specs.World.{if_taken, expiries, step}
 use Rattle.stm_world.specs.World.{world_after, replies_to}
-use Rattle.stm_world.specs.Headline.{logged, Headline, OneState}
+use Rattle.stm_world.specs.Headline.{logged, Headline, OneState, ReadOnce}
 use Rattle.stm_world.specs.Sound.{KnowsTruth}
 use Rattle.stm_world.proofs.Bases.{IsWellRead, nothing_read}
+use Rattle.stm_world.proofs.Asked.{asked_are_distinct}
 use Rattle.stm_world.proofs.OneState.{are_of_one_state}
 use Rattle.stm_world.proofs.Slots.{equal_numbers, same_number, other_number, differ, runner_new, runner_old, count_grows, no_runner}
 use Rattle.stm_world.proofs.Untouched.{runner_for, runner_in_log, IsFresh, none_told, same_in_log, fresh_stays, by_refusal, by_call, by_advance}
@@ -253,12 +254,31 @@ headline laws start events =
       legal = f.at.legal;
     }
 
--- what an attempt at a serializable level has read is of one state, whatever comes of it
-pub one_state : CommitLaws → OneState
-one_state laws start events id task some runs serializable =
+-- a runner that runs after these events
+record RunsAfter (start : ℕ) (events : List WorldEvent) (r : Runner) : Type 0 where
+  truth : KnowsTruth (store start (logged events (replies_to events (opened start)) [])).history r.known
+  well_read : IsWellRead start r.task r.known
+
+runs_after : (start : ℕ) (events : List WorldEvent) (id : ℕ) (task : Task) → CommitLaws →
+    running id (logged events (replies_to events (opened start)) []) ≡ Some task →
+    RunsAfter start events (runner_for start (logged events (replies_to events (opened start)) []) id task)
+runs_after start events id task laws runs =
     let log : List Line = logged events (replies_to events (opened start)) [] in
     let w : World = world_after events (opened start) in
     let r : Runner = runner_for start log id task in
     let f : Follows start log w = run_follows start events [] (opened start) laws (opened_follows start) in
     let found : runner_at id w.runners ≡ Some r = f.at.slots id ∙ ap (option_map (runner_for start log id)) runs in
-    are_of_one_state (store start log).history task r.known.reads ((f.at.well_read id r found).based some serializable).0 (f.at.truth id r found).0
+    record { truth = f.at.truth id r found; well_read = f.at.well_read id r found }
+
+-- what an attempt at a serializable level has read is of one state, whatever comes of it
+pub one_state : CommitLaws → OneState
+one_state laws start events id task some runs serializable =
+    let log : List Line = logged events (replies_to events (opened start)) [] in
+    let known : RunsAfter start events (runner_for start log id task) = runs_after start events id task laws runs in
+    are_of_one_state (store start log).history task (told start id task log).reads (known.well_read.based some serializable).0 known.truth.0
+
+-- no attempt reads a key twice
+pub read_once : CommitLaws → ReadOnce
+read_once laws start events id task runs =
+    let log : List Line = logged events (replies_to events (opened start)) [] in
+    asked_are_distinct task.program (told start id task log).reads (runs_after start events id task laws runs).well_read.asked

@@ -6,6 +6,7 @@ use Rattle.stm_meaning.specs.Laws.{IsContinuedBy}
 use Rattle.stm_meaning.specs.Meaning.{run_over}
 use Rattle.stm_compile.specs.Levels.{is_serializable}
 use Rattle.stm_compile.specs.Answers.{AreTrue, state_as_of}
+use Rattle.stm_attempt.specs.Known.{HaveDistinctKeys}
 use Rattle.stm_attempt.specs.Settled.{run_on}
 use Rattle.stm_attempt.specs.Fetches.{base_of, HaveOneBase}
 use Rattle.stm_entries.specs.Replayed.{opening, without_moment}
@@ -52,3 +53,9 @@ OneState =
     → running id (logged events (replies_to events (opened start)) []) ≡ Some task → is_serializable task.level ≡ true
     → AreOfOneState (store start (logged events (replies_to events (opened start)) [])).history task
     (told start id task (logged events (replies_to events (opened start)) [])).reads
+
+-- No attempt reads a key twice.
+abbrev pub ReadOnce : Type 0
+ReadOnce =
+    (start : ℕ) (events : List WorldEvent) (id : ℕ) (task : Task) → running id (logged events (replies_to events (opened start)) []) ≡ Some task
+    → HaveDistinctKeys (told start id task (logged events (replies_to events (opened start)) [])).reads

@@ -1,6 +1,6 @@
 //! The laws of worlds. Each function does nothing: its contract is the law.
 ghost use Rattle.stm_world.specs.Asked.{AnswersAreTheReads};
-ghost use Rattle.stm_world.specs.Headline.{Headline, OneState};
+ghost use Rattle.stm_world.specs.Headline.{Headline, OneState, ReadOnce};
 ghost use Rattle.stm_world.specs.Sound.{WorldsAreSound};
 ghost use Rattle.stm_world.specs.WrongLogs.{WrongLogs};
 
@@ -20,6 +20,11 @@ pub fn headline()
 /// fault is that run's end, and the trace so far is a beginning of its trace.
 pub fn answers_are_of_one_state()
     ensures { OneState }
+{}
+
+/// No attempt reads a key twice, at any level.
+pub fn keys_are_read_once()
+    ensures { ReadOnce }
 {}
 
 /// Some logs that are none: a step of a runner that runs is refused, or a start that may send a commit; a

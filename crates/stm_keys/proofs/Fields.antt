@@ -8,10 +8,10 @@ use Rattle.indexmap.proofs.ReorderLemmas.{map-reverse}
 use Rattle.stm_history.specs.declared.change.Change.{Change}
 use Rattle.stm_history.specs.declared.key_state.KeyState.{KeyState}
 use Rattle.stm_history.specs.declared.revisions.TheConstants.{HIGHEST_REVISION}
-use Rattle.stm_history.specs.History.{key_after, revisions_up_to, change_of, IsRevision}
+use Rattle.stm_history.specs.History.{key_after, revisions_up_to, IsRevision}
 use Rattle.stm_history.proofs.Walking.{all_up_to_count}
 use Rattle.stm_keys.specs.declared.event.Event.{Event}
-use Rattle.stm_keys.specs.Events.{event_of, events_numbered, change_of_event}
+use Rattle.stm_keys.specs.Events.{event_of, events_numbered, event_about, change_of_event}
 use Rattle.stm_keys.specs.Keys.{changes_of, all_events, state_recorded, IsKept}
 use Rattle.stm_keys.specs.Places.{Places, places_in, with_place}
 use Rattle.stm_keys.proofs.Recorded.{recorded_state, older_recorded, numbered, kept_after, shown_after}
@@ -59,7 +59,7 @@ pub pushed : (opening number : ℕ) (xs ys : List (List Event)) (chains next : L
     IsKept opening (reverse xs) chains → number ≡ opening + suc (length (reverse xs)) → number ≤ HIGHEST_REVISION → IsRevision changes →
     ((key : List ℕ) → before key ≡ key_after opening key (changes_of (reverse xs))) →
     events ≡ map (event_of number before) changes →
-    ((key : List ℕ) → places_in (next key) ≡ with_place (is_some (change_of key changes)) (length xs) (places_in (chains key))) →
+    ((key : List ℕ) → places_in (next key) ≡ with_place (is_some (event_about key events)) (length xs) (places_in (chains key))) →
     ys ≡ xs ++ events ∷ [] →
     IsKept opening (reverse ys) next × (changes_of (reverse ys) ≡ changes ∷ changes_of (reverse xs))
 pushed opening number xs ys chains next before changes events kept place room revision now made noted is =
@@ -68,6 +68,6 @@ pushed opening number xs ys chains next before changes events kept place room re
       subst (λ l. IsKept opening l next) (sym last)
           (kept_after opening (reverse xs) chains next before changes events kept (omega arith) revision now shown
           (λ key. noted key
-          ∙ ap (λ n. with_place (is_some (change_of key changes)) n (places_in (chains key))) (sym (length-reverse xs)))),
+          ∙ ap (λ n. with_place (is_some (event_about key events)) n (places_in (chains key))) (sym (length-reverse xs)))),
       ap changes_of last ∙ shown_after opening (reverse xs) before changes events shown,
     )

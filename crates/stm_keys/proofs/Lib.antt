@@ -5,3 +5,4 @@ pub mod Numbers
 pub mod Walked
 pub mod Present
 pub mod Steps
+pub mod Order

@@ -8,13 +8,13 @@ use Rattle.stm_history.specs.declared.change.Change.{Change}
 use Rattle.stm_history.specs.declared.change.Change.TheVariants.{Put, Del}
 use Rattle.stm_history.specs.declared.key_state.KeyState.{KeyState}
 use Rattle.stm_history.specs.declared.revisions.TheConstants.{HIGHEST_REVISION}
-use Rattle.stm_history.specs.History.{number_of_last, key_of, change_of, key_after, after_change, state_after_put, IsRevision}
+use Rattle.stm_history.specs.History.{number_of_last, key_of, change_of, key_after, after_change, state_after_put, HasDistinctKeys, IsRevision}
 use Rattle.stm_history.proofs.HistoryLaws.{one_more}
 use Rattle.stm_keys.specs.declared.event.Event.{Event}
 use Rattle.stm_keys.specs.declared.event.Event.TheVariants.{Put as PutEvent}
-use Rattle.stm_keys.specs.Events.{event_of, events_above, events_numbered, key_of_event, event_about, after_event, change_of_event}
+use Rattle.stm_keys.specs.Events.{event_of, events_above, events_numbered, key_of_event, event_about, after_event, change_of_event, AreApart}
 use Rattle.stm_keys.specs.Keys.{changes_of, all_events, state_recorded, IsKept}
-use Rattle.stm_keys.specs.Places.{Places, places_in, places_of, with_place}
+use Rattle.stm_keys.specs.Places.{Places, places_in, with_place}
 
 -- equal bytes are one text
 same_text : (a b : List ℕ) → bytes_eq a b ≡ true → a ≡ b
@@ -122,18 +122,25 @@ none_numbered opening r (changes ∷ older) below =
     (ne_eqb _ _ (λ e. absurd (omega arith)))
     (none_numbered opening r older below)
 
--- a revision has an event of a key where it has a change of it
-some_case : (b : Bool) (n : ℕ) (before : List ℕ → Option KeyState) (c : Change) (e : Option Event) (d : Option Change)
-    → is_some e ≡ is_some d → is_some (cond b (Some (event_of n before c)) e) ≡ is_some (cond b (Some c) d)
-some_case true n before c e d same = refl
-some_case false n before c e d same = same
+-- the events of changes of distinct keys are apart
+none_case : (b : Bool) (n : ℕ) (before : List ℕ → Option KeyState) (c : Change) (o : Option Change) (e : Option Event) → cond b (Some c) o ≡ None →
+    (o ≡ None → e ≡ None) → cond b (Some (event_of n before c)) e ≡ None
+none_case true n before c o e none rest = absurd (cc)
+none_case false n before c o e none rest = rest none
 
-pub about_changed : (n : ℕ) (before : List ℕ → Option KeyState) (key : List ℕ) (cs : List Change) →
-    is_some (event_about key (map (event_of n before) cs)) ≡ is_some (change_of key cs)
-about_changed n before key [] = refl
-about_changed n before key (c ∷ cs) =
-    ap (λ k. is_some (cond (bytes_eq k key) (Some (event_of n before c)) (event_about key (map (event_of n before) cs)))) (key_of_event-event_of n before c)
-    ∙ some_case (bytes_eq (key_of c) key) n before c (event_about key (map (event_of n before) cs)) (change_of key cs) (about_changed n before key cs)
+none_about : (n : ℕ) (before : List ℕ → Option KeyState) (key : List ℕ) (cs : List Change) → change_of key cs ≡ None →
+    event_about key (map (event_of n before) cs) ≡ None
+none_about n before key [] none = refl
+none_about n before key (c ∷ cs) none =
+    ap (λ k. cond (bytes_eq k key) (Some (event_of n before c)) (event_about key (map (event_of n before) cs))) (key_of_event-event_of n before c)
+    ∙ none_case (bytes_eq (key_of c) key) n before c (change_of key cs) (event_about key (map (event_of n before) cs)) none (none_about n before key cs)
+
+pub events_apart : (n : ℕ) (before : List ℕ → Option KeyState) (cs : List Change) → HasDistinctKeys cs → AreApart (map (event_of n before) cs)
+events_apart n before [] distinct = tt
+events_apart n before (c ∷ cs) distinct = (
+  ap (λ k. event_about k (map (event_of n before) cs)) (key_of_event-event_of n before c) ∙ none_about n before (key_of c) cs distinct.0,
+  events_apart n before cs distinct.1,
+)
 
 -- one more revision keeps what a key store keeps
 pub kept_after : (opening : ℕ) (recorded : List (List Event)) (chains next : List ℕ → Option Places) (before : List ℕ → Option KeyState)
@@ -141,7 +148,7 @@ pub kept_after : (opening : ℕ) (recorded : List (List Event)) (chains next : L
     IsKept opening recorded chains → opening + length recorded < HIGHEST_REVISION → IsRevision changes →
     ((key : List ℕ) → before key ≡ key_after opening key (changes_of recorded)) →
     events ≡ map (event_of (opening + suc (length recorded)) before) changes →
-    ((key : List ℕ) → places_in (next key) ≡ with_place (is_some (change_of key changes)) (length recorded) (places_in (chains key))) →
+    ((key : List ℕ) → places_in (next key) ≡ with_place (is_some (event_about key events)) (length recorded) (places_in (chains key))) →
     IsKept opening (events ∷ recorded) next
 kept_after opening recorded chains next before changes events kept room revision now made noted =
     let n : ℕ = opening + suc (length recorded) in
@@ -160,10 +167,7 @@ kept_after opening recorded chains next before changes events kept room revision
           ∙ ap (λ r. events_above opening changes older ∷ r) kept.events
           ∙ ap (λ cs. events_above opening cs older ∷ all_events opening older) (sym shown);
       places = λ key.
-          noted key
-          ∙ ap (λ ps. with_place (is_some (change_of key changes)) (length recorded) ps) (kept.places key)
-          ∙ ap (λ b. with_place b (length recorded) (places_of key recorded))
-          (sym (ap (λ es. is_some (event_about key es)) made ∙ about_changed n before key changes));
+          noted key ∙ ap (λ ps. with_place (is_some (event_about key events)) (length recorded) ps) (kept.places key);
     }
 
 -- the history after one more recorded revision

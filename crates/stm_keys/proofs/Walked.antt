@@ -10,12 +10,14 @@ use Rattle.std.proofs.lemmas.List.{length-reverse, length-take-le, length-append
 use Rattle.std.proofs.lemmas.List.Sorted.{IsNonDecreasingBy-push, IsNonDecreasingBy-short}
 use Rattle.stm_history.specs.declared.key_state.KeyState.{KeyState}
 use Rattle.stm_keys.specs.declared.event.Event.{Event}
+use Rattle.stm_keys.specs.declared.event.Event.TheVariants.{Put as PutEvent, Delete as DeleteEvent}
 use Rattle.stm_keys.specs.Events.{event_about, after_event}
 use Rattle.stm_keys.specs.Keys.{Contents, state_recorded, changes_of, IsKept}
 use Rattle.stm_history.specs.History.{key_after, revisions_up_to}
 use Rattle.stm_keys.proofs.Recorded.{recorded_state}
 use Rattle.stm_keys.proofs.Fields.{reverse-split, found_at}
-use Rattle.stm_keys.specs.Places.{Places, places_in, places_of, with_place, newest_below, state_from, found_in, present_among, AreSearchable}
+use Rattle.stm_keys.specs.Places.{Places, places_in, places_of, with_place, newest_below, state_from, found_in, present_among, AreSearchable, StandFirst, is_left}
+use Rattle.stm_keys.proofs.Order.{same_presence, present_count}
 
 -- the events at a place, of revisions with the newest first
 abbrev pub events_there : ℕ → List (List Event) → List Event
@@ -254,16 +256,40 @@ kept_with_room opening recorded chains next kept same = record {
   places = λ key. same key ∙ kept.places key;
 }
 
-pub all_found : (opening : ℕ) (xs : List (List Event)) (chains : List ℕ → Option Places) → IsKept opening (reverse xs) chains →
-    found_in chains xs (length xs) ≡ (λ key. key_after opening key (changes_of (reverse xs)))
-all_found opening xs chains kept = λ j key. found_now opening xs chains key kept j
+-- and so do the chains over a slice of the revisions
+pub told_now : (opening : ℕ) (xs slice : List (List Event)) (chains : List ℕ → Option Places) (key : List ℕ) → IsKept opening (reverse xs) chains → slice ≡ xs →
+    found_in chains slice (length slice) key ≡ key_after opening key (changes_of (reverse xs))
+told_now opening xs slice chains key kept same =
+    ap (λ (l : List (List Event)). found_in chains l (length l) key) same ∙ found_now opening xs chains key kept
 
--- the present keys, as chains tell them
-pub present_is : (opening : ℕ) (xs slice : List (List Event)) (chains : List ℕ → Option Places) (keys : List (List ℕ)) → IsKept opening (reverse xs) chains →
-    slice ≡ xs → present_among (found_in chains slice (length slice)) keys ≡ present_among (λ key. key_after opening key (changes_of (reverse xs))) keys
-present_is opening xs slice chains keys kept same =
-    ap (λ (l : List (List Event)). present_among (found_in chains l (length l)) keys) same
-    ∙ ap (λ (state : List ℕ → Option KeyState). present_among state keys) (all_found opening xs chains kept)
+-- one more recorded revision leaves present what its events leave
+left_case : (o : Option Event) (s : Option KeyState) → is_left o (is_some s) ≡ is_some (after_event o s)
+left_case None s = refl
+left_case (Some (PutEvent key state)) s = refl
+left_case (Some (DeleteEvent key revision)) s = refl
+
+told_state : (opening : ℕ) (recorded : List (List Event)) (chains : List ℕ → Option Places) (key : List ℕ) → IsKept opening recorded chains →
+    key_after opening key (changes_of recorded) ≡ state_recorded key recorded
+told_state opening recorded chains key kept = sym (ap (state_recorded key) kept.events ∙ recorded_state opening key (changes_of recorded))
+
+pub first_after : (opening : ℕ) (xs ys : List (List Event)) (chains next : List ℕ → Option Places) (events : List Event) (n : ℕ) (names : List (List ℕ)) →
+    IsKept opening (reverse xs) chains → IsKept opening (reverse ys) next → ys ≡ xs ++ events ∷ [] →
+    StandFirst (λ key. is_left (event_about key events) (is_some (key_after opening key (changes_of (reverse xs))))) n names →
+    StandFirst (λ key. is_some (key_after opening key (changes_of (reverse ys)))) n names
+first_after opening xs ys chains next events n names kept more is first =
+    same_presence (λ key. is_left (event_about key events) (is_some (key_after opening key (changes_of (reverse xs)))))
+    (λ key. is_some (key_after opening key (changes_of (reverse ys)))) n names
+    (λ key.
+    ap is_some (told_state opening (reverse ys) next key more
+    ∙ ap (state_recorded key) (ap reverse is ∙ reverse-append xs (events ∷ [])))
+    ∙ sym (left_case (event_about key events) (state_recorded key (reverse xs)))
+    ∙ ap (λ (s : Option KeyState). is_left (event_about key events) (is_some s)) (sym (told_state opening (reverse xs) chains key kept)))
+    first
+
+-- a key without a place is absent
+pub no_place_absent : (opening : ℕ) (recorded : List (List Event)) (chains : List ℕ → Option Places) (key : List ℕ) → IsKept opening recorded chains →
+    places_in (chains key) ≡ [] → is_some (key_after opening key (changes_of recorded)) ≡ false
+no_place_absent opening recorded chains key kept none = ap is_some (unchanged_key opening recorded chains key kept none)
 
 -- what contracts see of fields
 abbrev pub seen : ℕ → List (List Event) → List (List ℕ) → Contents
@@ -271,6 +297,13 @@ seen opening xs keys = record {
   history = record { opening = opening; revisions = changes_of (reverse xs) };
   present = present_among (λ key. key_after opening key (changes_of (reverse xs))) keys;
 }
+
+-- an index of the list of present keys is below their number
+pub below_count : (opening : ℕ) (xs : List (List Event)) (n index : ℕ) (names : List (List ℕ)) (v : Contents) → seen opening xs names ≡ v →
+    StandFirst (λ key. is_some (key_after opening key (changes_of (reverse xs)))) n names → index < length v.present → index < n
+below_count opening xs n index names v is first below =
+    subst (λ m. index < m) (sym (ap (λ (w : Contents). length w.present) is)
+    ∙ present_count (λ key. key_after opening key (changes_of (reverse xs))) n names first) below
 
 abbrev contents : ℕ → List (List Event) → List (List ℕ × KeyState) → Contents
 contents opening xs present = record { history = record { opening = opening; revisions = changes_of (reverse xs) }; present = present }

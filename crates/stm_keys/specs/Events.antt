@@ -1,7 +1,7 @@
 -- The events of a history: what each change shows.
 --
 -- etcd's API reference, "Event": a PUT carries the key's whole `KeyValue`, a DELETE the key and its revision.
-use Rattle.std.specs.Prelude.{◌≡◌, ℕ, ◌==◌, bytes_eq, if◌then◌else◌, List, [], ◌∷◌, map, Option, Some, None}
+use Rattle.std.specs.Prelude.{◌≡◌, ℕ, ◌==◌, Bool, true, false, bytes_eq, if◌then◌else◌, List, [], ◌∷◌, map, Option, Some, None}
 use Rattle.stm_history.specs.declared.change.Change.{Change}
 use Rattle.stm_history.specs.declared.change.Change.TheVariants.{Put, Del}
 use Rattle.stm_history.specs.declared.key_state.KeyState.{KeyState}
@@ -34,10 +34,20 @@ abbrev pub key_of_event : Event → List ℕ
 key_of_event (PutEvent key state) = key
 key_of_event (DeleteEvent key revision) = key
 
+-- whether an event leaves its key present
+abbrev pub is_put : Event → Bool
+is_put (PutEvent key state) = true
+is_put (DeleteEvent key revision) = false
+
 -- the event of a key among those of one revision, if there is one
 abbrev pub event_about : List ℕ → List Event → Option Event
 event_about key [] = None
 event_about key (e ∷ es) = if bytes_eq (key_of_event e) key then Some e else event_about key es
+
+-- no key has two of these events
+abbrev pub AreApart : List Event → Type 0
+AreApart [] = Unit {0}
+AreApart (e ∷ es) = (event_about (key_of_event e) es ≡ None) × AreApart es
 
 -- what a key is after a revision with this event of it, or with none
 abbrev pub after_event : Option Event → Option KeyState → Option KeyState

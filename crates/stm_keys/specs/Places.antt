@@ -1,10 +1,13 @@
 -- The version chains: which revisions changed a key, and what the key is at them.
-use Rattle.std.specs.Prelude.{◌≡◌, ℕ, nat_lt, List, [], ◌∷◌, length, Bool, true, false, Option, Some, None, is_some, IfSome, ◌<◌, reverse}
-use Rattle.std.specs.Prelude.{if◌then◌else◌, get_or}
+use Rattle.std.specs.Prelude.{◌≡◌, ℕ, nat_lt, List, [], ◌∷◌, length, Bool, true, false, Option, Some, None, is_some, IfSome, ◌<◌, ◌≤◌, reverse}
+use Rattle.std.specs.Prelude.{if◌then◌else◌, get_or, map, slice_get, string_bytes}
+use Rattle.std.specs.HashMap.{HashMap}
+use Rattle.std.specs.Map.{keys_of}
+use Rattle.std.specs.declared.string.String.{String}
 use Rattle.std.specs.List.Sorted.{IsNonDecreasing}
 use Rattle.stm_history.specs.declared.key_state.KeyState.{KeyState}
 use Rattle.stm_keys.specs.declared.event.Event.{Event}
-use Rattle.stm_keys.specs.Events.{event_about, after_event}
+use Rattle.stm_keys.specs.Events.{event_about, after_event, is_put}
 
 -- A revision's place is the number of revisions before it. A chain has the places of the revisions that changed its key, the
 -- newest first, and has room for so many more.
@@ -59,7 +62,24 @@ abbrev pub present_among : (List ℕ → Option KeyState) → List (List ℕ) �
 present_among state [] = []
 present_among state (key ∷ keys) = with_state key (state key) (present_among state keys)
 
--- The present keys stay as they are where keys come that have no state.
-abbrev pub KeepsPresent : (List ℕ → List ℕ) → List (List ℕ) → List (List ℕ) → Type 0
-KeepsPresent places_at old new =
-    (state : List ℕ → Option KeyState) → ((key : List ℕ) → places_at key ≡ [] → state key ≡ None) → present_among state new ≡ present_among state old
+-- The present keys stand first, so many: a key stands below the count exactly where it is present.
+pub record StandFirst (present : List ℕ → Bool) (count : ℕ) (keys : List (List ℕ)) : Type 0 where
+  pub within : count ≤ length keys
+  pub each : (place : ℕ) (key : List ℕ) → slice_get keys place ≡ Some key → present key ≡ nat_lt place count
+
+-- Keys come that have no place: the present keys stay as they are, and stand first as they did.
+pub record KeepsPresent (places_at : List ℕ → List ℕ) (old new : List (List ℕ)) : Type 0 where
+  pub listed : (state : List ℕ → Option KeyState) → ((key : List ℕ) → places_at key ≡ [] → state key ≡ None)
+      → present_among state new ≡ present_among state old
+  pub first : (present : List ℕ → Bool) (count : ℕ) → ((key : List ℕ) → places_at key ≡ [] → present key ≡ false)
+      → StandFirst present count old → StandFirst present count new
+  pub longer : length old ≤ length new
+
+-- whether a revision with this event of a key, or with none, leaves the key present
+abbrev pub is_left : Option Event → Bool → Bool
+is_left None before = before
+is_left (Some e) before = is_put e
+
+-- the keys of a map
+abbrev pub names_of : {Y X S : Type 0} → HashMap (String Y) X S → List (List ℕ)
+names_of m = map string_bytes (keys_of m.entries)

@@ -1,19 +1,16 @@
 //! The version chains of all keys.
-ghost use Rattle.std.specs.Prelude.{◌≡◌, ◌<◌, ◌≤◌, ◌∷◌, List, [], ℕ, IfOk, OnOk, None, Option, is_some, bytes_eq, true, false, reverse, map, string_bytes, length, slice_get, Some, IfSome};
-ghost use Rattle.std.specs.Prelude.{option_copied};
-ghost use Rattle.std.specs.Map.{keys_of};
-ghost use Rattle.std.specs.List.{IsDistinct};
+ghost use Rattle.std.specs.Prelude.{◌≡◌, ◌<◌, ◌≤◌, ◌∷◌, List, [], ℕ, IfOk, OnOk, None, Option, is_some, bytes_eq, true, false, reverse, length, slice_get, Some, IfSome};
+ghost use Rattle.std.specs.Prelude.{option_copied, Bool, if◌then◌else◌};
 ghost use Rattle.std.specs.List.Sorted.{IsNonDecreasing};
 ghost use Rattle.indexmap.specs.IndexMap.{get_by_text};
-ghost use Rattle.stm_history.specs.declared.key_state.KeyState.{KeyState};
-ghost use Rattle.stm_history.specs.History.{change_of, HasDistinctKeys};
-ghost use Rattle.stm_keys.specs.Places.{places_in, room_in, with_place, newest_below, state_from, found_in, present_among, AreSearchable, KeepsPresent};
+ghost use Rattle.stm_keys.specs.Events.{key_of_event, event_about, is_put, AreApart};
+ghost use Rattle.stm_keys.specs.Places.{places_in, room_in, with_place, newest_below, state_from, found_in, AreSearchable, StandFirst, KeepsPresent, is_left, names_of};
 
 use crate::event::{Event, find_event};
 use crate::places::Places;
 use indexmap::IndexMap;
 use std::alloc::{AllocError, Global};
-use stm_history::{Change, KeyState, Sequence, Text};
+use stm_history::{KeyState, Sequence, Text};
 
 /// The chain of each key that was ever changed.
 pub(crate) type Chains = IndexMap<String, Places>;
@@ -59,10 +56,25 @@ pub(crate) fn find_state<'a>(
     state_from(revisions, key, place)
 }
 
+/// What a key is after all these revisions.
+pub(crate) fn find_now<'a>(
+    chains: &Chains,
+    revisions: &'a [Sequence<Event>],
+    key: &str,
+) -> Option<&'a KeyState>
+    requires { AreSearchable (get_by_text chains.now) revisions.now }
+    ensures { option_copied result ≡ found_in (get_by_text chains.now) revisions.now (length revisions.now) key.now }
+{
+    match chains.get(key) {
+        None => None,
+        Some(chain) => state_from(revisions, key, chain.newest()),
+    }
+}
+
 /// The key at an index of the chains.
 fn key_at(chains: &Chains, index: usize) -> &str
     requires { index < length chains.now.entries }
-    ensures { slice_get (map string_bytes (keys_of chains.now.entries)) index ≡ Some result.now }
+    ensures { slice_get (names_of chains.now) index ≡ Some result.now }
 {
     match chains.get_index(index) {
         Some((key, _)) => key.as_str(),
@@ -70,42 +82,24 @@ fn key_at(chains: &Chains, index: usize) -> &str
     }
 }
 
-/// The number of present keys.
-pub(crate) fn count_present(chains: &Chains, revisions: &[Sequence<Event>]) -> usize
-    requires { AreSearchable (get_by_text chains.now) revisions.now }
-    ensures count { result ≡ length (present_among (found_in (get_by_text chains.now) revisions.now (length revisions.now)) (map string_bytes (keys_of chains.now.entries))) }
-    ensures distinct { IsDistinct bytes_eq (map string_bytes (keys_of chains.now.entries)) }
-{
-    let mut count = 0;
-    for index in 0..chains.len() {
-        if find_state(chains, revisions, key_at(chains, index), revisions.len()).is_some() {
-            count += 1;
-        }
-    }
-    count
-}
-
-/// The present key at an index, with its state.
+/// The key at an index, which is present, with its state.
 pub(crate) fn find_present<'a>(
     chains: &'a Chains,
-    events: &'a [Sequence<Event>],
+    revisions: &'a [Sequence<Event>],
     index: usize,
 ) -> (&'a str, &'a KeyState)
-    requires searchable { AreSearchable (get_by_text chains.now) events.now }
-    requires within { index < length (present_among (found_in (get_by_text chains.now) events.now (length events.now)) (map string_bytes (keys_of chains.now.entries))) }
-    ensures { slice_get (present_among (found_in (get_by_text chains.now) events.now (length events.now)) (map string_bytes (keys_of chains.now.entries))) index ≡ Some (result.0.now, result.1.now) }
+    requires searchable { AreSearchable (get_by_text chains.now) revisions.now }
+    requires within { index < length chains.now.entries }
+    requires present { (key : List ℕ) → slice_get (names_of chains.now) index ≡ Some key →
+        is_some (found_in (get_by_text chains.now) revisions.now (length revisions.now) key) ≡ true }
+    ensures key { slice_get (names_of chains.now) index ≡ Some result.0.now }
+    ensures state { found_in (get_by_text chains.now) revisions.now (length revisions.now) result.0.now ≡ Some result.1.now }
 {
-    let mut left = index;
-    for place in 0..chains.len() {
-        let key = key_at(chains, place);
-        if let Some(state) = find_state(chains, events, key, events.len()) {
-            if left == 0 {
-                return (key, state);
-            }
-            left -= 1;
-        }
+    let key = key_at(chains, index);
+    match find_now(chains, revisions, key) {
+        Some(state) => (key, state),
+        None => unreachable!(),
     }
-    unreachable!()
 }
 
 /// Adds an empty chain of a key that has none, with room for one place.
@@ -114,7 +108,7 @@ fn add_chain(chains: &mut Chains, alloc: Global, key: &Text) -> Result<(), Alloc
     ensures places { (k : List ℕ) → places_in (get_by_text chains.new k) ≡ places_in (get_by_text chains.old k) }
     ensures more { (k : List ℕ) → room_in (get_by_text chains.old k) ≤ room_in (get_by_text chains.new k) }
     ensures room { OnOk result (0 < room_in (get_by_text chains.new key.now)) }
-    ensures present { KeepsPresent (λ k. places_in (get_by_text chains.old k)) (map string_bytes (keys_of chains.old.entries)) (map string_bytes (keys_of chains.new.entries)) }
+    ensures present { KeepsPresent (λ k. places_in (get_by_text chains.old k)) (names_of chains.old) (names_of chains.new) }
 {
     let chain = Places::with_room(alloc)?;
     let text = key.clone()?;
@@ -127,7 +121,7 @@ fn make_room_of(chains: &mut Chains, alloc: Global, key: &Text) -> Result<(), Al
     ensures places { (k : List ℕ) → places_in (get_by_text chains.new k) ≡ places_in (get_by_text chains.old k) }
     ensures more { (k : List ℕ) → room_in (get_by_text chains.old k) ≤ room_in (get_by_text chains.new k) }
     ensures room { OnOk result (0 < room_in (get_by_text chains.new key.now)) }
-    ensures present { KeepsPresent (λ k. places_in (get_by_text chains.old k)) (map string_bytes (keys_of chains.old.entries)) (map string_bytes (keys_of chains.new.entries)) }
+    ensures present { KeepsPresent (λ k. places_in (get_by_text chains.old k)) (names_of chains.old) (names_of chains.new) }
 {
     match chains.get_mut(key.as_str()) {
         Some(chain) => chain.make_room(),
@@ -135,41 +129,108 @@ fn make_room_of(chains: &mut Chains, alloc: Global, key: &Text) -> Result<(), Al
     }
 }
 
-/// Makes room for one more place in the chain of each changed key. Want of memory leaves every place as it was.
+/// Makes room for one more place in the chain of each event's key. Want of memory leaves every place as it was.
 pub(crate) fn make_room(
     chains: &mut Chains,
     alloc: Global,
-    changes: &[Change],
+    events: &[Event],
 ) -> Result<(), AllocError>
     ensures places { (k : List ℕ) → places_in (get_by_text chains.new k) ≡ places_in (get_by_text chains.old k) }
-    ensures room { OnOk result ((k : List ℕ) → is_some (change_of k changes.now) ≡ true → 0 < room_in (get_by_text chains.new k)) }
-    ensures present { KeepsPresent (λ k. places_in (get_by_text chains.old k)) (map string_bytes (keys_of chains.old.entries)) (map string_bytes (keys_of chains.new.entries)) }
+    ensures room { OnOk result ((k : List ℕ) → is_some (event_about k events.now) ≡ true → 0 < room_in (get_by_text chains.new k)) }
+    ensures present { KeepsPresent (λ k. places_in (get_by_text chains.old k)) (names_of chains.old) (names_of chains.new) }
 {
-    for change in changes {
-        make_room_of(chains, alloc, change.key())?;
+    for event in events {
+        make_room_of(chains, alloc, event.key())?;
     }
     Ok(())
 }
 
-/// Adds a place to the chain of a key, which has room for it.
-fn add_place(chains: &mut Chains, key: &str, place: usize)
-    requires { 0 < room_in (get_by_text chains.old key.now) }
-    ensures places { (k : List ℕ) → places_in (get_by_text chains.new k) ≡ with_place (bytes_eq key.now k) place (places_in (get_by_text chains.old k)) }
-    ensures room { (k : List ℕ) → bytes_eq key.now k ≡ false → room_in (get_by_text chains.new k) ≡ room_in (get_by_text chains.old k) }
+/// The index of a key that has a chain.
+fn index_of(chains: &Chains, key: &str) -> usize
+    requires { 0 < room_in (get_by_text chains.now key.now) }
+    ensures { slice_get (names_of chains.now) result ≡ Some key.now }
 {
-    match chains.get_mut(key) {
-        Some(chain) => chain.push(place),
+    match chains.get_full(key) {
+        Some((index, _, _)) => index,
         None => unreachable!(),
     }
 }
 
-/// Adds a place to the chain of each changed key. Each has room for it.
-pub(crate) fn add_places(chains: &mut Chains, changes: &[Change], place: usize)
-    requires room { (k : List ℕ) → is_some (change_of k changes.now) ≡ true → 0 < room_in (get_by_text chains.old k) }
-    requires distinct { HasDistinctKeys changes.now }
-    ensures { (k : List ℕ) → places_in (get_by_text chains.new k) ≡ with_place (is_some (change_of k changes.now)) place (places_in (get_by_text chains.old k)) }
+/// Adds a place to the chain at an index, which has room for it.
+fn push_at(chains: &mut Chains, index: usize, place: usize)
+    requires within { index < length chains.old.entries }
+    requires room { (key : List ℕ) → slice_get (names_of chains.old) index ≡ Some key → 0 < room_in (get_by_text chains.old key) }
+    ensures names { names_of chains.new ≡ names_of chains.old }
+    ensures len { length chains.new.entries ≡ length chains.old.entries }
+    ensures places { (key : List ℕ) → slice_get (names_of chains.old) index ≡ Some key → (k : List ℕ) →
+        places_in (get_by_text chains.new k) ≡ with_place (bytes_eq key k) place (places_in (get_by_text chains.old k)) }
+    ensures room { (key : List ℕ) → slice_get (names_of chains.old) index ≡ Some key → (k : List ℕ) →
+        bytes_eq key k ≡ false → room_in (get_by_text chains.new k) ≡ room_in (get_by_text chains.old k) }
 {
-    for change in changes {
-        add_place(chains, change.key().as_str(), place);
+    let (_key, chain) = chains.pair_mut(index);
+    chain.push(place);
+}
+
+/// Brings the key at an index, which is present from now on, among the first ones.
+fn bring_in(chains: &mut Chains, present: &mut usize, index: usize)
+    requires within { index < length chains.old.entries }
+    requires bound { present.old ≤ length chains.old.entries }
+    ensures looked { (k : List ℕ) → get_by_text chains.new k ≡ get_by_text chains.old k }
+    ensures bound { present.new ≤ length chains.new.entries }
+    ensures first { (key : List ℕ) (is_present : List ℕ → Bool) → slice_get (names_of chains.old) index ≡ Some key →
+        StandFirst is_present present.old (names_of chains.old) → StandFirst (λ k. if bytes_eq key k then true else is_present k) present.new (names_of chains.new) }
+{
+    let _count = chains.len();
+    if index >= *present {
+        chains.swap_indices(index, *present);
+        *present += 1;
+    }
+}
+
+/// Takes the key at an index, which is absent from now on, from the first ones.
+fn take_out(chains: &mut Chains, present: &mut usize, index: usize)
+    requires within { index < length chains.old.entries }
+    requires bound { present.old ≤ length chains.old.entries }
+    ensures looked { (k : List ℕ) → get_by_text chains.new k ≡ get_by_text chains.old k }
+    ensures bound { present.new ≤ length chains.new.entries }
+    ensures first { (key : List ℕ) (is_present : List ℕ → Bool) → slice_get (names_of chains.old) index ≡ Some key →
+        StandFirst is_present present.old (names_of chains.old) → StandFirst (λ k. if bytes_eq key k then false else is_present k) present.new (names_of chains.new) }
+{
+    let _count = chains.len();
+    if index < *present {
+        *present -= 1;
+        chains.swap_indices(index, *present);
+    }
+}
+
+/// Adds a place to the chain of an event's key, which has room for it, and moves the chain to where it belongs.
+fn add_place(chains: &mut Chains, present: &mut usize, event: &Event, place: usize)
+    requires room { 0 < room_in (get_by_text chains.old (key_of_event event.now)) }
+    requires bound { present.old ≤ length chains.old.entries }
+    ensures places { (k : List ℕ) → places_in (get_by_text chains.new k) ≡ with_place (bytes_eq (key_of_event event.now) k) place (places_in (get_by_text chains.old k)) }
+    ensures room { (k : List ℕ) → bytes_eq (key_of_event event.now) k ≡ false → room_in (get_by_text chains.new k) ≡ room_in (get_by_text chains.old k) }
+    ensures bound { present.new ≤ length chains.new.entries }
+    ensures first { (is_present : List ℕ → Bool) → StandFirst is_present present.old (names_of chains.old) →
+        StandFirst (λ k. if bytes_eq (key_of_event event.now) k then is_put event.now else is_present k) present.new (names_of chains.new) }
+{
+    let index = index_of(chains, event.key().as_str());
+    push_at(chains, index, place);
+    match event {
+        Event::Put { .. } => bring_in(chains, present, index),
+        Event::Delete { .. } => take_out(chains, present, index),
+    }
+}
+
+/// Adds a place to the chain of each event's key. Each has room for it.
+pub(crate) fn add_places(chains: &mut Chains, present: &mut usize, events: &[Event], place: usize)
+    requires room { (k : List ℕ) → is_some (event_about k events.now) ≡ true → 0 < room_in (get_by_text chains.old k) }
+    requires apart { AreApart events.now }
+    requires bound { present.old ≤ length chains.old.entries }
+    ensures places { (k : List ℕ) → places_in (get_by_text chains.new k) ≡ with_place (is_some (event_about k events.now)) place (places_in (get_by_text chains.old k)) }
+    ensures first { (is_present : List ℕ → Bool) → StandFirst is_present present.old (names_of chains.old) →
+        StandFirst (λ k. is_left (event_about k events.now) (is_present k)) present.new (names_of chains.new) }
+{
+    for event in events {
+        add_place(chains, present, event, place);
     }
 }

@@ -1,15 +1,13 @@
 //! The key store.
-ghost use Rattle.std.specs.Prelude.{◌≡◌, ◌+◌, ◌<◌, ◌≤◌, IfOk, OnOk, OnErr, IfSome, List, ℕ, length, Some, None, ◌↔◌, slice_get, option_copied, [], ◌∷◌, ◌++◌, ◌≢◌, ◌^◌, map, is_some, string_bytes};
-ghost use Rattle.std.specs.Map;
-ghost use Rattle.std.specs.Map.{keys_of};
+ghost use Rattle.std.specs.Prelude.{◌≡◌, ◌+◌, ◌<◌, ◌≤◌, IfOk, OnOk, OnErr, IfSome, List, ℕ, Bool, false, length, Some, None, ◌↔◌, slice_get, option_copied, [], ◌∷◌, ◌++◌, ◌≢◌, ◌^◌, map, is_some};
 ghost use Rattle.indexmap.specs.IndexMap.{get_by_text};
-ghost use Rattle.stm_history.specs.History.{History, opened_at, now, add_revision, key_at, key_now, AreRevisions, IsRevision, HasDistinctKeys, change_of, state_after_put};
+ghost use Rattle.stm_history.specs.History.{History, opened_at, now, add_revision, key_at, key_now, AreRevisions, IsRevision, state_after_put};
 ghost use Rattle.stm_history.specs.Walk.{version_of};
-ghost use Rattle.stm_keys.specs.Events.{event_of, events_of};
-ghost use Rattle.stm_keys.specs.Places.{places_in, with_place, KeepsPresent};
+ghost use Rattle.stm_keys.specs.Events.{event_of, events_of, event_about, AreApart};
+ghost use Rattle.stm_keys.specs.Places.{places_in, with_place, StandFirst, KeepsPresent, is_left, names_of};
 ghost use Rattle.stm_keys.specs.Keys.{key_read, DeletePresent, HasSmallNumbers, ListsPresent};
 
-use crate::chains::{Chains, add_places, count_present, find_present, find_state, make_room};
+use crate::chains::{Chains, add_places, find_now, find_present, find_state, make_room};
 use crate::event::Event;
 use crate::refusal::{ApplyRefusal, ReadRefusal};
 use indexmap::IndexMap;
@@ -20,57 +18,54 @@ use stm_history::{Change, HIGHEST_REVISION, KeyState, Sequence, Text};
 /// The keys of a store at every revision.
 ///
 /// Contracts see the store's history, and the list of its present keys. The fields are the revisions
-/// since the opening, the oldest first, each put with its key's full state, and for each key that was
-/// ever changed the places of the revisions that changed it.
+/// since the opening, the oldest first, each put with its key's full state, for each key that was ever
+/// changed the places of the revisions that changed it, and how many keys are present: theirs are the
+/// first chains.
 #[derive(Debug, Drop)]
 pub struct Keys {
     opening: u64,
     revisions: Vec<Sequence<Event>>,
     chains: Chains,
+    present: usize,
 }
 
 impl Model for Keys {
-    ghost use Rattle.std.specs.Prelude.{map, reverse, string_bytes};
-    ghost use Rattle.std.specs.Map.{keys_of};
+    ghost use Rattle.std.specs.Prelude.{reverse, is_some};
     ghost use Rattle.indexmap.specs.IndexMap.{get_by_text};
     ghost use Rattle.stm_history.specs.History.{key_after};
     ghost use Rattle.stm_keys.specs.Keys.{Contents, IsKept, changes_of};
-    ghost use Rattle.stm_keys.specs.Places.{present_among};
+    ghost use Rattle.stm_keys.specs.Places.{present_among, StandFirst, names_of};
 
     ghost Value = { Contents };
 
     ghost view = { λ a. record {
       history = record { opening = a.opening; revisions = changes_of (reverse a.revisions.items) };
-      present = present_among (λ key. key_after a.opening key (changes_of (reverse a.revisions.items))) (map string_bytes (keys_of a.chains.entries));
+      present = present_among (λ key. key_after a.opening key (changes_of (reverse a.revisions.items))) (names_of a.chains);
     } };
 
-    ghost invariant = { λ a. IsKept a.opening (reverse a.revisions.items) (get_by_text a.chains) };
+    ghost invariant = { λ a. IsKept a.opening (reverse a.revisions.items) (get_by_text a.chains)
+        × StandFirst (λ key. is_some (key_after a.opening key (changes_of (reverse a.revisions.items)))) a.present (names_of a.chains) };
 }
 
 /// The floor of a store that drops nothing.
 const FLOOR: u64 = 0;
 
 /// What a put makes of a key: it begins anew where the key was absent, and counts on where it was present.
-fn state_put(
-    before: Option<&KeyState>,
-    number: u64,
-    value: &Text,
-    lease: u64,
-) -> Result<KeyState, AllocError>
+fn state_put(before: Option<&KeyState>, number: u64, value: Text, lease: u64) -> KeyState
     requires { version_of (option_copied before) + 1 < 2 ^ 64 }
-    ensures { IfOk result (λ s. s ≡ state_after_put number value.now lease (option_copied before.entry)) }
+    ensures { result ≡ state_after_put number value lease (option_copied before.entry) }
 {
     let (create_rev, version) = match before {
         None => (number, 1),
         Some(state) => (state.create_rev, state.version + 1),
     };
-    Ok(KeyState {
-        value: value.clone()?,
+    KeyState {
+        value,
         create_rev,
         mod_rev: number,
         version,
         lease,
-    })
+    }
 }
 
 /// A copy of the events of a revision.
@@ -88,19 +83,23 @@ fn copy_events(alloc: Global, events: &[Event]) -> Result<Vec<Event>, AllocError
 fn add_recorded(
     revisions: &mut Vec<Sequence<Event>>,
     chains: &mut Chains,
-    changes: &[Change],
+    present: &mut usize,
     events: Vec<Event>,
 ) -> Result<(), AllocError>
-    requires { HasDistinctKeys changes.now }
+    requires apart { AreApart events.items }
+    requires bound { present.old ≤ length chains.old.entries }
     ensures recorded { OnOk result (revisions.new.items ≡ revisions.old.items ++ events.items ∷ []) }
-    ensures told { OnOk result ((k : _) → places_in (get_by_text chains.new k) ≡ with_place (is_some (change_of k changes.now)) (length revisions.old.items) (places_in (get_by_text chains.old k))) }
+    ensures told { OnOk result ((k : _) → places_in (get_by_text chains.new k) ≡ with_place (is_some (event_about k events.items)) (length revisions.old.items) (places_in (get_by_text chains.old k))) }
+    ensures first { OnOk result ((is_present : List ℕ → Bool) → ((k : _) → places_in (get_by_text chains.old k) ≡ [] → is_present k ≡ false) →
+        StandFirst is_present present.old (names_of chains.old) → StandFirst (λ k. is_left (event_about k events.items) (is_present k)) present.new (names_of chains.new)) }
     ensures err { OnErr result (revisions.new.items ≡ revisions.old.items) }
+    ensures count { OnErr result (present.new ≡ present.old) }
     ensures same { OnErr result ((k : List ℕ) → places_in (get_by_text chains.new k) ≡ places_in (get_by_text chains.old k)) }
-    ensures present { OnErr result (KeepsPresent (λ k. places_in (get_by_text chains.old k)) (map string_bytes (keys_of chains.old.entries)) (map string_bytes (keys_of chains.new.entries))) }
+    ensures kept { OnErr result (KeepsPresent (λ k. places_in (get_by_text chains.old k)) (names_of chains.old) (names_of chains.new)) }
 {
-    make_room(chains, *revisions.allocator(), changes)?;
+    make_room(chains, *revisions.allocator(), events.as_slice())?;
     revisions.reserve(1)?;
-    add_places(chains, changes, revisions.len());
+    add_places(chains, present, events.as_slice(), revisions.len());
     revisions.push_reserved(Sequence::of(events));
     Ok(())
 }
@@ -127,6 +126,7 @@ impl Keys {
             opening: start,
             revisions: Vec::new(alloc),
             chains: IndexMap::new(alloc),
+            present: 0,
         }
     }
 
@@ -160,12 +160,7 @@ impl Keys {
         ensures value { option_copied result ≡ key_now self.now.history key.now }
         ensures fits { IfSome (key_now self.now.history key.now) HasSmallNumbers }
     {
-        find_state(
-            &self.chains,
-            self.revisions.as_slice(),
-            key,
-            self.revisions.len(),
-        )
+        find_now(&self.chains, self.revisions.as_slice(), key)
     }
 
     /// What a key was at a revision, `None` where it was absent. Revision 0 names the current one.
@@ -194,49 +189,48 @@ impl Keys {
     pub fn after_put(&self, key: &str, value: &Text, lease: u64) -> Result<KeyState, AllocError>
         ensures { IfOk result (λ s. s ≡ state_after_put (now self.now.history + 1) value.now lease (key_now self.now.history key.now)) }
     {
-        state_put(self.get(key), self.revision() + 1, value, lease)
+        let value = value.clone()?;
+        Ok(state_put(self.get(key), self.revision() + 1, value, lease))
     }
 
     /// What a change shows in the next revision.
-    fn show_change(&self, change: &Change) -> Result<Event, AllocError>
-        ensures { IfOk result (λ e. e ≡ event_of (now self.now.history + 1) (key_now self.now.history) change.now) }
+    fn show_change(&self, change: Change) -> Event
+        ensures { result ≡ event_of (now self.now.history + 1) (key_now self.now.history) change }
     {
+        let number = self.revision() + 1;
         match change {
             Change::Put { key, value, lease } => {
-                let state = self.after_put(key.as_str(), value, *lease)?;
-                Ok(Event::Put {
-                    key: key.clone()?,
-                    state,
-                })
+                let state = state_put(self.get(key.as_str()), number, value, lease);
+                Event::Put { key, state }
             }
-            Change::Del { key } => Ok(Event::Delete {
-                key: key.clone()?,
-                revision: self.revision() + 1,
-            }),
+            Change::Del { key } => Event::Delete {
+                key,
+                revision: number,
+            },
         }
     }
 
-    /// What the changes of the next revision show, in their order.
-    fn show_changes(&self, changes: &[Change]) -> Result<Vec<Event>, AllocError>
-        ensures { IfOk result (λ v. v.items ≡ map (event_of (now self.now.history + 1) (key_now self.now.history)) changes.now) }
+    /// What the changes of the next revision show, in their order. Their texts are moved.
+    fn show_changes(&self, changes: Vec<Change>) -> Result<Vec<Event>, AllocError>
+        ensures { IfOk result (λ v. v.items ≡ map (event_of (now self.now.history + 1) (key_now self.now.history)) changes.items) }
     {
         let mut events = Vec::with_capacity(*self.revisions.allocator(), changes.len())?;
         for change in changes {
-            events.push(self.show_change(change)?)?;
+            events.push(self.show_change(change))?;
         }
         Ok(events)
     }
 
     /// Adds one revision with these changes, in this order, and answers its number. There is a change, no key
-    /// is changed twice, and each deleted key is present.
+    /// is changed twice, and each deleted key is present. The texts of the changes become the store's.
     ///
     /// `RevisionsUsedUp` is answered where the counter is at `HIGHEST_REVISION`, `OutOfMemory` where a
     /// growth was refused. A refused call changes nothing.
-    pub fn apply(&mut self, changes: &[Change]) -> Result<u64, ApplyRefusal>
-        requires revision { IsRevision changes.now }
-        requires present { DeletePresent self.old.history changes.now }
+    pub fn apply(&mut self, changes: Vec<Change>) -> Result<u64, ApplyRefusal>
+        requires revision { IsRevision changes.items }
+        requires present { DeletePresent self.old.history changes.items }
         ensures number { IfOk result (λ number. number ≡ now self.new.history) }
-        ensures ok { OnOk result (self.new.history ≡ add_revision self.old.history changes.now) }
+        ensures ok { OnOk result (self.new.history ≡ add_revision self.old.history changes.items) }
         ensures used_up { (result ≡ Err ApplyRefusal.RevisionsUsedUp) ↔ (now self.old.history ≡ HIGHEST_REVISION) }
         ensures err { OnErr result (self.new ≡ self.old) }
     {
@@ -245,7 +239,12 @@ impl Keys {
             return Err(ApplyRefusal::RevisionsUsedUp);
         }
         let events = self.show_changes(changes)?;
-        add_recorded(&mut self.revisions, &mut self.chains, changes, events)?;
+        add_recorded(
+            &mut self.revisions,
+            &mut self.chains,
+            &mut self.present,
+            events,
+        )?;
         Ok(before + 1)
     }
 
@@ -262,15 +261,27 @@ impl Keys {
         copy_events(alloc, self.revisions[index].as_slice())
     }
 
-    /// The number of present keys.
+    /// The events of the last revision, in the order of operations: none where there is no revision yet.
+    pub fn last_events(&self) -> &[Event]
+        ensures { result.now ≡ events_of self.now.history (now self.now.history) }
+    {
+        let count = self.revisions.len();
+        if count == 0 {
+            return &[];
+        }
+        self.revisions[count - 1].as_slice()
+    }
+
+    /// The number of present keys, in constant time.
     pub fn len(&self) -> usize
         ensures count { result ≡ length self.now.present }
         ensures listed { ListsPresent self.now.history self.now.present }
     {
-        count_present(&self.chains, self.revisions.as_slice())
+        let _count = self.chains.len();
+        self.present
     }
 
-    /// The present key at an index, with its state. Which key stands where is left open.
+    /// The present key at an index, with its state, in constant time. Which key stands where is left open.
     pub fn at(&self, index: usize) -> (&str, &KeyState)
         requires { index < length self.now.present }
         ensures { slice_get self.now.present index ≡ Some (result.0.now, result.1.now) }

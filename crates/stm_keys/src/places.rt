@@ -1,5 +1,5 @@
 //! The version chains: for each key the places of the revisions that changed it.
-ghost use Rattle.std.specs.Prelude.{◌≡◌, ◌<◌, ◌≤◌, ◌∷◌, [], IfOk, OnOk, reverse};
+ghost use Rattle.std.specs.Prelude.{◌≡◌, ◌<◌, ◌≤◌, ◌∷◌, [], IfOk, OnOk, reverse, slice_get};
 ghost use Rattle.std.specs.List.Sorted.{IsNonDecreasing};
 
 use std::alloc::{AllocError, Global};
@@ -50,6 +50,17 @@ impl Places {
         ensures { self.new.places ≡ place ∷ self.old.places }
     {
         self.places.push_reserved(place);
+    }
+
+    /// The newest place.
+    pub(crate) fn newest(&self) -> Option<usize>
+        ensures { result ≡ slice_get self.now.places 0 }
+    {
+        let count = self.places.len();
+        if count == 0 {
+            return None;
+        }
+        Some(self.places[count - 1])
     }
 
     /// The newest place below a count, found by halves.

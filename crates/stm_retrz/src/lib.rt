@@ -5,8 +5,12 @@
 //! transaction: the fetch of the key that it wants, or its commit.
 #![tactic(auto)]
 
+mod copies;
 mod machine;
+mod runner;
+mod runner_steps;
 mod slots;
+mod told;
 pub mod world;
 
 pub use stm_history::{ReadAnswer, Sequence, Text};

@@ -1,13 +1,14 @@
 //! What a world is made of.
-ghost use Rattle.std.specs.Prelude.{◌≡◌, ◌≤◌, IfOk};
+ghost use Rattle.std.specs.Prelude.{◌≡◌, ◌≤◌, [], IfOk};
 ghost use Rattle.stm_history.specs.declared.revisions.TheConstants.{HIGHEST_REVISION};
 ghost use Rattle.stm_world.specs.World.{opened};
 
 use crate::slots::Slot;
 use std::alloc::{AllocError, Global};
 use std::marker::Model;
+use stm_history::Sequence;
 use stm_txn::Store;
-use stm_world::Entry;
+use stm_world::{Denied, Entry, Refusal};
 
 /// The store, the places of the runners and the entries.
 #[derive(Drop)]
@@ -28,6 +29,16 @@ impl Model for Machine {
     ghost coded = { Prim.hlevel (codes, coded_program, coded_live) };
 
     ghost view = { λ m. record { standing = m.store.standing; runners = m.runners.items; entries = m.entries.items } };
+}
+
+/// A refusal before which nothing expired.
+pub(crate) fn denied(alloc: Global, cause: Refusal) -> Denied
+    ensures { result ≡ record { cause = cause; expired = [] } }
+{
+    Denied {
+        cause,
+        expired: Sequence::new(alloc),
+    }
 }
 
 impl Machine {

@@ -7,6 +7,10 @@ use Rattle.stm_txn.specs.declared.refusal.Refusal.{Refusal}
 use Rattle.stm_txn.specs.Standing.{Standing, ended, Advance, after, expired_in, expire_up_to, HasCome}
 use Rattle.stm_txn.proofs.Ending.{none_due, one_ended}
 
+-- what an advance has come to
+abbrev come_to : List Expired → Standing → Option Refusal → Advance
+come_to expired leaves cause = record { expired = expired; leaves = leaves; cause = cause }
+
 -- none has expired yet
 pub come_none : (s : Standing) → HasCome s [] s
 come_none s = refl
@@ -23,11 +27,11 @@ record ComesFirst (first : Standing) (e : Expired) (es : List Expired) (left : S
 first_by_outcome : (first : Standing) (e : Expired) (es : List Expired) (left : Standing) (id : ℕ) (outcome : Result Standing Refusal) →
     first_due first.live first.moment ≡ Some id → ended first id ≡ outcome → HasCome first (e ∷ es) left → ComesFirst first e es left
 first_by_outcome first e es left id (Err cause) due is come =
-    let whole : record { expired = []; leaves = first; cause = Some cause } ≡ record { expired = e ∷ es; leaves = left; cause = None } =
+    let whole : come_to [] first (Some cause) ≡ come_to (e ∷ es) left None =
     sym (one_ended (length es) id first (Err cause) due is) ∙ come in
     let never : Some cause ≡ None = ap (λ (a : Advance). a.cause) whole in absurd (cc)
 first_by_outcome first e es left id (Ok next) due is come =
-    let whole : after (expired_in id next ∷ []) (expire_up_to (length es) next) ≡ record { expired = e ∷ es; leaves = left; cause = None } =
+    let whole : after (expired_in id next ∷ []) (expire_up_to (length es) next) ≡ come_to (e ∷ es) left None =
     sym (one_ended (length es) id first (Ok next) due is) ∙ come in
     let parts : expired_in id next ∷ (expire_up_to (length es) next).expired ≡ e ∷ es = ap (λ (a : Advance). a.expired) whole in
     let others : (expire_up_to (length es) next).expired ≡ es = cc in
@@ -45,7 +49,7 @@ first_by_outcome first e es left id (Ok next) due is come =
 first_by_due : (first : Standing) (e : Expired) (es : List Expired) (left : Standing) (due : Option ℕ) →
     first_due first.live first.moment ≡ due → HasCome first (e ∷ es) left → ComesFirst first e es left
 first_by_due first e es left None due come =
-    let whole : record { expired = []; leaves = first; cause = None } ≡ record { expired = e ∷ es; leaves = left; cause = None } =
+    let whole : come_to [] first None ≡ come_to (e ∷ es) left None =
     sym (none_due (suc (length es)) first due) ∙ come in
     let never : [] ≡ e ∷ es = ap (λ (a : Advance). a.expired) whole in absurd (cc)
 first_by_due first e es left (Some id) due come = first_by_outcome first e es left id (ended first id) due refl come

@@ -1,6 +1,6 @@
 -- Keys that move between leases with the changes of a revision.
-use Rattle.std.proofs.Common.{◌≡◌, ℕ, Bool, true, false, cond, List, [], ◌∷◌, Option, Some, None, refl, sym, ◌∙◌, ap, subst}
-use Rattle.std.specs.Prelude.{bytes_eq}
+use Rattle.std.proofs.Common.{◌≡◌, ℕ, Bool, true, false, cond, List, [], ◌∷◌, Option, Some, None, map, eq-eqb, refl, sym, ◌∙◌, ap, subst}
+use Rattle.std.specs.Prelude.{bytes_eq, nat_eq}
 use Rattle.std.specs.Ordering.{nat_cmp}
 use Rattle.std.specs.Cmp.Lexicographic.{slice_cmp, nat_list_cmp_total}
 use Rattle.std.specs.FinMap as finmap
@@ -8,7 +8,11 @@ use Rattle.std.proofs.lemmas.Bool.Decides.{same_from_decides}
 use Rattle.std.proofs.lemmas.Slice.Eq.{bytes_eq-Decides}
 use Rattle.std.proofs.lemmas.Map.Text.{is_eq-slice_cmp}
 use Rattle.stm_history.specs.declared.change.Change.{Change}
-use Rattle.stm_history.specs.History.{key_of, change_of, HasDistinctKeys}
+use Rattle.stm_history.specs.History.{History, now, add_revision, number_of_last, key_after, key_of, change_of, HasDistinctKeys}
+use Rattle.stm_keys.specs.declared.event.Event.{Event}
+use Rattle.stm_keys.specs.declared.event.Event.TheVariants.{Put as PutEvent, Delete as DeleteEvent}
+use Rattle.stm_keys.specs.Events.{key_of_event, change_of_event, events_of, events_above, events_numbered}
+use Rattle.stm_keys.proofs.Recorded.{changes_shown}
 use Rattle.stm_leases.specs.Live.{Live}
 use Rattle.stm_txn.specs.Leasing.{hung_by, hung_after, with_hang, hangs_of, HangOnLive}
 use Rattle.stm_txn.specs.Moves.{detached_all, attached_one, attached_all, IsLoose, CanHang}
@@ -144,3 +148,19 @@ can_after f g live next hang (x ∷ xs) loose can told same = (
   can.2,
   can_after f g live next hang xs loose.1 can.3 told same,
 )
+
+-- an event is about the key of its change
+pub key_shown : (e : Event) → key_of (change_of_event e) ≡ key_of_event e
+key_shown (PutEvent key state) = refl
+key_shown (DeleteEvent key revision) = refl
+
+-- the events of a new revision show its changes
+number_case : (b : Bool) (events rest : List Event) → b ≡ true → cond b events rest ≡ events
+number_case true events rest holds = refl
+number_case false events rest holds = absurd (cc)
+
+pub last_changes : (h : History) (cs : List Change) → map change_of_event (events_of (add_revision h cs) (now (add_revision h cs))) ≡ cs
+last_changes h cs =
+    ap (map change_of_event) (number_case (nat_eq (number_of_last h.opening (cs ∷ h.revisions)) (now (add_revision h cs)))
+    (events_above h.opening cs h.revisions) (events_numbered h.opening (now (add_revision h cs)) h.revisions) (eq-eqb _ _ refl))
+    ∙ changes_shown (number_of_last h.opening (cs ∷ h.revisions)) (λ key. key_after h.opening key h.revisions) cs

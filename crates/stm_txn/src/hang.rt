@@ -1,6 +1,7 @@
 //! Keys that move between leases.
 ghost use Rattle.std.specs.Prelude.{◌≡◌, ◌+◌, ◌<◌, ◌≤◌, ℕ, List, IfOk, length, map, None, true};
-ghost use Rattle.stm_history.specs.History.{change_of, key_of, HasDistinctKeys};
+ghost use Rattle.stm_history.specs.History.{change_of, HasDistinctKeys};
+ghost use Rattle.stm_keys.specs.Events.{key_of_event, change_of_event};
 ghost use Rattle.stm_leases.specs.Leases.{lease_of};
 ghost use Rattle.stm_txn.specs.Leasing.{hangs_of, hung_after, HangOnLive};
 ghost use Rattle.stm_txn.specs.Moves.{detached_all, attached_one, attached_all, CanHang};
@@ -9,6 +10,7 @@ ghost use Rattle.std.specs.FinMap as finmap;
 use std::alloc::{AllocError, Global};
 use std::marker::Model;
 use stm_history::{Change, Text};
+use stm_keys::Event;
 use stm_leases::Leases;
 
 /// A key that is to hang on a lease, with the two texts that this takes.
@@ -52,21 +54,21 @@ pub(crate) fn prepare_hangs(alloc: Global, changes: &[Change]) -> Result<Vec<Han
     Ok(hangs)
 }
 
-/// Takes the key of a change off its lease, if it hangs on one.
-fn take_off(leases: &mut Leases, change: &Change)
-    ensures { leases.new ≡ record leases.old { attached = finmap.remove leases.old.attached (key_of change.now) } }
+/// Takes the key of an event off its lease, if it hangs on one.
+fn take_off(leases: &mut Leases, event: &Event)
+    ensures { leases.new ≡ record leases.old { attached = finmap.remove leases.old.attached (key_of_event event.now) } }
 {
-    leases.detach(change.key().as_str());
+    leases.detach(event.key().as_str());
 }
 
-/// Takes the keys of changes off their leases.
-fn detach_all(leases: &mut Leases, changes: &[Change])
-    ensures keys { (key : List ℕ) → lease_of leases.new key ≡ detached_all changes.now key (lease_of leases.old key) }
+/// Takes the keys of events off their leases.
+fn detach_all(leases: &mut Leases, events: &[Event])
+    ensures keys { (key : List ℕ) → lease_of leases.new key ≡ detached_all (map change_of_event events.now) key (lease_of leases.old key) }
     ensures live { leases.new.live ≡ leases.old.live }
     ensures spare { leases.new.spare ≡ leases.old.spare }
 {
-    for change in changes {
-        take_off(leases, change);
+    for event in events {
+        take_off(leases, event);
     }
 }
 
@@ -94,15 +96,15 @@ fn attach_all(leases: &mut Leases, hangs: Vec<Hang>)
     }
 }
 
-/// Moves the keys of changes to the leases that they are to hang on.
-pub(crate) fn move_keys(leases: &mut Leases, changes: &[Change], hangs: Vec<Hang>)
-    requires distinct { HasDistinctKeys changes.now }
-    requires hangs { hangs.items ≡ hangs_of changes.now }
+/// Moves the keys of a revision's events to the leases that they are to hang on.
+pub(crate) fn move_keys(leases: &mut Leases, events: &[Event], hangs: Vec<Hang>)
+    requires distinct { HasDistinctKeys (map change_of_event events.now) }
+    requires hangs { hangs.items ≡ hangs_of (map change_of_event events.now) }
     requires live { HangOnLive leases.old.live hangs.items }
     requires room { length hangs.items ≤ leases.old.spare }
-    ensures keys { (key : List ℕ) → lease_of leases.new key ≡ hung_after (change_of key changes.now) (lease_of leases.old key) }
+    ensures keys { (key : List ℕ) → lease_of leases.new key ≡ hung_after (change_of key (map change_of_event events.now)) (lease_of leases.old key) }
     ensures live { leases.new.live ≡ leases.old.live }
 {
-    detach_all(leases, changes);
+    detach_all(leases, events);
     attach_all(leases, hangs);
 }

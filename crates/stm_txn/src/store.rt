@@ -186,42 +186,42 @@ impl Store {
     }
 
     /// Adds a revision with these changes, and moves their keys to their leases.
-    fn change(&mut self, changes: &[Change]) -> Result<(), Refusal>
-        requires revision { IsRevision changes.now }
+    fn change(&mut self, changes: Vec<Change>) -> Result<(), Refusal>
+        requires revision { IsRevision changes.items }
         requires room { now self.old.standing.history < HIGHEST_REVISION }
-        requires live { HangOnLive self.old.standing.live (hangs_of changes.now) }
-        requires present { DeletePresent self.old.standing.history changes.now }
-        ensures ok { OnOk result (self.new.standing.history ≡ add_revision self.old.standing.history changes.now) }
+        requires live { HangOnLive self.old.standing.live (hangs_of changes.items) }
+        requires present { DeletePresent self.old.standing.history changes.items }
+        ensures ok { OnOk result (self.new.standing.history ≡ add_revision self.old.standing.history changes.items) }
         ensures live { self.new.standing.live ≡ self.old.standing.live }
         ensures moment { self.new.standing.moment ≡ self.old.standing.moment }
         ensures memory { IsOkUnless result Refusal.OutOfMemory }
         ensures err { OnErr result (self.new ≡ self.old) }
     {
         let _ids_are_in_range = self.leases.is_live(0);
-        let hangs = prepare_hangs(self.alloc, changes)?;
+        let hangs = prepare_hangs(self.alloc, changes.as_slice())?;
         self.leases.reserve_attach(hangs.len())?;
         match self.keys.apply(changes) {
             Ok(_) => {}
             Err(ApplyRefusal::OutOfMemory) => return Err(Refusal::OutOfMemory),
             Err(ApplyRefusal::RevisionsUsedUp) => unreachable!(),
         }
-        move_keys(&mut self.leases, changes, hangs);
+        move_keys(&mut self.leases, self.keys.last_events(), hangs);
         Ok(())
     }
 
     /// Adds a revision with these changes where there are any.
-    fn commit(&mut self, changes: &[Change]) -> Result<(), Refusal>
-        requires distinct { HasDistinctKeys changes.now }
-        requires room { is_used_up self.old.standing.history changes.now ≡ false }
-        requires live { HangOnLive self.old.standing.live (hangs_of changes.now) }
-        requires present { DeletePresent self.old.standing.history changes.now }
-        ensures ok { OnOk result (self.new.standing.history ≡ with_changes self.old.standing.history changes.now) }
+    fn commit(&mut self, changes: Vec<Change>) -> Result<(), Refusal>
+        requires distinct { HasDistinctKeys changes.items }
+        requires room { is_used_up self.old.standing.history changes.items ≡ false }
+        requires live { HangOnLive self.old.standing.live (hangs_of changes.items) }
+        requires present { DeletePresent self.old.standing.history changes.items }
+        ensures ok { OnOk result (self.new.standing.history ≡ with_changes self.old.standing.history changes.items) }
         ensures live { self.new.standing.live ≡ self.old.standing.live }
         ensures moment { self.new.standing.moment ≡ self.old.standing.moment }
         ensures memory { IsOkUnless result Refusal.OutOfMemory }
         ensures err { OnErr result (self.new ≡ self.old) }
     {
-        match changes {
+        match changes.as_slice() {
             [] => Ok(()),
             [_, ..] => {
                 let _highest = self.keys.revision();
@@ -244,7 +244,7 @@ impl Store {
         ensures err { OnErr result (self.new ≡ self.old) }
     {
         let branch = run_branch(self.alloc, &self.keys, ops)?;
-        self.commit(branch.changes.as_slice())?;
+        self.commit(branch.changes)?;
         Ok(TxnAnswer {
             succeeded: failed.is_none(),
             revision: self.keys.revision(),
@@ -375,7 +375,7 @@ impl Store {
             return Err(Refusal::RevisionsUsedUp);
         }
         let changes = self.lease_deletions(id)?;
-        self.commit(changes.as_slice())?;
+        self.commit(changes)?;
         self.leases.remove(id);
         Ok(())
     }

@@ -35,7 +35,10 @@ fn delete_one(alloc: Global, keys: &mut Keys, key: &str) -> Result<u64, ApplyRef
         return Ok(keys.revision());
     }
     let deletion = deletion_of(alloc, key)?;
-    keys.apply(&[deletion])
+    let Ok(changes) = vec![in alloc; deletion] else {
+        return Err(ApplyRefusal::OutOfMemory);
+    };
+    keys.apply(changes)
 }
 
 /// One revision that puts a key with a value, or with "-" deletes it.
@@ -44,7 +47,10 @@ fn change_one(alloc: Global, keys: &mut Keys, key: &str, value: &str) -> Result<
         return delete_one(alloc, keys, key);
     }
     let put = put_of(alloc, key, value)?;
-    keys.apply(&[put])
+    let Ok(changes) = vec![in alloc; put] else {
+        return Err(ApplyRefusal::OutOfMemory);
+    };
+    keys.apply(changes)
 }
 
 /// The number of a change's revision, or why it is refused.
@@ -164,7 +170,10 @@ fn put_three(alloc: Global, keys: &mut Keys) -> Result<u64, ApplyRefusal> {
     let first = put_of(alloc, "c", "1")?;
     let second = put_of(alloc, "a", "1")?;
     let third = put_of(alloc, "b", "1")?;
-    keys.apply(&[first, second, third])
+    let Ok(changes) = vec![in alloc; first, second, third] else {
+        return Err(ApplyRefusal::OutOfMemory);
+    };
+    keys.apply(changes)
 }
 
 /// One revision that deletes a key and puts another.
@@ -174,7 +183,10 @@ fn replace(alloc: Global, keys: &mut Keys) -> Result<u64, ApplyRefusal> {
     }
     let first = deletion_of(alloc, "a")?;
     let second = put_of(alloc, "c", "2")?;
-    keys.apply(&[first, second])
+    let Ok(changes) = vec![in alloc; first, second] else {
+        return Err(ApplyRefusal::OutOfMemory);
+    };
+    keys.apply(changes)
 }
 
 fn told_event(alloc: Global, event: &Event) -> Result<String, AllocError> {
@@ -293,5 +305,55 @@ fn told_two_keys(alloc: Global) -> Result<String, AllocError> {
 fn a_store_tells_its_present_keys(rt: HostRuntime) -> Result<(), Fail> {
     let told = told_two_keys(rt.alloc())?;
     assert_eq!(rt; told.as_str(), "5 1 0 a=1 b=7 1/3/3/1/0 2/3/6/2/7");
+    Ok(())
+}
+
+/// The present keys after keys came, went and came again.
+fn told_after_changes(alloc: Global, changes: &[(&str, &str)]) -> Result<String, AllocError> {
+    let mut keys = Keys::new(alloc);
+    told_changes(alloc, &mut keys, changes)?;
+    let present = told_present(alloc, &keys)?;
+    format!(in alloc; "{}: {present}", keys.len())
+}
+
+#[test]
+fn keys_that_come_and_go_are_told_once(rt: HostRuntime) -> Result<(), Fail> {
+    let changes = [
+        ("a", "1"),
+        ("b", "1"),
+        ("c", "1"),
+        ("a", "-"),
+        ("d", "1"),
+        ("c", "-"),
+        ("a", "2"),
+        ("b", "2"),
+        ("d", "-"),
+    ];
+    let told = told_after_changes(rt.alloc(), &changes)?;
+    assert_eq!(rt; told.as_str(), "2: a=2 b=2 ");
+    let told = told_after_changes(rt.alloc(), &[("a", "1"), ("a", "-")])?;
+    assert_eq!(rt; told.as_str(), "0: ");
+    Ok(())
+}
+
+fn told_last_events(alloc: Global) -> Result<String, ApplyRefusal> {
+    let mut keys = Keys::new(alloc);
+    let mut told = String::new(alloc);
+    for event in keys.last_events() {
+        told.push_str(told_event(alloc, event)?.as_str())?;
+    }
+    told.push_str("| ")?;
+    put_three(alloc, &mut keys)?;
+    replace(alloc, &mut keys)?;
+    for event in keys.last_events() {
+        told.push_str(told_event(alloc, event)?.as_str())?;
+    }
+    Ok(told)
+}
+
+#[test]
+fn the_last_revision_tells_its_events(rt: HostRuntime) -> Result<(), Fail> {
+    let told = told_last_events(rt.alloc())?;
+    assert_eq!(rt; told.as_str(), "| DELETE a 3 PUT c 2/2/3/2/0 ");
     Ok(())
 }

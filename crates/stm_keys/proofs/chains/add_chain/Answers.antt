@@ -4,8 +4,8 @@ use Rattle.std.specs.Map.{keys_of}
 use Rattle.std.proofs.lemmas.Map.Text.{hash_map_updates_text}
 use Rattle.indexmap.specs.IndexMap.{get_by_text}
 use Rattle.indexmap.proofs.CallerLemmas.{insert_entry-new}
-use Rattle.stm_keys.specs.Places.{Places, places_in, room_in, present_among}
-use Rattle.stm_keys.proofs.Present.{present_push}
+use Rattle.stm_keys.specs.Places.{Places, places_in, room_in, KeepsPresent, names_of}
+use Rattle.stm_keys.proofs.Order.{keeps_push}
 use Rattle.stm_keys.proofs.Steps.{places_kept, room_grows, texts_push}
 use Rattle.stm_keys.proofs.chains.add_chain.Goals as goal
 
@@ -26,12 +26,12 @@ returns-clause-more c =
     (subst (λ (o : Option Places). room_in o ≤ c.in_ok-chain.chain.room) (sym none) (omega arith))
 
 pub returns-clause-present : goal.returns-clause-present
-returns-clause-present c = λ state absent.
+returns-clause-present c =
     let is : string_bytes c.into_string.result ≡ c.args.key.now = c.into_string.ensures ∙ c.in_ok-text.ensures.cases in
     let none : get_by_text c.args.chains.now (string_bytes c.into_string.result) ≡ None = ap (get_by_text c.args.chains.now) is ∙ c.requires in
     let entries : c.insert.new.self.entries ≡ c.args.chains.now.entries ++ (c.into_string.result, c.in_ok-chain.chain) ∷ [] =
     c.in_ok-insert.ensures.entries ∙ insert_entry-new string_eq c.args.chains.now c.into_string.result c.in_ok-chain.chain none in
-    ap (λ es. present_among state (map string_bytes (keys_of es))) entries
-    ∙ ap (present_among state) (texts_push string_bytes c.args.chains.now.entries c.into_string.result c.in_ok-chain.chain)
-    ∙ present_push state (map string_bytes (keys_of c.args.chains.now.entries)) (string_bytes c.into_string.result)
-    (absent (string_bytes c.into_string.result) (ap places_in none))
+    let names : names_of c.insert.new.self ≡ names_of c.args.chains.now ++ string_bytes c.into_string.result ∷ [] =
+    ap (λ es. map string_bytes (keys_of es)) entries ∙ texts_push string_bytes c.args.chains.now.entries c.into_string.result c.in_ok-chain.chain in
+    subst (KeepsPresent (λ k. places_in (get_by_text c.args.chains.now k)) (names_of c.args.chains.now)) (sym names)
+    (keeps_push (λ k. places_in (get_by_text c.args.chains.now k)) (names_of c.args.chains.now) (string_bytes c.into_string.result) (ap places_in none))

@@ -1,24 +1,25 @@
-use Rattle.std.proofs.Common.{◌≡◌, ◌∷◌, ◌∙◌, Some, ap, cond, rules, List, ℕ}
+use Rattle.std.proofs.Common.{◌≡◌, ◌∙◌, ap, sym, subst, cond, Some, List, ℕ, slice_get}
 use Rattle.std.specs.Prelude.{bytes_eq}
-use Rattle.std.proofs.lemmas.Map.Text.{hash_map_updates_text}
-use Rattle.indexmap.specs.IndexMap.{get_by_text}
-use Rattle.stm_keys.specs.Places.{places_in}
-use Rattle.stm_keys.proofs.Steps.{place_added, room_elsewhere}
+use Rattle.stm_keys.specs.Events.{is_put}
+use Rattle.stm_keys.specs.Places.{StandFirst, names_of}
 use Rattle.stm_keys.proofs.chains.add_place.Goals as goal
 
-pub returns-clause-places : goal.returns-clause-places
-returns-clause-places c =
-    let written : (k : List ℕ) → get_by_text (c.get_mut.follows.lender c.push.new.self) k ≡ cond (bytes_eq c.args.key.now k) (Some c.push.new.self)
-    (get_by_text c.args.chains.now k) =
-    hash_map_updates_text c.args.key.now c.args.chains.now (c.get_mut.follows.lender c.push.new.self) (Some c.push.new.self)
-    ((c.get_mut.follows.holds c.push.new.self).3 (search rules)) in
-    place_added (get_by_text c.args.chains.now) (get_by_text (c.get_mut.follows.lender c.push.new.self)) c.args.key.now c.push.new.self written c.args.place
-    (c.push.ensures ∙ ap (λ o. c.args.place ∷ places_in o) c.in-Some.ensures.value)
+pub returns-in-Put-clause-first : goal.returns-in-Put-clause-first
+returns-in-Put-clause-first c = λ is_present first.
+    let count : ℕ = c.bring_in.new.present in
+    let names : List (List ℕ) = names_of c.bring_in.new.chains in
+    let at : slice_get (names_of c.push_at.new.chains) c.index_of-index.result ≡ Some c.as_str.result.now =
+    ap (λ (l : List (List ℕ)). slice_get l c.index_of-index.result) c.push_at.ensures.names ∙ c.index_of-index.ensures in
+    subst (λ (l : List ℕ). StandFirst (λ k. cond (bytes_eq l k) (is_put c.args.event.now) (is_present k)) count names) (c.as_str.ensures ∙ c.key.ensures)
+    (subst (λ b. StandFirst (λ k. cond (bytes_eq c.as_str.result.now k) b (is_present k)) count names) (sym (ap is_put c.in-Put.is))
+    (c.bring_in.ensures.first c.as_str.result.now is_present at (subst (StandFirst is_present c.args.present.now) (sym c.push_at.ensures.names) first)))
 
-pub returns-clause-room : goal.returns-clause-room
-returns-clause-room c =
-    let written : (k : List ℕ) → get_by_text (c.get_mut.follows.lender c.push.new.self) k ≡ cond (bytes_eq c.args.key.now k) (Some c.push.new.self)
-    (get_by_text c.args.chains.now k) =
-    hash_map_updates_text c.args.key.now c.args.chains.now (c.get_mut.follows.lender c.push.new.self) (Some c.push.new.self)
-    ((c.get_mut.follows.holds c.push.new.self).3 (search rules)) in
-    room_elsewhere (get_by_text c.args.chains.now) (get_by_text (c.get_mut.follows.lender c.push.new.self)) c.args.key.now c.push.new.self written
+pub returns-in-Delete-clause-first : goal.returns-in-Delete-clause-first
+returns-in-Delete-clause-first c = λ is_present first.
+    let count : ℕ = c.take_out.new.present in
+    let names : List (List ℕ) = names_of c.take_out.new.chains in
+    let at : slice_get (names_of c.push_at.new.chains) c.index_of-index.result ≡ Some c.as_str.result.now =
+    ap (λ (l : List (List ℕ)). slice_get l c.index_of-index.result) c.push_at.ensures.names ∙ c.index_of-index.ensures in
+    subst (λ (l : List ℕ). StandFirst (λ k. cond (bytes_eq l k) (is_put c.args.event.now) (is_present k)) count names) (c.as_str.ensures ∙ c.key.ensures)
+    (subst (λ b. StandFirst (λ k. cond (bytes_eq c.as_str.result.now k) b (is_present k)) count names) (sym (ap is_put c.in-Delete.is))
+    (c.take_out.ensures.first c.as_str.result.now is_present at (subst (StandFirst is_present c.args.present.now) (sym c.push_at.ensures.names) first)))

@@ -2,7 +2,7 @@ use Rattle.std.proofs.Common.{◌≡◌, ◌≤◌, ◌∙◌, Some, ap, subst, 
 use Rattle.std.specs.Prelude.{bytes_eq}
 use Rattle.std.proofs.lemmas.Map.Text.{hash_map_updates_text}
 use Rattle.indexmap.specs.IndexMap.{get_by_text}
-use Rattle.stm_keys.specs.Places.{Places, places_in, room_in}
+use Rattle.stm_keys.specs.Places.{Places, places_in, room_in, KeepsPresent, names_of}
 use Rattle.stm_keys.proofs.Steps.{places_kept, room_grows}
 use Rattle.stm_keys.proofs.chains.make_room_of.Goals as goal
 
@@ -23,3 +23,8 @@ returns-in-Some-clause-more c =
     ((c.get_mut.follows.holds c.make_room.new.self).3 (search rules)) in
     room_grows (get_by_text c.args.chains.now) (get_by_text (c.get_mut.follows.lender c.make_room.new.self)) c.as_str.result.now c.make_room.new.self written
     (subst (λ (o : Option Places). room_in o ≤ c.make_room.new.self.room) c.in-Some.ensures.value c.make_room.ensures.more)
+
+pub returns-in-None-clause-present : goal.returns-in-None-clause-present
+returns-in-None-clause-present c =
+    let same : c.get_mut.follows.lender-at-none ≡ c.args.chains.now = search rules in
+    subst (λ m. KeepsPresent (λ k. places_in (get_by_text m k)) (names_of m) (names_of c.add_chain.new.chains)) same c.add_chain.ensures.present

@@ -1,12 +1,16 @@
-use Rattle.std.proofs.Common.{◌≡◌, ◌∙◌, ap, rules, length, is_some}
-use Rattle.indexmap.specs.IndexMap.{get_by_text}
-use Rattle.stm_history.specs.History.{change_of}
-use Rattle.stm_keys.specs.Places.{places_in, with_place}
+use Rattle.std.proofs.Common.{arith, subst, List}
+use Rattle.stm_keys.specs.declared.event.Event.{Event}
+use Rattle.stm_keys.specs.Events.{event_about}
+use Rattle.stm_keys.specs.Places.{StandFirst, is_left, names_of}
+use Rattle.stm_keys.proofs.Order.{names_long}
 use Rattle.stm_keys.proofs.keys.add_recorded.Goals as goal
 
-pub returns-clause-told : goal.returns-clause-told
-returns-clause-told c = λ k.
-    let place : c.len.result ≡ length c.args.revisions.now.items = search rules in
-    c.add_places.ensures k
-    ∙ ap (with_place (is_some (change_of k c.args.changes.now)) c.len.result) (c.make_room.ensures.places k)
-    ∙ ap (λ n. with_place (is_some (change_of k c.args.changes.now)) n (places_in (get_by_text c.args.chains.now k))) place
+pub add_places-requires-clause-bound : goal.add_places-requires-clause-bound
+add_places-requires-clause-bound c =
+    omega (arith, c.requires.bound, c.make_room.ensures.present.longer, names_long c.args.chains.now, names_long c.make_room.new.chains)
+
+pub returns-clause-first : goal.returns-clause-first
+returns-clause-first c = λ is_present absent first.
+    subst (λ (es : List Event). StandFirst (λ k. is_left (event_about k es) (is_present k)) c.add_places.new.present (names_of c.add_places.new.chains))
+    c.as_slice-2.ensures.value
+    (c.add_places.ensures.first is_present (c.in_ok-make_room.ensures.present.first is_present c.args.present.now absent first))

@@ -25,6 +25,6 @@ returns c =
     let count : length (changes_of (reverse xs)) ≡ length xs = length-map (reverse xs) (map change_of_event) ∙ length-reverse xs in
     let numbered : events_of c.args.self.now.history c.args.revision ≡ c.index.result.now =
     sym (ap (λ (v : Contents). events_of v.history c.args.revision) c.self.view_is)
-    ∙ events_at opening c.args.revision xs (get_by_text c.self.inside.chains) (c.args.revision - opening - 1) c.self.invariant
+    ∙ events_at opening c.args.revision xs (get_by_text c.self.inside.chains) (c.args.revision - opening - 1) c.self.invariant.0
     (omega (arith, c.if-revision-self.false)) (omega (arith, c.if-revision-self.false)) c.index.result.now c.index.ensures in
     IfOk-weaker c.copy_events.result _ _ (λ copy e. e ∙ c.as_slice.ensures ∙ sym numbered) c.copy_events.ensures

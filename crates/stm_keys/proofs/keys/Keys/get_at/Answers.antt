@@ -12,7 +12,7 @@ use Rattle.stm_keys.proofs.keys.Keys.get_at.Goals as goal
 pub find_state-requires : goal.find_state-requires
 find_state-requires c =
     subst (λ (xs : List (List Event)). AreSearchable (get_by_text c.self.inside.chains) xs) (sym c.as_slice.ensures.value)
-    (searchable c.self.inside.opening c.self.inside.revisions.items (get_by_text c.self.inside.chains) c.self.invariant)
+    (searchable c.self.inside.opening c.self.inside.revisions.items (get_by_text c.self.inside.chains) c.self.invariant.0)
 
 pub returns-clause-found : goal.returns-clause-found
 returns-clause-found c =
@@ -21,7 +21,7 @@ returns-clause-found c =
     let past : nat_eq c.args.revision 0 ≡ false = search rules in
     c.find_state.ensures
     ∙ ap (λ (l : List (List Event)). found_in (get_by_text c.self.inside.chains) l c.min-count.result c.args.key.now) c.as_slice.ensures.value
-    ∙ found_then c.self.inside.opening c.args.revision xs (get_by_text c.self.inside.chains) c.args.key.now c.min-count.result c.self.invariant count
+    ∙ found_then c.self.inside.opening c.args.revision xs (get_by_text c.self.inside.chains) c.args.key.now c.min-count.result c.self.invariant.0 count
     ∙ ap (λ (v : Contents). key_at v.history c.args.key.now c.args.revision) c.self.view_is
     ∙ sym (ap (λ b. cond b (key_now c.args.self.now.history c.args.key.now) (key_at c.args.self.now.history c.args.key.now c.args.revision)) past)
 

@@ -1,23 +1,48 @@
-use Rattle.std.proofs.Common.{◌≡◌, ◌∙◌, sym, ap, subst, ℕ, List}
+use Rattle.std.proofs.Common.{◌≡◌, ◌∙◌, sym, ap, subst, ℕ, List, map}
 use Rattle.stm_history.specs.declared.change.Change.{Change}
-use Rattle.stm_history.specs.History.{History, key_now}
+use Rattle.stm_history.specs.History.{History, now, key_now, change_of, HasDistinctKeys}
+use Rattle.stm_keys.specs.Events.{change_of_event, events_of}
 use Rattle.stm_leases.specs.Leases.{Leases, lease_of}
-use Rattle.stm_txn.specs.Leasing.{hanging, hangs_of, HangOnLive}
+use Rattle.stm_txn.specs.Leasing.{hanging, hung_after, hangs_of, HangOnLive}
 use Rattle.stm_txn.specs.Numbers.{LeasesFit}
 use Rattle.stm_txn.specs.Store.{StoreView}
 use Rattle.stm_txn.proofs.Bounding.{hung_fit}
 use Rattle.stm_txn.proofs.Ending.{still_stored}
+use Rattle.stm_txn.proofs.Moving.{last_changes}
 use Rattle.stm_txn.proofs.store.Store.change.Goals as goal
+
+pub move_keys-requires-clause-distinct : goal.move_keys-requires-clause-distinct
+move_keys-requires-clause-distinct c =
+    let h : History = c.self.inside.keys.history in
+    let cs : List Change = c.args.changes.items in
+    let shown : map change_of_event c.last_events.result.now ≡ cs =
+    ap (map change_of_event) c.last_events.ensures ∙ ap (λ (x : History). map change_of_event (events_of x (now x))) c.in-Ok.ensures.ok
+    ∙ last_changes h cs in
+    subst HasDistinctKeys (sym shown) c.requires.revision.1
+
+pub move_keys-requires-clause-hangs : goal.move_keys-requires-clause-hangs
+move_keys-requires-clause-hangs c =
+    let h : History = c.self.inside.keys.history in
+    let cs : List Change = c.args.changes.items in
+    let shown : map change_of_event c.last_events.result.now ≡ cs =
+    ap (map change_of_event) c.last_events.ensures ∙ ap (λ (x : History). map change_of_event (events_of x (now x))) c.in-Ok.ensures.ok
+    ∙ last_changes h cs in
+    c.in_ok-hangs.ensures ∙ ap hangs_of c.as_slice.ensures.value ∙ ap hangs_of (sym shown)
 
 pub invariant_of-self-2 : goal.invariant_of-self-2
 invariant_of-self-2 c =
     let h : History = c.self.inside.keys.history in
-    let cs : List Change = c.args.changes.now in
+    let cs : List Change = c.args.changes.items in
+    let shown : map change_of_event c.last_events.result.now ≡ cs =
+    ap (map change_of_event) c.last_events.ensures ∙ ap (λ (x : History). map change_of_event (events_of x (now x))) c.in-Ok.ensures.ok
+    ∙ last_changes h cs in
     subst (λ (next : History). ((key : List ℕ) → lease_of c.move_keys.new.leases key ≡ hanging (key_now next key)) × LeasesFit next.revisions)
     (sym c.in-Ok.ensures.ok) (
       λ key.
           still_stored h cs key (lease_of c.reserve_attach.new.self key) (lease_of c.move_keys.new.leases key)
-          (ap (λ (s : Leases). lease_of s key) c.in_ok-reserve_attach.ensures.ok ∙ c.self.invariant.0 key) (c.move_keys.ensures.keys key),
+          (ap (λ (s : Leases). lease_of s key) c.in_ok-reserve_attach.ensures.ok ∙ c.self.invariant.0 key)
+          (c.move_keys.ensures.keys key
+          ∙ ap (λ (l : List Change). hung_after (change_of key l) (lease_of c.reserve_attach.new.self key)) shown),
       (
         hung_fit c.self.inside.leases.live cs c.is_live-ids_are_in_range.ensures.in_range
             (subst (λ (s : StoreView). HangOnLive s.standing.live (hangs_of cs)) (sym c.self.view_is) c.requires.live),

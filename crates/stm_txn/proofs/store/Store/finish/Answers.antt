@@ -1,4 +1,4 @@
-use Rattle.std.proofs.Common.{◌≡◌, ◌∙◌, sym, ap, subst, List, []}
+use Rattle.std.proofs.Common.{◌∙◌, sym, ap, subst, List, []}
 use Rattle.std.specs.Prelude.{IsTrue}
 use Rattle.stm_history.specs.declared.change.Change.{Change}
 use Rattle.stm_history.specs.History.{History, now, HasDistinctKeys}
@@ -20,22 +20,19 @@ run_branch-requires c =
     subst (λ (s : StoreView). IsTrue (are_readable (now s.standing.history) ops)) (sym c.self.view_is)
     (all_readable (now h) (is_live_in c.args.self.now.standing.live) ops c.requires.allowed)
 
--- the changes that the branch made
-made : (c : goal.After-as_slice) → c.as_slice.result.now ≡ changes_copied c.args.self.now.standing.history [] c.args.ops.now
-made c =
-    c.as_slice.ensures.value ∙ c.in_ok-branch.ensures.changes
-    ∙ ap (λ (s : StoreView). changes_copied s.standing.history [] c.args.ops.now) c.self.view_is
-
 pub commit-requires-clause-distinct : goal.commit-requires-clause-distinct
 commit-requires-clause-distinct c =
-    subst (λ (cs : List Change). HasDistinctKeys cs) (sym (made c)) (changes_are_distinct c.args.self.now.standing.history c.args.ops.now c.requires.apart)
+    subst (λ (cs : List Change). HasDistinctKeys cs) (sym (c.in_ok-branch.ensures.changes
+    ∙ ap (λ (s : StoreView). changes_copied s.standing.history [] c.args.ops.now) c.self.view_is)) (changes_are_distinct c.args.self.now.standing.history c.args.ops.now c.requires.apart)
 
 pub commit-requires-clause-live : goal.commit-requires-clause-live
 commit-requires-clause-live c =
-    subst (λ (cs : List Change). HangOnLive c.args.self.now.standing.live (hangs_of cs)) (sym (made c))
+    subst (λ (cs : List Change). HangOnLive c.args.self.now.standing.live (hangs_of cs)) (sym (c.in_ok-branch.ensures.changes
+    ∙ ap (λ (s : StoreView). changes_copied s.standing.history [] c.args.ops.now) c.self.view_is))
     (hangs_live c.args.self.now.standing.history c.args.self.now.standing.live c.args.ops.now c.requires.allowed)
 
 pub commit-requires-clause-present : goal.commit-requires-clause-present
 commit-requires-clause-present c =
-    subst (λ (cs : List Change). DeletePresent c.args.self.now.standing.history cs) (sym (made c))
+    subst (λ (cs : List Change). DeletePresent c.args.self.now.standing.history cs) (sym (c.in_ok-branch.ensures.changes
+    ∙ ap (λ (s : StoreView). changes_copied s.standing.history [] c.args.ops.now) c.self.view_is))
     (deletes_present c.args.self.now.standing.history c.args.ops.now c.requires.apart)

@@ -1,0 +1,23 @@
+use Rattle.std.proofs.Common.{◌≡◌, ◌<◌, ◌∙◌, Some, sym, ap, subst, IfSome, ℕ, Option, length}
+use Rattle.indexmap.specs.IndexMap.{get_by_text}
+use Rattle.stm_keys.specs.Places.{Places, places_in, newest_below, state_from}
+use Rattle.stm_keys.proofs.Steps.{newest_within, newest_first}
+use Rattle.stm_keys.proofs.chains.find_now.Goals as goal
+
+pub state_from-requires : goal.state_from-requires
+state_from-requires c =
+    let n : ℕ = length c.args.revisions.now in
+    subst (λ (o : Option ℕ). IfSome o (λ q. q < n)) (sym c.newest.ensures)
+    (newest_within c.in-Some.chain.now.places n
+    (subst (λ (o : Option Places). (count : ℕ) → IfSome (newest_below count (places_in o)) (λ q. q < n)) (sym c.in-Some.ensures.value)
+    (c.requires.within c.args.key.now)))
+
+pub returns-in-Some : goal.returns-in-Some
+returns-in-Some c =
+    let n : ℕ = length c.args.revisions.now in
+    let found : get_by_text c.args.chains.now c.args.key.now ≡ Some c.in-Some.chain.now = sym c.in-Some.ensures.value in
+    c.state_from.ensures
+    ∙ ap (state_from c.args.revisions.now c.args.key.now) (c.newest.ensures
+    ∙ sym (newest_first c.in-Some.chain.now.places n
+    (subst (λ (o : Option Places). (count : ℕ) → IfSome (newest_below count (places_in o)) (λ q. q < n)) found (c.requires.within c.args.key.now))))
+    ∙ ap (λ o. state_from c.args.revisions.now c.args.key.now (newest_below n (places_in o))) (sym found)

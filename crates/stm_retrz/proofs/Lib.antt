@@ -1,0 +1,3 @@
+pub mod RunnerLemmas
+pub mod SlotLemmas
+pub mod StepLemmas

@@ -1,0 +1,11 @@
+//! What a step of a runner tells.
+use stm_world::Reply;
+
+/// The reply to a step of a runner.
+#[derive(Debug, Drop)]
+pub(crate) enum Told {
+    /// The run goes on.
+    GoesOn(Reply),
+    /// The run is over.
+    Ends(Reply),
+}

@@ -1,3 +1,7 @@
+pub mod Wants
+pub mod CallLemmas
+pub mod StateLemmas
 pub mod RunnerLemmas
 pub mod SlotLemmas
 pub mod StepLemmas
+pub mod WorldLemmas

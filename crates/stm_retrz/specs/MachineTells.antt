@@ -3,6 +3,8 @@ use Rattle.std.specs.Prelude.{◌≡◌, Result, Ok, Err, IsOk}
 use Rattle.std.specs.declared.alloc.AllocError.{AllocError}
 use Rattle.stm_world.specs.declared.reply.Reply.{Reply}
 use Rattle.stm_world.specs.declared.refusal.Denied.{Denied}
+use Rattle.stm_txn.specs.declared.refusal.Refusal.TheVariants.{OutOfMemory}
+use Rattle.stm_world.specs.declared.refusal.Refusal.TheVariants.{Store}
 use Rattle.stm_world.specs.Told.{denied}
 use Rattle.stm_world.specs.World.{World, Stepped}
 
@@ -11,3 +13,8 @@ use Rattle.stm_world.specs.World.{World, Stepped}
 abbrev pub Tells : Result (Result Reply Denied) AllocError → World → World → Stepped → Type 0
 Tells (Ok reply) old new s = (s.reply ≡ reply) × (s.next ≡ new)
 Tells (Err e) old new s = (new ≡ old) × IsOk s.reply
+
+-- the reply of such a call to the world's caller: want of memory is a refusal, too
+abbrev pub as_reply : Result (Result Reply Denied) AllocError → Result Reply Denied
+as_reply (Ok reply) = reply
+as_reply (Err e) = denied (Store OutOfMemory)

@@ -2,18 +2,19 @@
 --
 -- The step of the world says what each event comes to. That want of memory is told of an event that the step takes, and what
 -- it leaves, is our own.
-use Rattle.std.specs.Prelude.{◌≡◌, ◌⊎◌, ℕ, ◌-◌, ◌≤◌, List, [], ◌++◌, length, take, Bool, true, false, Option, None, Some, Result, Ok, Err, IsOk, slice_get}
+use Rattle.std.specs.Prelude.{◌≡◌, ◌⊎◌, ℕ, ◌≤◌, List, [], take, Bool, true, false, Option, None, Some, Result, Ok, Err, IsOk, slice_get}
 use Rattle.stm_txn.specs.declared.advance.Expired.{Expired}
 use Rattle.stm_txn.specs.declared.refusal.Refusal.{Refusal as StoreRefusal}
 use Rattle.stm_txn.specs.declared.refusal.Refusal.TheVariants.{OutOfMemory}
-use Rattle.stm_txn.specs.Standing.{expire_up_to, at_moment, advanced, IsStopped}
+use Rattle.stm_txn.specs.Standing.{HasCome, at_moment, advanced, IsStopped}
 use Rattle.stm_world.specs.declared.event.WorldEvent.{WorldEvent}
 use Rattle.stm_world.specs.declared.event.WorldEvent.TheVariants.{Advance}
 use Rattle.stm_world.specs.declared.reply.Reply.{Reply}
 use Rattle.stm_world.specs.declared.refusal.Denied.{Denied}
 use Rattle.stm_world.specs.declared.refusal.Refusal.{Refusal}
 use Rattle.stm_world.specs.declared.refusal.Refusal.TheVariants.{Store}
-use Rattle.stm_world.specs.World.{World, Stepped, step, expiries, world_after}
+use Rattle.stm_world.specs.World.{World, Stepped, step, world_after}
+use Rattle.stm_world.specs.Sound.{after_expiries}
 
 -- The step's reply and next world are these.
 pub record IsStep (s : Stepped) (reply : Result Reply Denied) (new : World) : Type 0 where
@@ -24,14 +25,12 @@ pub record IsStep (s : Stepped) (reply : Result Reply Denied) (new : World) : Ty
 abbrev pub IsUnchanged : List Expired → World → World → Type 0
 IsUnchanged expired old new = (expired ≡ []) × (new ≡ old)
 
--- An advance that want of memory cut short: the moment is set, so many leases expired in their order, each of them is an
--- entry, and the rest, of which the first could end, stays due.
+-- An advance that want of memory cut short: the moment is set, these leases expired in their order and are entries, and the
+-- rest, of which the first could end, stays due.
 pub record IsCutShort (moment : ℕ) (expired : List Expired) (old new : World) : Type 0 where
-  pub count : ℕ
-  pub came : expire_up_to count (at_moment old.standing moment) ≡ record { expired = expired; leaves = new.standing; cause = None }
+  pub come : HasCome (at_moment old.standing moment) expired new.standing
   pub stopped : IsStopped (advanced old.standing moment) expired new.standing
-  pub runners : new.runners ≡ old.runners
-  pub entries : new.entries ≡ old.entries ++ expiries expired
+  pub rest : new ≡ after_expiries old new.standing expired
 
 -- Want of memory is told only of an event that the step takes, and of an advance that does not go back. The world is as it
 -- was, or the advance was cut short.
@@ -66,13 +65,18 @@ abbrev pub ran_out : Result Reply Denied → Bool
 ran_out (Ok reply) = false
 ran_out (Err denied) = is_want denied.cause
 
--- what a run that want of memory stops at an event leaves of the world before that event: with no room for its replies a run
--- stops before its first event
-abbrev pub StopsAt : Option WorldEvent → List Expired → World → World → Type 0
-StopsAt None expired before new = IsUnchanged expired before new
-StopsAt (Some event) expired before new = IsUnchanged expired before new ⊎ WantTells event expired before new
+-- the leases that had expired by a refusal
+abbrev pub expired_of : Result Reply Denied → List Expired
+expired_of (Ok reply) = []
+expired_of (Err denied) = denied.expired
 
--- A run of events that want of memory stopped: so many events were taken, and the next one may have begun.
-pub record IsRunStop (events : List WorldEvent) (taken : ℕ) (expired : List Expired) (old new : World) : Type 0 where
-  pub within : taken ≤ length events - 1
-  pub left : StopsAt (slice_get events taken) expired (world_after (take taken events) old) new
+-- what want of memory tells and leaves at an event of a run
+abbrev pub WantTellsAt : Option WorldEvent → List Expired → World → World → Type 0
+WantTellsAt None expired before new = ⊥
+WantTellsAt (Some event) expired before new = WantTells event expired before new
+
+-- A run of events that want of memory stopped after so many of them: before the first one, where there was no room for the
+-- replies, or at the next one.
+abbrev pub IsRunStop : List WorldEvent → ℕ → List Expired → World → World → Type 0
+IsRunStop events taken expired old new =
+    ((taken ≡ 0) × IsUnchanged expired old new) ⊎ WantTellsAt (slice_get events taken) expired (world_after (take taken events) old) new

@@ -10,6 +10,8 @@ mod machine;
 mod runner;
 mod runner_steps;
 mod slots;
+mod state;
+mod store_calls;
 mod told;
 pub mod world;
 

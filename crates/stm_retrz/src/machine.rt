@@ -1,14 +1,18 @@
-//! What a world is made of.
+//! What a world is made of, and its step.
 ghost use Rattle.std.specs.Prelude.{◌≡◌, ◌≤◌, [], IfOk};
 ghost use Rattle.stm_history.specs.declared.revisions.TheConstants.{HIGHEST_REVISION};
 ghost use Rattle.stm_world.specs.World.{opened};
+ghost use Rattle.stm_world.specs.Sound.{IsSound};
+ghost use Rattle.stm_retrz.specs.MachineTells.{as_reply};
+ghost use Rattle.stm_retrz.specs.Tells.{Tells};
 
 use crate::slots::Slot;
+use crate::store_calls::{advance, grant, keep, make_txn, revoke};
 use std::alloc::{AllocError, Global};
 use std::marker::Model;
 use stm_history::Sequence;
-use stm_txn::Store;
-use stm_world::{Denied, Entry, Refusal};
+use stm_txn::{Refusal as StoreRefusal, Store};
+use stm_world::{Denied, Entry, Refusal, Reply, WorldEvent};
 
 /// The store, the places of the runners and the entries.
 #[derive(Drop)]
@@ -41,6 +45,19 @@ pub(crate) fn denied(alloc: Global, cause: Refusal) -> Denied
     }
 }
 
+/// The reply to a step of a runner: want of memory is a refusal, too.
+fn to_reply(
+    alloc: Global,
+    outcome: Result<Result<Reply, Denied>, AllocError>,
+) -> Result<Reply, Denied>
+    ensures { result ≡ as_reply outcome }
+{
+    match outcome {
+        Ok(reply) => reply,
+        Err(AllocError) => Err(denied(alloc, Refusal::Store(StoreRefusal::OutOfMemory))),
+    }
+}
+
 impl Machine {
     /// A world whose store opens at this revision.
     pub(crate) fn new(alloc: Global, start: u64) -> Result<Machine, AllocError>
@@ -52,5 +69,35 @@ impl Machine {
             runners: Vec::new(alloc),
             entries: Vec::new(alloc),
         })
+    }
+
+    /// Takes one event.
+    pub(crate) fn step(&mut self, alloc: Global, event: &WorldEvent) -> Result<Reply, Denied>
+        requires { IsSound self.old }
+        ensures { Tells event.now result self.old self.new }
+    {
+        match event {
+            WorldEvent::Start {
+                program,
+                level,
+                limit,
+            } => {
+                let outcome = self.start(alloc, program, *level, *limit);
+                to_reply(alloc, outcome)
+            }
+            WorldEvent::Step { runner } => {
+                let outcome = self.step_runner(alloc, *runner);
+                to_reply(alloc, outcome)
+            }
+            WorldEvent::Txn { txn } => make_txn(alloc, &mut self.store, &mut self.entries, txn),
+            WorldEvent::Grant { id, ttl } => {
+                grant(alloc, &mut self.store, &mut self.entries, *id, *ttl)
+            }
+            WorldEvent::Keep { id } => keep(alloc, &mut self.store, &mut self.entries, *id),
+            WorldEvent::Revoke { id } => revoke(alloc, &mut self.store, &mut self.entries, *id),
+            WorldEvent::Advance { now } => {
+                advance(alloc, &mut self.store, &mut self.entries, *now)
+            }
+        }
     }
 }

@@ -10,15 +10,16 @@ ghost use Rattle.stm_world.specs.declared.reply.Reply.TheVariants.{Started};
 ghost use Rattle.stm_world.specs.Headline.{Holds, logged};
 ghost use Rattle.stm_world.specs.World.{opened, start_runner, world_after, replies_to};
 ghost use Rattle.stm_retrz.specs.StateOf.{IsStateOf};
-ghost use Rattle.stm_retrz.specs.Tells.{Tells, IsRunStop};
+ghost use Rattle.stm_retrz.specs.Tells.{Tells, ran_out, expired_of, IsRunStop};
 
 use crate::machine::Machine;
+use crate::state::state_of;
 use std::alloc::{AllocError, Global};
 use std::marker::Model;
 use stm_history::{HIGHEST_REVISION, Sequence};
 use stm_meaning::State;
 use stm_program::{Level, Program};
-use stm_txn::{Expired, Store};
+use stm_txn::{Expired, Refusal as StoreRefusal, Store};
 use stm_world::{Denied, Entry, Refusal, Reply, WorldEvent};
 
 /// Runners of programs over one store.
@@ -37,6 +38,7 @@ impl Model for World {
     ghost use Rattle.stm_program.specs.Coding.{coded_program};
     ghost use Rattle.stm_retrz.specs.Codes.{coded_live};
     ghost use Rattle.stm_world.specs.World.{World as WorldState};
+    ghost use Rattle.stm_world.specs.Sound.{IsSound};
 
     ghost Value = { WorldState };
 
@@ -44,7 +46,7 @@ impl Model for World {
 
     ghost view = { λ w. w.machine };
 
-    ghost invariant = { λ _. ⊥ };
+    ghost invariant = { λ w. IsSound w.machine };
 }
 
 /// A run of events that want of memory stopped.
@@ -54,6 +56,26 @@ pub struct RunStop {
     pub done: usize,
     /// The leases that the stopped event had expired, in their order: none for every event but an advance.
     pub expired: Sequence<Expired>,
+}
+
+/// Whether an event was refused for want of memory.
+fn is_out_of_memory(reply: &Result<Reply, Denied>) -> bool
+    ensures { result ≡ ran_out reply.now }
+{
+    match reply {
+        Ok(_) => false,
+        Err(denied) => denied.cause == Refusal::Store(StoreRefusal::OutOfMemory),
+    }
+}
+
+/// The leases that had expired by a refusal.
+fn expired_of(alloc: Global, reply: Result<Reply, Denied>) -> Sequence<Expired>
+    ensures { result ≡ expired_of reply }
+{
+    match reply {
+        Ok(_) => Sequence::new(alloc),
+        Err(denied) => denied.expired,
+    }
 }
 
 impl World {
@@ -69,8 +91,8 @@ impl World {
         requires { (1 ≤ start) × (start ≤ HIGHEST_REVISION) }
         ensures { IfOk result (λ w. w ≡ opened start) }
     {
-        let _ = (alloc, start);
-        Err(AllocError)
+        let machine = Machine::new(alloc, start)?;
+        Ok(World { alloc, machine })
     }
 
     /// Starts a run of a program, which may send so many commits, and gives the runner's number.
@@ -84,8 +106,13 @@ impl World {
         ensures memory_alone { limit ≢ 0 → IfErr result (λ e. e ≡ OfStore OutOfMemory) }
         ensures err { OnErr result (self.new ≡ self.old) }
     {
-        let _ = (program, level, limit);
-        unreachable!()
+        if limit == 0 {
+            return Err(Refusal::BadLimit);
+        }
+        match self.machine.add_runner(self.alloc, program, level, limit) {
+            Ok(id) => Ok(id),
+            Err(AllocError) => Err(Refusal::Store(StoreRefusal::OutOfMemory)),
+        }
     }
 
     /// Takes one event, and tells its reply.
@@ -106,8 +133,34 @@ impl World {
     pub fn step(&mut self, event: &WorldEvent) -> Result<Reply, Denied>
         ensures { Tells event.now result self.old self.new }
     {
-        let _ = event;
-        unreachable!()
+        self.machine.step(self.alloc, event)
+    }
+
+    /// Takes these events in their order, and tells their replies.
+    fn take_all(&mut self, events: &[WorldEvent]) -> Result<Vec<Result<Reply, Denied>>, RunStop>
+        ensures replies { IfOk result (λ replies. replies.items ≡ replies_to events.now self.old) }
+        ensures ok { OnOk result (self.new ≡ world_after events.now self.old) }
+        ensures stopped { IfErr result (λ stop. IsRunStop events.now stop.done stop.expired self.old self.new) }
+    {
+        let Ok(mut replies) = Vec::with_capacity(self.alloc, events.len()) else {
+            return Err(RunStop {
+                done: 0,
+                expired: Sequence::new(self.alloc),
+            });
+        };
+        let mut done = 0;
+        for event in events {
+            let reply = self.step(event);
+            if is_out_of_memory(&reply) {
+                return Err(RunStop {
+                    done,
+                    expired: expired_of(self.alloc, reply),
+                });
+            }
+            replies.push_reserved(reply);
+            done += 1;
+        }
+        Ok(replies)
     }
 
     /// Takes these events in their order, and tells their replies.
@@ -123,8 +176,8 @@ impl World {
         ensures stopped { IfErr result (λ stop. IsRunStop events.now stop.done stop.expired self.old self.new) }
         ensures headline { IfOk result (λ replies. (start : ℕ) → self.old ≡ opened start → Holds start (logged events.now replies.items []) self.new) }
     {
-        let _ = events;
-        unreachable!()
+        let replies = self.take_all(events)?;
+        Ok(replies)
     }
 
     /// What changed the store, in the order of the steps.
@@ -135,14 +188,14 @@ impl World {
         ensures replays { replay self.now.entries (opening self.now.standing.history.opening) ≡ without_moment self.now.standing }
         ensures legal { AreLegal self.now.entries (opening self.now.standing.history.opening) }
     {
-        unreachable!()
+        self.machine.entries.as_slice()
     }
 
     /// The store: its keys at every revision, its leases, and its moment.
     pub fn store(&self) -> &Store
         ensures { result.now.standing ≡ self.now.standing }
     {
-        unreachable!()
+        &self.machine.store
     }
 
     /// The state of the store now: the present keys with their values and modification revisions.
@@ -151,6 +204,6 @@ impl World {
     pub fn state(&self) -> Result<State, AllocError>
         ensures { IfOk result (λ state. IsStateOf self.now.standing.history state) }
     {
-        unreachable!()
+        state_of(self.alloc, self.machine.store.keys())
     }
 }

@@ -1,6 +1,6 @@
 use Rattle.std.proofs.Common.{rules, ◌≡◌, ◌≢◌, ℕ, Err, sym, ◌∙◌, ap, arith}
 use Rattle.stm_world.specs.declared.refusal.Refusal.TheVariants.{BadLimit}
-use Rattle.stm_world.specs.World.{World, Stepped, start_runner, refused}
+use Rattle.stm_world.specs.World.{Stepped, start_runner, refused}
 use Rattle.stm_retrz.specs.RunnerView.{task_of}
 use Rattle.stm_retrz.proofs.StepLemmas.{start_is_taken, start_refuses}
 use Rattle.stm_retrz.proofs.machine.Machine.start.Goals as goal

@@ -1,0 +1,4 @@
+pub mod Names
+pub mod Accounts
+pub mod Queues
+pub mod Slots

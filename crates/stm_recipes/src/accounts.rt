@@ -1,0 +1,96 @@
+//! Accounts: keys whose values are numbers.
+ghost use Rattle.std.specs.Prelude.{◌≡◌, IfOk};
+ghost use Rattle.stm_program.specs.Syntax.{of_statements};
+ghost use Rattle.stm_recipes.specs.Accounts as recipe;
+ghost use Rattle.stm_recipes.specs.Names.{IsName};
+
+use crate::counters::{put_sum, read_text, zero_if_empty};
+use crate::nodes::{
+    abort, arithmetic, block, get, less, no_block, num_of, number, put, set, text, text_of,
+    variable, when,
+};
+use std::alloc::{AllocError, Global};
+use stm_program::{Operator, Program, Stmt};
+
+/// The program that moves an amount from one account to another. Both may be one account, which then stays as it is.
+///
+/// Where the first account has less than the amount, the run aborts with `insufficient`. Where an account is absent or no
+/// number, it ends with the fault `NotANumber`; where the second one would have more than 64 bits hold, with `Overflow`.
+///
+/// A name has 1 to 1024 bytes. The one refusal is want of memory.
+#[tactic(auto, unfolding(crate::specs::Accounts::transfer_program))]
+pub fn transfer(alloc: Global, from: &str, to: &str, amount: u32) -> Result<Program, AllocError>
+    requires from { IsName from.now }
+    requires to { IsName to.now }
+    ensures { IfOk result (λ program. program ≡ of_statements (recipe.transfer_program from.now to.now amount)) }
+{
+    let read = read_balance(alloc, from)?;
+    let refuse = refuse_below(alloc, amount)?;
+    let withdraw = withdraw(alloc, from, amount)?;
+    let pay = pay(alloc, to, amount)?;
+    let statements = vec![in alloc; read, refuse, withdraw, pay]?;
+    Ok(Program::of(statements))
+}
+
+/// The program that adds an amount to an account, and makes the account where it is absent.
+///
+/// Where the account has a value that is no number, the run ends with the fault `NotANumber`; where it would have more
+/// than 64 bits hold, with `Overflow`.
+///
+/// A name has 1 to 1024 bytes. The one refusal is want of memory.
+#[tactic(auto, unfolding(crate::specs::Accounts::deposit_program))]
+pub fn deposit(alloc: Global, account: &str, amount: u32) -> Result<Program, AllocError>
+    requires { IsName account.now }
+    ensures { IfOk result (λ program. program ≡ of_statements (recipe.deposit_program account.now amount)) }
+{
+    let read = read_text(alloc, 0, account)?;
+    let zero = zero_if_empty(alloc, 0)?;
+    let sum = put_sum(alloc, account, amount)?;
+    let statements = vec![in alloc; read, zero, sum]?;
+    Ok(Program::of(statements))
+}
+
+fn read_balance(alloc: Global, from: &str) -> Result<Stmt, AllocError>
+    ensures { IfOk result (λ s. s ≡ recipe.read_balance from.now) }
+{
+    let key = text(alloc, from)?;
+    let held = get(alloc, key)?;
+    let balance = num_of(alloc, held)?;
+    Ok(set(0, balance))
+}
+
+fn refuse_below(alloc: Global, amount: u32) -> Result<Stmt, AllocError>
+    ensures { IfOk result (λ s. s ≡ recipe.refuse_below amount) }
+{
+    let balance = variable(alloc, 0)?;
+    let amount = number(alloc, amount)?;
+    let condition = less(alloc, balance, amount)?;
+    let refuse = abort(alloc, "insufficient")?;
+    let yes = block(alloc, refuse)?;
+    let no = no_block(alloc)?;
+    Ok(when(condition, yes, no))
+}
+
+fn withdraw(alloc: Global, from: &str, amount: u32) -> Result<Stmt, AllocError>
+    ensures { IfOk result (λ s. s ≡ recipe.withdraw from.now amount) }
+{
+    let balance = variable(alloc, 0)?;
+    let amount = number(alloc, amount)?;
+    let rest = arithmetic(alloc, Operator::Sub, balance, amount)?;
+    let rest = text_of(alloc, rest)?;
+    let key = text(alloc, from)?;
+    Ok(put(key, rest, 0))
+}
+
+fn pay(alloc: Global, to: &str, amount: u32) -> Result<Stmt, AllocError>
+    ensures { IfOk result (λ s. s ≡ recipe.pay to.now amount) }
+{
+    let key = text(alloc, to)?;
+    let held = get(alloc, key)?;
+    let balance = num_of(alloc, held)?;
+    let amount = number(alloc, amount)?;
+    let sum = arithmetic(alloc, Operator::Add, balance, amount)?;
+    let sum = text_of(alloc, sum)?;
+    let key = text(alloc, to)?;
+    Ok(put(key, sum, 0))
+}

@@ -2,14 +2,14 @@
 use Rattle.std.proofs.Common.{◌≡◌, refl, ℕ, List, [], ◌∷◌}
 use Rattle.std.specs.Prelude.{pos, negsuc, codes, None}
 use Rattle.std.specs.Fmt.{digits}
-use Rattle.stm_program.specs.Syntax.{Expression, Statement, Block, Text, Number, Get, Rev, TextOf, Equal, Not, Put, Del, If, Emit, End, Then}
+use Rattle.stm_program.specs.Syntax.{Expression, Statement, Block, Text, Number, Get, Rev, TextOf, Equal, Not, Put, Del, If, Emit, Then}
 use Rattle.stm_program.specs.declared.write.Write.{Write}
 use Rattle.stm_program.specs.declared.write.Write.TheVariants.{Put as PutWrite, Del as DelWrite}
 use Rattle.stm_program.specs.Writes.{last_write, latest_writes}
 use Rattle.stm_steps.specs.declared.value.Value.TheVariants.{Text as TextValue, Number as NumberValue}
-use Rattle.stm_steps.specs.declared.trace_item.TraceItem.TheVariants.{Get as GetItem, Rev as RevItem}
+use Rattle.stm_steps.specs.declared.trace_item.TraceItem.TheVariants.{Get as GetItem}
 use Rattle.stm_steps.specs.declared.state.StateEntry.{StateEntry}
-use Rattle.stm_steps.specs.declared.run.End.TheVariants.{Done, Faulted}
+use Rattle.stm_steps.specs.declared.run.End.TheVariants.{Faulted}
 use Rattle.stm_steps.specs.declared.run.Answered.{Answered}
 use Rattle.stm_steps.specs.declared.run.Answered.TheVariants.{Ended, Wants}
 use Rattle.stm_steps.specs.declared.fault.Fault.TheVariants.{Kind, EmptyKey}

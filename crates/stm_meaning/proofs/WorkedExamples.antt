@@ -1,7 +1,7 @@
 -- Worked examples of the meaning, computed by the definition.
 use Rattle.std.proofs.Common.{◌≡◌, refl, ℕ, [], ◌∷◌}
 use Rattle.std.specs.Prelude.{pos, negsuc, codes, Some}
-use Rattle.stm_program.specs.Syntax.{Condition, Statement, Block, Text, Number, Variable, Arithmetic, Cat, NumOf, Equal, Less, And, Or, Set, Put, If, For, Emit}
+use Rattle.stm_program.specs.Syntax.{Condition, Block, Text, Number, Variable, Arithmetic, Cat, NumOf, Equal, Less, And, Or, Set, Put, If, For, Emit}
 use Rattle.stm_program.specs.Syntax.{Abort, End, Then}
 use Rattle.stm_program.specs.declared.operator.Operator.TheVariants.{Add, Div, Rem}
 use Rattle.stm_steps.specs.declared.value.Value.TheVariants.{Number as NumberValue}

@@ -1,5 +1,6 @@
 //! What statements do.
-ghost use Rattle.std.specs.Prelude.{◌^◌, ◌<◌};
+ghost use Rattle.std.specs.Prelude.{◌≤◌};
+ghost use Rattle.stm_history.specs.declared.revisions.TheConstants.{HIGHEST_NUMBER};
 ghost use Rattle.stm_program.specs.BlockView.{block_of};
 ghost use Rattle.stm_meaning.specs.Meaning.{run_statement, run_block, repeat};
 ghost use Rattle.stm_meaning.specs.Tells.{Tells};
@@ -70,7 +71,7 @@ fn run_turns<L: Lookup>(
     count: u64,
     body: &Block,
 ) -> Result<(), Halt>
-    requires { count < 2 ^ 63 }
+    requires { count ≤ HIGHEST_NUMBER }
     ensures { Tells result session.new (repeat variable (run_block (L.answers lookup.now) body.now) count 0 session.old) }
 {
     for turn in 0..count {

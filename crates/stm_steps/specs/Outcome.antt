@@ -7,6 +7,7 @@ use Rattle.stm_steps.specs.declared.fault.Fault.TheVariants.{TurnLimit}
 use Rattle.stm_steps.specs.declared.stop.Stop.{Stop}
 use Rattle.stm_steps.specs.declared.stop.Stop.TheVariants.{Faulted, Wants}
 use Rattle.stm_steps.specs.Session.{Session, with_variable, with_turn}
+use Rattle.stm_steps.specs.declared.session.TheConstants.{TURN_LIMIT}
 
 -- A part of a program gives something and goes on, or stops the run. Either way there is what the run has come to.
 pub data Outcome (X : Type 0) : Type 0 where
@@ -30,7 +31,7 @@ found_or_wanted key None s = Stops (Wants key) s
 
 -- the turns of all loops of one run, at most
 abbrev pub turn_limit : ℕ
-turn_limit = 10000
+turn_limit = TURN_LIMIT
 
 -- a turn is counted before its variable is set
 unfoldable pub begin_turn : ℕ → ℕ → Session → Outcome (Unit {0})

@@ -4,6 +4,7 @@ use Rattle.std.specs.List.{list_any}
 use Rattle.stm_program.specs.declared.write.Write.{Write}
 use Rattle.stm_steps.specs.declared.value.Value.{Value}
 use Rattle.stm_steps.specs.declared.value.Value.TheVariants.{Number}
+use Rattle.stm_steps.specs.declared.variables.TheConstants.{VARIABLE_COUNT}
 use Rattle.stm_steps.specs.declared.trace_item.TraceItem.{TraceItem}
 
 -- the sixteen variables, the turns of all loops so far, what was emitted, what each `get` and `rev` gave, each write, and the
@@ -18,7 +19,7 @@ pub record Session : Type 0 where
 
 -- each variable starts as the number 0
 unfoldable pub fresh : Session
-fresh = record { variables = replicate 16 (Number (pos 0)); turns = 0; output = []; trace = []; writes = []; reads = [] }
+fresh = record { variables = replicate VARIABLE_COUNT (Number (pos 0)); turns = 0; output = []; trace = []; writes = []; reads = [] }
 
 abbrev pub variable_in : Session → ℕ → Value
 variable_in s v = slice_index_or s.variables v (Number (pos 0))

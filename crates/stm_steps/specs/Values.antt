@@ -16,10 +16,11 @@ use Rattle.stm_steps.specs.declared.value.Value.{Value}
 use Rattle.stm_steps.specs.declared.value.Value.TheVariants.{Text, Number}
 use Rattle.stm_steps.specs.declared.fault.Fault.{Fault}
 use Rattle.stm_steps.specs.declared.fault.Fault.TheVariants.{Kind, Overflow, ZeroDivisor, NotANumber, LoopTooLong, TextTooLong, EmptyKey}
+use Rattle.stm_program.specs.declared.limits.TheConstants.{MAX_TEXT}
 
 -- the number of bytes that a result of `cat` has at most
 abbrev pub longest_text : ℕ
-longest_text = 65536
+longest_text = MAX_TEXT
 
 -- ---- kinds ----
 

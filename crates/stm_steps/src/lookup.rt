@@ -1,5 +1,6 @@
 //! Where a run looks keys up.
-ghost use Rattle.std.specs.Prelude.{◌≡◌, ◌^◌, ◌<◌, ℕ, List, Option, option_map, option_copied, IfSome};
+ghost use Rattle.std.specs.Prelude.{◌≡◌, ◌≤◌, ℕ, List, Option, option_map, option_copied, IfSome};
+ghost use Rattle.stm_history.specs.declared.revisions.TheConstants.{HIGHEST_NUMBER};
 ghost use Rattle.stm_steps.specs.Answer.{Answer};
 
 /// Where a run looks up the keys that it has not written: a state, which knows every key, or a list of
@@ -15,5 +16,5 @@ pub trait Lookup {
     /// The modification revision of a key, 0 where it is absent, and `None` where nothing is known of it.
     fn mod_rev(&self, key: &str) -> Option<u64>
         ensures answer { result ≡ option_map (λ a. a.mod_rev) (answers self.now key.now) }
-        ensures in_range { IfSome result (λ revision. revision < 2 ^ 63) };
+        ensures in_range { IfSome result (λ revision. revision ≤ HIGHEST_NUMBER) };
 }

@@ -1,5 +1,6 @@
 //! A run on its way.
-ghost use Rattle.std.specs.Prelude.{◌≡◌, ◌^◌, ◌<◌, None, IfOk, OnOk, OnErr};
+ghost use Rattle.std.specs.Prelude.{◌≡◌, ◌≤◌, None, IfOk, OnOk, OnErr};
+ghost use Rattle.stm_history.specs.declared.revisions.TheConstants.{HIGHEST_NUMBER};
 ghost use Rattle.stm_steps.specs.Session.{fresh, variable_in, with_variable, with_output, with_write, with_item, with_read};
 ghost use Rattle.stm_steps.specs.Outcome.{begin_turn, given, found_or_wanted};
 ghost use Rattle.stm_steps.specs.declared.trace_item.TraceItem.TheVariants.{Get};
@@ -19,7 +20,7 @@ use stm_history::{Sequence, Text};
 use stm_program::{Variable, Write};
 
 /// The turns of all loops of one run, at most.
-const TURN_LIMIT: u64 = 10_000;
+pub const TURN_LIMIT: u64 = 10_000;
 
 /// What a run has come to: its variables, the turns of its loops, what it emitted, saw and wrote, and the
 /// keys that it looked up.
@@ -114,7 +115,7 @@ impl Session {
     /// `TurnLimit` is answered for turn 10001 of the run, and the session is then as it was. It takes no memory.
     #[tactic(auto, unfolding(crate::specs::Outcome::begin_turn))]
     pub fn begin_turn(&mut self, variable: Variable, turn: u64) -> Result<(), Fault>
-        requires { turn < 2 ^ 63 }
+        requires { turn ≤ HIGHEST_NUMBER }
         ensures { begin_turn variable turn self.old ≡ given result self.new }
     {
         if self.turns >= TURN_LIMIT {

@@ -1,15 +1,13 @@
 //! Texts and keys of programs.
-ghost use Rattle.std.specs.Prelude.{◌≡◌, ◌^◌, ◌<◌, ◌++◌, IfOk, MatchResult};
+ghost use Rattle.std.specs.Prelude.{◌≡◌, ◌≤◌, ◌++◌, IfOk, MatchResult};
+ghost use Rattle.stm_history.specs.declared.revisions.TheConstants.{HIGHEST_NUMBER};
 ghost use Rattle.stm_steps.specs.Values.{text_in, key_in, concatenated, put_of, del_of, turns_of, equal, less};
 
 use crate::fault::Fault;
 use crate::value::Value;
 use std::alloc::{AllocError, Global};
 use stm_history::Text;
-use stm_program::Write;
-
-/// The number of bytes that a result of `cat` has at most.
-const LONGEST_TEXT: usize = 65536;
+use stm_program::{MAX_TEXT, Write};
 
 /// A text, where a text is wanted. `Kind` is answered for a number.
 #[tactic(auto, unfolding(crate::specs::Values::text_in))]
@@ -57,7 +55,7 @@ pub fn join(alloc: Global, left: &Value, right: &Value) -> Result<Result<Value, 
     match (left, right) {
         (Value::Text(front), Value::Text(back)) => {
             let length = front.as_str().len();
-            if length > LONGEST_TEXT || back.as_str().len() > LONGEST_TEXT - length {
+            if length > MAX_TEXT || back.as_str().len() > MAX_TEXT - length {
                 return Ok(Err(Fault::TextTooLong));
             }
             let text = joined(alloc, front.as_str(), back.as_str())?;
@@ -132,7 +130,7 @@ pub fn deletion(key: &Value) -> Result<Result<Write, Fault>, AllocError>
 #[tactic(auto, unfolding(crate::specs::Values::turns_of))]
 pub fn turns(count: &Value, limit: u64) -> Result<u64, Fault>
     ensures turns { result ≡ turns_of count.now limit }
-    ensures in_range { IfOk result (λ n. n < 2 ^ 63) }
+    ensures in_range { IfOk result (λ n. n ≤ HIGHEST_NUMBER) }
 {
     match count {
         Value::Text(_) => Err(Fault::Kind),

@@ -5,7 +5,7 @@ use std::alloc::{AllocError, Global};
 use std::test::Fail;
 use stm_program::{Level, Program};
 use stm_program_json::read_program;
-use stm_retrz::{World, WorldEvent};
+use stm_retry::{World, WorldEvent};
 use stm_txn::Keys;
 
 /// A program that puts "a".

@@ -4,7 +4,7 @@ use Rattle.stm_history.specs.declared.key_state.KeyState.{KeyState}
 use Rattle.stm_history.specs.History.{History, key_now}
 use Rattle.stm_meaning.specs.declared.state.StateEntry.{StateEntry}
 use Rattle.stm_meaning.specs.States as states
-use Rattle.stm_retrz.specs.StateOf.{entry_now, IsStateOf}
+use Rattle.stm_retry.specs.StateOf.{entry_now, IsStateOf}
 use Rattle.stm_report.specs.Report.{IsBelowAll, AreAscending, has_key, ArePresentKeys}
 use Rattle.stm_report.specs.StateKeys.{keys_of}
 

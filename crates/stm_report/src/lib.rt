@@ -10,5 +10,5 @@ pub use laws::{one_report, reports_are_of_right_runs};
 pub use report_text::report;
 pub use run_script::{ScriptFault, script};
 pub use stm_devices::{DeviceFault, Sink, Source, Std, write_all};
-pub use stm_retrz::{Denied, Reply, World};
+pub use stm_retry::{Denied, Reply, World};
 pub use stm_texts::{BadInput, Cause, ReadError, Scenario, WorldEvent, read_scenario};

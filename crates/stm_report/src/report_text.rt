@@ -14,7 +14,7 @@ use std::alloc::{AllocError, Global};
 use std::collections::BTreeMap;
 use stm_lines::{end_json, event_json, key_json, lease_json};
 use stm_meaning::State;
-use stm_retrz::{Denied, Reply, Store, World};
+use stm_retry::{Denied, Reply, Store, World};
 
 /// Adds a line.
 fn push_line(alloc: Global, text: &mut String, line: &Json) -> Result<(), AllocError>

@@ -6,7 +6,7 @@ ghost use Rattle.stm_texts.specs.Reading.{IsOpening};
 use crate::report_text::report;
 use std::alloc::{AllocError, Global};
 use stm_devices::{ReadFault, Sink, Source, read_all, write_all};
-use stm_retrz::World;
+use stm_retry::World;
 use stm_texts::{BadInput, ReadError, Scenario, read_scenario};
 use thiserror::Error;
 

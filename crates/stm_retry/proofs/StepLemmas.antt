@@ -1,0 +1,492 @@
+-- The parts of a runner's step, as the code has them at hand.
+use Rattle.std.proofs.Common.{◌≡◌, ◌≢◌, ℕ, ◌+◌, ◌<◌, List, [], ◌∷◌, ◌++◌, length, map, Option, Some, None, Result, Ok, Err, Bool, true, false, cond, refl, sym, ◌∙◌}
+use Rattle.std.proofs.Common.{ap, subst, ◌⊎◌, inl, inr, ◌≤◌}
+use Rattle.std.specs.Prelude.{nat_eq, slice_get, IsOk, is_ok, IsErr}
+use Rattle.std.specs.declared.alloc.AllocError.{AllocError}
+use Rattle.std.proofs.lemmas.List.Elements.{All-nil, All-cons, All-head, All-tail}
+use Rattle.stm_history.specs.declared.key_state.ReadAnswer.{ReadAnswer}
+use Rattle.stm_history.specs.History.{History, now, key_at, mod_of}
+use Rattle.stm_leases.specs.Live.{is_live_in}
+use Rattle.stm_program.specs.Syntax.{ProgramTree}
+use Rattle.stm_program.specs.declared.level.Level.{Level}
+use Rattle.stm_program.specs.declared.write.Write.{Write}
+use Rattle.stm_program.specs.Writes.{latest_writes}
+use Rattle.stm_meaning.specs.declared.value.Value.{Value}
+use Rattle.stm_meaning.specs.declared.trace_item.TraceItem.{TraceItem}
+use Rattle.stm_meaning.specs.declared.run.End.{End}
+use Rattle.stm_meaning.specs.declared.run.End.TheVariants.{Done as DoneEnd, Aborted as AbortedEnd, Faulted as FaultedEnd}
+use Rattle.stm_meaning.specs.declared.run.Run.{Run}
+use Rattle.stm_meaning.specs.declared.run.Answered.{Answered}
+use Rattle.stm_meaning.specs.declared.run.Answered.TheVariants.{Ended as EndedRun, Wants}
+use Rattle.stm_meaning.proofs.RunLaws.{wanted_keys_are_unknown}
+use Rattle.stm_txn.specs.declared.answer.FailedCompare.{FailedCompare}
+use Rattle.stm_txn.specs.declared.refusal.Refusal.{Refusal as StoreRefusal}
+use Rattle.stm_txn.specs.declared.refusal.Refusal.TheVariants.{OutOfMemory}
+use Rattle.stm_txn.specs.Outcome.{Done}
+use Rattle.stm_txn.specs.Commits.{revision_read}
+use Rattle.stm_txn.specs.Standing.{Standing, with_history}
+use Rattle.stm_compile.specs.Levels.{is_serializable}
+use Rattle.stm_compile.specs.Answers.{AreTrue, look_up, answer_now}
+use Rattle.stm_compile.specs.CommitTxn.{reread_keys}
+use Rattle.stm_compile.specs.Committed.{committed}
+use Rattle.stm_compile.specs.Conflicts.{Seen, seen_by}
+use Rattle.stm_attempt.specs.declared.next.Next.TheVariants.{Fetch, Ready, Aborted as AbortedNext, Faulted as FaultedNext}
+use Rattle.stm_attempt.specs.Settled.{run_on}
+use Rattle.stm_attempt.specs.Fetches.{at_of}
+use Rattle.stm_attempt.specs.ReadyRun.{ReadyRun}
+use Rattle.stm_attempt.specs.Next.{next_at_end, next_after}
+use Rattle.stm_entries.specs.declared.entry.Entry.{Entry}
+use Rattle.stm_entries.specs.declared.entry.Entry.TheVariants.{Program as ProgramEntry}
+use Rattle.stm_calls.specs.Sent.{sent, seen_in as seen_told}
+use Rattle.stm_calls.proofs.Cases.{HasCommitted, HasFailed, is_refused}
+use Rattle.stm_world.specs.declared.reply.Reply.{Reply}
+use Rattle.stm_world.specs.declared.reply.Reply.TheVariants.{Started, Fetched, Committed, Conflict, GaveUp, Ended}
+use Rattle.stm_world.specs.declared.refusal.Denied.{Denied}
+use Rattle.stm_world.specs.declared.refusal.Refusal.TheVariants.{BadLimit}
+use Rattle.stm_world.specs.Task.{Task, answer_at, answers_told}
+use Rattle.stm_world.specs.World.{World, Stepped, Runner, Slot, Over, Live, begin, runner_at, with_slot, start_runner, step_runner, step_live, step_on, fetch, finish}
+use Rattle.stm_world.specs.World.{commit, commit_told, decided, take_commit, fail_commit, seen_in, replied, refused, entry_of}
+use Rattle.stm_retry.specs.declared.told.Told.{Told}
+use Rattle.stm_retry.specs.declared.told.Told.TheVariants.{GoesOn, Ends}
+use Rattle.stm_retry.specs.MachineTells.{Tells}
+use Rattle.stm_retry.specs.RunnerView.{AreNamed, next_for, with_answer, begun_again}
+use Rattle.stm_retry.specs.RunnerTells.{Workplace, workplace, world_around, reply_in, slot_after, Leaves, TellsEnd, IsReady, may_go_on}
+use Rattle.stm_retry.specs.RunnerTells.{told_of_failure}
+use Rattle.stm_world.proofs.Truth.{base_is_reached}
+use Rattle.stm_world.proofs.Slots.{other_number, count_grows}
+use Rattle.stm_retry.proofs.SlotLemmas.{put_back, put_there}
+
+pub same_place : (s after : Standing) (entries more : List Entry) (r q : Runner) → after ≡ s → more ≡ entries → q ≡ r →
+    workplace after more q ≡ workplace s entries r
+same_place s after entries more r q standing_is entries_is runner_is = cc
+
+-- ---- a fetch ----
+
+-- the runner's program wants this key, at this revision
+pub record IsWanting (r : Runner) (key : List ℕ) (at : ℕ) : Type 0 where
+  pub trace : List TraceItem
+  pub wants : run_on r.task.program r.known.reads ≡ Wants key trace
+  pub at_is : at_of r.task.level r.known.reads ≡ at
+
+no_fetch_at_end : (program : ProgramTree) (level : Level) (reads : List ReadAnswer) (run : Run) (end : End) (key : List ℕ) (at : ℕ) →
+    next_at_end program level reads run end ≡ Fetch key at → ⊥
+no_fetch_at_end program level reads run DoneEnd key at told = cc
+no_fetch_at_end program level reads run (AbortedEnd text) key at told = cc
+no_fetch_at_end program level reads run (FaultedEnd fault) key at told = cc
+
+wanting_by : (r : Runner) (x : Answered) (key : List ℕ) (at : ℕ) → run_on r.task.program r.known.reads ≡ x →
+    next_after r.task.program r.task.level r.known.reads x ≡ Fetch key at → IsWanting r key at
+wanting_by r (Wants k trace) key at is told =
+    let same : k ≡ key = cc in
+    record { trace = trace; wants = is ∙ ap (λ (l : List ℕ). Wants l trace) same; at_is = cc }
+wanting_by r (EndedRun run) key at is told = absurd (no_fetch_at_end r.task.program r.task.level r.known.reads run run.end key at told)
+
+pub is_wanting : (r : Runner) (key : List ℕ) (at : ℕ) → next_for r ≡ Fetch key at → IsWanting r key at
+is_wanting r key at told = wanting_by r (run_on r.task.program r.known.reads) key at refl told
+
+-- a key that is wanted is not empty
+pub wanted_is_named : (r : Runner) (key : List ℕ) (at : ℕ) → IsWanting r key at → 0 < length key
+wanted_is_named r key at x = (wanted_keys_are_unknown (look_up r.known.reads) r.task.program.statements key x.trace x.wants).1
+
+-- the revision that its fetch names is reached
+pub wanted_is_reached : (r : Runner) (key : List ℕ) (at : ℕ) (h : History) → IsWanting r key at → AreTrue h r.known.reads → at ≤ now h
+wanted_is_reached r key at h x truth = subst (λ (n : ℕ). n ≤ now h) x.at_is (base_is_reached h r.task.level r.known.reads truth)
+
+step_fetches : (id : ℕ) (r : Runner) (key : List ℕ) (at : ℕ) (w : World) → IsWanting r key at →
+    step_live id r w ≡ fetch id r key (revision_read w.standing.history at) w
+unfolding step_live
+step_fetches id r key at w x =
+    ap (λ (a : Answered). step_on id r r.known.reads a w) x.wants
+    ∙ ap (λ (n : ℕ). fetch id r key (revision_read w.standing.history n) w) x.at_is
+
+fetch_is : (id : ℕ) (r q : Runner) (s after : Standing) (entries : List Entry) (slots : List Slot) (key : List ℕ) (of_rev : ℕ) (told : Told) →
+    told ≡ GoesOn (Fetched id key (mod_of (key_at s.history key of_rev)) of_rev (now s.history)) →
+    q ≡ with_answer (answer_at s.history key of_rev) r → after ≡ s →
+    fetch id r key of_rev (world_around (workplace s entries r) slots)
+    ≡ record { reply = Ok (reply_in told); next = world_around (workplace after entries q) (with_slot id (slot_after told q) slots) }
+unfolding fetch
+fetch_is id r q s after entries slots key of_rev told told_is runner_is standing_is =
+    let new : Runner = with_answer (answer_at s.history key of_rev) r in
+    let says : Told = GoesOn (Fetched id key (mod_of (key_at s.history key of_rev)) of_rev (now s.history)) in
+    let made : Told → Runner → Standing → Stepped = λ t p x.
+    record { reply = Ok (reply_in t); next = world_around (workplace x entries p) (with_slot id (slot_after t p) slots) } in
+    sym (ap (λ (t : Told). made t q after) told_is ∙ ap (λ (p : Runner). made says p after) runner_is ∙ ap (λ (x : Standing). made says new x) standing_is)
+
+pub fetch_leaves : (id : ℕ) (r q : Runner) (s after : Standing) (entries : List Entry) (key : List ℕ) (at : ℕ) (told : Told) → IsWanting r key at →
+    told ≡ GoesOn (Fetched id key (mod_of (key_at s.history key (revision_read s.history at))) (revision_read s.history at) (now s.history)) →
+    q ≡ with_answer (answer_at s.history key (revision_read s.history at)) r → after ≡ s →
+    Leaves id (Ok told) (workplace s entries r) (workplace after entries q) (step_live id r)
+fetch_leaves id r q s after entries key at told x told_is runner_is standing_is slots =
+    step_fetches id r key at (world_around (workplace s entries r) slots) x
+    ∙ fetch_is id r q s after entries slots key (revision_read s.history at) told told_is runner_is standing_is
+
+-- ---- a run that came to its end ----
+
+ready_at_end : (r : Runner) (run : Run) (end : End) (ready : ReadyRun) → run_on r.task.program r.known.reads ≡ EndedRun run → run.end ≡ end →
+    next_at_end r.task.program r.task.level r.known.reads run end ≡ Ready ready → (q : Run) × IsReady r q ready
+ready_at_end r run DoneEnd ready is ended told = (run, record { is_run = is; is_done = ended; is = cc })
+ready_at_end r run (AbortedEnd text) ready is ended told = absurd (cc)
+ready_at_end r run (FaultedEnd fault) ready is ended told = absurd (cc)
+
+ready_by : (r : Runner) (x : Answered) (ready : ReadyRun) → run_on r.task.program r.known.reads ≡ x →
+    next_after r.task.program r.task.level r.known.reads x ≡ Ready ready → (q : Run) × IsReady r q ready
+ready_by r (Wants k trace) ready is told = absurd (cc)
+ready_by r (EndedRun run) ready is told = ready_at_end r run run.end ready is refl told
+
+pub is_ready : (r : Runner) (ready : ReadyRun) → next_for r ≡ Ready ready → (q : Run) × IsReady r q ready
+is_ready r ready told = ready_by r (run_on r.task.program r.known.reads) ready refl told
+
+finished : (id : ℕ) (r : Runner) (run : Run) (w : World) → run_on r.task.program r.known.reads ≡ EndedRun run →
+    step_live id r w ≡ finish id r r.known.reads run run.end w
+unfolding step_live
+finished id r run w is = ap (λ (a : Answered). step_on id r r.known.reads a w) is
+
+step_commits : (id : ℕ) (r : Runner) (run : Run) (ready : ReadyRun) (w : World) → IsReady r run ready →
+    step_live id r w ≡ commit id r r.known.reads run w
+step_commits id r run ready w x = finished id r run w x.is_run ∙ ap (λ (e : End). finish id r r.known.reads run e w) x.is_done
+
+-- what its commit leaves is what its step leaves
+pub commit_leaves : (id : ℕ) (r : Runner) (run : Run) (ready : ReadyRun) (outcome : Result Told AllocError) (before after : Workplace) → IsReady r run ready →
+    Leaves id outcome before after (commit id r r.known.reads run) → Leaves id outcome before after (step_live id r)
+commit_leaves id r run ready (Ok told) before after x leaves =
+    λ slots. step_commits id r run ready (world_around before slots) x ∙ leaves slots
+commit_leaves id r run ready (Err e) before after x leaves = leaves
+
+-- A runner that went on is still the one that it was: what its commit leaves is what its step leaves.
+pub ready_leaves : (id : ℕ) (r q : Runner) (ready : ReadyRun) (outcome : Result Told AllocError) (s : Standing) (entries : List Entry) (after : Workplace) →
+    q ≡ r → next_for r ≡ Ready ready →
+    ((run : Run) → IsReady q run ready → Leaves id outcome (workplace s entries q) after (commit id q q.known.reads run)) →
+    Leaves id outcome (workplace s entries r) after (step_live id r)
+ready_leaves id r q ready outcome s entries after same told leaves =
+    let found : (run : Run) × IsReady r run ready = is_ready r ready told in
+    let mine = subst (λ (x : Runner). (run : Run) → IsReady x run ready → Leaves id outcome (workplace s entries x) after (commit id x x.known.reads run))
+    same leaves in
+    commit_leaves id r found.0 ready outcome (workplace s entries r) after found.1 (mine found.0 found.1)
+
+pub still_ready : (r q : Runner) (ready : ReadyRun) → q ≡ r → next_for r ≡ Ready ready → (run : Run) × IsReady q run ready
+still_ready r q ready same told = subst (λ (x : Runner). (run : Run) × IsReady x run ready) (sym same) (is_ready r ready told)
+
+pub ready_is_named : (r q : Runner) (ready : ReadyRun) → q ≡ r → next_for r ≡ Ready ready → AreNamed q.known.reads → AreNamed ready.answers
+ready_is_named r q ready same told named =
+    let found : (run : Run) × IsReady q run ready = still_ready r q ready same told in
+    subst AreNamed (sym (ap (λ (p : ReadyRun). p.answers) found.1.is)) named
+
+-- the run that is ready is the run on its answers
+pub ready_runs : (r : Runner) (run : Run) (ready : ReadyRun) → IsReady r run ready → run_on ready.program ready.answers ≡ EndedRun run
+ready_runs r run ready x = ap (λ (p : ReadyRun). run_on p.program p.answers) x.is ∙ x.is_run
+
+-- the program aborted or faulted
+pub record IsOver (r : Runner) (run : Run) : Type 0 where
+  pub is_run : run_on r.task.program r.known.reads ≡ EndedRun run
+  pub not_done : run.end ≢ DoneEnd
+
+aborted_at_end : (r : Runner) (run aborted : Run) (end : End) → run_on r.task.program r.known.reads ≡ EndedRun run → run.end ≡ end →
+    next_at_end r.task.program r.task.level r.known.reads run end ≡ AbortedNext aborted → IsOver r aborted
+aborted_at_end r run aborted DoneEnd is ended told = absurd (cc)
+aborted_at_end r run aborted (AbortedEnd text) is ended told =
+    let same : run ≡ aborted = cc in subst (IsOver r) same (record { is_run = is; not_done = λ done. absurd (cc) })
+aborted_at_end r run aborted (FaultedEnd fault) is ended told = absurd (cc)
+
+aborted_by : (r : Runner) (x : Answered) (aborted : Run) → run_on r.task.program r.known.reads ≡ x →
+    next_after r.task.program r.task.level r.known.reads x ≡ AbortedNext aborted → IsOver r aborted
+aborted_by r (Wants k trace) aborted is told = absurd (cc)
+aborted_by r (EndedRun run) aborted is told = aborted_at_end r run aborted run.end is refl told
+
+pub has_aborted : (r : Runner) (run : Run) → next_for r ≡ AbortedNext run → IsOver r run
+has_aborted r run told = aborted_by r (run_on r.task.program r.known.reads) run refl told
+
+faulted_at_end : (r : Runner) (run faulted : Run) (end : End) → run_on r.task.program r.known.reads ≡ EndedRun run → run.end ≡ end →
+    next_at_end r.task.program r.task.level r.known.reads run end ≡ FaultedNext faulted → IsOver r faulted
+faulted_at_end r run faulted DoneEnd is ended told = absurd (cc)
+faulted_at_end r run faulted (AbortedEnd text) is ended told = absurd (cc)
+faulted_at_end r run faulted (FaultedEnd fault) is ended told =
+    let same : run ≡ faulted = cc in subst (IsOver r) same (record { is_run = is; not_done = λ done. absurd (cc) })
+
+faulted_by : (r : Runner) (x : Answered) (faulted : Run) → run_on r.task.program r.known.reads ≡ x →
+    next_after r.task.program r.task.level r.known.reads x ≡ FaultedNext faulted → IsOver r faulted
+faulted_by r (Wants k trace) faulted is told = absurd (cc)
+faulted_by r (EndedRun run) faulted is told = faulted_at_end r run faulted run.end is refl told
+
+pub has_faulted : (r : Runner) (run : Run) → next_for r ≡ FaultedNext run → IsOver r run
+has_faulted r run told = faulted_by r (run_on r.task.program r.known.reads) run refl told
+
+end_is : (id : ℕ) (r : Runner) (run : Run) (end : End) (reply : Reply) (w : World) → TellsEnd id end reply →
+    finish id r r.known.reads run end w ≡ replied reply id Over w
+end_is id r run DoneEnd reply w tells = absurd tells
+end_is id r run (AbortedEnd text) reply w tells = ap (λ (x : Reply). replied x id Over w) (sym tells)
+end_is id r run (FaultedEnd fault) reply w tells = ap (λ (x : Reply). replied x id Over w) (sym tells)
+
+pub end_leaves : (id : ℕ) (r q : Runner) (s : Standing) (entries : List Entry) (run : Run) (reply : Reply) → IsOver r run → TellsEnd id run.end reply →
+    Leaves id (Ok (Ends reply)) (workplace s entries r) (workplace s entries q) (step_live id r)
+end_leaves id r q s entries run reply x tells slots =
+    finished id r run (world_around (workplace s entries r) slots) x.is_run ∙ end_is id r run run.end reply (world_around (workplace s entries r) slots) tells
+
+-- ---- a commit ----
+
+commit_is : (id : ℕ) (r : Runner) (run : Run) (w : World) →
+    commit id r r.known.reads run w
+    ≡ commit_told id r r.known.reads run (committed w.standing.history (is_live_in w.standing.live) r.task.level r.known.reads run) w
+unfolding commit
+commit_is id r run w = refl
+
+-- what the commit of a run comes to, by the run that is ready
+abbrev pub outcome_of : Standing → ReadyRun → Run → Result Done StoreRefusal
+outcome_of s ready run = committed s.history (is_live_in s.live) ready.level ready.answers run
+
+-- ---- what it leaves ----
+
+commit_by : (id : ℕ) (r : Runner) (run : Run) (ready : ReadyRun) (s : Standing) (entries : List Entry) (slots : List Slot) → IsReady r run ready →
+    commit id r r.known.reads run (world_around (workplace s entries r) slots)
+    ≡ commit_told id r r.known.reads run (outcome_of s ready run) (world_around (workplace s entries r) slots)
+commit_by id r run ready s entries slots x =
+    commit_is id r run (world_around (workplace s entries r) slots)
+    ∙ ap (λ (a : ReadyRun). commit_told id r r.known.reads run (outcome_of s a run) (world_around (workplace s entries r) slots)) (sym x.is)
+
+taken_is : (id : ℕ) (r : Runner) (run : Run) (s after : Standing) (entries more : List Entry) (slots : List Slot) (done : Done) (revision attempts : ℕ)
+    (output : List Value) (trace : List TraceItem) (answers : List ReadAnswer) →
+    revision ≡ now done.history → attempts ≡ r.failures + 1 → output ≡ run.output → trace ≡ run.trace → answers ≡ answers_told r.task.level r.known.reads →
+    after ≡ with_history s done.history → more ≡ entries ++ entry_of r.task r.known.reads run (now done.history) ∷ [] → (q : Runner) →
+    take_commit id r r.known.reads run done (world_around (workplace s entries r) slots)
+    ≡ record {
+      reply = Ok (Committed id revision attempts output trace answers);
+      next = world_around (workplace after more q) (with_slot id Over slots);
+    }
+taken_is id r run s after entries more slots done revision attempts output trace answers a b c d e f g q =
+    cc (sym a, sym b, sym c, sym d, sym e, sym f, sym g)
+
+-- a commit that succeeded
+pub take_leaves : (id : ℕ) (r q : Runner) (run : Run) (ready : ReadyRun) (s after : Standing) (entries more : List Entry) (entry : Entry)
+    (revision attempts : ℕ) (output : List Value) (trace : List TraceItem) (answers : List ReadAnswer) →
+    IsReady r run ready → HasCommitted s after (outcome_of s ready run) revision →
+    attempts ≡ r.failures + 1 → output ≡ ready.output → trace ≡ ready.trace → answers ≡ answers_told ready.level ready.answers →
+    entry ≡ ProgramEntry ready.program ready.level (answers_told ready.level ready.answers) ready.output ready.trace revision →
+    more ≡ entries ++ entry ∷ [] →
+    Leaves id (Ok (Ends (Committed id revision attempts output trace answers))) (workplace s entries r) (workplace after more q) (commit id r r.known.reads run)
+take_leaves id r q run ready s after entries more entry revision attempts output trace answers x y a b c d e f slots =
+    let w : World = world_around (workplace s entries r) slots in
+    let reads : List ReadAnswer = r.known.reads in
+    let entry_is : entry ≡ entry_of r.task reads run (now y.done.history) =
+    e ∙ ap (λ (p : ReadyRun). ProgramEntry p.program p.level (answers_told p.level p.answers) p.output p.trace revision) x.is
+    ∙ ap (λ (n : ℕ). entry_of r.task reads run n) y.revision_is in
+    commit_by id r run ready s entries slots x
+    ∙ ap (λ (o : Result Done StoreRefusal). commit_told id r reads run o w) y.taken
+    ∙ ap (λ (o : Option FailedCompare). decided id r reads run y.done o w) y.none_failed
+    ∙ taken_is id r run s after entries more slots y.done revision attempts output trace answers y.revision_is a
+    (b ∙ ap (λ (p : ReadyRun). p.output) x.is) (c ∙ ap (λ (p : ReadyRun). p.trace) x.is)
+    (d ∙ ap (λ (p : ReadyRun). answers_told p.level p.answers) x.is) y.left
+    (f ∙ ap (λ (l : Entry). entries ++ l ∷ []) entry_is) q
+
+again_by : (id : ℕ) (r q : Runner) (seen : Seen) (s after : Standing) (entries : List Entry) (slots : List Slot) (modified : ℕ) (told : Told) (more : Bool) →
+    may_go_on r ≡ more →
+    told ≡ cond more (GoesOn (Conflict id seen.key seen.mod_rev modified)) (Ends (GaveUp id (r.failures + 1) seen.key seen.mod_rev modified)) →
+    (more ≡ true → q ≡ begun_again (map (answer_now s.history) (reread_keys r.task.level r.known.reads)) r) → after ≡ s →
+    fail_commit id r seen modified (world_around (workplace s entries r) slots)
+    ≡ record { reply = Ok (reply_in told); next = world_around (workplace after entries q) (with_slot id (slot_after told q) slots) }
+again_by id r q seen s after entries slots modified told true go told_is again same =
+    let new : Runner = begun_again (map (answer_now s.history) (reread_keys r.task.level r.known.reads)) r in
+    let says : Told = GoesOn (Conflict id seen.key seen.mod_rev modified) in
+    let w : World = world_around (workplace s entries r) slots in
+    let made : Told → Runner → Standing → Stepped = λ t p x.
+    record { reply = Ok (reply_in t); next = world_around (workplace x entries p) (with_slot id (slot_after t p) slots) } in
+    ap (λ b. cond b (replied (Conflict id seen.key seen.mod_rev modified) id (Live new) w)
+    (replied (GaveUp id (r.failures + 1) seen.key seen.mod_rev modified) id Over w)) go
+    ∙ sym (ap (λ (t : Told). made t q after) told_is ∙ ap (λ (p : Runner). made says p after) (again refl) ∙ ap (λ (x : Standing). made says new x) same)
+again_by id r q seen s after entries slots modified told false go told_is again same =
+    let new : Runner = begun_again (map (answer_now s.history) (reread_keys r.task.level r.known.reads)) r in
+    let says : Told = Ends (GaveUp id (r.failures + 1) seen.key seen.mod_rev modified) in
+    let w : World = world_around (workplace s entries r) slots in
+    let made : Told → Standing → Stepped = λ t x.
+    record { reply = Ok (reply_in t); next = world_around (workplace x entries q) (with_slot id (slot_after t q) slots) } in
+    ap (λ b. cond b (replied (Conflict id seen.key seen.mod_rev modified) id (Live new) w)
+    (replied (GaveUp id (r.failures + 1) seen.key seen.mod_rev modified) id Over w)) go
+    ∙ sym (ap (λ (t : Told). made t after) told_is ∙ ap (λ (x : Standing). made says x) same)
+
+same_seen : (o : Option Seen) → seen_told o ≡ seen_in o
+same_seen None = refl
+same_seen (Some seen) = refl
+
+-- a commit of which a compare failed
+pub fail_leaves : (id : ℕ) (r q : Runner) (run : Run) (ready : ReadyRun) (s after : Standing) (entries : List Entry) (key : List ℕ) (seen modified : ℕ)
+    (answers : List ReadAnswer) (told : Told) → IsReady r run ready →
+    HasFailed s after ready.level ready.answers (latest_writes run.writes) (outcome_of s ready run) key seen modified answers →
+    told ≡ told_of_failure id r key seen modified → (may_go_on r ≡ true → q ≡ begun_again answers r) →
+    Leaves id (Ok told) (workplace s entries r) (workplace after entries q) (commit id r r.known.reads run)
+fail_leaves id r q run ready s after entries key seen modified answers told x y told_is again slots =
+    let w : World = world_around (workplace s entries r) slots in
+    let reads : List ReadAnswer = r.known.reads in
+    let writes : List Write = latest_writes run.writes in
+    let answers_are : answers ≡ map (answer_now s.history) (reread_keys r.task.level reads) =
+    y.answers_are ∙ ap (λ (p : ReadyRun). map (answer_now s.history) (reread_keys p.level p.answers)) x.is in
+    let about : Seen = seen_in (slice_get (seen_by reads writes) y.failed.index) in
+    let same : seen_told (slice_get (seen_by ready.answers writes) y.failed.index) ≡ about =
+    ap (λ (p : ReadyRun). seen_told (slice_get (seen_by p.answers writes) y.failed.index)) x.is
+    ∙ same_seen (slice_get (seen_by reads writes) y.failed.index) in
+    let says : told ≡ told_of_failure id r about.key about.mod_rev y.failed.mod_rev =
+    told_is ∙ ap (λ (k : List ℕ). told_of_failure id r k seen modified) (y.key_is ∙ ap (λ (z : Seen). z.key) same)
+    ∙ ap (λ (n : ℕ). told_of_failure id r about.key n modified) (y.seen_is ∙ ap (λ (z : Seen). z.mod_rev) same)
+    ∙ ap (λ (n : ℕ). told_of_failure id r about.key about.mod_rev n) y.now_is in
+    commit_by id r run ready s entries slots x
+    ∙ ap (λ (o : Result Done StoreRefusal). commit_told id r reads run o w) y.taken
+    ∙ ap (λ (o : Option FailedCompare). decided id r reads run y.done o w) y.some_failed
+    ∙ again_by id r q about s after entries slots y.failed.mod_rev told (may_go_on r) refl says
+    (λ more. again more ∙ ap (λ (l : List ReadAnswer). begun_again l r) answers_are) y.unchanged
+
+-- a commit that the store refused
+pub refused_leaves : (id : ℕ) (r q : Runner) (run : Run) (ready : ReadyRun) (s after : Standing) (entries : List Entry) (cause : StoreRefusal) (told : Told) →
+    IsReady r run ready → told ≡ Ends (Ended id cause) → outcome_of s ready run ≡ Err cause → after ≡ s →
+    Leaves id (Ok told) (workplace s entries r) (workplace after entries q) (commit id r r.known.reads run)
+refused_leaves id r q run ready s after entries cause told x told_is refused same slots =
+    let made : Told → Standing → Stepped = λ t y.
+    record { reply = Ok (reply_in t); next = world_around (workplace y entries q) (with_slot id (slot_after t q) slots) } in
+    commit_by id r run ready s entries slots x
+    ∙ ap (λ (o : Result Done StoreRefusal). commit_told id r r.known.reads run o (world_around (workplace s entries r) slots)) refused
+    ∙ sym (ap (λ (t : Told). made t after) told_is ∙ ap (λ (y : Standing). made (Ends (Ended id cause)) y) same)
+
+-- the cause of a refusal that is no want of memory
+pub cause_is : (s : Standing) (ready : ReadyRun) (run : Run) (cause : StoreRefusal) → cause ≢ OutOfMemory →
+    (cause ≡ OutOfMemory) ⊎ (sent s ready.level ready.answers run ≡ Err cause) → outcome_of s ready run ≡ Err cause
+cause_is s ready run cause other (inl want) = absurd (other want)
+cause_is s ready run cause other (inr told) = is_refused s ready.level ready.answers run cause told
+
+-- room for an entry is none yet
+pub with_room : (id : ℕ) (outcome : Result Told AllocError) (before : Workplace) (s : Standing) (entries more : List Entry) (q : Runner) (step : World → Stepped) →
+    more ≡ entries → Leaves id outcome before (workplace s entries q) step → Leaves id outcome before (workplace s more q) step
+with_room id outcome before s entries more q step same leaves =
+    subst (λ (l : List Entry). Leaves id outcome before (workplace s l q) step) (sym same) leaves
+
+-- ---- what the next attempt may rely on ----
+
+named_again : (h : History) (reads : List ReadAnswer) → AreNamed reads → AreNamed (map (answer_now h) (map (λ (a : ReadAnswer). a.key) reads))
+named_again h [] named = named
+named_again h (a ∷ reads) named =
+    All-cons (λ (x : ReadAnswer). 0 < length x.key) (answer_now h a.key) (map (answer_now h) (map (λ (x : ReadAnswer). x.key) reads))
+    (All-head (λ (x : ReadAnswer). 0 < length x.key) a reads named)
+    (named_again h reads (All-tail (λ (x : ReadAnswer). 0 < length x.key) a reads named))
+
+named_by : (h : History) (b : Bool) (reads : List ReadAnswer) → AreNamed reads →
+    AreNamed (map (answer_now h) (cond b (map (λ (a : ReadAnswer). a.key) reads) []))
+named_by h true reads named = named_again h reads named
+named_by h false reads named = All-nil (λ (x : ReadAnswer). 0 < length x.key)
+
+-- the keys that were read again are named, as those that were read
+pub reread_named : (h : History) (level : Level) (reads : List ReadAnswer) → AreNamed reads → AreNamed (map (answer_now h) (reread_keys level reads))
+reread_named h level reads named = named_by h (is_serializable level) reads named
+
+pub reread_none : (h : History) (level : Level) (reads : List ReadAnswer) → is_serializable level ≡ false → map (answer_now h) (reread_keys level reads) ≡ []
+reread_none h level reads other = ap (λ b. map (answer_now h) (cond b (map (λ (a : ReadAnswer). a.key) reads) [])) other
+
+-- ---- which events are taken ----
+
+either_is_taken : (b : Bool) (first second : Stepped) → IsOk first.reply → IsOk second.reply → IsOk (cond b first second).reply
+either_is_taken true first second one other = one
+either_is_taken false first second one other = other
+
+decided_is_taken : (id : ℕ) (r : Runner) (reads : List ReadAnswer) (run : Run) (done : Done) (failed : Option FailedCompare) (w : World) →
+    IsOk (decided id r reads run done failed w).reply
+decided_is_taken id r reads run done None w = refl
+decided_is_taken id r reads run done (Some f) w = either_is_taken (may_go_on r) _ _ refl refl
+
+told_is_taken : (id : ℕ) (r : Runner) (reads : List ReadAnswer) (run : Run) (o : Result Done StoreRefusal) (w : World) →
+    IsOk (commit_told id r reads run o w).reply
+told_is_taken id r reads run (Ok done) w = decided_is_taken id r reads run done done.answer.failed w
+told_is_taken id r reads run (Err cause) w = refl
+
+commit_is_taken : (id : ℕ) (r : Runner) (reads : List ReadAnswer) (run : Run) (w : World) → IsOk (commit id r reads run w).reply
+unfolding commit
+commit_is_taken id r reads run w =
+    told_is_taken id r reads run (committed w.standing.history (is_live_in w.standing.live) r.task.level reads run) w
+
+finish_is_taken : (id : ℕ) (r : Runner) (reads : List ReadAnswer) (run : Run) (end : End) (w : World) → IsOk (finish id r reads run end w).reply
+finish_is_taken id r reads run DoneEnd w = commit_is_taken id r reads run w
+finish_is_taken id r reads run (AbortedEnd text) w = refl
+finish_is_taken id r reads run (FaultedEnd fault) w = refl
+
+fetch_is_taken : (id : ℕ) (r : Runner) (key : List ℕ) (of_rev : ℕ) (w : World) → IsOk (fetch id r key of_rev w).reply
+unfolding fetch
+fetch_is_taken id r key of_rev w = refl
+
+on_is_taken : (id : ℕ) (r : Runner) (reads : List ReadAnswer) (answered : Answered) (w : World) → IsOk (step_on id r reads answered w).reply
+on_is_taken id r reads (Wants key trace) w = fetch_is_taken id r key (revision_read w.standing.history (at_of r.task.level reads)) w
+on_is_taken id r reads (EndedRun run) w = finish_is_taken id r reads run run.end w
+
+-- a step of a runner that is there is taken
+pub live_is_taken : (id : ℕ) (r : Runner) (w : World) → IsOk (step_live id r w).reply
+unfolding step_live
+live_is_taken id r w = on_is_taken id r r.known.reads (run_on r.task.program r.known.reads) w
+
+-- ---- a start ----
+
+start_by : (b : Bool) (w : World) (s : Stepped) → b ≡ false → cond b (refused BadLimit w) s ≡ s
+start_by true w s some = absurd (cc)
+start_by false w s some = refl
+
+-- a start that may send a commit is taken
+pub start_takes : (task : Task) (w : World) → task.limit ≢ 0 →
+    start_runner task w ≡ record {
+      reply = Ok (Started (length w.runners + 1));
+      next = record { standing = w.standing; runners = w.runners ++ Live (begin task) ∷ []; entries = w.entries };
+    }
+unfolding start_runner
+start_takes task w some = start_by (nat_eq task.limit 0) w _ (other_number task.limit 0 some)
+
+pub start_is_taken : (task : Task) (w : World) → task.limit ≢ 0 → IsOk (start_runner task w).reply
+start_is_taken task w some = ap (λ (s : Stepped). is_ok s.reply) (start_takes task w some)
+
+-- the new runner's number, as the code has it
+pub added_number : (task : Task) (w : World) (before after : List Slot) (slot : Slot) (r : Runner) (id : ℕ) → task.limit ≢ 0 → before ≡ w.runners →
+    after ≡ before ++ slot ∷ [] → slot ≡ Live r → r ≡ begin task → id ≡ length after → (start_runner task w).reply ≡ Ok (Started id)
+added_number task w before after slot r id some before_is after_is slot_is runner_is id_is =
+    ap (λ (s : Stepped). s.reply) (start_takes task w some)
+    ∙ ap (λ (n : ℕ). Ok (Started n))
+    (ap (λ (l : List Slot). length l + 1) (sym before_is) ∙ sym (id_is ∙ ap (λ (l : List Slot). length l) after_is ∙ count_grows before slot))
+
+pub added_world : (task : Task) (w : World) (s : Standing) (before after : List Slot) (entries : List Entry) (slot : Slot) (r : Runner) → task.limit ≢ 0 →
+    record { standing = s; runners = before; entries = entries } ≡ w → after ≡ before ++ slot ∷ [] → slot ≡ Live r → r ≡ begin task →
+    record { standing = s; runners = after; entries = entries } ≡ (start_runner task w).next
+added_world task w s before after entries slot r some view_is after_is slot_is runner_is =
+    ap (λ (l : List Slot). record { standing = s; runners = l; entries = entries })
+    (after_is ∙ ap (λ (x : Slot). before ++ x ∷ []) (slot_is ∙ ap (λ (x : Runner). Live x) runner_is))
+    ∙ ap (λ (v : World). record { standing = v.standing; runners = v.runners ++ Live (begin task) ∷ []; entries = v.entries }) view_is
+    ∙ sym (ap (λ (x : Stepped). x.next) (start_takes task w some))
+
+-- one that may send none is refused
+pub start_refuses : (program : ProgramTree) (level : Level) (w : World) →
+    start_runner (record { program = program; level = level; limit = 0 }) w ≡ refused BadLimit w
+unfolding start_runner
+start_refuses program level w = refl
+
+-- ---- the step, with the places ----
+
+pub told_tells : (id : ℕ) (old : World) (r q : Runner) (after : Standing) (entries : List Entry) (slots : List Slot) (told : Told) (found : Option Runner) →
+    found ≡ Some r → Leaves id (Ok told) (workplace old.standing old.entries r) (workplace after entries q) (step_live id r) →
+    slots ≡ with_slot id (slot_after told q) (with_slot id Over old.runners) →
+    Tells (Ok (Ok (reply_in told))) old (record { standing = after; runners = slots; entries = entries }) (step_runner id found old)
+told_tells id old r q after entries slots told None is leaves put = absurd (cc)
+told_tells id old r q after entries slots told (Some other) is leaves put =
+    let same : other ≡ r = cc in
+    let stepped = leaves old.runners in (
+      ap (λ (x : Runner). (step_live id x old).reply) same ∙ ap (λ (s : Stepped). s.reply) stepped,
+      ap (λ (x : Runner). (step_live id x old).next) same ∙ ap (λ (s : Stepped). s.next) stepped
+          ∙ ap (λ (l : List Slot). record { standing = after; runners = l; entries = entries }) (sym (put ∙ put_there id old.runners (slot_after told q))),
+    )
+
+pub ran_out_tells : (id : ℕ) (old : World) (r q : Runner) (after : Standing) (entries : List Entry) (slots : List Slot) (e : AllocError) (found : Option Runner) →
+    found ≡ Some r → runner_at id old.runners ≡ Some r → workplace after entries q ≡ workplace old.standing old.entries r →
+    slots ≡ with_slot id (Live q) (with_slot id Over old.runners) →
+    Tells (Err e) old (record { standing = after; runners = slots; entries = entries }) (step_runner id found old)
+ran_out_tells id old r q after entries slots e None is there leaves put = absurd (cc)
+ran_out_tells id old r q after entries slots e (Some other) is there leaves put =
+    let runner_is : q ≡ r = ap (λ (p : Workplace). p.runner) leaves in
+    let slots_is : slots ≡ old.runners =
+    put ∙ ap (λ (x : Runner). with_slot id (Live x) (with_slot id Over old.runners)) runner_is ∙ put_back id old.runners r there in (
+      ap (λ (x : Standing). record { standing = x; runners = slots; entries = entries }) (ap (λ (p : Workplace). p.standing) leaves)
+          ∙ ap (λ (l : List Slot). record { standing = old.standing; runners = l; entries = entries }) slots_is
+          ∙ ap (λ (l : List Entry). record { standing = old.standing; runners = old.runners; entries = l }) (ap (λ (p : Workplace). p.entries) leaves),
+      live_is_taken id other old,
+    )
+
+-- the exit where memory ran out
+pub at_error : (o : Result (Result Reply Denied) AllocError) (old new : World) (s : Stepped) → IsErr o → ((e : AllocError) → Tells (Err e) old new s) →
+    Tells o old new s
+at_error (Ok reply) old new s is tells = absurd (cc)
+at_error (Err e) old new s is tells = tells e

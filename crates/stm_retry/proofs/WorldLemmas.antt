@@ -1,0 +1,277 @@
+-- What the calls of a world keep and tell.
+use Rattle.std.proofs.Common.{◌≡◌, ◌<◌, ◌∙◌, ◌⊎◌, inl, inr, ℕ, ◌+◌, List, [], ◌∷◌, ◌++◌, length, Option, Some, None, Result, Ok, Err, Bool}
+use Rattle.std.proofs.Common.{true, false, cond}
+use Rattle.std.proofs.Common.{refl, sym, ap, subst, get_or, drop, take, append_assoc, OnOk, OnErr}
+use Rattle.std.specs.Prelude.{IsOk, nat_eq, nat_lt, slice_get}
+use Rattle.std.specs.declared.alloc.AllocError.{AllocError}
+use Rattle.std.proofs.lemmas.List.{drop_more, take_more}
+use Rattle.std.proofs.lemmas.Option.{slice_get-get_or}
+use Rattle.stm_history.specs.declared.key_state.ReadAnswer.{ReadAnswer}
+use Rattle.stm_leases.specs.Live.{is_live_in}
+use Rattle.stm_program.specs.declared.level.Level.{Level}
+use Rattle.stm_program.specs.Syntax.{ProgramTree}
+use Rattle.stm_program.specs.Writes.{latest_writes}
+use Rattle.stm_meaning.specs.declared.run.End.{End}
+use Rattle.stm_meaning.specs.declared.run.End.TheVariants.{Done as DoneEnd, Aborted as AbortedEnd, Faulted as FaultedEnd}
+use Rattle.stm_meaning.specs.declared.run.Run.{Run}
+use Rattle.stm_meaning.specs.declared.run.Answered.{Answered}
+use Rattle.stm_meaning.specs.declared.run.Answered.TheVariants.{Ended as EndedRun, Wants}
+use Rattle.stm_txn.specs.declared.advance.Expired.{Expired}
+use Rattle.stm_txn.specs.declared.answer.FailedCompare.{FailedCompare}
+use Rattle.stm_txn.specs.declared.refusal.Refusal.{Refusal as StoreRefusal}
+use Rattle.stm_txn.specs.declared.refusal.Refusal.TheVariants.{OutOfMemory, EmptyKey, FutureRevision, Compacted, RevisionsUsedUp, LeaseExists, TtlOutOfRange}
+use Rattle.stm_txn.specs.declared.refusal.Refusal.TheVariants.{LeaseIdOutOfRange, LeaseNotFound, TooManyOps, DuplicateKey, TimeGoesBack}
+use Rattle.stm_txn.specs.Commits.{revision_read}
+use Rattle.stm_txn.specs.Outcome.{Done}
+use Rattle.stm_compile.specs.Committed.{committed}
+use Rattle.stm_compile.specs.Conflicts.{Seen, seen_by}
+use Rattle.stm_attempt.specs.Settled.{run_on}
+use Rattle.stm_attempt.specs.Fetches.{at_of}
+use Rattle.stm_world.specs.declared.event.WorldEvent.{WorldEvent}
+use Rattle.stm_world.specs.declared.event.WorldEvent.TheVariants.{Start, Step, Txn, Grant, Keep, Revoke, Advance}
+use Rattle.stm_world.specs.declared.reply.Reply.{Reply}
+use Rattle.stm_world.specs.declared.refusal.Refusal.{Refusal}
+use Rattle.stm_world.specs.declared.refusal.Refusal.TheVariants.{Store, BadLimit, NoRunner}
+use Rattle.stm_world.specs.declared.refusal.Denied.{Denied}
+use Rattle.stm_world.specs.Task.{Task}
+use Rattle.stm_world.specs.World.{World, Runner, Stepped, runner_at, refused, start_runner, fetch, seen_in, fail_commit, decided, commit_told, commit, finish}
+use Rattle.stm_world.specs.World.{step_on, step_live, step_runner}
+use Rattle.stm_world.specs.World.{opened, step, world_after, replies_to}
+use Rattle.stm_world.specs.Sound.{IsSound}
+use Rattle.stm_world.specs.Headline.{Holds, logged}
+use Rattle.stm_compile.proofs.AgreeLemmas.{commit_is_the_run_now}
+use Rattle.stm_compile.proofs.ConflictLemmas.{failed_compares_conflict}
+use Rattle.stm_world.proofs.RunnerSteps.{CommitLaws}
+use Rattle.stm_world.proofs.Headlines.{headline}
+use Rattle.stm_world.proofs.Sound.{step_is_sound, expiries_are_sound}
+use Rattle.stm_retry.specs.MachineTells.{Tells as MachineTells, as_reply}
+use Rattle.stm_retry.specs.Tells.{IsStep, IsUnchanged, IsCutShort, WantTells, WantTellsAt, IsRunStop, StoreRefusalTells, RefusalTells, Tells}
+use Rattle.stm_retry.specs.Tells.{is_want_of_store, is_want, ran_out, expired_of}
+
+-- ---- steps of runners are taken ----
+
+-- a refusal is one of these two, before which nothing expired
+abbrev pub IsPlain : Refusal → Type 0
+IsPlain (Store cause) = ⊥
+IsPlain other = Unit {0}
+
+abbrev pub PlainOnly : Result Reply Denied → Type 0
+PlainOnly (Ok reply) = Unit {0}
+PlainOnly (Err d) = IsPlain d.cause
+
+fail_by : (id : ℕ) (r : Runner) (seen : Seen) (modified : ℕ) (w : World) (more : Bool) → (one other : Stepped) →
+    PlainOnly one.reply → PlainOnly other.reply → PlainOnly (cond more one other).reply
+fail_by id r seen modified w true one other first second = first
+fail_by id r seen modified w false one other first second = second
+
+fail_plain : (id : ℕ) (r : Runner) (seen : Seen) (modified : ℕ) (w : World) → PlainOnly (fail_commit id r seen modified w).reply
+fail_plain id r seen modified w = fail_by id r seen modified w (nat_lt (r.failures + 1) r.task.limit) _ _ tt tt
+
+decided_plain : (id : ℕ) (r : Runner) (reads : List ReadAnswer) (run : Run) (done : Done) (failed : Option FailedCompare) (w : World) →
+    PlainOnly (decided id r reads run done failed w).reply
+decided_plain id r reads run done None w = tt
+decided_plain id r reads run done (Some failed) w =
+    fail_plain id r (seen_in (slice_get (seen_by reads (latest_writes run.writes)) failed.index)) failed.mod_rev w
+
+told_plain : (id : ℕ) (r : Runner) (reads : List ReadAnswer) (run : Run) (o : Result Done StoreRefusal) (w : World) →
+    PlainOnly (commit_told id r reads run o w).reply
+told_plain id r reads run (Ok done) w = decided_plain id r reads run done done.answer.failed w
+told_plain id r reads run (Err cause) w = tt
+
+commit_plain : (id : ℕ) (r : Runner) (reads : List ReadAnswer) (run : Run) (w : World) → PlainOnly (commit id r reads run w).reply
+unfolding commit
+commit_plain id r reads run w =
+    told_plain id r reads run (committed w.standing.history (is_live_in w.standing.live) r.task.level reads run) w
+
+finish_plain : (id : ℕ) (r : Runner) (reads : List ReadAnswer) (run : Run) (end : End) (w : World) → PlainOnly (finish id r reads run end w).reply
+finish_plain id r reads run DoneEnd w = commit_plain id r reads run w
+finish_plain id r reads run (AbortedEnd text) w = tt
+finish_plain id r reads run (FaultedEnd fault) w = tt
+
+fetch_plain : (id : ℕ) (r : Runner) (key : List ℕ) (of_rev : ℕ) (w : World) → PlainOnly (fetch id r key of_rev w).reply
+unfolding fetch
+fetch_plain id r key of_rev w = tt
+
+on_plain : (id : ℕ) (r : Runner) (reads : List ReadAnswer) (answered : Answered) (w : World) → PlainOnly (step_on id r reads answered w).reply
+on_plain id r reads (Wants key trace) w = fetch_plain id r key (revision_read w.standing.history (at_of r.task.level reads)) w
+on_plain id r reads (EndedRun run) w = finish_plain id r reads run run.end w
+
+live_plain : (id : ℕ) (r : Runner) (w : World) → PlainOnly (step_live id r w).reply
+unfolding step_live
+live_plain id r w = on_plain id r r.known.reads (run_on r.task.program r.known.reads) w
+
+step_plain : (id : ℕ) (found : Option Runner) (w : World) → PlainOnly (step_runner id found w).reply
+step_plain id None w = tt
+step_plain id (Some r) w = live_plain id r w
+
+start_by : (none : Bool) (w : World) (s : Stepped) → PlainOnly s.reply → PlainOnly (cond none (refused BadLimit w) s).reply
+start_by true w s plain = tt
+start_by false w s plain = plain
+
+start_plain : (task : Task) (w : World) → PlainOnly (start_runner task w).reply
+unfolding start_runner
+start_plain task w = start_by (nat_eq task.limit 0) w _ tt
+
+-- ---- what is told of them ----
+
+plain_tells : (event : WorldEvent) (d : Denied) (cause : Refusal) (old new : World) → IsPlain cause → IsStep (step event old) (Err d) new →
+    RefusalTells cause event d old new
+plain_tells event d (Store cause) old new plain is = elim plain [ ]
+plain_tells event d BadLimit old new plain is = is
+plain_tells event d NoRunner old new plain is = is
+
+-- an event of a runner: what the call of the machine makes is what is told
+runner_tells : (event : WorldEvent) (outcome : Result (Result Reply Denied) AllocError) (old new : World) → PlainOnly (step event old).reply →
+    (new ≡ old → IsOk (step event old).reply → WantTells event [] old new) → MachineTells outcome old new (step event old) →
+    Tells event (as_reply outcome) old new
+runner_tells event (Ok (Ok reply)) old new plain want made = record { reply_is = made.0; next_is = made.1 }
+runner_tells event (Ok (Err d)) old new plain want made =
+    plain_tells event d d.cause old new (subst PlainOnly made.0 plain) (record { reply_is = made.0; next_is = made.1 })
+runner_tells event (Err e) old new plain want made = want made.0 made.1
+
+pub start_tells : (program : ProgramTree) (level : Level) (limit : ℕ) (outcome : Result (Result Reply Denied) AllocError) (old new : World) →
+    MachineTells outcome old new (start_runner (record { program = program; level = level; limit = limit }) old) →
+    Tells (Start program level limit) (as_reply outcome) old new
+start_tells program level limit outcome old new made =
+    runner_tells (Start program level limit) outcome old new (start_plain (record { program = program; level = level; limit = limit }) old)
+    (λ same taken. ((refl, same), taken)) made
+
+pub step_tells : (id : ℕ) (outcome : Result (Result Reply Denied) AllocError) (old new : World) →
+    MachineTells outcome old new (step_runner id (runner_at id old.runners) old) → Tells (Step id) (as_reply outcome) old new
+step_tells id outcome old new made =
+    runner_tells (Step id) outcome old new (step_plain id (runner_at id old.runners) old) (λ same taken. ((refl, same), taken)) made
+
+-- ---- a world stays sound ----
+
+unchanged_sound : (expired : List Expired) (old new : World) → IsSound old → IsUnchanged expired old new → IsSound new
+unchanged_sound expired old new sound same = subst IsSound (sym same.1) sound
+
+cut_sound : (moment : ℕ) (expired : List Expired) (old new : World) → IsSound old → IsCutShort moment expired old new → IsSound new
+cut_sound moment expired old new sound cut =
+    subst IsSound (sym cut.rest) (expiries_are_sound old moment (length expired) expired new.standing None sound cut.come)
+
+advance_sound : (moment : ℕ) (expired : List Expired) (old new : World) → IsSound old → (IsUnchanged expired old new ⊎ IsCutShort moment expired old new) →
+    IsSound new
+advance_sound moment expired old new sound (inl same) = unchanged_sound expired old new sound same
+advance_sound moment expired old new sound (inr cut) = cut_sound moment expired old new sound cut
+
+want_sound : (event : WorldEvent) (expired : List Expired) (old new : World) → IsSound old → WantTells event expired old new → IsSound new
+want_sound (Start program level limit) expired old new sound want = unchanged_sound expired old new sound want.0
+want_sound (Step id) expired old new sound want = unchanged_sound expired old new sound want.0
+want_sound (Txn txn) expired old new sound want = unchanged_sound expired old new sound want.0
+want_sound (Grant id ttl) expired old new sound want = unchanged_sound expired old new sound want.0
+want_sound (Keep id) expired old new sound want = unchanged_sound expired old new sound want.0
+want_sound (Revoke id) expired old new sound want = unchanged_sound expired old new sound want.0
+want_sound (Advance moment) expired old new sound want = advance_sound moment expired old new sound want.1
+
+is_step_sound : (event : WorldEvent) (reply : Result Reply Denied) (old new : World) → IsSound old → IsStep (step event old) reply new → IsSound new
+is_step_sound event reply old new sound is = subst IsSound is.next_is (step_is_sound event old sound)
+
+-- what is told of a refusal, by whether it is want of memory
+store_cases : (cause : StoreRefusal) (event : WorldEvent) (d : Denied) (old new : World) → StoreRefusalTells cause event d old new →
+    ((is_want_of_store cause ≡ true) × WantTells event d.expired old new) ⊎ ((is_want_of_store cause ≡ false) × IsStep (step event old) (Err d) new)
+store_cases OutOfMemory event d old new told = inl (refl, told)
+store_cases EmptyKey event d old new told = inr (refl, told)
+store_cases FutureRevision event d old new told = inr (refl, told)
+store_cases Compacted event d old new told = inr (refl, told)
+store_cases RevisionsUsedUp event d old new told = inr (refl, told)
+store_cases LeaseExists event d old new told = inr (refl, told)
+store_cases TtlOutOfRange event d old new told = inr (refl, told)
+store_cases LeaseIdOutOfRange event d old new told = inr (refl, told)
+store_cases LeaseNotFound event d old new told = inr (refl, told)
+store_cases TooManyOps event d old new told = inr (refl, told)
+store_cases DuplicateKey event d old new told = inr (refl, told)
+store_cases TimeGoesBack event d old new told = inr (refl, told)
+
+refusal_cases : (cause : Refusal) (event : WorldEvent) (d : Denied) (old new : World) → RefusalTells cause event d old new →
+    ((is_want cause ≡ true) × WantTells event d.expired old new) ⊎ ((is_want cause ≡ false) × IsStep (step event old) (Err d) new)
+refusal_cases (Store cause) event d old new told = store_cases cause event d old new told
+refusal_cases BadLimit event d old new told = inr (refl, told)
+refusal_cases NoRunner event d old new told = inr (refl, told)
+
+refused_sound : (event : WorldEvent) (d : Denied) (old new : World) → IsSound old →
+    (((is_want d.cause ≡ true) × WantTells event d.expired old new) ⊎ ((is_want d.cause ≡ false) × IsStep (step event old) (Err d) new)) → IsSound new
+refused_sound event d old new sound (inl want) = want_sound event d.expired old new sound want.1
+refused_sound event d old new sound (inr is) = is_step_sound event (Err d) old new sound is.1
+
+-- whatever is told of an event, the world stays sound
+pub tells_sound : (event : WorldEvent) (reply : Result Reply Denied) (old new : World) → IsSound old → Tells event reply old new → IsSound new
+tells_sound event (Ok reply) old new sound told = is_step_sound event (Ok reply) old new sound told
+tells_sound event (Err d) old new sound told = refused_sound event d old new sound (refusal_cases d.cause event d old new told)
+
+pub started_sound : (task : Task) (result : Result ℕ AllocError) (old new : World) → IsSound old → OnOk result (new ≡ (start_runner task old).next) →
+    OnErr result (new ≡ old) → IsSound new
+started_sound task (Ok id) old new sound ok err = subst IsSound (sym ok) (step_is_sound (Start task.program task.level task.limit) old sound)
+started_sound task (Err e) old new sound ok err = subst IsSound (sym err) sound
+
+-- ---- a run of events ----
+
+taken_by : (event : WorldEvent) (d : Denied) (old new : World) → is_want d.cause ≡ false →
+    (((is_want d.cause ≡ true) × WantTells event d.expired old new) ⊎ ((is_want d.cause ≡ false) × IsStep (step event old) (Err d) new)) →
+    IsStep (step event old) (Err d) new
+taken_by event d old new not (inl want) = absurd (cc)
+taken_by event d old new not (inr is) = is.1
+
+-- an event that memory sufficed for is taken
+pub taken : (event : WorldEvent) (reply : Result Reply Denied) (old new : World) → ran_out reply ≡ false → Tells event reply old new →
+    IsStep (step event old) reply new
+taken event (Ok reply) old new not told = told
+taken event (Err d) old new not told = taken_by event d old new not (refusal_cases d.cause event d old new told)
+
+wanted_by : (event : WorldEvent) (d : Denied) (old new : World) → is_want d.cause ≡ true →
+    (((is_want d.cause ≡ true) × WantTells event d.expired old new) ⊎ ((is_want d.cause ≡ false) × IsStep (step event old) (Err d) new)) →
+    WantTells event d.expired old new
+wanted_by event d old new want (inl is) = is.1
+wanted_by event d old new want (inr not) = absurd (cc)
+
+after_append : (es : List WorldEvent) (e : WorldEvent) (w : World) → world_after (es ++ e ∷ []) w ≡ (step e (world_after es w)).next
+after_append [] e w = refl
+after_append (x ∷ es) e w = after_append es e (step x w).next
+
+-- one more event of a run: the replies to all, the world after all, and the world after the events so far
+pub replies_step : (events : List WorldEvent) (i : ℕ) (e : WorldEvent) (w next : World) (reply : Result Reply Denied) (so_far : List (Result Reply Denied)) →
+    i < length events → e ≡ get_or events i e → IsStep (step e w) reply next →
+    (so_far ++ reply ∷ []) ++ replies_to (drop (i + 1) events) next ≡ so_far ++ replies_to (drop i events) w
+replies_step events i e w next reply so_far within is s =
+    append_assoc so_far (reply ∷ []) (replies_to (drop (i + 1) events) next)
+    ∙ ap (λ (w' : World). so_far ++ reply ∷ replies_to (drop (i + 1) events) w') (sym s.next_is)
+    ∙ ap (λ (r : Result Reply Denied). so_far ++ r ∷ replies_to (drop (i + 1) events) (step e w).next) (sym s.reply_is)
+    ∙ sym (ap (λ (l : List WorldEvent). so_far ++ replies_to l w) (drop_more events i e within ∙ ap (λ (x : WorldEvent). x ∷ drop (i + 1) events) (sym is)))
+
+pub rest_step : (events : List WorldEvent) (i : ℕ) (e : WorldEvent) (w next : World) (reply : Result Reply Denied) →
+    i < length events → e ≡ get_or events i e → IsStep (step e w) reply next →
+    world_after (drop (i + 1) events) next ≡ world_after (drop i events) w
+rest_step events i e w next reply within is s =
+    ap (world_after (drop (i + 1) events)) (sym s.next_is)
+    ∙ sym (ap (λ (l : List WorldEvent). world_after l w) (drop_more events i e within ∙ ap (λ (x : WorldEvent). x ∷ drop (i + 1) events) (sym is)))
+
+pub reached_step : (events : List WorldEvent) (i : ℕ) (e : WorldEvent) (w next start : World) (reply : Result Reply Denied) →
+    i < length events → e ≡ get_or events i e → IsStep (step e w) reply next → w ≡ world_after (take i events) start →
+    next ≡ world_after (take (i + 1) events) start
+reached_step events i e w next start reply within is s reached =
+    sym s.next_is ∙ ap (λ (x : World). (step e x).next) reached
+    ∙ sym (after_append (take i events) e start)
+    ∙ sym (ap (λ (l : List WorldEvent). world_after l start) (take_more events i e within ∙ ap (λ (x : WorldEvent). take i events ++ x ∷ []) (sym is)))
+
+-- a run that stops at an event
+want_of : (event : WorldEvent) (reply : Result Reply Denied) (old new : World) → ran_out reply ≡ true → Tells event reply old new →
+    WantTells event (expired_of reply) old new
+want_of event (Ok reply) old new want told = absurd (cc)
+want_of event (Err d) old new want told = wanted_by event d old new want (refusal_cases d.cause event d old new told)
+
+pub stops_at : (events : List WorldEvent) (i : ℕ) (e : WorldEvent) (w new start : World) (reply : Result Reply Denied) →
+    i < length events → e ≡ get_or events i e → w ≡ world_after (take i events) start → ran_out reply ≡ true → Tells e reply w new →
+    IsRunStop events i (expired_of reply) start new
+stops_at events i e w new start reply within is reached want told =
+    inr (subst (λ (o : Option WorldEvent). WantTellsAt o (expired_of reply) (world_after (take i events) start) new)
+    (sym (slice_get-get_or events i e within ∙ ap (λ (x : WorldEvent). Some x) (sym is)))
+    (subst (λ (x : World). WantTells e (expired_of reply) x new) reached (want_of e reply w new want told)))
+
+-- a run in a new world is what the headline says
+pub run_holds : (start : ℕ) (events : List WorldEvent) (old new : World) (replies : List (Result Reply Denied)) → replies ≡ replies_to events old →
+    new ≡ world_after events old → old ≡ opened start → Holds start (logged events replies []) new
+run_holds start events old new replies replied reached opens =
+    let laws : CommitLaws = record { run_now = commit_is_the_run_now; conflicts = failed_compares_conflict } in
+    subst (λ (w : World). Holds start (logged events replies []) w) (sym (reached ∙ ap (world_after events) opens))
+    (subst (λ (l : List (Result Reply Denied)). Holds start (logged events l []) (world_after events (opened start)))
+    (sym (replied ∙ ap (replies_to events) opens)) (headline laws start events))

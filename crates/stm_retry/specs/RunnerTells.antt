@@ -1,0 +1,72 @@
+-- What a step of a runner tells, and what it leaves of the store, the entries and the runner.
+use Rattle.std.specs.Prelude.{◌≡◌, ℕ, ◌+◌, nat_lt, Bool, if◌then◌else◌, List, Result, Ok, Err}
+use Rattle.std.specs.declared.alloc.AllocError.{AllocError}
+use Rattle.stm_meaning.specs.declared.run.End.{End}
+use Rattle.stm_meaning.specs.declared.run.End.TheVariants.{Done, Aborted as AbortedEnd, Faulted as FaultedEnd}
+use Rattle.stm_meaning.specs.declared.run.Run.{Run}
+use Rattle.stm_meaning.specs.declared.run.Answered.TheVariants.{Ended as EndedRun}
+use Rattle.stm_txn.specs.Standing.{Standing}
+use Rattle.stm_attempt.specs.Settled.{run_on}
+use Rattle.stm_attempt.specs.ReadyRun.{ReadyRun, ready_run}
+use Rattle.stm_entries.specs.declared.entry.Entry.{Entry}
+use Rattle.stm_world.specs.declared.reply.Reply.{Reply}
+use Rattle.stm_world.specs.declared.reply.Reply.TheVariants.{Conflict, GaveUp, Aborted, Faulted}
+use Rattle.stm_world.specs.World.{World, Stepped, Runner, Slot, Over, Live, with_slot}
+use Rattle.stm_retry.specs.declared.told.Told.{Told}
+use Rattle.stm_retry.specs.declared.told.Told.TheVariants.{GoesOn, Ends}
+
+-- what a step of a runner works on
+pub record Workplace : Type 0 where
+  pub standing : Standing
+  pub entries : List Entry
+  pub runner : Runner
+
+abbrev pub workplace : Standing → List Entry → Runner → Workplace
+workplace standing entries runner = record { standing = standing; entries = entries; runner = runner }
+
+-- the world around it, by the places of the runners
+abbrev pub world_around : Workplace → List Slot → World
+world_around p slots = record { standing = p.standing; runners = slots; entries = p.entries }
+
+abbrev pub reply_in : Told → Reply
+reply_in (GoesOn reply) = reply
+reply_in (Ends reply) = reply
+
+-- where the runner stands then
+abbrev pub slot_after : Told → Runner → Slot
+slot_after (GoesOn reply) r = Live r
+slot_after (Ends reply) r = Over
+
+-- the same where memory may have run out: then the runner stands where it stood
+abbrev pub slot_left : Result Told AllocError → Runner → Slot
+slot_left (Ok told) r = slot_after told r
+slot_left (Err e) r = Live r
+
+-- The step's reply is told, and its next world is left, whatever stands at the places of the runners; or memory ran out, and
+-- all is as it was.
+abbrev pub Leaves : ℕ → Result Told AllocError → Workplace → Workplace → (World → Stepped) → Type 0
+Leaves id (Ok told) before after step =
+    (slots : List Slot) → step (world_around before slots)
+    ≡ record { reply = Ok (reply_in told); next = world_around after (with_slot id (slot_after told after.runner) slots) }
+Leaves id (Err e) before after step = after ≡ before
+
+-- the reply of a run that came to such an end with nothing to commit
+abbrev pub TellsEnd : ℕ → End → Reply → Type 0
+TellsEnd id Done reply = ⊥
+TellsEnd id (AbortedEnd text) reply = reply ≡ Aborted id text
+TellsEnd id (FaultedEnd fault) reply = reply ≡ Faulted id fault
+
+-- the runner's program came to its end on what it has read, and this is its run, ready to commit
+pub record IsReady (r : Runner) (run : Run) (ready : ReadyRun) : Type 0 where
+  pub is_run : run_on r.task.program r.known.reads ≡ EndedRun run
+  pub is_done : run.end ≡ Done
+  pub is : ready ≡ ready_run r.task.program r.task.level r.known.reads run
+
+-- a run may send one more commit where the present one fails
+abbrev pub may_go_on : Runner → Bool
+may_go_on r = nat_lt (r.failures + 1) r.task.limit
+
+-- what a commit that failed tells
+abbrev pub told_of_failure : ℕ → Runner → List ℕ → ℕ → ℕ → Told
+told_of_failure id r key seen modified =
+    if may_go_on r then GoesOn (Conflict id key seen modified) else Ends (GaveUp id (r.failures + 1) key seen modified)

@@ -1,0 +1,103 @@
+//! What a world is made of, and its step.
+ghost use Rattle.std.specs.Prelude.{◌≡◌, ◌≤◌, [], IfOk};
+ghost use Rattle.stm_history.specs.declared.revisions.TheConstants.{HIGHEST_REVISION};
+ghost use Rattle.stm_world.specs.World.{opened};
+ghost use Rattle.stm_world.specs.Sound.{IsSound};
+ghost use Rattle.stm_retry.specs.MachineTells.{as_reply};
+ghost use Rattle.stm_retry.specs.Tells.{Tells};
+
+use crate::slots::Slot;
+use crate::store_calls::{advance, grant, keep, make_txn, revoke};
+use std::alloc::{AllocError, Global};
+use std::marker::Model;
+use stm_history::Sequence;
+use stm_txn::{Refusal as StoreRefusal, Store};
+use stm_world::{Denied, Entry, Refusal, Reply, WorldEvent};
+
+/// The store, the places of the runners and the entries.
+#[derive(Drop)]
+pub(crate) struct Machine {
+    pub(crate) store: Store,
+    pub(crate) runners: Vec<Slot>,
+    pub(crate) entries: Vec<Entry>,
+}
+
+impl Model for Machine {
+    ghost use Rattle.std.specs.Coded.{codes};
+    ghost use Rattle.stm_program.specs.Coding.{coded_program};
+    ghost use Rattle.stm_retry.specs.Codes.{coded_live};
+    ghost use Rattle.stm_world.specs.World.{World};
+
+    ghost Value = { World };
+
+    ghost coded = { Prim.hlevel (codes, coded_program, coded_live) };
+
+    ghost view = { λ m. record { standing = m.store.standing; runners = m.runners.items; entries = m.entries.items } };
+}
+
+/// A refusal before which nothing expired.
+pub(crate) fn denied(alloc: Global, cause: Refusal) -> Denied
+    ensures { result ≡ record { cause = cause; expired = [] } }
+{
+    Denied {
+        cause,
+        expired: Sequence::new(alloc),
+    }
+}
+
+/// The reply to a step of a runner: want of memory is a refusal, too.
+fn to_reply(
+    alloc: Global,
+    outcome: Result<Result<Reply, Denied>, AllocError>,
+) -> Result<Reply, Denied>
+    ensures { result ≡ as_reply outcome }
+{
+    match outcome {
+        Ok(reply) => reply,
+        Err(AllocError) => Err(denied(alloc, Refusal::Store(StoreRefusal::OutOfMemory))),
+    }
+}
+
+impl Machine {
+    /// A world whose store opens at this revision.
+    pub(crate) fn new(alloc: Global, start: u64) -> Result<Machine, AllocError>
+        requires { (1 ≤ start) × (start ≤ HIGHEST_REVISION) }
+        ensures { IfOk result (λ m. m ≡ opened start) }
+    {
+        Ok(Machine {
+            store: Store::with_revision(alloc, start)?,
+            runners: Vec::new(alloc),
+            entries: Vec::new(alloc),
+        })
+    }
+
+    /// Takes one event.
+    pub(crate) fn step(&mut self, alloc: Global, event: &WorldEvent) -> Result<Reply, Denied>
+        requires { IsSound self.old }
+        ensures { Tells event.now result self.old self.new }
+    {
+        match event {
+            WorldEvent::Start {
+                program,
+                level,
+                limit,
+            } => {
+                let outcome = self.start(alloc, program, *level, *limit);
+                to_reply(alloc, outcome)
+            }
+            WorldEvent::Step { runner } => {
+                let outcome = self.step_runner(alloc, *runner);
+                to_reply(alloc, outcome)
+            }
+            WorldEvent::Txn { txn } => make_txn(alloc, &mut self.store, &mut self.entries, txn),
+            WorldEvent::Grant { id, ttl } => {
+                grant(alloc, &mut self.store, &mut self.entries, *id, *ttl)
+            }
+            WorldEvent::Keep { id } => keep(alloc, &mut self.store, &mut self.entries, *id),
+            WorldEvent::Revoke { id } => revoke(alloc, &mut self.store, &mut self.entries, *id),
+            WorldEvent::Advance { now } => {
+                advance(alloc, &mut self.store, &mut self.entries, *now)
+            }
+        }
+    }
+}

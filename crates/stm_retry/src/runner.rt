@@ -1,0 +1,144 @@
+//! Runs of programs that have not ended.
+ghost use Rattle.std.specs.Prelude.{◌≡◌, ◌≢◌, ◌+◌, ◌<◌, nat_lt, false, None, Some, [], All, IfOk, OnOk, OnErr};
+ghost use Rattle.stm_txn.specs.Numbers.{ReadFits};
+ghost use Rattle.stm_compile.specs.Levels.{is_serializable};
+ghost use Rattle.stm_attempt.specs.Known.{HaveDistinctKeys};
+ghost use Rattle.stm_attempt.specs.Fetches.{ShowOneRevision};
+ghost use Rattle.stm_attempt.specs.AttemptState.{begun};
+ghost use Rattle.stm_attempt.specs.Next.{key_asked};
+ghost use Rattle.stm_world.specs.World.{begin};
+ghost use Rattle.stm_retry.specs.RunnerView.{task_of, AreNamed, next_for, with_answer, begun_again};
+
+use std::alloc::{AllocError, Global};
+use std::marker::Model;
+use stm_attempt::{Attempt, Next};
+use stm_history::{ReadAnswer, Sequence};
+use stm_program::{Level, Program};
+
+/// A run of a program that has not ended.
+///
+/// Contracts see the runner of the world that it is, and the key whose answer it waits for.
+#[derive(Debug, Drop)]
+pub(crate) struct Runner {
+    program: Program,
+    level: Level,
+    /// How many commits the run may send.
+    limit: u32,
+    /// How many of its commits have failed.
+    failures: u32,
+    attempt: Attempt,
+}
+
+impl Model for Runner {
+    ghost use Rattle.std.specs.Coded.{codes};
+    ghost use Rattle.stm_program.specs.Coding.{coded_program};
+    ghost use Rattle.stm_retry.specs.RunnerView.{RunnerView, view_of, task_of, IsRunner};
+
+    ghost Value = { RunnerView };
+
+    ghost coded = { Prim.hlevel (codes, coded_program) };
+
+    ghost view = { λ r. view_of (task_of r.program r.level r.limit) r.failures r.attempt };
+
+    ghost invariant = { λ r. IsRunner (task_of r.program r.level r.limit) r.failures r.attempt };
+}
+
+/// The next attempt at a level after a commit that failed.
+///
+/// Only at the serializable levels has a failed commit read its keys again.
+fn next_attempt(
+    alloc: Global,
+    level: Level,
+    answers: Sequence<ReadAnswer>,
+) -> Result<Attempt, AllocError>
+    requires distinct { HaveDistinctKeys answers }
+    requires in_range { All ReadFits answers }
+    requires one_revision { ShowOneRevision answers }
+    requires only_serializable { is_serializable level ≡ false → answers ≡ [] }
+    ensures { IfOk result (λ attempt. attempt ≡ begun level answers) }
+{
+    match level {
+        Level::SerializableSnapshot => Attempt::from_prefetch(alloc, level, answers),
+        Level::Serializable => Attempt::from_prefetch(alloc, level, answers),
+        Level::RepeatableReads => Ok(Attempt::new(alloc, level)),
+        Level::ReadCommitted => Ok(Attempt::new(alloc, level)),
+    }
+}
+
+impl Runner {
+    /// A runner whose run has sent no commit, and may send so many. It takes no memory.
+    pub(crate) fn new(alloc: Global, program: Program, level: Level, limit: u32) -> Runner
+        requires { limit ≢ 0 }
+        ensures { result.runner ≡ begin (task_of program level limit) }
+    {
+        Runner {
+            program,
+            level,
+            limit,
+            failures: 0,
+            attempt: Attempt::new(alloc, level),
+        }
+    }
+
+    /// Goes on with the program as far as the answers take it. The runner knew before what it knows then.
+    ///
+    /// Want of memory is the only refusal, and leaves the runner as it was.
+    pub(crate) fn advance(&mut self) -> Result<Next, AllocError>
+        ensures same { self.new.runner ≡ self.old.runner }
+        ensures next { IfOk result (λ next. next ≡ next_for self.old.runner) }
+        ensures asked { IfOk result (λ next. self.new.awaits ≡ key_asked next) }
+        ensures named { AreNamed self.new.runner.known.reads }
+    {
+        self.attempt.advance(&self.program)
+    }
+
+    /// Takes the answer that the runner waits for.
+    ///
+    /// Want of memory is the only refusal, and leaves the runner as it was.
+    pub(crate) fn supply(&mut self, answer: ReadAnswer) -> Result<(), AllocError>
+        requires asked { self.old.awaits ≡ Some answer.key }
+        requires in_range { ReadFits answer }
+        ensures ok { OnOk result (self.new.runner ≡ with_answer answer self.old.runner) }
+        ensures err { OnErr result (self.new ≡ self.old) }
+    {
+        self.attempt.supply(answer)
+    }
+
+    /// Whether the run may send one more commit, should the present one fail.
+    pub(crate) fn may_begin_again(&self) -> bool
+        ensures { result ≡ nat_lt (self.now.runner.failures + 1) self.now.runner.task.limit }
+    {
+        let limit = self.limit;
+        self.failures + 1 < limit
+    }
+
+    /// The number of commits that the run has sent, the present one among them.
+    pub(crate) fn attempts(&self) -> u32
+        ensures { result ≡ self.now.runner.failures + 1 }
+    {
+        let _above_failures = self.limit;
+        self.failures + 1
+    }
+
+    /// Begins the next attempt, for which a failed commit has read these answers.
+    ///
+    /// Want of memory is the only refusal, and leaves the runner as it was.
+    pub(crate) fn begin_again(
+        &mut self,
+        alloc: Global,
+        answers: Sequence<ReadAnswer>,
+    ) -> Result<(), AllocError>
+        requires more { self.old.runner.failures + 1 < self.old.runner.task.limit }
+        requires named { AreNamed answers }
+        requires distinct { HaveDistinctKeys answers }
+        requires in_range { All ReadFits answers }
+        requires one_revision { ShowOneRevision answers }
+        requires only_serializable { is_serializable self.old.runner.task.level ≡ false → answers ≡ [] }
+        ensures ok { OnOk result (self.new.runner ≡ begun_again answers self.old.runner) }
+        ensures err { OnErr result (self.new ≡ self.old) }
+    {
+        self.attempt = next_attempt(alloc, self.level, answers)?;
+        self.failures += 1;
+        Ok(())
+    }
+}

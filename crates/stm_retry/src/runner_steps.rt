@@ -1,0 +1,298 @@
+//! The steps of runners.
+ghost use Rattle.std.specs.Prelude.{◌≡◌, ◌≢◌, ◌<◌, ◌≤◌, [], Some, Ok, true, false, length, All, IfOk, OnOk, OnErr};
+ghost use Rattle.stm_history.specs.History.{now, key_at, mod_of};
+ghost use Rattle.stm_meaning.specs.declared.run.End.TheVariants.{Done};
+ghost use Rattle.stm_meaning.specs.declared.run.Run.{Run as ARun};
+ghost use Rattle.stm_txn.specs.declared.refusal.Refusal.TheVariants.{OutOfMemory};
+ghost use Rattle.stm_txn.specs.Numbers.{ReadFits};
+ghost use Rattle.stm_txn.specs.Commits.{revision_read};
+ghost use Rattle.stm_compile.specs.Levels.{is_serializable};
+ghost use Rattle.stm_compile.specs.Answers.{AreTrue};
+ghost use Rattle.stm_attempt.specs.Known.{HaveDistinctKeys};
+ghost use Rattle.stm_attempt.specs.Fetches.{ShowOneRevision};
+ghost use Rattle.stm_world.specs.declared.reply.Reply.TheVariants.{Fetched, Started, Ended};
+ghost use Rattle.stm_world.specs.Task.{answer_at};
+ghost use Rattle.stm_world.specs.World.{Runner as LiveRunner, start_runner, step_runner, step_live, commit as commit_of, runner_at};
+ghost use Rattle.stm_retry.specs.declared.told.Told.TheVariants.{GoesOn, Ends};
+ghost use Rattle.stm_retry.specs.MachineTells.{Tells};
+ghost use Rattle.stm_retry.specs.RunnerView.{task_of, AreNamed, with_answer, begun_again};
+ghost use Rattle.stm_retry.specs.RunnerTells.{workplace, Leaves, TellsEnd, IsReady, told_of_failure, may_go_on, reply_in, slot_left};
+
+use crate::copies::{copies_of, entry_of};
+use crate::machine::{Machine, denied};
+use crate::runner::Runner;
+use crate::slots::{Slot, put_slot, take_runner};
+use crate::told::Told;
+use std::alloc::{AllocError, Global};
+use stm_attempt::{Next, Ready};
+use stm_calls::Sent;
+use stm_history::{KeyState, ReadAnswer, Sequence, Text};
+use stm_meaning::{End, Run};
+use stm_program::{Level, Program};
+use stm_txn::{Refusal as StoreRefusal, Store};
+use stm_world::{Denied, Entry, Refusal, Reply};
+
+/// The modification revision of a key's state, 0 where it is absent.
+fn mod_rev_in(kv: &Option<KeyState>) -> u64
+    ensures { result ≡ mod_of kv.now }
+{
+    match kv {
+        None => 0,
+        Some(state) => state.mod_rev,
+    }
+}
+
+/// Fetches the key that a runner waits for.
+fn fetch(
+    alloc: Global,
+    store: &mut Store,
+    id: u64,
+    runner: &mut Runner,
+    key: Text,
+    at: u64,
+) -> Result<Told, AllocError>
+    requires asked { runner.old.awaits ≡ Some key }
+    requires named { 0 < length key }
+    requires reached { at ≤ now store.old.standing.history }
+    ensures told { IfOk result (λ told. told ≡ GoesOn (Fetched id key
+        (mod_of (key_at store.old.standing.history key (revision_read store.old.standing.history at)))
+        (revision_read store.old.standing.history at) (now store.old.standing.history))) }
+    ensures ok { OnOk result (runner.new.runner ≡
+        with_answer (answer_at store.old.standing.history key (revision_read store.old.standing.history at)) runner.old.runner) }
+    ensures err { OnErr result (runner.new.runner ≡ runner.old.runner) }
+    ensures store { store.new.standing ≡ store.old.standing }
+{
+    let answer = stm_calls::fetch(alloc, store, key.as_str(), at)?;
+    let mod_rev = mod_rev_in(&answer.kv);
+    let of_rev = answer.of_rev;
+    let revision = answer.revision;
+    runner.supply(answer)?;
+    Ok(Told::GoesOn(Reply::Fetched {
+        runner: id,
+        key,
+        mod_rev,
+        of_rev,
+        revision,
+    }))
+}
+
+/// The reply of a run that came to its end with nothing to commit.
+fn reply_at_end(id: u64, run: Run) -> Reply
+    requires { run.end ≢ Done }
+    ensures { TellsEnd id run.end result }
+{
+    let Run { end, .. } = run;
+    match end {
+        End::Done => unreachable!(),
+        End::Aborted(text) => Reply::Aborted { runner: id, text },
+        End::Faulted(fault) => Reply::Faulted { runner: id, fault },
+    }
+}
+
+/// What a commit that failed comes to: the next attempt, or the end of the run where it may send no more.
+fn fail_commit(
+    alloc: Global,
+    id: u64,
+    runner: &mut Runner,
+    key: Text,
+    seen: u64,
+    now: u64,
+    answers: Sequence<ReadAnswer>,
+) -> Result<Told, AllocError>
+    requires named { AreNamed answers }
+    requires distinct { HaveDistinctKeys answers }
+    requires in_range { All ReadFits answers }
+    requires one_revision { ShowOneRevision answers }
+    requires only_serializable { is_serializable runner.old.runner.task.level ≡ false → answers ≡ [] }
+    ensures told { IfOk result (λ told. told ≡ told_of_failure id runner.old.runner key seen now) }
+    ensures again { OnOk result (may_go_on runner.old.runner ≡ true → runner.new.runner ≡ begun_again answers runner.old.runner) }
+    ensures err { OnErr result (runner.new.runner ≡ runner.old.runner) }
+{
+    if runner.may_begin_again() {
+        runner.begin_again(alloc, answers)?;
+        return Ok(Told::GoesOn(Reply::Conflict {
+            runner: id,
+            key,
+            seen,
+            now,
+        }));
+    }
+    Ok(Told::Ends(Reply::GaveUp {
+        runner: id,
+        attempts: runner.attempts(),
+        key,
+        seen,
+        now,
+    }))
+}
+
+/// What a commit that the store refused comes to: the end of the run, unless memory ran out.
+fn end_refused(id: u64, cause: StoreRefusal) -> Result<Told, AllocError>
+    ensures told { IfOk result (λ told. told ≡ Ends (Ended id cause)) }
+    ensures refused { OnOk result (cause ≢ OutOfMemory) }
+{
+    if cause == StoreRefusal::OutOfMemory {
+        return Err(AllocError);
+    }
+    Ok(Told::Ends(Reply::Ended { runner: id, cause }))
+}
+
+/// Sends the commit of a run that is done.
+///
+/// All that a commit which succeeds takes of memory is taken before it is sent.
+fn commit(
+    alloc: Global,
+    store: &mut Store,
+    entries: &mut Vec<Entry>,
+    id: u64,
+    runner: &mut Runner,
+    ready: Ready,
+) -> Result<Told, AllocError>
+    requires named { AreNamed ready.answers }
+    requires is_ready { (run : ARun) × IsReady runner.old.runner run ready }
+    ensures { (run : ARun) → IsReady runner.old.runner run ready → Leaves id result
+        (workplace store.old.standing entries.old.items runner.old.runner) (workplace store.new.standing entries.new.items runner.new.runner)
+        (commit_of id runner.old.runner runner.old.runner.known.reads run) }
+{
+    let copies = copies_of(alloc, &ready)?;
+    entries.reserve(1)?;
+    match stm_calls::commit(alloc, store, &ready) {
+        Ok(Sent::Committed { revision }) => {
+            entries.push_reserved(entry_of(alloc, ready, revision));
+            Ok(Told::Ends(Reply::Committed {
+                runner: id,
+                revision,
+                attempts: runner.attempts(),
+                output: copies.output,
+                trace: copies.trace,
+                answers: copies.answers,
+            }))
+        }
+        Ok(
+            Sent::Failed {
+                key,
+                seen,
+                now,
+                answers,
+            },
+        ) => {
+            let told = fail_commit(alloc, id, runner, key, seen, now, answers)?;
+            Ok(told)
+        }
+        Err(cause) => {
+            let told = end_refused(id, cause)?;
+            Ok(told)
+        }
+    }
+}
+
+/// Makes one step of a runner: its program is evaluated on what it has read, and then it makes at most one
+/// transaction.
+fn step_live(
+    alloc: Global,
+    store: &mut Store,
+    entries: &mut Vec<Entry>,
+    id: u64,
+    runner: &mut Runner,
+) -> Result<Told, AllocError>
+    requires { AreTrue store.old.standing.history runner.old.runner.known.reads }
+    ensures { Leaves id result (workplace store.old.standing entries.old.items runner.old.runner)
+        (workplace store.new.standing entries.new.items runner.new.runner) (step_live id runner.old.runner) }
+{
+    let next = runner.advance()?;
+    match next {
+        Next::Fetch { key, at } => {
+            let told = fetch(alloc, store, id, runner, key, at)?;
+            Ok(told)
+        }
+        Next::Ready(ready) => {
+            let told = commit(alloc, store, entries, id, runner, ready)?;
+            Ok(told)
+        }
+        Next::Aborted(run) => Ok(Told::Ends(reply_at_end(id, run))),
+        Next::Faulted(run) => Ok(Told::Ends(reply_at_end(id, run))),
+    }
+}
+
+/// What stands at a runner's place after its step.
+fn slot_after(told: &Result<Told, AllocError>, runner: Runner) -> Slot
+    ensures { result ≡ slot_left told.now runner.runner }
+{
+    match told {
+        Ok(Told::Ends(_)) => Slot::over(),
+        Ok(Told::GoesOn(_)) => Slot::live(runner),
+        Err(_) => Slot::live(runner),
+    }
+}
+
+/// The reply that was told.
+fn reply_in(told: Told) -> Reply
+    ensures { result ≡ reply_in told }
+{
+    match told {
+        Told::GoesOn(reply) => reply,
+        Told::Ends(reply) => reply,
+    }
+}
+
+impl Machine {
+    /// Adds a runner, whose run may send so many commits, and gives its number.
+    ///
+    /// Want of memory is the only refusal, and leaves the world as it was.
+    pub(crate) fn add_runner(
+        &mut self,
+        alloc: Global,
+        program: Program,
+        level: Level,
+        limit: u32,
+    ) -> Result<u64, AllocError>
+        requires { limit ≢ 0 }
+        ensures number { IfOk result (λ id. (start_runner (task_of program level limit) self.old).reply ≡ Ok (Started id)) }
+        ensures ok { OnOk result (self.new ≡ (start_runner (task_of program level limit) self.old).next) }
+        ensures err { OnErr result (self.new ≡ self.old) }
+    {
+        let runner = Runner::new(alloc, program, level, limit);
+        self.runners.push(Slot::live(runner))?;
+        Ok(self.runners.len() as u64)
+    }
+
+    /// Starts a run of a program, which may send so many commits. A limit of 0 is refused before any memory is
+    /// taken.
+    pub(crate) fn start(
+        &mut self,
+        alloc: Global,
+        program: &Program,
+        level: Level,
+        limit: u32,
+    ) -> Result<Result<Reply, Denied>, AllocError>
+        ensures { Tells result self.old self.new (start_runner (task_of program.now level limit) self.old) }
+    {
+        if limit == 0 {
+            return Ok(Err(denied(alloc, Refusal::BadLimit)));
+        }
+        let program = program.clone()?;
+        let runner = self.add_runner(alloc, program, level, limit)?;
+        Ok(Ok(Reply::Started { runner }))
+    }
+
+    /// Makes one step of a runner. One that is not there is refused before any memory is taken.
+    ///
+    /// The runner is taken from its place for the step, and put back, or the end of its run noted, after it.
+    pub(crate) fn step_runner(
+        &mut self,
+        alloc: Global,
+        id: u64,
+    ) -> Result<Result<Reply, Denied>, AllocError>
+        requires { (r : LiveRunner) → runner_at id self.old.runners ≡ Some r → AreTrue self.old.standing.history r.known.reads }
+        ensures { Tells result self.old self.new (step_runner id (runner_at id self.old.runners) self.old) }
+    {
+        let Some(mut runner) = take_runner(&mut self.runners, id) else {
+            return Ok(Err(denied(alloc, Refusal::NoRunner)));
+        };
+        let told = step_live(alloc, &mut self.store, &mut self.entries, id, &mut runner);
+        let slot = slot_after(&told, runner);
+        put_slot(&mut self.runners, id, slot);
+        let told = told?;
+        Ok(Ok(reply_in(told)))
+    }
+}

@@ -1,0 +1,82 @@
+//! The places of runners: runner 1 stands first.
+ghost use Rattle.std.specs.Prelude.{◌≡◌, ◌-◌, ◌<◌, ◌≤◌, ◌^◌, None, Some, option_map, slice_get, IfNone, OnSome, vec_len};
+ghost use Rattle.stm_world.specs.World.{runner_at, with_slot, Over as Left, Live as Stands};
+ghost use Rattle.stm_retry.specs.RunnerView.{RunnerView, slot_of};
+
+use crate::runner::Runner;
+use std::marker::Model;
+
+/// The place of a runner. It is kept when the run has ended, and then no runner stands there.
+#[derive(Debug, Drop)]
+pub(crate) struct Slot {
+    runner: Option<Runner>,
+}
+
+impl Model for Slot {
+    ghost use Rattle.std.specs.Coded.{codes};
+    ghost use Rattle.stm_program.specs.Coding.{coded_program};
+    ghost use Rattle.stm_world.specs.World.{Slot as Place};
+    ghost use Rattle.stm_retry.specs.RunnerView.{slot_of};
+
+    ghost Value = { Place };
+
+    ghost coded = { Prim.hlevel (codes, coded_program) };
+
+    ghost view = { λ s. slot_of s.runner };
+}
+
+impl Slot {
+    /// The place of a run that is over.
+    pub(crate) fn over() -> Slot
+        ensures { result ≡ Left }
+    {
+        Slot { runner: None }
+    }
+
+    /// The place of a run that goes on.
+    pub(crate) fn live(runner: Runner) -> Slot
+        ensures { result ≡ Stands runner.runner }
+    {
+        Slot {
+            runner: Some(runner),
+        }
+    }
+
+    /// Takes the runner away, if one stands here.
+    fn take(&mut self) -> Option<Runner>
+        ensures taken { slot_of result ≡ self.old }
+        ensures left { self.new ≡ Left }
+    {
+        self.runner.take()
+    }
+}
+
+/// Takes what stands at the place of this number, which there is.
+fn take_at(slots: &mut Vec<Slot>, id: u64) -> Option<Runner>
+    requires { (0 < id) × (id ≤ vec_len slots.old) }
+    ensures was { slice_get slots.old.items (id - 1) ≡ Some (slot_of result) }
+    ensures left { slots.new.items ≡ with_slot id Left slots.old.items }
+{
+    slots[(id - 1) as usize].take()
+}
+
+/// Takes the runner with this number from its place, if there is one that has not ended.
+pub(crate) fn take_runner(slots: &mut Vec<Slot>, id: u64) -> Option<Runner>
+    ensures found { option_map (λ (v : RunnerView). v.runner) result ≡ runner_at id slots.old.items }
+    ensures there { OnSome result ((0 < id) × (id ≤ vec_len slots.old)) }
+    ensures taken { OnSome result (slots.new.items ≡ with_slot id Left slots.old.items) }
+    ensures none { IfNone result (slots.new.items ≡ slots.old.items) }
+{
+    if id == 0 || id > slots.len() as u64 {
+        return None;
+    }
+    take_at(slots, id)
+}
+
+/// Puts what stands at the place of this number.
+pub(crate) fn put_slot(slots: &mut Vec<Slot>, id: u64, slot: Slot)
+    requires { (0 < id) × (id ≤ vec_len slots.old) }
+    ensures { slots.new.items ≡ with_slot id slot slots.old.items }
+{
+    slots[(id - 1) as usize] = slot;
+}

@@ -1,0 +1,196 @@
+//! The events that are calls of the store. Each is an entry where it is one.
+//!
+//! Room for the entries is made before the call, so that a call that the store took is never without them.
+ghost use Rattle.std.specs.Prelude.{◌≡◌, ◌+◌, ◌<◌, ◌≤◌, ◌++◌, ◌∷◌, [], if◌then◌else◌, nat_lt, length, vec_len, vec_capacity, IfOk, OnOk};
+ghost use Rattle.stm_txn.specs.Standing.{kept_alive, refusal_of};
+ghost use Rattle.stm_entries.specs.declared.entry.Entry.TheVariants.{Foreign};
+ghost use Rattle.stm_world.specs.declared.event.WorldEvent.TheVariants.{Txn as TxnEvent, Grant as GrantEvent, Keep as KeepEvent, Revoke as RevokeEvent, Advance as AdvanceEvent};
+ghost use Rattle.stm_world.specs.declared.refusal.Refusal.TheVariants.{Store as OfStore};
+ghost use Rattle.stm_world.specs.Told.{denied as denied_for};
+ghost use Rattle.stm_world.specs.World.{expiries};
+ghost use Rattle.stm_retry.specs.CallTells.{CallTells, or_want};
+
+use crate::machine::denied;
+use std::alloc::{AllocError, Global};
+use stm_history::Sequence;
+use stm_txn::{Expired, Refusal as StoreRefusal, Store, Txn};
+use stm_world::{Denied, Entry, Refusal, Reply};
+
+/// The store's refusal of a call.
+fn refuse(alloc: Global, cause: StoreRefusal) -> Result<Reply, Denied>
+    ensures { result ≡ denied_for (OfStore cause) }
+{
+    Err(denied(alloc, Refusal::Store(cause)))
+}
+
+/// The refusal of a call for which room could not be made: want of memory, where the store had taken it.
+fn refuse_or_want(alloc: Global, cause: Option<StoreRefusal>) -> Result<Reply, Denied>
+    ensures { result ≡ denied_for (OfStore (or_want cause)) }
+{
+    match cause {
+        Some(cause) => refuse(alloc, cause),
+        None => refuse(alloc, StoreRefusal::OutOfMemory),
+    }
+}
+
+/// Makes room for the entry of a transaction, and the copy that the entry keeps.
+fn prepare_txn(entries: &mut Vec<Entry>, txn: &Txn) -> Result<Txn, AllocError>
+    ensures copy { IfOk result (λ copy. copy ≡ txn.now) }
+    ensures room { OnOk result (vec_len entries.new < vec_capacity entries.new) }
+    ensures same { entries.new.items ≡ entries.old.items }
+{
+    entries.reserve(1)?;
+    txn.clone()
+}
+
+/// Enters a transaction, if it led from one revision to another.
+fn enter_txn(entries: &mut Vec<Entry>, before: u64, after: u64, txn: Txn)
+    requires { vec_len entries.old < vec_capacity entries.old }
+    ensures { entries.new.items ≡ entries.old.items ++ (if nat_lt before after then Foreign txn ∷ [] else []) }
+{
+    if before < after {
+        entries.push_reserved(Entry::Foreign { txn });
+    }
+}
+
+/// Makes another client's transaction, which is an entry where it changed something.
+pub(crate) fn make_txn(
+    alloc: Global,
+    store: &mut Store,
+    entries: &mut Vec<Entry>,
+    txn: &Txn,
+) -> Result<Reply, Denied>
+    ensures { CallTells (TxnEvent txn.now) result store.old.standing entries.old.items store.new.standing entries.new.items }
+{
+    let Ok(copy) = prepare_txn(entries, txn) else {
+        return refuse_or_want(alloc, store.txn_refusal(txn));
+    };
+    let before = store.keys().revision();
+    match store.txn(txn) {
+        Ok(answer) => {
+            enter_txn(entries, before, store.keys().revision(), copy);
+            Ok(Reply::Txn { answer })
+        }
+        Err(cause) => refuse(alloc, cause),
+    }
+}
+
+/// Grants a lease at the store's moment.
+pub(crate) fn grant(
+    alloc: Global,
+    store: &mut Store,
+    entries: &mut Vec<Entry>,
+    id: u64,
+    ttl: u64,
+) -> Result<Reply, Denied>
+    ensures { CallTells (GrantEvent id ttl) result store.old.standing entries.old.items store.new.standing entries.new.items }
+{
+    if entries.reserve(1).is_err() {
+        return refuse_or_want(alloc, store.grant_refusal(id, ttl));
+    }
+    let at = store.moment();
+    match store.grant(id, ttl) {
+        Ok(()) => {
+            entries.push_reserved(Entry::Grant { id, ttl, at });
+            Ok(Reply::Granted { id })
+        }
+        Err(cause) => refuse(alloc, cause),
+    }
+}
+
+/// Why a renewal would be refused.
+fn keep_refusal(store: &Store, id: u64) -> Option<StoreRefusal>
+    ensures { result ≡ refusal_of (kept_alive store.now.standing id) }
+{
+    if store.is_live(id) {
+        None
+    } else {
+        Some(StoreRefusal::LeaseNotFound)
+    }
+}
+
+/// Renews a lease at the store's moment.
+pub(crate) fn keep(
+    alloc: Global,
+    store: &mut Store,
+    entries: &mut Vec<Entry>,
+    id: u64,
+) -> Result<Reply, Denied>
+    ensures { CallTells (KeepEvent id) result store.old.standing entries.old.items store.new.standing entries.new.items }
+{
+    if entries.reserve(1).is_err() {
+        return refuse_or_want(alloc, keep_refusal(store, id));
+    }
+    let at = store.moment();
+    match store.keep_alive(id) {
+        Ok(()) => {
+            entries.push_reserved(Entry::Renew { id, at });
+            Ok(Reply::Kept { id })
+        }
+        Err(cause) => refuse(alloc, cause),
+    }
+}
+
+/// Revokes a lease, with its keys.
+pub(crate) fn revoke(
+    alloc: Global,
+    store: &mut Store,
+    entries: &mut Vec<Entry>,
+    id: u64,
+) -> Result<Reply, Denied>
+    ensures { CallTells (RevokeEvent id) result store.old.standing entries.old.items store.new.standing entries.new.items }
+{
+    if entries.reserve(1).is_err() {
+        return refuse_or_want(alloc, store.revoke_refusal(id));
+    }
+    match store.revoke(id) {
+        Ok(revision) => {
+            entries.push_reserved(Entry::Revoke { id });
+            Ok(Reply::Revoked { id, revision })
+        }
+        Err(cause) => refuse(alloc, cause),
+    }
+}
+
+/// Enters leases that expired, for which there is room.
+fn enter_expiries(entries: &mut Vec<Entry>, expired: &[Expired])
+    requires { vec_len entries.old + length expired.now ≤ vec_capacity entries.old }
+    ensures { entries.new.items ≡ entries.old.items ++ expiries expired.now }
+{
+    for lease in expired {
+        entries.push_reserved(Entry::Expire { id: lease.id });
+    }
+}
+
+/// Advances the store's moment. Each lease that expired is an entry, also where the advance was cut short.
+pub(crate) fn advance(
+    alloc: Global,
+    store: &mut Store,
+    entries: &mut Vec<Entry>,
+    moment: u64,
+) -> Result<Reply, Denied>
+    ensures { CallTells (AdvanceEvent moment) result store.old.standing entries.old.items store.new.standing entries.new.items }
+{
+    if moment < store.moment() {
+        return refuse(alloc, StoreRefusal::TimeGoesBack);
+    }
+    if entries.reserve(store.lease_count()).is_err() {
+        return refuse(alloc, StoreRefusal::OutOfMemory);
+    }
+    match store.advance(moment) {
+        Ok(expired) => {
+            enter_expiries(entries, expired.as_slice());
+            Ok(Reply::Advanced {
+                now: moment,
+                expired: Sequence::of(expired),
+            })
+        }
+        Err(stop) => {
+            enter_expiries(entries, stop.expired.as_slice());
+            Err(Denied {
+                cause: Refusal::Store(stop.cause),
+                expired: stop.expired,
+            })
+        }
+    }
+}

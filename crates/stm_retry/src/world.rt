@@ -1,0 +1,209 @@
+//! The world.
+ghost use Rattle.std.specs.Prelude.{◌≡◌, ◌≢◌, ◌≤◌, ℕ, Ok, Err, IfOk, IfErr, OnOk, OnErr, []};
+ghost use Rattle.stm_history.specs.declared.revisions.TheConstants.{HIGHEST_REVISION};
+ghost use Rattle.stm_txn.specs.declared.refusal.Refusal.TheVariants.{OutOfMemory};
+ghost use Rattle.stm_entries.specs.Replayed.{opening, without_moment};
+ghost use Rattle.stm_entries.specs.Replay.{replay};
+ghost use Rattle.stm_entries.specs.Legal.{AreLegal};
+ghost use Rattle.stm_world.specs.declared.refusal.Refusal.TheVariants.{Store as OfStore, BadLimit};
+ghost use Rattle.stm_world.specs.declared.reply.Reply.TheVariants.{Started};
+ghost use Rattle.stm_world.specs.Headline.{Holds, logged};
+ghost use Rattle.stm_world.specs.World.{opened, start_runner, world_after, replies_to};
+ghost use Rattle.stm_retry.specs.StateOf.{IsStateOf};
+ghost use Rattle.stm_retry.specs.Tells.{Tells, ran_out, expired_of, IsRunStop};
+
+use crate::machine::Machine;
+use crate::state::state_of;
+use std::alloc::{AllocError, Global};
+use std::marker::Model;
+use stm_history::{HIGHEST_REVISION, Sequence};
+use stm_meaning::State;
+use stm_program::{Level, Program};
+use stm_txn::{Expired, Refusal as StoreRefusal, Store};
+use stm_world::{Denied, Entry, Refusal, Reply, WorldEvent};
+
+/// Runners of programs over one store.
+///
+/// Contracts see the store, the places of the runners and the entries. In every world the entries replay from
+/// the opening store to the history and the live leases, each is legal at its point, and what a runner knows
+/// is true of the history.
+#[derive(Drop)]
+pub struct World {
+    alloc: Global,
+    machine: Machine,
+}
+
+impl Model for World {
+    ghost use Rattle.std.specs.Coded.{codes};
+    ghost use Rattle.stm_program.specs.Coding.{coded_program};
+    ghost use Rattle.stm_retry.specs.Codes.{coded_live};
+    ghost use Rattle.stm_world.specs.World.{World as WorldState};
+    ghost use Rattle.stm_world.specs.Sound.{IsSound};
+
+    ghost Value = { WorldState };
+
+    ghost coded = { Prim.hlevel (codes, coded_program, coded_live) };
+
+    ghost view = { λ w. w.machine };
+
+    ghost invariant = { λ w. IsSound w.machine };
+}
+
+/// A run of events that want of memory stopped.
+#[derive(Debug, Drop)]
+pub struct RunStop {
+    /// How many events were taken before.
+    pub done: usize,
+    /// The leases that the stopped event had expired, in their order: none for every event but an advance.
+    pub expired: Sequence<Expired>,
+}
+
+/// Whether an event was refused for want of memory.
+fn is_out_of_memory(reply: &Result<Reply, Denied>) -> bool
+    ensures { result ≡ ran_out reply.now }
+{
+    match reply {
+        Ok(_) => false,
+        Err(denied) => denied.cause == Refusal::Store(StoreRefusal::OutOfMemory),
+    }
+}
+
+/// The leases that had expired by a refusal.
+fn expired_of(alloc: Global, reply: Result<Reply, Denied>) -> Sequence<Expired>
+    ensures { result ≡ expired_of reply }
+{
+    match reply {
+        Ok(_) => Sequence::new(alloc),
+        Err(denied) => denied.expired,
+    }
+}
+
+impl World {
+    /// A world with an empty store at revision 1 and moment 0. Want of memory is its only refusal.
+    pub fn new(alloc: Global) -> Result<World, AllocError>
+        ensures { IfOk result (λ w. w ≡ opened 1) }
+    {
+        World::with_revision(alloc, 1)
+    }
+
+    /// A world with an empty store at this revision and moment 0. Want of memory is its only refusal.
+    pub fn with_revision(alloc: Global, start: u64) -> Result<World, AllocError>
+        requires { (1 ≤ start) × (start ≤ HIGHEST_REVISION) }
+        ensures { IfOk result (λ w. w ≡ opened start) }
+    {
+        let machine = Machine::new(alloc, start)?;
+        Ok(World { alloc, machine })
+    }
+
+    /// Starts a run of a program, which may send so many commits, and gives the runner's number.
+    ///
+    /// It is refused as `BadLimit` where the limit is 0, and as `OutOfMemory` where a growth was refused.
+    /// A refused start takes no number and leaves the world as it was; the program is dropped.
+    pub fn start(&mut self, program: Program, level: Level, limit: u32) -> Result<u64, Refusal>
+        ensures number { IfOk result (λ id. (start_runner (record { program = program; level = level; limit = limit }) self.old).reply ≡ Ok (Started id)) }
+        ensures ok { OnOk result (self.new ≡ (start_runner (record { program = program; level = level; limit = limit }) self.old).next) }
+        ensures bad_limit { limit ≡ 0 → result ≡ Err BadLimit }
+        ensures memory_alone { limit ≢ 0 → IfErr result (λ e. e ≡ OfStore OutOfMemory) }
+        ensures err { OnErr result (self.new ≡ self.old) }
+    {
+        if limit == 0 {
+            return Err(Refusal::BadLimit);
+        }
+        match self.machine.add_runner(self.alloc, program, level, limit) {
+            Ok(id) => Ok(id),
+            Err(AllocError) => Err(Refusal::Store(StoreRefusal::OutOfMemory)),
+        }
+    }
+
+    /// Takes one event, and tells its reply.
+    ///
+    /// A runner's step evaluates its program on the answers that it has recorded and on the prefetched ones that
+    /// serve. Then it makes at most one transaction of the store: the fetch of the key that the program wants,
+    /// or its commit. A program that aborts or faults ends its run with that reply, and so does a commit that
+    /// the store refuses. A commit that fails begins a new attempt, or ends the run where it may send no more.
+    /// Every other event is one call of the store.
+    ///
+    /// An event is refused as `BadLimit` (a start with limit 0), as `NoRunner` (a step of a runner that is not
+    /// there or has ended), or for the store's cause. A refused event leaves the world as it was, but for an
+    /// advance, which sets the moment where it does not go back: the leases that expired before it was stopped
+    /// (`RevisionsUsedUp`, `OutOfMemory`) stay expired, are told and are entries, and the rest stays due.
+    ///
+    /// Want of memory (`OutOfMemory`) is told only where the event is taken otherwise, and of an advance that
+    /// does not go back. Such an advance leaves the world as it was, or it was cut short so.
+    pub fn step(&mut self, event: &WorldEvent) -> Result<Reply, Denied>
+        ensures { Tells event.now result self.old self.new }
+    {
+        self.machine.step(self.alloc, event)
+    }
+
+    /// Takes these events in their order, and tells their replies.
+    fn take_all(&mut self, events: &[WorldEvent]) -> Result<Vec<Result<Reply, Denied>>, RunStop>
+        ensures replies { IfOk result (λ replies. replies.items ≡ replies_to events.now self.old) }
+        ensures ok { OnOk result (self.new ≡ world_after events.now self.old) }
+        ensures stopped { IfErr result (λ stop. IsRunStop events.now stop.done stop.expired self.old self.new) }
+    {
+        let Ok(mut replies) = Vec::with_capacity(self.alloc, events.len()) else {
+            return Err(RunStop {
+                done: 0,
+                expired: Sequence::new(self.alloc),
+            });
+        };
+        let mut done = 0;
+        for event in events {
+            let reply = self.step(event);
+            if is_out_of_memory(&reply) {
+                return Err(RunStop {
+                    done,
+                    expired: expired_of(self.alloc, reply),
+                });
+            }
+            replies.push_reserved(reply);
+            done += 1;
+        }
+        Ok(replies)
+    }
+
+    /// Takes these events in their order, and tells their replies.
+    ///
+    /// Room for all replies is made first. The run stops at the first event that is refused as `OutOfMemory`,
+    /// before the first one where that room was refused: `done` events were taken, and the world is as it was
+    /// before the stopped event, or that is an advance that was cut short after the leases in `expired`.
+    ///
+    /// In a new world the replies and the store are what the headline says of them.
+    pub fn run(&mut self, events: &[WorldEvent]) -> Result<Vec<Result<Reply, Denied>>, RunStop>
+        ensures replies { IfOk result (λ replies. replies.items ≡ replies_to events.now self.old) }
+        ensures ok { OnOk result (self.new ≡ world_after events.now self.old) }
+        ensures stopped { IfErr result (λ stop. IsRunStop events.now stop.done stop.expired self.old self.new) }
+        ensures headline { IfOk result (λ replies. (start : ℕ) → self.old ≡ opened start → Holds start (logged events.now replies.items []) self.new) }
+    {
+        let replies = self.take_all(events)?;
+        Ok(replies)
+    }
+
+    /// What changed the store, in the order of the steps.
+    ///
+    /// The entries replay to the store's history and live leases, and each is legal at its point.
+    pub fn history(&self) -> &[Entry]
+        ensures entries { result.now ≡ self.now.entries }
+        ensures replays { replay self.now.entries (opening self.now.standing.history.opening) ≡ without_moment self.now.standing }
+        ensures legal { AreLegal self.now.entries (opening self.now.standing.history.opening) }
+    {
+        self.machine.entries.as_slice()
+    }
+
+    /// The store: its keys at every revision, its leases, and its moment.
+    pub fn store(&self) -> &Store
+        ensures { result.now.standing ≡ self.now.standing }
+    {
+        &self.machine.store
+    }
+
+    /// The state of the store now: the present keys with their values and modification revisions.
+    ///
+    /// Want of memory is its only refusal.
+    pub fn state(&self) -> Result<State, AllocError>
+        ensures { IfOk result (λ state. IsStateOf self.now.standing.history state) }
+    {
+        state_of(self.alloc, self.machine.store.keys())
+    }
+}

@@ -1,6 +1,0 @@
-use Rattle.stm_retrz.proofs.SlotLemmas.{taken_none}
-use Rattle.stm_retrz.proofs.slots.take_runner.Goals as goal
-
-pub returns-clause-none : goal.returns-clause-none
-returns-clause-none c =
-    taken_none c.args.id c.args.slots.now.items c.take_at.new.slots.items c.take_at.result c.take_at.ensures.was c.take_at.ensures.left

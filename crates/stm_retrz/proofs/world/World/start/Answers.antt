@@ -1,7 +1,0 @@
-use Rattle.stm_retrz.proofs.WorldLemmas.{started_sound}
-use Rattle.stm_retrz.proofs.world.World.start.Goals as goal
-
-pub invariant_of-self : goal.invariant_of-self
-invariant_of-self c =
-    started_sound (record { program = c.args.program; level = c.args.level; limit = c.args.limit }) c.add_runner.result c.self.inside.machine
-    c.add_runner.new.self c.self.invariant c.add_runner.ensures.ok c.add_runner.ensures.err

@@ -1,6 +1,6 @@
 -- The parts of a runner's step, as the code has them at hand.
-use Rattle.std.proofs.Common.{◌≡◌, ◌≢◌, ℕ, ◌+◌, ◌<◌, List, [], ◌∷◌, ◌++◌, length, map, Option, Some, None, Result, Ok, Err, Bool, true, false, cond, refl, sym, ◌∙◌}
-use Rattle.std.proofs.Common.{ap, subst, ◌⊎◌, inl, inr, ◌≤◌}
+use Rattle.std.proofs.Common.{◌≡◌, ◌≢◌, ℕ, ◌+◌, ◌<◌, List, [], ◌∷◌, ◌++◌, length, map, Option, Some, None, Result, Ok, Err, Bool, true, false, cond, refl, sym}
+use Rattle.std.proofs.Common.{◌∙◌, ap, subst, ◌⊎◌, inl, inr, ◌≤◌}
 use Rattle.std.specs.Prelude.{nat_eq, slice_get, IsOk, is_ok, IsErr}
 use Rattle.std.specs.declared.alloc.AllocError.{AllocError}
 use Rattle.std.proofs.lemmas.List.Elements.{All-nil, All-cons, All-head, All-tail}
@@ -44,8 +44,8 @@ use Rattle.stm_world.specs.declared.reply.Reply.TheVariants.{Started, Fetched, C
 use Rattle.stm_world.specs.declared.refusal.Denied.{Denied}
 use Rattle.stm_world.specs.declared.refusal.Refusal.TheVariants.{BadLimit}
 use Rattle.stm_world.specs.Task.{Task, answer_at, answers_told}
-use Rattle.stm_world.specs.World.{World, Stepped, Runner, Slot, Over, Live, begin, runner_at, with_slot, start_runner, step_runner, step_live, step_on, fetch, finish}
-use Rattle.stm_world.specs.World.{commit, commit_told, decided, take_commit, fail_commit, seen_in, replied, refused, entry_of}
+use Rattle.stm_world.specs.World.{World, Stepped, Runner, Slot, Over, Live, begin, runner_at, with_slot, start_runner, step_runner, step_live}
+use Rattle.stm_world.specs.World.{step_on, fetch, finish, commit, commit_told, decided, take_commit, fail_commit, seen_in, replied, refused, entry_of}
 use Rattle.stm_retrz.specs.declared.told.Told.{Told}
 use Rattle.stm_retrz.specs.declared.told.Told.TheVariants.{GoesOn, Ends}
 use Rattle.stm_retrz.specs.MachineTells.{Tells}
@@ -349,8 +349,8 @@ cause_is s ready run cause other (inl want) = absurd (other want)
 cause_is s ready run cause other (inr told) = is_refused s ready.level ready.answers run cause told
 
 -- room for an entry is none yet
-pub with_room : (id : ℕ) (outcome : Result Told AllocError) (before : Workplace) (s : Standing) (entries more : List Entry) (q : Runner) (step : World → Stepped) →
-    more ≡ entries → Leaves id outcome before (workplace s entries q) step → Leaves id outcome before (workplace s more q) step
+pub with_room : (id : ℕ) (outcome : Result Told AllocError) (before : Workplace) (s : Standing) (entries more : List Entry) (q : Runner)
+    (step : World → Stepped) → more ≡ entries → Leaves id outcome before (workplace s entries q) step → Leaves id outcome before (workplace s more q) step
 with_room id outcome before s entries more q step same leaves =
     subst (λ (l : List Entry). Leaves id outcome before (workplace s l q) step) (sym same) leaves
 
@@ -470,8 +470,8 @@ told_tells id old r q after entries slots told (Some other) is leaves put =
           ∙ ap (λ (l : List Slot). record { standing = after; runners = l; entries = entries }) (sym (put ∙ put_there id old.runners (slot_after told q))),
     )
 
-pub ran_out_tells : (id : ℕ) (old : World) (r q : Runner) (after : Standing) (entries : List Entry) (slots : List Slot) (e : AllocError) (found : Option Runner) →
-    found ≡ Some r → runner_at id old.runners ≡ Some r → workplace after entries q ≡ workplace old.standing old.entries r →
+pub ran_out_tells : (id : ℕ) (old : World) (r q : Runner) (after : Standing) (entries : List Entry) (slots : List Slot) (e : AllocError)
+    (found : Option Runner) → found ≡ Some r → runner_at id old.runners ≡ Some r → workplace after entries q ≡ workplace old.standing old.entries r →
     slots ≡ with_slot id (Live q) (with_slot id Over old.runners) →
     Tells (Err e) old (record { standing = after; runners = slots; entries = entries }) (step_runner id found old)
 ran_out_tells id old r q after entries slots e None is there leaves put = absurd (cc)

@@ -257,7 +257,7 @@ impl Machine {
     }
 
     /// Starts a run of a program, which may send so many commits. A limit of 0 is refused before any memory is
-    /// taken.
+    /// taken; want of memory leaves the world as it was.
     pub(crate) fn start(
         &mut self,
         alloc: Global,
@@ -277,7 +277,8 @@ impl Machine {
 
     /// Makes one step of a runner. One that is not there is refused before any memory is taken.
     ///
-    /// The runner is taken from its place for the step, and put back, or the end of its run noted, after it.
+    /// The runner is taken from its place for the step, and put back, or the end of its run noted, after it. Want
+    /// of memory leaves the world as it was.
     pub(crate) fn step_runner(
         &mut self,
         alloc: Global,

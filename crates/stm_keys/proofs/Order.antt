@@ -1,5 +1,6 @@
 -- The order of the chains: those of present keys stand first.
-use Rattle.std.proofs.Common.{◌≡◌, ℕ, ◌+◌, ◌≤◌, ◌<◌, Bool, true, false, List, [], ◌∷◌, ◌++◌, length, map, Option, Some, None, suc, zero, refl, sym, ◌∙◌, ap, subst}
+use Rattle.std.proofs.Common.{◌≡◌, ℕ, ◌+◌, ◌≤◌, ◌<◌, Bool, true, false, List, [], ◌∷◌, ◌++◌}
+use Rattle.std.proofs.Common.{length, map, Option, Some, None, suc, zero, refl, sym, ◌∙◌, ap, subst}
 use Rattle.std.proofs.Common.{arith, cond, is_some, eqb-true, slice_get, get_or, swap, option_map, IsPermutation, inl, inr}
 use Rattle.std.specs.Prelude.{bytes_eq, nat_eq, nat_lt, string_bytes, string_eq, ◌⊎◌}
 use Rattle.std.specs.String.{string_eq_equiv}
@@ -34,7 +35,8 @@ pub names_long : {Y X S : Type 0} (m : HashMap (String Y) X S) → length (names
 names_long m = length-map (keys_of m.entries) string_bytes ∙ length-keys_of m.entries
 
 -- the key at an index, its chain, and the chains once another one stands there
-module _ {Y X S : Type 0} (m : HashMap (String Y) X S) (index : ℕ) (k : String Y) (v : X) (unique : IsUnique string_eq m) (at : slice_get m.entries index ≡ Some (k, v)) where
+module _ {Y X S : Type 0} (m : HashMap (String Y) X S) (index : ℕ) (k : String Y) (v : X) (unique : IsUnique string_eq m)
+    (at : slice_get m.entries index ≡ Some (k, v)) where
   pub named_at : slice_get (names_of m) index ≡ Some (string_bytes k)
   named_at = text_at string_bytes m.entries index ∙ ap (option_map (λ e. string_bytes e.0)) at
 
@@ -58,7 +60,8 @@ module _ {Y X S : Type 0} (m : HashMap (String Y) X S) (index : ℕ) (k : String
 abbrev pub StandsAt : List ℕ → ℕ → List (List ℕ) → Type 0
 StandsAt key index keys = (place : ℕ) (k : List ℕ) → slice_get keys place ≡ Some k → bytes_eq key k ≡ nat_eq place index
 
-apart : (keys : List (List ℕ)) (i j : ℕ) (a b : List ℕ) → IsDistinct bytes_eq keys → slice_get keys i ≡ Some a → slice_get keys j ≡ Some b → i < j → bytes_eq a b ≡ false
+apart : (keys : List (List ℕ)) (i j : ℕ) (a b : List ℕ) → IsDistinct bytes_eq keys → slice_get keys i ≡ Some a → slice_get keys j ≡ Some b → i < j →
+    bytes_eq a b ≡ false
 apart keys i j a b distinct first second less =
     sym (ap (λ (k : List ℕ). bytes_eq k (get_or keys j a)) (get_or_from_slice_get keys i a a first) ∙ ap (bytes_eq a) (get_or_from_slice_get keys j b a second))
     ∙ apart_from_distinct bytes_eq keys i j a distinct less (slice_get_within keys j b second)
@@ -249,7 +252,8 @@ count_none : (k : List ℕ) (s : Option KeyState) (rest : List (List ℕ × KeyS
 count_none k None rest is none = none
 count_none k (Some s) rest is none = absurd (cc)
 
-count_one : (k : List ℕ) (s : Option KeyState) (rest : List (List ℕ × KeyState)) (n : ℕ) → is_some s ≡ true → length rest ≡ n → length (with_state k s rest) ≡ suc n
+count_one : (k : List ℕ) (s : Option KeyState) (rest : List (List ℕ × KeyState)) (n : ℕ) → is_some s ≡ true → length rest ≡ n →
+    length (with_state k s rest) ≡ suc n
 count_one k None rest n is count = absurd (cc)
 count_one k (Some s) rest n is count = ap suc count
 
@@ -280,6 +284,7 @@ present_at state (suc n) (k ∷ keys) (suc place) key s first less at is =
     (present_at state n keys place key s (tail_first state n k keys first) (omega (arith, less)) at is)
 
 -- a key that stands below the count is present
-pub below_present : (p : List ℕ → Bool) (n : ℕ) (keys : List (List ℕ)) (place : ℕ) (key : List ℕ) → StandFirst p n keys → place < n → slice_get keys place ≡ Some key →
+pub below_present : (p : List ℕ → Bool) (n : ℕ) (keys : List (List ℕ)) (place : ℕ) (key : List ℕ) → StandFirst p n keys → place < n →
+    slice_get keys place ≡ Some key →
     p key ≡ true
 below_present p n keys place key first less at = first.each place key at ∙ lt-ltb place n less

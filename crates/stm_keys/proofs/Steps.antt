@@ -29,7 +29,8 @@ split_some k (d ∷ cs) c before last some =
 pub room_made : (cs : List Event) (c : Event) (old new : List ℕ → ℕ) → ((k : List ℕ) → is_some (event_about k cs) ≡ true → 0 < old k) →
     ((k : List ℕ) → old k ≤ new k) → 0 < new (key_of_event c) → (k : List ℕ) → is_some (event_about k (cs ++ c ∷ [])) ≡ true → 0 < new k
 room_made cs c old new before more room k some =
-    split_some k cs c (λ had. omega (arith, before k had, more k)) (λ same. subst (λ (l : List ℕ). 0 < new l) ((bytes_eq-Decides (key_of_event c) k).0 same) room)
+    split_some k cs c (λ had. omega (arith, before k had, more k)) (λ same. subst (λ (l : List ℕ). 0 < new l)
+    ((bytes_eq-Decides (key_of_event c) k).0 same) room)
     some
 
 -- a place that was added to the chain of one key leaves the room of the others

@@ -16,7 +16,8 @@ use Rattle.stm_keys.specs.Keys.{Contents, state_recorded, changes_of, IsKept}
 use Rattle.stm_history.specs.History.{key_after, revisions_up_to}
 use Rattle.stm_keys.proofs.Recorded.{recorded_state}
 use Rattle.stm_keys.proofs.Fields.{reverse-split, found_at}
-use Rattle.stm_keys.specs.Places.{Places, places_in, places_of, with_place, newest_below, state_from, found_in, present_among, AreSearchable, StandFirst, is_left}
+use Rattle.stm_keys.specs.Places.{Places, places_in, places_of, with_place, newest_below}
+use Rattle.stm_keys.specs.Places.{state_from, found_in, present_among, AreSearchable, StandFirst, is_left}
 use Rattle.stm_keys.proofs.Order.{same_presence, present_count}
 
 -- the events at a place, of revisions with the newest first

@@ -19,6 +19,7 @@ attach_all-requires-clause-can c =
 
 pub returns-clause-keys : goal.returns-clause-keys
 returns-clause-keys c = λ key.
-    moved (map change_of_event c.args.events.now) key (lease_of c.args.leases.now key) (lease_of c.detach_all.new.leases key) (lease_of c.attach_all.new.leases key)
+    moved (map change_of_event c.args.events.now) key (lease_of c.args.leases.now key) (lease_of c.detach_all.new.leases key)
+    (lease_of c.attach_all.new.leases key)
     c.requires.distinct (c.detach_all.ensures.keys key)
     (c.attach_all.ensures.keys key ∙ ap (λ hangs. attached_all hangs key (lease_of c.detach_all.new.leases key)) c.requires.hangs)

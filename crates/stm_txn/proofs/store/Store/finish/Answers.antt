@@ -23,7 +23,8 @@ run_branch-requires c =
 pub commit-requires-clause-distinct : goal.commit-requires-clause-distinct
 commit-requires-clause-distinct c =
     subst (λ (cs : List Change). HasDistinctKeys cs) (sym (c.in_ok-branch.ensures.changes
-    ∙ ap (λ (s : StoreView). changes_copied s.standing.history [] c.args.ops.now) c.self.view_is)) (changes_are_distinct c.args.self.now.standing.history c.args.ops.now c.requires.apart)
+    ∙ ap (λ (s : StoreView). changes_copied s.standing.history [] c.args.ops.now) c.self.view_is))
+    (changes_are_distinct c.args.self.now.standing.history c.args.ops.now c.requires.apart)
 
 pub commit-requires-clause-live : goal.commit-requires-clause-live
 commit-requires-clause-live c =

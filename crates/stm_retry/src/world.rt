@@ -125,8 +125,8 @@ impl World {
     ///
     /// An event is refused as `BadLimit` (a start with limit 0), as `NoRunner` (a step of a runner that is not
     /// there or has ended), or for the store's cause. A refused event leaves the world as it was, but for an
-    /// advance, which sets the moment where it does not go back: the leases that expired before it was stopped
-    /// (`RevisionsUsedUp`, `OutOfMemory`) stay expired, are told and are entries, and the rest stays due.
+    /// advance that stopped on its way (`RevisionsUsedUp`, `OutOfMemory`): the moment is set, the leases that
+    /// expired before stay expired, are told and are entries, and the rest stays due.
     ///
     /// Want of memory (`OutOfMemory`) is told only where the event is taken otherwise, and of an advance that
     /// does not go back. Such an advance leaves the world as it was, or it was cut short so.

@@ -409,3 +409,23 @@ fn a_new_store_opens_at_one(rt: HostRuntime) -> Result<(), Fail> {
     assert_eq!(rt; store.lease_count(), 0);
     Ok(())
 }
+
+/// What a copy of a transaction comes to, and the moment at which it ran.
+fn told_copy(alloc: Global, moment: u64) -> Result<String, AllocError> {
+    let mut store = Store::new(alloc)?;
+    let told = advance(alloc, &mut store, moment)?;
+    let mut next = empty_txn(alloc);
+    add_put(alloc, &mut next.success, "a", "1", 0)?;
+    add_del(alloc, &mut next.success, "b")?;
+    let copy = next.clone()?;
+    let mut player = Player { store, next: copy };
+    let answer = commit(alloc, &mut player)?;
+    format!(in alloc; "{told}; {answer}; {}", player.store.moment())
+}
+
+#[test]
+fn a_copy_of_a_transaction_is_the_same(rt: HostRuntime) -> Result<(), Fail> {
+    let told = told_copy(rt.alloc(), 5)?;
+    assert_eq!(rt; told.as_str(), "expired; true 2 put del 0; 5");
+    Ok(())
+}

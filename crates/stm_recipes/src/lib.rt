@@ -1,6 +1,6 @@
-//! Recipes: programs that people write on a store of keys, values and leases, and the readers of their keys.
+//! Recipes: programs that people write on a store of keys, values and leases, and who holds a slot.
 //!
-//! Each recipe is a program as data: a caller may run it alone, or give it to a world or to threads. What it does alone is a law.
+//! Each recipe is a program as data: a caller may run it alone, or give it to a world or to threads.
 #![tactic(auto)]
 
 mod accounts;

@@ -1,6 +1,6 @@
 //! An attempt for which an answer was prefetched. What is expected comes from the rule of the base revision, and never
 //! from a run.
-ghost use Rattle.std.specs.Prelude.{◌≤◌, All, IfOk};
+ghost use Rattle.std.specs.Prelude.{◌≡◌, ◌≤◌, All, IfOk};
 ghost use Rattle.stm_history.specs.declared.revisions.TheConstants.{HIGHEST_NUMBER};
 ghost use Rattle.stm_txn.specs.Numbers.{ReadFits};
 ghost use Rattle.stm_attempt.specs.Known.{HaveDistinctKeys};
@@ -57,10 +57,14 @@ fn show_ready(alloc: Global, ready: &Ready) -> Result<String, AllocError> {
     Ok(line)
 }
 
-fn show_next(alloc: Global, next: &Next) -> Result<String, AllocError> {
+fn show_fetch(alloc: Global, key: &Text, at: u64) -> Result<String, AllocError> {
+    format!(in alloc; "Fetch {} at {at}", key.as_str())
+}
+
+fn show_next(alloc: Global, next: Next) -> Result<String, AllocError> {
     match next {
-        Next::Fetch { key, at } => format!(in alloc; "Fetch {} at {at}", key.as_str()),
-        Next::Ready(ready) => show_ready(alloc, ready),
+        Next::Fetch { key, at } => show_fetch(alloc, &key, at),
+        Next::Ready(ready) => show_ready(alloc, &ready),
         Next::Aborted(_) => String::from_str(alloc, "Aborted"),
         Next::Faulted(_) => String::from_str(alloc, "Faulted"),
     }
@@ -71,27 +75,39 @@ fn emit_b_and_a(alloc: Global) -> Result<Program, Fail> {
     Ok(read_program(alloc, &value)?)
 }
 
+fn absent(key: Text, revision: u64) -> ReadAnswer
+    requires { revision ≤ HIGHEST_NUMBER }
+    ensures named { result.key ≡ key }
+    ensures in_range { ReadFits result }
+{
+    ReadAnswer {
+        key,
+        kv: None,
+        of_rev: revision,
+        revision,
+    }
+}
+
 /// What the attempt answers at first, and then once it has taken that the wanted key is absent at a revision.
 fn told(alloc: Global, revision: u64) -> Result<String, Fail>
     requires { revision ≤ HIGHEST_NUMBER }
 {
     let program = emit_b_and_a(alloc)?;
     let mut attempt = Attempt::from_prefetch(alloc, Level::Serializable, prefetched(alloc)?)?;
-    let first = attempt.advance(&program)?;
-    let mut line = show_next(alloc, &first)?;
-    if let Next::Fetch { key, .. } = first {
-        attempt.supply(ReadAnswer {
-            key,
-            kv: None,
-            of_rev: revision,
-            revision,
-        })?;
-        let second = attempt.advance(&program)?;
-        let shown = show_next(alloc, &second)?;
-        line.push_str(", ")?;
-        line.push_str(shown.as_str())?;
+    match attempt.advance(&program)? {
+        Next::Fetch { key, at } => {
+            let first = show_fetch(alloc, &key, at)?;
+            attempt.supply(absent(key, revision))?;
+            let next = attempt.advance(&program)?;
+            let second = show_next(alloc, next)?;
+            let line = format!(in alloc; "{}, {}", first.as_str(), second.as_str())?;
+            Ok(line)
+        }
+        other => {
+            let line = show_next(alloc, other)?;
+            Ok(line)
+        }
     }
-    Ok(line)
 }
 
 #[test]

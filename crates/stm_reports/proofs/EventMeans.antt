@@ -1,6 +1,6 @@
 -- What is read of an event's line is spelled by its data.
-use Rattle.std.proofs.Common.{◌≡◌, ℕ, List, [], ◌∷◌, map, Bool, Option, Some, None, Ok, refl, subst, codes}
-use Rattle.serde_json.specs.Data.{Data, boolean, string, array, Items, no_items, item}
+use Rattle.std.proofs.Common.{◌≡◌, ℕ, List, [], ◌∷◌, map, Option, Some, None, Ok, refl, subst, codes}
+use Rattle.serde_json.specs.Data.{Data, boolean, string, Items, no_items}
 use Rattle.serde_json.specs.View.{items_of}
 use Rattle.stm_json.specs.Elements.{one_of, two_of, three_of, four_of}
 use Rattle.stm_json.specs.Outcome.{◌>>=◌, within}

@@ -1,13 +1,11 @@
 -- The faults of the parts of events' lines are those that reading them answers.
-use Rattle.std.proofs.Common.{◌≡◌, ℕ, List, [], ◌∷◌, Bool, Option, Some, None, Ok, refl}
+use Rattle.std.proofs.Common.{◌≡◌, ℕ, List, [], ◌∷◌, Bool, Some, None, Ok, refl}
 use Rattle.serde_json.specs.Data.{Data, Items, no_items, item}
 use Rattle.stm_json.specs.declared.cause.Cause.TheVariants.{Shape}
 use Rattle.stm_json.specs.Elements.{one_of, two_of, three_of, four_of}
-use Rattle.stm_json.specs.Outcome.{bad, ◌>>=◌}
-use Rattle.stm_meaning.specs.declared.fault.Fault.{Fault}
+use Rattle.stm_json.specs.Outcome.{◌>>=◌}
 use Rattle.stm_meaning.specs.declared.trace_item.TraceItem.{TraceItem}
 use Rattle.stm_meaning.specs.declared.value.Value.{Value}
-use Rattle.stm_txn.specs.declared.advance.Expired.{Expired}
 use Rattle.stm_txn_json.specs.Faults.{Sort, AnyText, WordOf, By, first_of, at, faults_by, worded_faults}
 use Rattle.stm_txn_json.specs.FirstFault.{any_number}
 use Rattle.stm_txn_json.specs.Reading.{text_of}
@@ -17,9 +15,6 @@ use Rattle.stm_reports.specs.declared.causes.RefusalName.{RefusalName}
 use Rattle.stm_reports.specs.declared.line.ReportLine.{ReportLine}
 use Rattle.stm_reports.specs.declared.line.ReportLine.TheVariants.{Started, Fetched, Committed, Conflict, GaveUp, Aborted, Faulted, Ended, Txn, Granted}
 use Rattle.stm_reports.specs.declared.line.ReportLine.TheVariants.{Kept, Revoked, Advanced, Watching, Cancelled, Batch, Refused}
-use Rattle.stm_reports.specs.declared.line.ToldAnswer.{ToldAnswer}
-use Rattle.stm_reports.specs.declared.line.ToldEvent.{ToldEvent}
-use Rattle.stm_reports.specs.declared.line.ToldOp.{ToldOp}
 use Rattle.stm_reports.specs.declared.words.EventWord.{EventWord}
 use Rattle.stm_reports.specs.declared.words.EventWord.TheVariants as event
 use Rattle.stm_reports.specs.Elements.{five_of, six_of}

@@ -6,7 +6,7 @@ use Rattle.serde_json.specs.View.{items_of}
 use Rattle.stm_history.specs.declared.key_state.KeyState.{KeyState}
 use Rattle.stm_json.specs.declared.cause.Cause.TheVariants.{Shape}
 use Rattle.stm_json.specs.Elements.{first_word, two_of, three_of}
-use Rattle.stm_json.specs.Outcome.{bad, ◌>>=◌, within}
+use Rattle.stm_json.specs.Outcome.{bad, within}
 use Rattle.stm_json.proofs.ElementLemmas.{two_of-is, three_of-is}
 use Rattle.stm_json.proofs.OutcomeLemmas.{bind_ok, within_ok}
 use Rattle.stm_meaning.specs.Faults.{fault_name}
@@ -24,7 +24,7 @@ use Rattle.stm_reports.specs.declared.words.StandingWord.TheVariants as standing
 use Rattle.stm_reports.specs.Elements.{six_of}
 use Rattle.stm_reports.specs.FirstFault.{event_table, standing_table, numbered_faults, line_faults}
 use Rattle.stm_reports.specs.Grammar.{Spells, SpellsItems, SpellsLine}
-use Rattle.stm_reports.specs.LineData.{list, whole, word, numbered, value_data, trace_data, answer_data, op_data, expired_data, event_data, line_data}
+use Rattle.stm_reports.specs.LineData.{list, whole, word, numbered, value_data, trace_data, answer_data, op_data, expired_data, event_data}
 use Rattle.stm_reports.specs.Names.{refusal_text}
 use Rattle.stm_reports.specs.Parts.{number_of, keyed_of}
 use Rattle.stm_reports.specs.Reading.{key_of, lease_of, end_of, standing_line_of, standing_named, event_named, event_worded, line_front, line_array, line_of}

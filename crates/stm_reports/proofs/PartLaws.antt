@@ -1,27 +1,27 @@
 -- The parts of lines: their faults are those that reading answers, what was read is spelled, and what is spelled is read.
-use Rattle.std.proofs.Common.{◌≡◌, ℕ, suc, ◌^◌, ◌<◌, ◌≤◌, ℤ, pos, negsuc, List, [], ◌∷◌, ◌++◌, map, Bool, true, false, cond, Option, Some, None, Ok}
-use Rattle.std.proofs.Common.{refl, sym, ap, subst, ◌∙◌, arith, ltb, ltb-true, lt-ltb, option_and_then}
-use Rattle.serde_json.specs.Data.{Num, unsigned, negative, float, Data, null, boolean, number, string, array, object, Items, no_items, item}
-use Rattle.serde_json.specs.Find.{as_str, as_array, as_bool, as_number, as_integer, of_integer}
+use Rattle.std.proofs.Common.{◌≡◌, ℕ, suc, ◌^◌, ◌<◌, ◌≤◌, ℤ, pos, negsuc, List, [], ◌∷◌, map, Bool, true, false, cond, Option, Some, None, Ok}
+use Rattle.std.proofs.Common.{refl, sym, ap, subst, ◌∙◌, arith, ltb, ltb-true, lt-ltb}
+use Rattle.serde_json.specs.Data.{unsigned, negative, float, Data, null, boolean, number, string, array, object, Items, no_items, item}
+use Rattle.serde_json.specs.Find.{as_str, as_array, as_integer, of_integer}
 use Rattle.serde_json.specs.View.{items_of}
 use Rattle.stm_history.specs.declared.revisions.TheConstants.{HIGHEST_NUMBER}
 use Rattle.stm_json.specs.declared.cause.Cause.TheVariants.{Shape, Range}
 use Rattle.stm_json.specs.Elements.{SpellsNumber, is_64_bit, in_64_bits, whole_number, number_up_to}
-use Rattle.stm_json.specs.Outcome.{Outcome, bad, ◌>>=◌, within}
+use Rattle.stm_json.specs.Outcome.{Outcome, bad, ◌>>=◌}
 use Rattle.stm_json.proofs.ElementLemmas.{is_64_bit-fits, whole_number-is, number_up_to-is, whole_number-reads, number_up_to-reads}
 use Rattle.stm_json.proofs.OutcomeLemmas.{bind_ok}
 use Rattle.stm_meaning.specs.declared.fault.Fault.{Fault}
 use Rattle.stm_meaning.specs.Faults.{fault_name}
 use Rattle.stm_meaning.specs.declared.value.Value.{Value}
 use Rattle.stm_meaning.specs.declared.value.Value.TheVariants.{Text, Number}
-use Rattle.stm_txn_json.specs.Faults.{Faults, first_of, wrong, at, AnyText, WordOf, NumberIn, By, number_faults, faults_by}
+use Rattle.stm_txn_json.specs.Faults.{Faults, first_of, wrong, at, AnyText, WordOf, NumberIn, By, faults_by}
 use Rattle.stm_txn_json.specs.Grammar.{SpellsEach}
-use Rattle.stm_txn_json.specs.Reading.{on_text, text_of, each_from, list_of}
+use Rattle.stm_txn_json.specs.Reading.{text_of, each_from, list_of}
 use Rattle.stm_txn_json.proofs.FaultLemmas.{fault_of, wrong_is, part_then, made, text_faulted, number_up_faulted}
 use Rattle.stm_txn_json.proofs.ListLemmas.{list_sound, each_reads}
-use Rattle.stm_txn_json.proofs.PartLemmas.{text_is, on_text-is, text_of-is, text_reads}
+use Rattle.stm_txn_json.proofs.PartLemmas.{text_is, on_text-is, text_of-is}
 use Rattle.stm_reports.specs.declared.causes.RefusalName.{RefusalName}
-use Rattle.stm_reports.specs.FirstFault.{flag_faults, number_or_else, value_faults, or_null, each_of, list_of as list_faults, fault_names, refusal_names}
+use Rattle.stm_reports.specs.FirstFault.{flag_faults, value_faults, or_null, each_of, list_of as list_faults, fault_names, refusal_names}
 use Rattle.stm_reports.specs.Grammar.{Spells, SpellsItems}
 use Rattle.stm_reports.specs.LineData.{list, whole, word, value_data, text_or_null}
 use Rattle.stm_reports.specs.Names.{refusal_text}

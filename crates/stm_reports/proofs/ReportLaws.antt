@@ -17,7 +17,7 @@ use Rattle.stm_reports.specs.declared.report.Report.{Report}
 use Rattle.stm_reports.specs.Bytes.{data_of, parts_of}
 use Rattle.stm_reports.specs.FirstFault.{json_faults, rest_faults, lines_faults, first_fault, IsFirstFault}
 use Rattle.stm_reports.specs.Grammar.{SpellsLine, SpellsParts, SpellsReport}
-use Rattle.stm_reports.specs.Reading.{line_of, line_read, line_in, rest_of, lines_from, report_with, report_in}
+use Rattle.stm_reports.specs.Reading.{line_read, line_in, rest_of, lines_from, report_with, report_in}
 use Rattle.stm_reports.proofs.CutLemmas.{parts_start}
 use Rattle.stm_reports.proofs.LineLaws.{line_told, line_means, line_reads}
 

@@ -1,47 +1,25 @@
 -- What a key had: its faults are those that reading answers, what was read is spelled, and what is spelled is read.
-use Rattle.std.proofs.Common.{◌≡◌, ℕ, ◌≤◌, List, [], ◌∷◌, map, Bool, true, false, cond, Option, Some, None, Ok, refl, sym, ap, subst, ◌∙◌, codes}
-use Rattle.std.proofs.lemmas.Slice.Eq.{bytes_eq-Decides}
+use Rattle.std.proofs.Common.{◌≡◌, ℕ, List, [], ◌∷◌, Option, Some, None, Ok, refl, sym, ap, subst, ◌∙◌}
 use Rattle.serde_json.specs.Data.{Data, null, boolean, number, string, array, object, Items, no_items, item}
 use Rattle.serde_json.specs.Find.{as_array}
 use Rattle.serde_json.specs.View.{items_of}
 use Rattle.stm_history.specs.declared.key_state.KeyState.{KeyState}
 use Rattle.stm_json.specs.declared.cause.Cause.TheVariants.{Shape}
-use Rattle.stm_json.specs.Elements.{worded, one_of, two_of, four_of, number_up_to}
 use Rattle.stm_json.specs.Outcome.{bad, ◌>>=◌, within}
-use Rattle.stm_json.proofs.ElementLemmas.{worded-is, one_of-is, two_of-is, four_of-is}
 use Rattle.stm_json.proofs.OutcomeLemmas.{bind_ok, within_ok}
-use Rattle.stm_meaning.specs.declared.trace_item.TraceItem.{TraceItem}
-use Rattle.stm_meaning.specs.declared.trace_item.TraceItem.TheVariants as trace
-use Rattle.stm_meaning.specs.declared.value.Value.{Value}
-use Rattle.stm_txn.specs.declared.advance.Expired.{Expired}
-use Rattle.stm_txn_json.specs.Faults.{Sort, AnyText, NumberIn, By, first_of, at, faults_by, sorted_faults, worded_faults}
+use Rattle.stm_txn_json.specs.Faults.{Sort, AnyText, first_of, at, faults_by, sorted_faults}
 use Rattle.stm_txn_json.specs.FirstFault.{any_number}
-use Rattle.stm_txn_json.specs.Grammar.{SpellsEach}
-use Rattle.stm_txn_json.specs.Reading.{text_of, list_of}
-use Rattle.stm_txn_json.specs.Words.{same}
+use Rattle.stm_txn_json.specs.Reading.{text_of}
 use Rattle.stm_txn_json.proofs.FaultLemmas.{fault_of, wrong_is, part_then, made, text_faulted}
-use Rattle.stm_txn_json.proofs.ListLemmas.{list_sound, each_reads}
 use Rattle.stm_txn_json.proofs.PartLemmas.{list_is, text_of-is, text_reads}
 use Rattle.stm_txn_json.proofs.TxnFaults.{number_told}
-use Rattle.stm_reports.specs.declared.line.ToldAnswer.{ToldAnswer}
-use Rattle.stm_reports.specs.declared.line.ToldEvent.{ToldEvent}
-use Rattle.stm_reports.specs.declared.line.ToldEvent.TheVariants as event
-use Rattle.stm_reports.specs.declared.line.ToldOp.{ToldOp}
-use Rattle.stm_reports.specs.declared.line.ToldOp.TheVariants as op
 use Rattle.stm_reports.specs.Elements.{five_of, six_of}
-use Rattle.stm_reports.specs.FirstFault.{value_faults, or_null, plain_faults, list_of as list_faults, state_sorts, trace_table, answer_sorts, op_table}
-use Rattle.stm_reports.specs.FirstFault.{expired_sorts, expired_list, watched_table}
-use Rattle.stm_reports.specs.Grammar.{Spells, SpellsItems, CountFits, AllCountsFit}
-use Rattle.stm_reports.specs.LineData.{list, whole, word, value_data, trace_data, text_or_null, answer_data, state_data, state_or_null, op_data}
-use Rattle.stm_reports.specs.LineData.{expired_data, event_data}
-use Rattle.stm_reports.specs.Parts.{number_of, value_of, state_with, state_parts, state_array, state_of, keyed_of, text_or_null_of, state_or_null_of}
-use Rattle.stm_reports.specs.Parts.{trace_get_of, trace_rev_of, trace_worded, trace_of, answer_with, answer_parts, answer_array, answer_of}
-use Rattle.stm_reports.specs.Parts.{op_get_of, op_put_of, op_del_of, op_worded, op_of, expired_with, expired_parts, expired_array, expired_of}
-use Rattle.stm_reports.specs.Parts.{event_put_of, event_delete_of, event_worded, event_of}
-use Rattle.stm_reports.specs.Reading.{values_of, traces_of, answers_of, ops_of, expireds_of, events_of}
-use Rattle.stm_reports.proofs.ArrayLemmas.{worded_array, worded_spells, worded_shape, five_of-is, six_of-is}
-use Rattle.stm_reports.proofs.PartLaws.{number_means, number_reads, count_told, count_means, count_reads, value_told, value_means, value_reads}
-use Rattle.stm_reports.proofs.PartLaws.{text_or_null-told, text_or_null-means, text_or_null-reads, list_told, list_means, list_reads}
+use Rattle.stm_reports.specs.FirstFault.{or_null, plain_faults, state_sorts}
+use Rattle.stm_reports.specs.Grammar.{Spells, SpellsItems}
+use Rattle.stm_reports.specs.LineData.{whole, state_data, state_or_null}
+use Rattle.stm_reports.specs.Parts.{number_of, state_with, state_parts, state_array, state_of, keyed_of, state_or_null_of}
+use Rattle.stm_reports.proofs.ArrayLemmas.{five_of-is, six_of-is}
+use Rattle.stm_reports.proofs.PartLaws.{number_means, number_reads}
 
 -- ---- what a key had
 

@@ -1,15 +1,15 @@
 -- The first fault of bytes in a report's place, apart from reading: a table says what stands behind each word, the faults of all
 -- lines are listed in the order of reading, none left out behind another, and then the first is taken.
-use Rattle.std.specs.Prelude.{◌≡◌, ℕ, suc, ℤ, pos, negsuc, List, [], ◌∷◌, ◌++◌, map, length, Option, Some, None, if◌then◌else◌, nat_lt, codes, option_and_then}
+use Rattle.std.specs.Prelude.{◌≡◌, ℕ, suc, ℤ, List, [], ◌∷◌, ◌++◌, length, Option, Some, None, if◌then◌else◌, nat_lt, codes, option_and_then}
 use Rattle.serde_json.specs.Data.{Data, null, boolean, string, array, Items, no_items, item}
-use Rattle.serde_json.specs.Find.{as_str, as_number, as_integer, as_bool}
+use Rattle.serde_json.specs.Find.{as_number, as_integer}
 use Rattle.stm_json.specs.declared.cause.Cause.TheVariants.{NotJson, Shape, Range, TooLong}
 use Rattle.stm_json.specs.declared.read_error.BadInput.{BadInput}
 use Rattle.stm_json.specs.declared.read_error.ReadError.{ReadError}
 use Rattle.stm_json.specs.declared.read_error.ReadError.TheVariants as error
 use Rattle.stm_json.specs.Elements.{is_64_bit}
 use Rattle.stm_json.specs.Outcome.{step}
-use Rattle.stm_txn_json.specs.Faults.{Faults, first_of, wrong, at, Sort, AnyText, WordOf, NumberIn, By, text_faults, faults_by}
+use Rattle.stm_txn_json.specs.Faults.{Faults, first_of, wrong, at, Sort, AnyText, WordOf, NumberIn, By, faults_by}
 use Rattle.stm_txn_json.specs.Faults.{Table, sorts_of, is_count, parts_faults, sorted_faults, worded_faults}
 use Rattle.stm_txn_json.specs.FirstFault.{any_number}
 use Rattle.stm_reports.specs.declared.reading.TheConstants.{MOST_BYTES}

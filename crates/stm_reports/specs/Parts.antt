@@ -1,5 +1,5 @@
 -- Reading the parts of a report's lines: what data spell, or the first fault.
-use Rattle.std.specs.Prelude.{ℕ, List, Bool, Option, Some, None, Ok, is_some, option_and_then, if◌then◌else◌, codes}
+use Rattle.std.specs.Prelude.{ℕ, List, Bool, Option, Some, None, Ok, is_some, if◌then◌else◌, codes}
 use Rattle.serde_json.specs.Data.{Data, Items, no_items, item}
 use Rattle.serde_json.specs.Find.{as_null, as_bool, as_str, as_array}
 use Rattle.stm_history.specs.declared.key_state.KeyState.{KeyState}

@@ -2,7 +2,7 @@ use Rattle.std.proofs.Common.{◌≡◌, length, sym, arith}
 use Rattle.std.proofs.lemmas.Result.{err_from_is_err_and}
 use Rattle.stm_reports.specs.Bytes.{parts_of}
 use Rattle.stm_reports.specs.Reading.{lines_from}
-use Rattle.stm_reports.proofs.LoopLemmas.{goes_on, ends, is_bad, is_done, shorter}
+use Rattle.stm_reports.proofs.LoopLemmas.{goes_on, ends, is_bad, shorter}
 use Rattle.stm_reports.proofs.reading.each_line.Goals as goal
 
 pub returns-in_err-line : goal.returns-in_err-line

@@ -40,7 +40,8 @@ use Rattle.stm_reports.specs.Parts.{op_get_of, op_put_of, op_del_of, op_worded, 
 use Rattle.stm_reports.specs.Parts.{event_put_of, event_delete_of, event_worded, event_of}
 use Rattle.stm_reports.specs.Reading.{values_of, traces_of, answers_of, ops_of, expireds_of, events_of}
 use Rattle.stm_reports.proofs.ArrayLemmas.{worded_array, worded_spells, worded_shape}
-use Rattle.stm_reports.proofs.StateLaws.{state_or_null-told, state_or_null-means, state_or_null-reads, keyed_items, keyed_sorts, keyed_told, keyed_means, keyed_reads}
+use Rattle.stm_reports.proofs.StateLaws.{state_or_null-told, state_or_null-means, state_or_null-reads}
+use Rattle.stm_reports.proofs.StateLaws.{keyed_items, keyed_sorts, keyed_told, keyed_means, keyed_reads}
 use Rattle.stm_reports.proofs.PartLaws.{number_means, number_reads, count_told, count_means, count_reads, value_told, value_means, value_reads}
 use Rattle.stm_reports.proofs.PartLaws.{text_or_null-told, text_or_null-means, text_or_null-reads, list_told, list_means, list_reads}
 

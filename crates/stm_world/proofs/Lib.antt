@@ -12,6 +12,7 @@ pub mod CommitCases
 pub mod CommitEntries
 pub mod RunnerSteps
 pub mod Calls
+pub mod WatchCalls
 pub mod SoundSteps
 pub mod Sound
 pub mod Headlines

@@ -10,15 +10,17 @@ use Rattle.stm_meaning.specs.declared.run.Answered.TheVariants.{Ended as EndedRu
 use Rattle.stm_attempt.specs.Settled.{run_on}
 use Rattle.stm_world.specs.declared.event.WorldEvent.{WorldEvent}
 use Rattle.stm_world.specs.declared.event.WorldEvent.TheVariants.{Start, Step, Txn, Grant, Keep, Revoke, Advance}
+use Rattle.stm_world.specs.declared.event.WorldEvent.TheVariants.{WatchKey, WatchRange, Poll, Cancel}
 use Rattle.stm_world.specs.declared.reply.Reply.{Reply}
 use Rattle.stm_world.specs.declared.reply.Reply.TheVariants.{Started, Fetched, Committed, Conflict, GaveUp, Aborted, Faulted, Ended}
-use Rattle.stm_world.specs.declared.reply.Reply.TheVariants.{Txn as TxnDone, Granted, Kept, Revoked, Advanced}
+use Rattle.stm_world.specs.declared.reply.Reply.TheVariants.{Txn as TxnDone, Granted, Kept, Revoked, Advanced, Watching, Batch, Cancelled}
 use Rattle.stm_world.specs.declared.refusal.Denied.{Denied}
 use Rattle.stm_world.specs.declared.refusal.Refusal.TheVariants.{NoRunner}
 use Rattle.stm_txn.specs.declared.advance.Expired.{Expired}
 use Rattle.stm_txn.specs.declared.refusal.Refusal.{Refusal as StoreRefusal}
-use Rattle.stm_txn.specs.Standing.{Step as StoreStep, transacted, granted, kept_alive, revoked, advanced}
-use Rattle.stm_world.specs.Told.{denied, reply_to, advance_reply}
+use Rattle.stm_txn.specs.Standing.{Step as StoreStep, transacted, granted, kept_alive, revoked, advanced, watched, polled, cancelled}
+use Rattle.stm_watch.specs.declared.watched.Watched.TheVariants.{Key, Range}
+use Rattle.stm_world.specs.Told.{denied, reply_to, advance_reply, batch_reply}
 use Rattle.stm_world.specs.Task.{Task}
 use Rattle.stm_world.specs.Log.{Line, begun, running, started, is_start, runner_started, is_id, task_in, store, told}
 use Rattle.stm_world.specs.Right.{IsRight, AreRight, RunnerIsRight, Situation, ReplyIsRight, EndsWith, situation}
@@ -75,6 +77,14 @@ given_next start log (Revoke lease) reply id right named =
 given_next start log (Advance moment) reply id right named =
     let done = advanced (store start log) moment in
     let none = ap runner_started right ∙ advance_gives_none moment done.expired done.cause in absurd (cc)
+given_next start log (WatchKey key from) reply id right named =
+    let none = ap runner_started right ∙ call_gives_none Watching (watched (store start log) (Key key) from) (λ x. refl) in absurd (cc)
+given_next start log (WatchRange first end from) reply id right named =
+    let none = ap runner_started right ∙ call_gives_none Watching (watched (store start log) (Range first end) from) (λ x. refl) in absurd (cc)
+given_next start log (Poll watcher most) reply id right named =
+    let none = ap runner_started right ∙ call_gives_none (batch_reply watcher) (polled (store start log) watcher most) (λ x. refl) in absurd (cc)
+given_next start log (Cancel watcher) reply id right named =
+    let none = ap runner_started right ∙ call_gives_none (λ _. Cancelled watcher) (cancelled (store start log) watcher) (λ x. refl) in absurd (cc)
 
 begun_here : (id runner count : ℕ) (b : Bool) (here rest : Option Task) (task : Task) → nat_eq runner id ≡ b → runner ≡ count + 1 →
     (rest ≡ Some task → id ≤ count) → cond b here rest ≡ Some task → id ≤ count + 1
@@ -117,6 +127,9 @@ another at (Granted lease) runner named right = absurd right
 another at (Kept lease) runner named right = absurd right
 another at (Revoked lease revision) runner named right = absurd right
 another at (Advanced moment expired) runner named right = absurd right
+another at (Watching watcher) runner named right = absurd right
+another at (Batch watcher upto events) runner named right = absurd right
+another at (Cancelled watcher) runner named right = absurd right
 
 another_by : (start : ℕ) (log : List Line) (id runner : ℕ) (o : Option Task) (reply : Reply) → runner_told reply ≡ Some runner → runner ≢ id
     → RunnerIsRight start log id o (Ok reply) → ⊥

@@ -170,7 +170,8 @@ const REPORTS: [(&str, &str); 10] = [
     ),
     // A written key that another changed, at SerializableSnapshot.
     (
-        "[[\"txn\",[],[[\"put\",\"a\",\"1\",0],[\"put\",\"b\",\"1\",0]],[]],[\"start\",\"SerializableSnapshot\",1,[[\"set\",0,[\"get\",\"a\"]],[\"put\",\"b\",\"9\",0]]],[\"step\",1],[\"txn\",[],[[\"put\",\"b\",\"2\",0]],[]],[\"step\",1]]",
+        "[[\"txn\",[],[[\"put\",\"a\",\"1\",0],[\"put\",\"b\",\"1\",0]],[]],
+  [\"start\",\"SerializableSnapshot\",1,[[\"set\",0,[\"get\",\"a\"]],[\"put\",\"b\",\"9\",0]]],[\"step\",1],[\"txn\",[],[[\"put\",\"b\",\"2\",0]],[]],[\"step\",1]]",
         "[1,\"txn\",true,2,[[\"put\"],[\"put\"]]]
 [2,\"started\",1]
 [3,\"fetched\",1,\"a\",2,2,2]

@@ -15,8 +15,8 @@ pub move_keys-requires-clause-distinct : goal.move_keys-requires-clause-distinct
 move_keys-requires-clause-distinct c =
     let h : History = c.self.inside.keys.history in
     let cs : List Change = c.args.changes.items in
-    let shown : map change_of_event c.last_events.result.now ≡ cs =
-    ap (map change_of_event) c.last_events.ensures ∙ ap (λ (x : History). map change_of_event (events_of x (now x))) c.in-Ok.ensures.ok
+    let shown : map change_of_event c.last_events-events.result.now ≡ cs =
+    ap (map change_of_event) c.last_events-events.ensures ∙ ap (λ (x : History). map change_of_event (events_of x (now x))) c.in-Ok.ensures.ok
     ∙ last_changes h cs in
     subst HasDistinctKeys (sym shown) c.requires.revision.1
 
@@ -24,8 +24,8 @@ pub move_keys-requires-clause-hangs : goal.move_keys-requires-clause-hangs
 move_keys-requires-clause-hangs c =
     let h : History = c.self.inside.keys.history in
     let cs : List Change = c.args.changes.items in
-    let shown : map change_of_event c.last_events.result.now ≡ cs =
-    ap (map change_of_event) c.last_events.ensures ∙ ap (λ (x : History). map change_of_event (events_of x (now x))) c.in-Ok.ensures.ok
+    let shown : map change_of_event c.last_events-events.result.now ≡ cs =
+    ap (map change_of_event) c.last_events-events.ensures ∙ ap (λ (x : History). map change_of_event (events_of x (now x))) c.in-Ok.ensures.ok
     ∙ last_changes h cs in
     c.in_ok-hangs.ensures ∙ ap hangs_of c.as_slice.ensures.value ∙ ap hangs_of (sym shown)
 
@@ -33,10 +33,12 @@ pub invariant_of-self-2 : goal.invariant_of-self-2
 invariant_of-self-2 c =
     let h : History = c.self.inside.keys.history in
     let cs : List Change = c.args.changes.items in
-    let shown : map change_of_event c.last_events.result.now ≡ cs =
-    ap (map change_of_event) c.last_events.ensures ∙ ap (λ (x : History). map change_of_event (events_of x (now x))) c.in-Ok.ensures.ok
+    let shown : map change_of_event c.last_events-events.result.now ≡ cs =
+    ap (map change_of_event) c.last_events-events.ensures ∙ ap (λ (x : History). map change_of_event (events_of x (now x))) c.in-Ok.ensures.ok
     ∙ last_changes h cs in
-    subst (λ (next : History). ((key : List ℕ) → lease_of c.move_keys.new.leases key ≡ hanging (key_now next key)) × LeasesFit next.revisions)
+    let numbered : c.in-Ok.revision ≡ now h + 1 = c.in-Ok.ensures.number ∙ ap now c.in-Ok.ensures.ok ∙ omega arith in
+    subst (λ (next : History). ((key : List ℕ) → lease_of c.move_keys.new.leases key ≡ hanging (key_now next key)) × LeasesFit next.revisions
+        × StandFor next c.touched.new.watchers)
     (sym c.in-Ok.ensures.ok) (
       λ key.
           still_stored h cs key (lease_of c.reserve_attach.new.self key) (lease_of c.move_keys.new.leases key)
@@ -46,6 +48,8 @@ invariant_of-self-2 c =
       (
         hung_fit c.self.inside.leases.live cs c.is_live-ids_are_in_range.ensures.in_range
             (subst (λ (s : StoreView). HangOnLive s.standing.live (hangs_of cs)) (sym c.self.view_is) c.requires.live),
-        c.self.invariant.1,
+        c.self.invariant.1.0,
       ),
+      subst (λ (l : List Change). StandFor (add_revision h l) c.touched.new.watchers) shown
+          (c.touched.ensures.stand h c.self.invariant.1.1 numbered),
     )

@@ -1,8 +1,9 @@
-use Rattle.std.proofs.Common.{◌≡◌, ◌∙◌, sym, ap, subst, ℕ, List, map}
+use Rattle.std.proofs.Common.{◌≡◌, ◌∙◌, sym, ap, subst, arith, ℕ, ◌+◌, List, map}
 use Rattle.stm_history.specs.declared.change.Change.{Change}
-use Rattle.stm_history.specs.History.{History, now, key_now, change_of, HasDistinctKeys}
+use Rattle.stm_history.specs.History.{History, now, key_now, change_of, add_revision, HasDistinctKeys}
 use Rattle.stm_keys.specs.Events.{change_of_event, events_of}
 use Rattle.stm_leases.specs.Leases.{Leases, lease_of}
+use Rattle.stm_watch.specs.Calls.{StandFor}
 use Rattle.stm_txn.specs.Leasing.{hanging, hung_after, hangs_of, HangOnLive}
 use Rattle.stm_txn.specs.Numbers.{LeasesFit}
 use Rattle.stm_txn.specs.Store.{StoreView}
@@ -48,8 +49,8 @@ invariant_of-self-2 c =
       (
         hung_fit c.self.inside.leases.live cs c.is_live-ids_are_in_range.ensures.in_range
             (subst (λ (s : StoreView). HangOnLive s.standing.live (hangs_of cs)) (sym c.self.view_is) c.requires.live),
-        c.self.invariant.1.0,
+        c.self.invariant.1,
       ),
       subst (λ (l : List Change). StandFor (add_revision h l) c.touched.new.watchers) shown
-          (c.touched.ensures.stand h c.self.invariant.1.1 numbered),
+          (c.touched.ensures.stand h c.self.invariant.2 numbered),
     )

@@ -9,4 +9,4 @@ pub returns-clause-numbers : goal.returns-clause-numbers
 returns-clause-numbers c =
     subst (λ (s : StoreView). StatesFit s.standing.history) c.self.view_is
     (states_fit c.self.inside.keys.history
-    (subst (λ n. n ≤ HIGHEST_REVISION) c.revision-counter.ensures.value c.revision-counter.ensures.bounded) c.self.invariant.1.0)
+    (subst (λ n. n ≤ HIGHEST_REVISION) c.revision-counter.ensures.value c.revision-counter.ensures.bounded) c.self.invariant.1)

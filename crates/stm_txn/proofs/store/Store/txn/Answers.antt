@@ -16,6 +16,6 @@ returns-clause-numbers c =
     numbers_fit c.args.self.now.standing c.transact.new.self.standing c.args.txn.now c.in_ok-answer.answer
     (subst (λ (s : StoreView). now s.standing.history ≤ HIGHEST_REVISION) c.self.view_is
     (subst (λ n. n ≤ HIGHEST_REVISION) c.revision-counter.ensures.value c.revision-counter.ensures.bounded))
-    (subst (λ (s : StoreView). LeasesFit s.standing.history.revisions) c.self.view_is c.self.invariant.1.0)
+    (subst (λ (s : StoreView). LeasesFit s.standing.history.revisions) c.self.view_is c.self.invariant.1)
     (subst (λ (s : StoreView). AreInRange s.standing.live) c.self.view_is c.is_live-ids_are_in_range.ensures.in_range)
     c.in_ok-answer.ensures.step

@@ -29,7 +29,8 @@ pub fn keys_are_read_once()
 
 /// Some logs that are none: a step of a runner that runs is refused, or a start that may send a commit; a
 /// number is given twice; a runner's step is answered with another runner's reply; a program that is done is
-/// told to have aborted.
+/// told to have aborted; a poll of a watcher that is there is refused, or one of a watcher that is not there
+/// is answered; a poll tells another watcher's batch, or an event where none is pending.
 pub fn wrong_logs_are_none()
     ensures { WrongLogs }
 {}

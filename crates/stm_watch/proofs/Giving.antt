@@ -1,0 +1,126 @@
+-- The batch of a poll, one revision after the other.
+use Rattle.std.proofs.Common.{◌≡◌, ℕ, ◌+◌, ◌≤◌, ◌<◌, max, Bool, true, false, cond}
+use Rattle.std.proofs.Common.{List, [], ◌∷◌, ◌++◌, length, take, refl, sym, ◌∙◌, ap, arith}
+use Rattle.std.proofs.Common.{append-nil, append_assoc, length-append, take_all, take_at}
+use Rattle.std.specs.Prelude.{nat_le}
+use Rattle.std.proofs.Math.Nat.{le-max_right}
+use Rattle.std.proofs.lemmas.Bool.{le-leb, lt-leb}
+use Rattle.std.proofs.lemmas.Grind.{flat_map-append}
+use Rattle.stm_history.specs.History.{History, now}
+use Rattle.stm_keys.specs.declared.event.Event.{Event}
+use Rattle.stm_watch.specs.declared.told.Told.{Told}
+use Rattle.stm_watch.specs.declared.watched.Watching.{Watching}
+use Rattle.stm_watch.specs.declared.watchers.Batch.{Batch}
+use Rattle.stm_watch.specs.Pending.{told_above, pending, is_pending, is_some_told, events_told, last_told, batch_of, after_poll}
+use Rattle.stm_watch.proofs.Telling.{nothing_above}
+
+-- so many of these revisions are given with their events, up to one of them, and the rest is what is told above that
+abbrev pub AreGiven : List Told → (ℕ → List Told) → ℕ → ℕ → List Event → ℕ → Type 0
+AreGiven all above seen count events upto =
+    (given : List Told) × (length given ≡ count) × (events ≡ events_told given) × (upto ≡ last_told seen given) × (all ≡ given ++ above upto)
+
+events_one_more : (given : List Told) (t : Told) → events_told (given ++ t ∷ []) ≡ events_told given ++ t.events
+events_one_more given t =
+    flat_map-append (λ (t : Told). t.events) given (t ∷ []) ∙ ap (λ (es : List Event). events_told given ++ es) (append-nil t.events)
+
+last_one_more : (seen : ℕ) (given : List Told) (t : Told) → last_told seen (given ++ t ∷ []) ≡ t.number
+last_one_more seen [] t = refl
+last_one_more seen (g ∷ given) t = last_one_more g.number given t
+
+pub one_more : (all : List Told) (above : ℕ → List Told) (seen count upto : ℕ) (events more : List Event) (t : Told) →
+    AreGiven all above seen count events upto → above upto ≡ t ∷ above t.number → more ≡ events ++ t.events
+    → AreGiven all above seen (count + 1) more t.number
+one_more all above seen count upto events more t so_far next joined =
+    let given : List Told = so_far.0 in (
+      given ++ t ∷ [],
+      length-append given (t ∷ []) ∙ ap (λ (n : ℕ). n + 1) so_far.1,
+      joined ∙ ap (λ (es : List Event). es ++ t.events) so_far.2 ∙ sym (events_one_more given t),
+      sym (last_one_more seen given t),
+      so_far.4 ∙ ap (λ (ts : List Told). given ++ ts) next ∙ sym (append_assoc given (t ∷ []) (above t.number)),
+    )
+
+-- ---- the batch that is made of what is pending
+
+abbrev batch : List Event → ℕ → Batch
+batch events upto = record { events = events; upto = upto }
+
+abbrev made : ℕ → ℕ → ℕ → List Told → Batch
+made most seen counter ts = batch (events_told (take most ts)) (cond (nat_le (length ts) most) (max seen counter) (last_told seen (take most ts)))
+
+made_whole : (most seen counter : ℕ) (given : List Told) → length given ≤ most →
+    made most seen counter given ≡ batch (events_told given) (max seen counter)
+made_whole most seen counter given long =
+    ap (λ (ts : List Told). batch (events_told ts) (cond (nat_le (length given) most) (max seen counter) (last_told seen ts)))
+    (take_all most given long)
+    ∙ ap (λ (b : Bool). batch (events_told given) (cond b (max seen counter) (last_told seen given)))
+    (le-leb (length given) most long)
+
+made_part : (most seen counter : ℕ) (given : List Told) (t : Told) (ts : List Told) → length given ≡ most →
+    made most seen counter (given ++ t ∷ ts) ≡ batch (events_told given) (last_told seen given)
+made_part most seen counter given t ts long =
+    let all : List Told = given ++ t ∷ ts in
+    let longer : most < length all = omega (arith, length-append given (t ∷ ts)) in
+    ap (λ (us : List Told). batch (events_told us) (cond (nat_le (length all) most) (max seen counter) (last_told seen us)))
+    (take_at given (t ∷ ts) most long)
+    ∙ ap (λ (b : Bool). batch (events_told given) (cond b (max seen counter) (last_told seen given)))
+    (lt-leb (length all) most longer)
+
+-- what is told above a revision of a history
+abbrev pub above_of : History → Watching → ℕ → List Told
+above_of h w upto = told_above h.opening upto w.watched h.revisions
+
+whole_batch : (most : ℕ) (h : History) (w : Watching) (count : ℕ) (events : List Event) (upto : ℕ) →
+    AreGiven (pending h w) (above_of h w) w.seen count events upto → count ≤ most → above_of h w upto ≡ []
+    → batch_of most h w ≡ batch events (max w.seen (now h))
+whole_batch most h w count events upto so_far room none =
+    let given : List Told = so_far.0 in
+    let all : pending h w ≡ given = so_far.4 ∙ ap (λ (ts : List Told). given ++ ts) none ∙ append-nil given in
+    let long : length given ≤ most = omega (arith, so_far.1) in
+    ap (made most w.seen (now h)) all
+    ∙ made_whole most w.seen (now h) given long
+    ∙ ap (λ (es : List Event). batch (es) (max w.seen (now h))) (sym so_far.2)
+
+part_batch : (most : ℕ) (h : History) (w : Watching) (count : ℕ) (events : List Event) (upto : ℕ) (t : Told) (ts : List Told) →
+    AreGiven (pending h w) (above_of h w) w.seen count events upto → count ≡ most → above_of h w upto ≡ t ∷ ts
+    → batch_of most h w ≡ batch events upto
+part_batch most h w count events upto t ts so_far full next =
+    let given : List Told = so_far.0 in
+    let all : pending h w ≡ given ++ t ∷ ts = so_far.4 ∙ ap (λ (us : List Told). given ++ us) next in
+    ap (made most w.seen (now h)) all
+    ∙ made_part most w.seen (now h) given t ts (so_far.1 ∙ full)
+    ∙ ap (λ (es : List Event). batch (es) (last_told w.seen given)) (sym so_far.2)
+    ∙ ap (λ (n : ℕ). batch (events) (n)) (sym so_far.3)
+
+same_batch : (b : Batch) (events : List Event) (upto : ℕ) → b.events ≡ events → b.upto ≡ upto → b ≡ batch events upto
+same_batch b events upto e u =
+    ap (λ (es : List Event). batch (es) (b.upto)) e ∙ ap (λ (n : ℕ). batch (events) (n)) u
+
+-- ---- where nothing is pending after the batch
+
+pub all_given : (most : ℕ) (h : History) (w : Watching) (count : ℕ) (events : List Event) (upto : ℕ) (b : Batch) →
+    AreGiven (pending h w) (above_of h w) w.seen count events upto → count ≤ most → above_of h w upto ≡ []
+    → b.events ≡ events → b.upto ≡ max w.seen (now h) → b ≡ batch_of most h w
+all_given most h w count events upto b so_far room none e u =
+    same_batch b events (max w.seen (now h)) e u ∙ sym (whole_batch most h w count events upto so_far room none)
+
+pub no_more : (most : ℕ) (h : History) (w : Watching) (count : ℕ) (events : List Event) (upto : ℕ) →
+    AreGiven (pending h w) (above_of h w) w.seen count events upto → count ≤ most → above_of h w upto ≡ []
+    → is_pending h (after_poll most h w) ≡ false
+no_more most h w count events upto so_far room none =
+    ap (λ (b : Batch). is_some_told (above_of h w b.upto)) (whole_batch most h w count events upto so_far room none)
+    ∙ ap is_some_told (nothing_above h.opening (max w.seen (now h)) w.watched h.revisions (le-max_right w.seen (now h)))
+
+-- ---- where something is
+
+pub part_given : (most : ℕ) (h : History) (w : Watching) (count : ℕ) (events : List Event) (upto : ℕ) (t : Told) (ts : List Told) (b : Batch) →
+    AreGiven (pending h w) (above_of h w) w.seen count events upto → count ≡ most → above_of h w upto ≡ t ∷ ts
+    → b.events ≡ events → b.upto ≡ upto → b ≡ batch_of most h w
+part_given most h w count events upto t ts b so_far full next e u =
+    same_batch b events upto e u ∙ sym (part_batch most h w count events upto t ts so_far full next)
+
+pub some_more : (most : ℕ) (h : History) (w : Watching) (count : ℕ) (events : List Event) (upto : ℕ) (t : Told) (ts : List Told) →
+    AreGiven (pending h w) (above_of h w) w.seen count events upto → count ≡ most → above_of h w upto ≡ t ∷ ts
+    → is_pending h (after_poll most h w) ≡ true
+some_more most h w count events upto t ts so_far full next =
+    ap (λ (b : Batch). is_some_told (above_of h w b.upto)) (part_batch most h w count events upto t ts so_far full next)
+    ∙ ap is_some_told next

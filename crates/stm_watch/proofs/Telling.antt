@@ -1,0 +1,188 @@
+-- The revisions that a watcher is told of, one after the other.
+use Rattle.std.proofs.Common.{◌≡◌, ℕ, ◌+◌, ◌≤◌, ◌<◌, max, Bool, true, false, cond, ◌||◌, ◌&&◌}
+use Rattle.std.proofs.Common.{List, [], ◌∷◌, ◌++◌, length, map, suc, Option, Some, None, is_some}
+use Rattle.std.proofs.Common.{refl, sym, ◌∙◌, ap, arith, append-nil, append_assoc, inl, inr, eqb-true}
+use Rattle.std.specs.Prelude.{nat_lt, nat_eq}
+use Rattle.std.specs.List.{list_any}
+use Rattle.std.proofs.lemmas.Bool.{cases_lt, eqb-false, lt-ltb, le-ltb}
+use Rattle.stm_history.specs.declared.change.Change.{Change}
+use Rattle.stm_history.specs.declared.change.Change.TheVariants.{Put, Del}
+use Rattle.stm_history.specs.declared.key_state.KeyState.{KeyState}
+use Rattle.stm_history.specs.History.{History, number_of_last, now, add_revision, key_of, key_after}
+use Rattle.stm_keys.specs.declared.event.Event.{Event}
+use Rattle.stm_keys.specs.declared.event.Event.TheVariants.{Put as PutEvent, Delete as DeleteEvent}
+use Rattle.stm_keys.specs.Events.{event_of, events_above, events_numbered, events_of, key_of_event, change_of_event}
+use Rattle.stm_watch.specs.declared.told.Told.{Told}
+use Rattle.stm_watch.specs.declared.watched.Watched.{Watched}
+use Rattle.stm_watch.specs.declared.watched.Watching.{Watching}
+use Rattle.stm_watch.specs.Keys.{is_watched, is_any_watched}
+use Rattle.stm_watch.specs.Walk.{IsNext}
+use Rattle.stm_watch.specs.Pending.{matching, told_at, told_above, is_some_told, is_pending}
+
+-- what is told of the last of these revisions
+abbrev last_part : ℕ → ℕ → Watched → List Change → List (List Change) → Bool → List Told
+last_part opening number watched changes older above = cond above (told_at number (matching watched (events_above opening changes older))) []
+
+-- nothing is told above the last revision
+pub nothing_above : (opening seen : ℕ) (watched : Watched) (revisions : List (List Change)) → number_of_last opening revisions ≤ seen
+    → told_above opening seen watched revisions ≡ []
+nothing_above opening seen watched [] above = refl
+nothing_above opening seen watched (changes ∷ older) above =
+    let n = number_of_last opening (changes ∷ older) in
+    ap (λ (ts : List Told). ts ++ last_part opening n watched changes older (nat_lt seen n)) (nothing_above opening seen watched older (omega arith))
+    ∙ ap (last_part opening n watched changes older) (le-ltb seen n above)
+
+-- all revisions are above the opening number
+from_opening : (opening seen : ℕ) (watched : Watched) (revisions : List (List Change)) → seen ≤ opening
+    → told_above opening seen watched revisions ≡ told_above opening opening watched revisions
+from_opening opening seen watched [] below = refl
+from_opening opening seen watched (changes ∷ older) below =
+    let n = number_of_last opening (changes ∷ older) in
+    ap (λ (ts : List Told). ts ++ last_part opening n watched changes older (nat_lt seen n)) (from_opening opening seen watched older below)
+    ∙ ap (λ b. told_above opening opening watched older ++ last_part opening n watched changes older b)
+    (lt-ltb seen n (omega arith) ∙ sym (lt-ltb opening n (omega arith)))
+
+pub from_the_later : (opening seen : ℕ) (watched : Watched) (revisions : List (List Change)) →
+    told_above opening seen watched revisions ≡ told_above opening (max seen opening) watched revisions
+from_the_later opening seen watched revisions = elim (cases_lt seen opening) [
+  | inl less ↦
+      from_opening opening seen watched revisions (omega arith)
+      ∙ ap (λ (n : ℕ). told_above opening n watched revisions) (let e : opening ≡ max seen opening = omega arith in e)
+  | inr more ↦ ap (λ (n : ℕ). told_above opening n watched revisions) (let e : seen ≡ max seen opening = omega arith in e)
+]
+
+-- above a revision stands what is told of the next one, and then what is told above that
+pub next_is : (opening r : ℕ) (watched : Watched) (revisions : List (List Change)) → opening ≤ r → r < number_of_last opening revisions →
+    told_above opening r watched revisions
+    ≡ told_at (suc r) (matching watched (events_numbered opening (suc r) revisions)) ++ told_above opening (suc r) watched revisions
+next_is opening r watched [] opened below = absurd (omega arith)
+next_is opening r watched (changes ∷ older) opened below =
+    by_test (nat_eq n (suc r)) refl (λ less. next_is opening r watched older opened less)
+  where
+    n : ℕ
+    n = number_of_last opening (changes ∷ older)
+
+    found : Bool → List Event
+    found b = cond b (events_above opening changes older) (events_numbered opening (suc r) older)
+
+    by_test : (b : Bool) → nat_eq n (suc r) ≡ b →
+        (r < number_of_last opening older → told_above opening r watched older
+        ≡ told_at (suc r) (matching watched (events_numbered opening (suc r) older)) ++ told_above opening (suc r) watched older)
+        → told_above opening r watched (changes ∷ older)
+        ≡ told_at (suc r) (matching watched (found (nat_eq n (suc r)))) ++ told_above opening (suc r) watched (changes ∷ older)
+    by_test true same before =
+        let is : n ≡ suc r = eqb-true n (suc r) same in
+        let left : told_above opening r watched (changes ∷ older) ≡ told_at n (matching watched (events_above opening changes older)) =
+        ap (λ (ts : List Told). ts ++ last_part opening n watched changes older (nat_lt r n)) (nothing_above opening r watched older (omega arith))
+        ∙ ap (last_part opening n watched changes older) (lt-ltb r n below) in
+        let none : told_above opening (suc r) watched (changes ∷ older) ≡ [] =
+        nothing_above opening (suc r) watched (changes ∷ older) (omega arith) in
+        left
+        ∙ ap (λ (m : ℕ). told_at m (matching watched (events_above opening changes older))) is
+        ∙ sym (append-nil (told_at (suc r) (matching watched (events_above opening changes older))))
+        ∙ ap (λ (ts : List Told). told_at (suc r) (matching watched (events_above opening changes older)) ++ ts) (sym none)
+        ∙ ap (λ b. told_at (suc r) (matching watched (found b)) ++ told_above opening (suc r) watched (changes ∷ older)) (sym same)
+    by_test false differs before =
+        let apart = eqb-false n (suc r) differs in
+        let part = last_part opening n watched changes older in
+        let now_told = told_at (suc r) (matching watched (events_numbered opening (suc r) older)) in
+        let rest = told_above opening (suc r) watched older in
+        let both : nat_lt r n ≡ nat_lt (suc r) n = lt-ltb r n below ∙ sym (lt-ltb (suc r) n (omega arith)) in
+        ap (λ (ts : List Told). ts ++ part (nat_lt r n)) (before (omega arith))
+        ∙ append_assoc now_told rest (part (nat_lt r n))
+        ∙ ap (λ b. now_told ++ (rest ++ part b)) both
+        ∙ ap (λ b. told_at (suc r) (matching watched (found b)) ++ told_above opening (suc r) watched (changes ∷ older)) (sym differs)
+
+-- ---- the next revision that is told
+
+told_at_some : (number : ℕ) (found : List Event) → 0 < length found → told_at number found ≡ record { number = number; events = found } ∷ []
+told_at_some number [] some = absurd (omega arith)
+told_at_some number (e ∷ es) some = refl
+
+told_at_none : (number : ℕ) (found : List Event) → length found ≡ 0 → told_at number found ≡ []
+told_at_none number [] none = refl
+told_at_none number (e ∷ es) none = absurd (omega arith)
+
+module _ (h : History) (watched : Watched) (above passed : ℕ) (found : List Event) (opened : h.opening ≤ passed) (reached : passed < now h)
+    (so_far : told_above h.opening above watched h.revisions ≡ told_above h.opening passed watched h.revisions)
+    (is : found ≡ matching watched (events_of h (passed + 1))) where
+  next_told : told_above h.opening above watched h.revisions ≡ told_at (passed + 1) found ++ told_above h.opening (passed + 1) watched h.revisions
+  next_told =
+      let one : passed + 1 ≡ suc passed = omega arith in
+      so_far ∙ next_is h.opening passed watched h.revisions opened reached
+      ∙ ap (λ (n : ℕ). told_at n (matching watched (events_of h n)) ++ told_above h.opening n watched h.revisions) (sym one)
+      ∙ ap (λ (es : List Event). told_at (passed + 1) es ++ told_above h.opening (passed + 1) watched h.revisions) (sym is)
+
+  pub found_is_next : 0 < length found → told_above h.opening above watched h.revisions
+      ≡ record { number = passed + 1; events = found } ∷ told_above h.opening (passed + 1) watched h.revisions
+  found_is_next some =
+      next_told ∙ ap (λ (ts : List Told). ts ++ told_above h.opening (passed + 1) watched h.revisions) (told_at_some (passed + 1) found some)
+
+  pub none_is_passed : length found ≡ 0 → told_above h.opening above watched h.revisions ≡ told_above h.opening (passed + 1) watched h.revisions
+  none_is_passed none =
+      next_told ∙ ap (λ (ts : List Told). ts ++ told_above h.opening (passed + 1) watched h.revisions) (told_at_none (passed + 1) found none)
+
+pub none_next : (h : History) (watched : Watched) (above : ℕ) (o : Option Told) → IsNext h watched above o → is_some o ≡ false
+    → told_above h.opening above watched h.revisions ≡ []
+none_next h watched above None next is = next
+none_next h watched above (Some t) next is = absurd (cc)
+
+-- ---- whether something is told
+
+pub next_is_pending : (h : History) (watched : Watched) (seen : ℕ) (o : Option Told) → IsNext h watched seen o
+    → is_some o ≡ is_pending h (record { watched = watched; seen = seen })
+next_is_pending h watched seen None next = ap is_some_told (sym next)
+next_is_pending h watched seen (Some t) next = ap is_some_told (sym next)
+
+is_some_append : (ts us : List Told) → is_some_told (ts ++ us) ≡ (is_some_told ts || is_some_told us)
+is_some_append [] us = refl
+is_some_append (t ∷ ts) us = refl
+
+key_of_shown : (n : ℕ) (before : List ℕ → Option KeyState) (c : Change) → key_of_event (event_of n before c) ≡ key_of c
+key_of_shown n before (Put key value lease) = refl
+key_of_shown n before (Del key) = refl
+
+-- a revision is told where a key that it changes is watched
+any_told : (number n : ℕ) (before : List ℕ → Option KeyState) (watched : Watched) (changes : List Change) →
+    is_some_told (told_at number (matching watched (map (event_of n before) changes))) ≡ is_any_watched watched changes
+any_told number n before watched [] = refl
+any_told number n before watched (c ∷ cs) =
+    ap (λ (k : List ℕ). is_some_told (told_at number (cond (is_watched watched k) (event_of n before c ∷ rest) rest))) (key_of_shown n before c)
+    ∙ by_test (is_watched watched (key_of c)) (any_told number n before watched cs)
+  where
+    rest : List Event
+    rest = matching watched (map (event_of n before) cs)
+
+    by_test : (b : Bool) → is_some_told (told_at number rest) ≡ is_any_watched watched cs
+        → is_some_told (told_at number (cond b (event_of n before c ∷ rest) rest)) ≡ (b || is_any_watched watched cs)
+    by_test true others = refl
+    by_test false others = others
+
+some_of : (b : Bool) (ts : List Told) → is_some_told (cond b ts []) ≡ (b && is_some_told ts)
+some_of true ts = refl
+some_of false ts = refl
+
+key_shown : (e : Event) → key_of_event e ≡ key_of (change_of_event e)
+key_shown (PutEvent key state) = refl
+key_shown (DeleteEvent key revision) = refl
+
+-- the keys of events are those of the changes that they show
+pub any_shown : (watched : Watched) (events : List Event) →
+    list_any (λ e. is_watched watched (key_of_event e)) events ≡ is_any_watched watched (map change_of_event events)
+any_shown watched [] = refl
+any_shown watched (e ∷ es) =
+    ap (λ (k : List ℕ). is_watched watched k || list_any (λ (x : Event). is_watched watched (key_of_event x)) es) (key_shown e)
+    ∙ ap (λ b. is_watched watched (key_of (change_of_event e)) || b) (any_shown watched es)
+
+-- one more revision makes pending what it changes and what was not seen
+pub pending_with : (h : History) (changes : List Change) (w : Watching) (revision : ℕ) → revision ≡ now h + 1 →
+    is_pending (add_revision h changes) w ≡ (is_pending h w || (nat_lt w.seen revision && is_any_watched w.watched changes))
+pending_with h changes w revision is =
+    let n = number_of_last h.opening (changes ∷ h.revisions) in
+    let same : n ≡ revision = omega arith in
+    is_some_append (told_above h.opening w.seen w.watched h.revisions) (last_part h.opening n w.watched changes h.revisions (nat_lt w.seen n))
+    ∙ ap (λ b. is_pending h w || b) (
+    some_of (nat_lt w.seen n) (told_at n (matching w.watched (events_above h.opening changes h.revisions)))
+    ∙ ap (λ b. nat_lt w.seen n && b) (any_told n n (λ key. key_after h.opening key h.revisions) w.watched changes)
+    ∙ ap (λ (m : ℕ). nat_lt w.seen m && is_any_watched w.watched changes) same
+    )

@@ -1,0 +1,72 @@
+-- The events that are pending for a watcher, and the batch of a poll.
+--
+-- etcd's API reference, "Watch": `start_revision` of a `WatchCreateRequest` is inclusive, and 0 stands for the next revision; a
+-- `WatchResponse` has the events in the order of their revisions, those of one revision are never parted, and none is dropped or told twice.
+-- That a batch has at most so many revisions, and tells up to which one, is this store's own.
+use Rattle.std.specs.Prelude.{ℕ, ◌-◌, max, nat_eq, nat_le, nat_lt, Bool, true, false, if◌then◌else◌, List, [], ◌∷◌, ◌++◌, length, take}
+use Rattle.std.specs.List.{filter, flat_map}
+use Rattle.stm_history.specs.declared.change.Change.{Change}
+use Rattle.stm_history.specs.History.{History, number_of_last, now}
+use Rattle.stm_keys.specs.declared.event.Event.{Event}
+use Rattle.stm_keys.specs.Events.{events_above, key_of_event}
+use Rattle.stm_watch.specs.declared.watched.Watched.{Watched}
+use Rattle.stm_watch.specs.declared.watched.Watching.{Watching}
+use Rattle.stm_watch.specs.declared.told.Told.{Told}
+use Rattle.stm_watch.specs.declared.watchers.Batch.{Batch}
+use Rattle.stm_watch.specs.Keys.{is_watched}
+
+-- a new watcher: it wants what comes next, or everything from a revision on, which may be yet to come
+abbrev pub watching_from : History → Watched → ℕ → Watching
+watching_from h watched from = record { watched = watched; seen = if nat_eq from 0 then now h else from - 1 }
+
+-- ---- what is pending
+
+abbrev pub matching : Watched → List Event → List Event
+matching watched events = filter (λ e. is_watched watched (key_of_event e)) events
+
+-- a revision is told where it has events that match
+abbrev pub told_at : ℕ → List Event → List Told
+told_at number [] = []
+told_at number (e ∷ es) = record { number = number; events = e ∷ es } ∷ []
+
+-- the revisions above one that are told, the oldest first
+abbrev pub told_above : ℕ → ℕ → Watched → List (List Change) → List Told
+told_above opening seen watched [] = []
+told_above opening seen watched (changes ∷ older) =
+    let number = number_of_last opening (changes ∷ older) in
+    told_above opening seen watched older
+    ++ (if nat_lt seen number then told_at number (matching watched (events_above opening changes older)) else [])
+
+-- what is pending: the history's events that match, of the revisions that were not seen
+abbrev pub pending : History → Watching → List Told
+pending h w = told_above h.opening w.seen w.watched h.revisions
+
+abbrev pub is_some_told : List Told → Bool
+is_some_told [] = false
+is_some_told (t ∷ ts) = true
+
+abbrev pub is_pending : History → Watching → Bool
+is_pending h w = is_some_told (pending h w)
+
+-- ---- a poll
+
+abbrev pub events_told : List Told → List Event
+events_told ts = flat_map (λ (t : Told). t.events) ts
+
+-- the last of these revisions, or else the one that was seen
+abbrev pub last_told : ℕ → List Told → ℕ
+last_told seen [] = seen
+last_told seen (t ∷ ts) = last_told t.number ts
+
+-- The batch has the pending events of at most so many revisions. It tells up to the counter where it has all of them, and else up to
+-- the last revision that it has.
+abbrev pub batch_of : ℕ → History → Watching → Batch
+batch_of most h w =
+    let told = take most (pending h w) in
+    record {
+      events = events_told told;
+      upto = if nat_le (length (pending h w)) most then max w.seen (now h) else last_told w.seen told;
+    }
+
+abbrev pub after_poll : ℕ → History → Watching → Watching
+after_poll most h w = record w { seen = (batch_of most h w).upto }

@@ -1,0 +1,24 @@
+-- What a poll makes of one place. No public clause cites this module.
+use Rattle.std.specs.Prelude.{◌≡◌, ℕ, Option, Some, None, IsSome, Result, Ok, Err}
+use Rattle.stm_history.specs.History.{History}
+use Rattle.stm_watch.specs.declared.watched.Watching.{Watching}
+use Rattle.stm_watch.specs.declared.watched.Watcher.{Watcher}
+use Rattle.stm_watch.specs.declared.watchers.Batch.{Batch}
+use Rattle.stm_watch.specs.declared.refusal.PollRefusal.{PollRefusal}
+use Rattle.stm_watch.specs.declared.refusal.PollRefusal.TheVariants.{NoWatcher, OutOfMemory}
+use Rattle.stm_watch.specs.Pending.{is_pending, batch_of, after_poll}
+
+-- the watcher, ready where events are pending
+abbrev pub standing : History → Watching → Watcher
+standing h w = record { watching = w; ready = is_pending h w }
+
+-- a watcher is given its batch, and has been told so far
+abbrev pub IsPolled : History → ℕ → Option Watcher → Batch → Option Watcher → Type 0
+IsPolled h most None batch new = ⊥
+IsPolled h most (Some w) batch new = (batch ≡ batch_of most h w.watching) × (new ≡ Some (standing h (after_poll most h w.watching)))
+
+-- a refusal leaves the place as it was
+abbrev pub SlotPolls : History → ℕ → Option Watcher → Result Batch PollRefusal → Option Watcher → Type 0
+SlotPolls h most old (Ok batch) new = IsPolled h most old batch new
+SlotPolls h most old (Err NoWatcher) new = (old ≡ None) × (new ≡ old)
+SlotPolls h most old (Err OutOfMemory) new = IsSome old × (new ≡ old)

@@ -1,0 +1,66 @@
+//! The batch of a poll.
+ghost use Rattle.std.specs.Prelude.{◌≡◌, false, IfOk};
+ghost use Rattle.stm_watch.specs.Pending.{batch_of, after_poll, is_pending};
+
+use crate::told::next_told;
+use crate::watched::Watching;
+use crate::watchers::Batch;
+use std::alloc::{AllocError, Global};
+use stm_keys::{Event, Keys, Sequence};
+
+/// A batch, and whether more events are pending after it.
+#[derive(Drop)]
+pub(crate) struct Gathered {
+    pub(crate) batch: Batch,
+    pub(crate) more: bool,
+}
+
+impl Gathered {
+    /// The batch with these events, after which none are pending.
+    fn all(events: Vec<Event>, upto: u64) -> Gathered
+        ensures events { result.batch.events ≡ events.items }
+        ensures upto { result.batch.upto ≡ upto }
+        ensures more { result.more ≡ false }
+    {
+        Gathered {
+            batch: Batch {
+                events: Sequence::of(events),
+                upto,
+            },
+            more: false,
+        }
+    }
+}
+
+/// The pending events of at most so many revisions.
+pub(crate) fn gather(
+    alloc: Global,
+    keys: &Keys,
+    watching: &Watching,
+    most: u64,
+) -> Result<Gathered, AllocError>
+    ensures batch { IfOk result (λ g. g.batch ≡ batch_of most keys.now.history watching.now) }
+    ensures more { IfOk result (λ g. g.more ≡ is_pending keys.now.history (after_poll most keys.now.history watching.now)) }
+{
+    let mut events = Vec::new(alloc);
+    let mut upto = watching.seen;
+    let mut count = 0;
+    while count < most {
+        match next_told(keys, &watching.watched, upto)? {
+            None => return Ok(Gathered::all(events, watching.seen.max(keys.revision()))),
+            Some(told) => {
+                upto = told.number;
+                events.append(&mut told.events.into_vec())?;
+            }
+        }
+        count += 1;
+    }
+    if next_told(keys, &watching.watched, upto)?.is_none() {
+        return Ok(Gathered::all(events, watching.seen.max(keys.revision())));
+    }
+    let events = Sequence::of(events);
+    Ok(Gathered {
+        batch: Batch { events, upto },
+        more: true,
+    })
+}

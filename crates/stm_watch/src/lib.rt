@@ -1,0 +1,19 @@
+//! Watchers of the keys of a store.
+//!
+//! A watcher is told the events of its key, or of the keys of its range, of every revision from its start on, each
+//! once and in order. `specs/Pending.antt` says which events are pending, `specs/Calls.antt` what a call makes of the
+//! watchers that there are.
+#![tactic(auto)]
+
+mod gather;
+pub mod refusal;
+mod slots;
+pub mod told;
+pub mod watched;
+pub mod watchers;
+
+pub use refusal::{NoWatcher, PollRefusal, WatchRefusal};
+pub use stm_keys::{Change, Event, Keys, Sequence, Text};
+pub use told::Told;
+pub use watched::{Watched, Watcher, Watching};
+pub use watchers::{Batch, Watchers};

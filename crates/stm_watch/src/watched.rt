@@ -1,0 +1,69 @@
+//! What a watcher watches, and how far it has been told.
+ghost use Rattle.std.specs.Prelude.{◌≡◌, map};
+ghost use Rattle.stm_keys.specs.Events.{change_of_event};
+ghost use Rattle.stm_watch.specs.Keys.{is_watched, is_any_watched};
+ghost use Rattle.stm_watch.specs.Touch.{touch};
+
+use stm_keys::{Event, Text};
+
+/// The keys that a watcher watches.
+#[derive(Debug, Drop)]
+pub enum Watched {
+    /// One key.
+    Key(Text),
+    /// The keys from `first` on that are below `end`, by bytes: none where `end` is not above `first`.
+    Range { first: Text, end: Text },
+}
+
+impl Watched {
+    /// Whether a key is watched.
+    pub fn has(&self, key: &Text) -> bool
+        ensures { result ≡ is_watched self.now key.now }
+    {
+        match self {
+            Watched::Key(watched) => watched == key,
+            Watched::Range { first, end } => first.cmp(key).is_le() && key.cmp(end).is_lt(),
+        }
+    }
+
+    /// Whether one of these events is of a key that is watched.
+    pub(crate) fn has_any(&self, events: &[Event]) -> bool
+        ensures { result ≡ is_any_watched self.now (map change_of_event events.now) }
+    {
+        for event in events {
+            if self.has(event.key()) {
+                return true;
+            }
+        }
+        false
+    }
+}
+
+/// A watcher as the rules see it.
+#[derive(Debug, Drop)]
+pub struct Watching {
+    /// What it watches.
+    pub watched: Watched,
+    /// It was told, or did not want to know, what happened up to this revision.
+    pub seen: u64,
+}
+
+/// A watcher, and whether it stands among those that are ready.
+#[derive(Debug, Drop)]
+pub struct Watcher {
+    /// What it watches, and how far it has been told.
+    pub watching: Watching,
+    /// Whether events are pending.
+    pub ready: bool,
+}
+
+impl Watcher {
+    /// Notes a new revision with these events.
+    pub(crate) fn touch(&mut self, revision: u64, events: &[Event])
+        ensures { self.new ≡ touch revision (map change_of_event events.now) self.old }
+    {
+        if revision > self.watching.seen && self.watching.watched.has_any(events) {
+            self.ready = true;
+        }
+    }
+}

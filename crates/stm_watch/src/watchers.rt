@@ -1,0 +1,169 @@
+//! The watchers, and what callers do with them.
+ghost use Rattle.std.specs.Prelude.{◌≡◌, ◌+◌, ◌↔◌, [], ◌∷◌, ◌++◌, length, map, Some, IfOk, OnOk, OnErr, IsOk, IsSome};
+ghost use Rattle.stm_history.specs.History.{History, now, add_revision};
+ghost use Rattle.stm_keys.specs.Events.{change_of_event};
+ghost use Rattle.stm_watch.specs.Pending.{watching_from};
+ghost use Rattle.stm_watch.specs.Calls.{watch, poll, cancelled, Watches, Polls, watchings, watcher_at, StandFor, IsNextReady, IsNextPending};
+
+use crate::refusal::{NoWatcher, PollRefusal, WatchRefusal};
+use crate::slots::{first_ready, poll_slot, touch_all};
+use crate::told::next_told;
+use crate::watched::{Watched, Watcher, Watching};
+use std::alloc::{AllocError, Global};
+use std::marker::Model;
+use stm_keys::{Event, Keys, Sequence, Text};
+
+/// What a poll gives.
+#[derive(Debug, Drop)]
+pub struct Batch {
+    /// The events, by revision, those of one revision in the order of operations. No revision is parted.
+    pub events: Sequence<Event>,
+    /// The watcher has been told everything up to this revision.
+    pub upto: u64,
+}
+
+/// The watchers of a store.
+///
+/// Contracts see them by number, 1 first, each with the mark whether it is ready; nothing stands where one was
+/// cancelled. They stand for a history where each is ready exactly where events of it are pending.
+#[derive(Debug, Drop)]
+pub struct Watchers {
+    watchers: Vec<Option<Watcher>>,
+}
+
+impl Model for Watchers {
+    ghost use Rattle.std.specs.Prelude.{List, Option};
+    ghost use Rattle.stm_watch.specs.declared.watched.Watcher.{Watcher as Kept};
+
+    ghost Value = { List (Option Kept) };
+
+    ghost view = { λ s. s.watchers.items };
+}
+
+impl Watchers {
+    ghost use Rattle.stm_watch.specs.declared.watched.Watched.TheVariants.{Key, Range};
+
+    /// No watchers.
+    pub fn new(alloc: Global) -> Result<Watchers, AllocError>
+        ensures { IfOk result (λ watchers. watchers ≡ []) }
+    {
+        Ok(Watchers {
+            watchers: Vec::new(alloc),
+        })
+    }
+
+    /// Adds a watcher, and gives its number.
+    fn add(&mut self, watched: Watched, from: u64, keys: &Keys) -> Result<u64, AllocError>
+        requires { StandFor keys.now.history self.old }
+        ensures ok { IfOk result (λ id. (id ≡ length self.old + 1)
+            × (watchings self.new ≡ watchings self.old ++ Some (watching_from keys.now.history watched from) ∷ [])) }
+        ensures stand { StandFor keys.now.history self.new }
+        ensures err { OnErr result (self.new ≡ self.old) }
+    {
+        let alloc = *self.watchers.allocator();
+        let seen = if from == 0 { keys.revision() } else { from - 1 };
+        let ready = next_told(keys, &watched, seen)?.is_some();
+        let watching = Watching { watched, seen };
+        self.watchers.push(Some(Watcher { watching, ready }))?;
+        Ok(self.watchers.len() as u64)
+    }
+
+    /// Watches a key from a revision on, 0 for the next one, and gives the watcher's number: 1, 2, 3, .., which is
+    /// never used again. A start above the counter waits for that revision.
+    ///
+    /// The watchers stand for the history of these keys, and do so after the call. A refusal changes nothing.
+    pub fn watch_key(&mut self, key: &str, from: u64, keys: &Keys) -> Result<u64, WatchRefusal>
+        requires { StandFor keys.now.history self.old }
+        ensures answer { Watches (watch keys.now.history (Key key.now) from (watchings self.old)) result (watchings self.new) }
+        ensures stand { StandFor keys.now.history self.new }
+        ensures err { OnErr result (self.new ≡ self.old) }
+    {
+        if key.is_empty() {
+            return Err(WatchRefusal::EmptyKey);
+        }
+        let key = Text::copy_of(*self.watchers.allocator(), key)?;
+        let id = self.add(Watched::Key(key), from, keys)?;
+        Ok(id)
+    }
+
+    /// Watches the keys from `first` on that are below `end`, by bytes, as `watch_key` watches one. An `end` that is
+    /// not above `first` leaves none.
+    pub fn watch_range(
+        &mut self,
+        first: &str,
+        end: &str,
+        from: u64,
+        keys: &Keys,
+    ) -> Result<u64, WatchRefusal>
+        requires { StandFor keys.now.history self.old }
+        ensures answer { Watches (watch keys.now.history (Range first.now end.now) from (watchings self.old)) result (watchings self.new) }
+        ensures stand { StandFor keys.now.history self.new }
+        ensures err { OnErr result (self.new ≡ self.old) }
+    {
+        if first.is_empty() {
+            return Err(WatchRefusal::EmptyKey);
+        }
+        let alloc = *self.watchers.allocator();
+        let first = Text::copy_of(alloc, first)?;
+        let end = Text::copy_of(alloc, end)?;
+        let id = self.add(Watched::Range { first, end }, from, keys)?;
+        Ok(id)
+    }
+
+    /// Cancels a watcher. It takes no memory. `NoWatcher` is answered where there is none with this number, or it
+    /// was cancelled, and changes nothing.
+    pub fn cancel(&mut self, id: u64) -> Result<(), NoWatcher>
+        ensures found { IsOk result ↔ IsSome (watcher_at id (watchings self.old)) }
+        ensures ok { OnOk result (watchings self.new ≡ cancelled id (watchings self.old)) }
+        ensures stand { (h : History) → StandFor h self.old → StandFor h self.new }
+        ensures err { OnErr result (self.new ≡ self.old) }
+    {
+        if id == 0 || id > self.watchers.len() as u64 {
+            return Err(NoWatcher);
+        }
+        let index = (id - 1) as usize;
+        if self.watchers[index].is_none() {
+            return Err(NoWatcher);
+        }
+        self.watchers[index] = None;
+        Ok(())
+    }
+
+    /// Notes that the store has a new revision with these events, which is its counter now. It takes no memory.
+    ///
+    /// Watchers that stood for the history before stand for it with the revision that shows these events.
+    pub fn touched(&mut self, revision: u64, events: &[Event])
+        ensures same { watchings self.new ≡ watchings self.old }
+        ensures stand { (h : History) → StandFor h self.old → revision ≡ now h + 1 → StandFor (add_revision h (map change_of_event events.now)) self.new }
+    {
+        touch_all(&mut self.watchers, revision, events);
+    }
+
+    /// A watcher that is ready, `None` where none is. It takes no memory.
+    ///
+    /// In a history that the watchers stand for, events are pending for it, and for none where none is ready.
+    pub fn next_ready(&self) -> Option<u64>
+        ensures ready { IsNextReady self.now result }
+        ensures pending { (h : History) → StandFor h self.now → IsNextPending h (watchings self.now) result }
+    {
+        first_ready(self.watchers.as_slice())
+    }
+
+    /// Gives a watcher the pending events of at most so many revisions, and whole revisions only.
+    ///
+    /// The watchers stand for the history of these keys, and do so after the call. `NoWatcher` is answered where
+    /// there is none with this number, or it was cancelled. A refusal changes nothing, so that a poll that wanted
+    /// memory gives the same batch later.
+    pub fn poll(&mut self, id: u64, keys: &Keys, most: u64) -> Result<Batch, PollRefusal>
+        requires { StandFor keys.now.history self.old }
+        ensures answer { Polls (poll keys.now.history id most (watchings self.old)) result (watchings self.new) }
+        ensures stand { StandFor keys.now.history self.new }
+        ensures err { OnErr result (self.new ≡ self.old) }
+    {
+        if id == 0 || id > self.watchers.len() as u64 {
+            return Err(PollRefusal::NoWatcher);
+        }
+        let alloc = *self.watchers.allocator();
+        poll_slot(alloc, &mut self.watchers[(id - 1) as usize], keys, most)
+    }
+}

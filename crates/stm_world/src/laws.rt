@@ -2,6 +2,7 @@
 ghost use Rattle.stm_world.specs.Asked.{AnswersAreTheReads};
 ghost use Rattle.stm_world.specs.Headline.{Headline, OneState, ReadOnce};
 ghost use Rattle.stm_world.specs.Sound.{WorldsAreSound};
+ghost use Rattle.stm_world.specs.Telling.{WatchersAreTold};
 ghost use Rattle.stm_world.specs.WrongLogs.{WrongLogs};
 
 /// The headline. Over every list of events, in any interleaving of any number of runners, from every
@@ -50,4 +51,11 @@ pub fn worlds_are_sound()
 /// The answers that a commit was made on are such, and the headline says so of each.
 pub fn answers_are_the_reads()
     ensures { AnswersAreTheReads }
+{}
+
+/// Over every list of events, a watcher that was not cancelled was told, by the batches of its polls, the
+/// events that it watches from its start on, each once and in order: those that it was told, followed by those
+/// that are pending for it, are all of them. So none is dropped, told twice, or told before an earlier one.
+pub fn watchers_are_told()
+    ensures { WatchersAreTold }
 {}

@@ -39,7 +39,7 @@ invariant_of-self-2 c =
     ∙ last_changes h cs in
     let numbered : c.in-Ok.revision ≡ now h + 1 = c.in-Ok.ensures.number ∙ ap now c.in-Ok.ensures.ok ∙ omega arith in
     subst (λ (next : History). ((key : List ℕ) → lease_of c.move_keys.new.leases key ≡ hanging (key_now next key)) × LeasesFit next.revisions
-        × StandFor next c.touched.new.watchers)
+        × StandFor next c.touched.new.self)
     (sym c.in-Ok.ensures.ok) (
       λ key.
           still_stored h cs key (lease_of c.reserve_attach.new.self key) (lease_of c.move_keys.new.leases key)
@@ -51,6 +51,6 @@ invariant_of-self-2 c =
             (subst (λ (s : StoreView). HangOnLive s.standing.live (hangs_of cs)) (sym c.self.view_is) c.requires.live),
         c.self.invariant.1,
       ),
-      subst (λ (l : List Change). StandFor (add_revision h l) c.touched.new.watchers) shown
+      subst (λ (l : List Change). StandFor (add_revision h l) c.touched.new.self) shown
           (c.touched.ensures.stand h c.self.invariant.2 numbered),
     )

@@ -30,7 +30,8 @@ use Rattle.stm_watch.specs.Calls.{watcher_at, poll_found, Step as WatchStep}
 use Rattle.stm_txn.specs.declared.refusal.Refusal.{Refusal as StoreRefusal}
 use Rattle.stm_txn.specs.Outcome.{Done, outcome, is_used_up}
 use Rattle.stm_txn.specs.LeaseKeys.{deletions_of}
-use Rattle.stm_txn.specs.Standing.{Standing, Step as StoreStep, step_of, ended, expire_up_to, at_moment, advanced, with_watchers, watch_step, poll_step, cancel_step}
+use Rattle.stm_txn.specs.Standing.{Standing, Step as StoreStep, step_of, ended, expire_up_to, at_moment, with_watchers}
+use Rattle.stm_txn.specs.Standing.{watch_step, poll_step, cancel_step}
 use Rattle.stm_txn.proofs.Ending.{ended_is}
 use Rattle.stm_compile.specs.Now.{as_change}
 use Rattle.stm_entries.specs.Replayed.{Replayed, without_moment}
@@ -256,7 +257,7 @@ watcher_other id other ws o some ne =
 watcher_begins : (start : ℕ) (log : List Line) (event : WorldEvent) (reply : Result Reply Denied) (w : Watching) → AreTold start log →
     ((id : ℕ) → told_by id event reply ≡ []) →
     ((id : ℕ) → made_by id (store start log).history event reply
-    ≡ (if nat_eq (length (store start log).watchers + 1) id then Some w else None)) →
+    ≡ cond (nat_eq (length (store start log).watchers + 1) id) (Some w) None) →
     store start (with_line event reply log) ≡ with_watchers (store start log) ((store start log).watchers ++ Some w ∷ []) →
     AreTold start (with_line event reply log)
 watcher_begins start log event reply w are told made leaves =

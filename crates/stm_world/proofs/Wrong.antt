@@ -14,7 +14,7 @@ use Rattle.stm_world.specs.declared.event.WorldEvent.TheVariants.{Start, Step, T
 use Rattle.stm_world.specs.declared.event.WorldEvent.TheVariants.{WatchKey, WatchRange, Poll, Cancel}
 use Rattle.stm_world.specs.declared.reply.Reply.{Reply}
 use Rattle.stm_world.specs.declared.reply.Reply.TheVariants.{Started, Fetched, Committed, Conflict, GaveUp, Aborted, Faulted, Ended}
-use Rattle.stm_world.specs.declared.reply.Reply.TheVariants.{Txn as TxnDone, Granted, Kept, Revoked, Advanced, Watching, Batch, Cancelled}
+use Rattle.stm_world.specs.declared.reply.Reply.TheVariants.{Txn as TxnDone, Granted, Kept, Revoked, Advanced, Watching as WatchingReply, Batch, Cancelled}
 use Rattle.stm_world.specs.declared.refusal.Denied.{Denied}
 use Rattle.stm_world.specs.declared.refusal.Refusal.TheVariants.{NoRunner}
 use Rattle.stm_txn.specs.declared.advance.Expired.{Expired}
@@ -84,9 +84,9 @@ given_next start log (Advance moment) reply id right named =
     let done = advanced (store start log) moment in
     let none = ap runner_started right ∙ advance_gives_none moment done.expired done.cause in absurd (cc)
 given_next start log (WatchKey key from) reply id right named =
-    let none = ap runner_started right ∙ call_gives_none Watching (watched (store start log) (Key key) from) (λ x. refl) in absurd (cc)
+    let none = ap runner_started right ∙ call_gives_none WatchingReply (watched (store start log) (Key key) from) (λ x. refl) in absurd (cc)
 given_next start log (WatchRange first end from) reply id right named =
-    let none = ap runner_started right ∙ call_gives_none Watching (watched (store start log) (Range first end) from) (λ x. refl) in absurd (cc)
+    let none = ap runner_started right ∙ call_gives_none WatchingReply (watched (store start log) (Range first end) from) (λ x. refl) in absurd (cc)
 given_next start log (Poll watcher most) reply id right named =
     let none = ap runner_started right ∙ call_gives_none (batch_reply watcher) (polled (store start log) watcher most) (λ x. refl) in absurd (cc)
 given_next start log (Cancel watcher) reply id right named =
@@ -133,7 +133,7 @@ another at (Granted lease) runner named right = absurd right
 another at (Kept lease) runner named right = absurd right
 another at (Revoked lease revision) runner named right = absurd right
 another at (Advanced moment expired) runner named right = absurd right
-another at (Watching watcher) runner named right = absurd right
+another at (WatchingReply watcher) runner named right = absurd right
 another at (Batch watcher upto events) runner named right = absurd right
 another at (Cancelled watcher) runner named right = absurd right
 
@@ -183,7 +183,7 @@ watcher_named : (s : Standing) (id most watcher upto : ℕ) (events : List Event
 watcher_named s id most watcher upto events None told = absurd (cc)
 watcher_named s id most watcher upto events (Some w) told = cc
 
-none_taken : (most : ℕ) → take most ([] {A = Told}) ≡ []
+none_taken : (most : ℕ) → take most (let none : List Told = [] in none) ≡ []
 none_taken zero = refl
 none_taken (suc most) = refl
 

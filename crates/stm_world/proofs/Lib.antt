@@ -1,4 +1,5 @@
 pub mod Wrong
+pub mod Polling
 pub mod Truth
 pub mod Entered
 pub mod ReadOrder
@@ -16,3 +17,4 @@ pub mod WatchCalls
 pub mod SoundSteps
 pub mod Sound
 pub mod Headlines
+pub mod Telling

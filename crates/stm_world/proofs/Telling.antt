@@ -22,7 +22,7 @@ use Rattle.stm_watch.specs.declared.watched.Watched.{Watched}
 use Rattle.stm_watch.specs.declared.watched.Watched.TheVariants.{Key, Range}
 use Rattle.stm_watch.specs.declared.watched.Watching.{Watching}
 use Rattle.stm_watch.specs.Keys.{first_key}
-use Rattle.stm_watch.specs.Pending.{watching_from, pending, events_told, batch_of, after_poll}
+use Rattle.stm_watch.specs.Pending.{watching_from, batch_of, after_poll}
 use Rattle.stm_watch.specs.declared.watchers.Batch.{Batch}
 use Rattle.stm_watch.specs.declared.refusal.WatchRefusal.{WatchRefusal}
 use Rattle.stm_watch.specs.declared.refusal.WatchRefusal.TheVariants.{EmptyKey}
@@ -40,15 +40,15 @@ use Rattle.stm_world.specs.declared.event.WorldEvent.{WorldEvent}
 use Rattle.stm_world.specs.declared.event.WorldEvent.TheVariants.{Start, Step, Txn, Grant, Keep, Revoke, Advance}
 use Rattle.stm_world.specs.declared.event.WorldEvent.TheVariants.{WatchKey, WatchRange, Poll, Cancel}
 use Rattle.stm_world.specs.declared.reply.Reply.{Reply}
-use Rattle.stm_world.specs.declared.reply.Reply.TheVariants.{Committed, Watching as WatchingReply, Cancelled}
+use Rattle.stm_world.specs.declared.reply.Reply.TheVariants.{Committed, Watching as WatchingReply}
 use Rattle.stm_world.specs.declared.refusal.Denied.{Denied}
 use Rattle.stm_world.specs.Told.{reply_to, batch_reply, store_after_call}
 use Rattle.stm_world.specs.Task.{Task}
 use Rattle.stm_world.specs.Log.{Line, begun, with_commit, store_after_step, store_after, store}
 use Rattle.stm_world.specs.Right.{IsRight, AreRight}
-use Rattle.stm_world.specs.World.{opened, replies_to, world_after}
+use Rattle.stm_world.specs.World.{opened, replies_to}
 use Rattle.stm_world.specs.Headline.{logged, Headline}
-use Rattle.stm_world.specs.Telling.{made, made_by, or_earlier, begun_watching, events_in, told_by, events_to, IsToldAll, WatchersAreTold}
+use Rattle.stm_world.specs.Telling.{made, made_by, or_earlier, begun_watching, events_in, told_by, events_to, WatchersAreTold}
 use Rattle.stm_world.proofs.Polling.{Tells, begun_tells, polled_tells}
 use Rattle.stm_world.proofs.Truth.{Keeps, keeps_same}
 use Rattle.stm_world.proofs.CommitEntries.{grown_by}

@@ -2,7 +2,7 @@
 --
 -- etcd's API guarantees, "Watch APIs": what a watch is told is ordered, unique, reliable and atomic. Events come by their revisions,
 -- none twice, none between is dropped, and those of a revision come together.
-use Rattle.std.specs.Prelude.{◌≡◌, ℕ, nat_eq, if◌then◌else◌, List, [], ◌∷◌, ◌++◌, Option, Some, None, Result, Ok, Err}
+use Rattle.std.specs.Prelude.{◌≡◌, ℕ, nat_eq, if◌then◌else◌, List, [], ◌∷◌, ◌++◌, Option, Some, None, Result, Ok}
 use Rattle.stm_history.specs.History.{History}
 use Rattle.stm_keys.specs.declared.event.Event.{Event}
 use Rattle.stm_watch.specs.declared.watched.Watched.TheVariants.{Key, Range}

@@ -2,7 +2,7 @@
 use Rattle.std.proofs.Common.{◌≡◌, ◌≢◌, ℕ, ◌+◌, ◌-◌, ◌<◌, ◌≤◌, zero, suc, List, [], ◌∷◌, ◌++◌, length, map, Option, Some, None, Ok, Err}
 use Rattle.std.proofs.Common.{Bool, true, false, cond, refl, sym, ◌∙◌, ap, subst, arith, append-nil, slice_index_or, slice_set}
 use Rattle.std.proofs.lemmas.List.{length-set, length-append, get_or-set_same, get_or-set_other}
-use Rattle.std.specs.Prelude.{nat_eq, nat_lt, Result}
+use Rattle.std.specs.Prelude.{nat_eq, nat_lt, Result, ◌||◌}
 use Rattle.std.specs.FinMap as finmap
 use Rattle.stm_history.specs.declared.key_state.ReadAnswer.{ReadAnswer}
 use Rattle.stm_history.specs.History.{History}
@@ -22,7 +22,7 @@ use Rattle.stm_watch.specs.declared.watched.Watched.{Watched}
 use Rattle.stm_watch.specs.declared.watched.Watched.TheVariants.{Key, Range}
 use Rattle.stm_watch.specs.declared.watched.Watching.{Watching}
 use Rattle.stm_watch.specs.Keys.{first_key}
-use Rattle.stm_watch.specs.Pending.{watching_from, pending, events_told, batch_of, after_poll}
+use Rattle.stm_watch.specs.Pending.{watching_from, batch_of, after_poll}
 use Rattle.stm_watch.specs.declared.watchers.Batch.{Batch}
 use Rattle.stm_watch.specs.declared.refusal.WatchRefusal.{WatchRefusal}
 use Rattle.stm_watch.specs.declared.refusal.WatchRefusal.TheVariants.{EmptyKey}
@@ -44,11 +44,12 @@ use Rattle.stm_world.specs.declared.reply.Reply.TheVariants.{Committed, Watching
 use Rattle.stm_world.specs.declared.refusal.Denied.{Denied}
 use Rattle.stm_world.specs.Told.{reply_to, batch_reply, store_after_call}
 use Rattle.stm_world.specs.Task.{Task}
-use Rattle.stm_world.specs.Log.{Line, begun, with_commit, store_after_step, store_after, store}
+use Rattle.stm_world.specs.Log.{Line, is_id, begun, with_commit, store_after_step, store_after, store}
 use Rattle.stm_world.specs.Right.{IsRight, AreRight}
-use Rattle.stm_world.specs.World.{opened, replies_to, world_after}
+use Rattle.stm_world.specs.World.{opened, replies_to}
 use Rattle.stm_world.specs.Headline.{logged, Headline}
-use Rattle.stm_world.specs.Telling.{made, made_by, or_earlier, begun_watching, events_in, told_by, events_to, IsToldAll, WatchersAreTold}
+use Rattle.stm_world.specs.Telling.{made, made_by, or_earlier, begun_watching, events_in, told_by, events_to, watcher_given_up, gives_up, is_given_up, watching}
+use Rattle.stm_world.specs.Telling.{IsToldSo, WatchersAreTold}
 use Rattle.stm_world.proofs.Polling.{Tells, begun_tells, polled_tells}
 use Rattle.stm_world.proofs.Truth.{Keeps, keeps_same}
 use Rattle.stm_world.proofs.CommitEntries.{grown_by}
@@ -146,46 +147,69 @@ advance_stays s moment false = expiries_stay (finmap.len s.live) (at_moment s mo
 abbrev with_line : WorldEvent → Result Reply Denied → List Line → List Line
 with_line event reply log = record { event = event; reply = reply } ∷ log
 
--- a watcher that stands so was told all
-record IsTold (start : ℕ) (log : List Line) (id : ℕ) (w : Watching) : Type 0 where
+-- a line that tells a watcher nothing, does not make it, and does not give it up
+record IsQuiet (h : History) (id : ℕ) (event : WorldEvent) (reply : Result Reply Denied) : Type 0 where
+  told : told_by id event reply ≡ []
+  made : made_by id h event reply ≡ None
+  kept : gives_up id event reply ≡ false
+
+-- a watcher that stands so began by the log, and was told all
+record IsBegun (start : ℕ) (log : List Line) (id : ℕ) (w : Watching) : Type 0 where
   begun : Watching
-  is_begun : begun_watching start id log ≡ Some begun
+  is_begun : watching start id log ≡ Some begun
   tells : Tells (store start log).history (events_to id log) begun w
 
--- each watcher that is there was told all, and nothing was told to numbers that were not given
-record AreTold (start : ℕ) (log : List Line) : Type 0 where
-  fresh : (id : ℕ) → length (store start log).watchers < id → events_to id log ≡ []
-  each : (id : ℕ) (w : Watching) → watcher_at id (store start log).watchers ≡ Some w → IsTold start log id w
+-- what the log tells of a number, by what stands there
+abbrev IsTold : ℕ → List Line → ℕ → Option Watching → Type 0
+IsTold start log id None = watching start id log ≡ None
+IsTold start log id (Some w) = IsBegun start log id w
 
--- a line that tells a watcher nothing, and does not make it
-same_told : (start : ℕ) (log : List Line) (event : WorldEvent) (reply : Result Reply Denied) (id : ℕ) (w : Watching) → told_by id event reply ≡ [] →
-    made_by id (store start log).history event reply ≡ None → IsTold start log id w → IsTold start (with_line event reply log) id w
-same_told start log event reply id w told made is =
+-- a number that was not given
+record IsNew (log : List Line) (id : ℕ) : Type 0 where
+  nothing : events_to id log ≡ []
+  kept : is_given_up id log ≡ false
+
+record AreTold (start : ℕ) (log : List Line) : Type 0 where
+  fresh : (id : ℕ) → length (store start log).watchers < id → IsNew log id
+  each : (id : ℕ) → IsTold start log id (watcher_at id (store start log).watchers)
+
+same_watching : (start : ℕ) (log : List Line) (event : WorldEvent) (reply : Result Reply Denied) (id : ℕ) →
+    IsQuiet (store start log).history id event reply → watching start id (with_line event reply log) ≡ watching start id log
+same_watching start log event reply id q =
+    ap (λ b. cond (b || is_given_up id log) None (or_earlier (made_by id (store start log).history event reply) (begun_watching start id log))) q.kept
+    ∙ ap (λ (o : Option Watching). cond (is_given_up id log) None (or_earlier o (begun_watching start id log))) q.made
+
+same_told : (start : ℕ) (log : List Line) (event : WorldEvent) (reply : Result Reply Denied) (id : ℕ) (o : Option Watching) →
+    IsQuiet (store start log).history id event reply → IsTold start log id o → IsTold start (with_line event reply log) id o
+same_told start log event reply id None q is = same_watching start log event reply id q ∙ is
+same_told start log event reply id (Some w) q is =
     let s : Standing = store start log in
     let after : History = (store start (with_line event reply log)).history in
     let same : events_to id log ≡ events_to id (with_line event reply log) =
-    sym (ap (λ (es : List Event). events_to id log ++ es) told ∙ append-nil (events_to id log)) in
+    sym (ap (λ (es : List Event). events_to id log ++ es) q.told ∙ append-nil (events_to id log)) in
     record {
       begun = is.begun;
-      is_begun = ap (λ (o : Option Watching). or_earlier o (begun_watching start id log)) made ∙ is.is_begun;
+      is_begun = same_watching start log event reply id q ∙ is.is_begun;
       tells = subst (λ (es : List Event). Tells after es is.begun w) same
           ((event_keeps (λ runner. begun runner log) event reply s).1 (events_to id log) is.begun w is.tells);
     }
 
-still_fresh : (start : ℕ) (log : List Line) (event : WorldEvent) (reply : Result Reply Denied) (id : ℕ) → told_by id event reply ≡ [] →
-    events_to id log ≡ [] → events_to id (with_line event reply log) ≡ []
-still_fresh start log event reply id told none =
-    ap (λ (es : List Event). events_to id log ++ es) told ∙ append-nil (events_to id log) ∙ none
+still_new : (log : List Line) (event : WorldEvent) (reply : Result Reply Denied) (id : ℕ) → told_by id event reply ≡ [] →
+    gives_up id event reply ≡ false → IsNew log id → IsNew (with_line event reply log) id
+still_new log event reply id told kept new = record {
+  nothing = ap (λ (es : List Event). events_to id log ++ es) told ∙ append-nil (events_to id log) ∙ new.nothing;
+  kept = ap (λ b. b || is_given_up id log) kept ∙ new.kept;
+}
 
 -- a line that is about no watcher
 quiet : (start : ℕ) (log : List Line) (event : WorldEvent) (reply : Result Reply Denied) → AreTold start log →
-    ((id : ℕ) → told_by id event reply ≡ []) → ((id : ℕ) → made_by id (store start log).history event reply ≡ None) →
+    ((id : ℕ) → IsQuiet (store start log).history id event reply) →
     (store start (with_line event reply log)).watchers ≡ (store start log).watchers → AreTold start (with_line event reply log)
-quiet start log event reply are told made stays = record {
-  fresh = λ id above. still_fresh start log event reply id (told id)
+quiet start log event reply are q stays = record {
+  fresh = λ id above. still_new log event reply id (q id).told (q id).kept
       (are.fresh id (subst (λ (ws : List (Option Watching)). length ws < id) stays above));
-  each = λ id w there. same_told start log event reply id w (told id) (made id)
-      (are.each id w (subst (λ (ws : List (Option Watching)). watcher_at id ws ≡ Some w) stays there));
+  each = λ id. subst (λ (ws : List (Option Watching)). IsTold start (with_line event reply log) id (watcher_at id ws)) (sym stays)
+      (same_told start log event reply id (watcher_at id (store start log).watchers) (q id) (are.each id));
 }
 
 -- ---- places of watchers
@@ -255,45 +279,50 @@ watcher_other id other ws o some ne =
 
 -- a line that makes a watcher
 watcher_begins : (start : ℕ) (log : List Line) (event : WorldEvent) (reply : Result Reply Denied) (w : Watching) → AreTold start log →
-    ((id : ℕ) → told_by id event reply ≡ []) →
+    ((id : ℕ) → told_by id event reply ≡ []) → ((id : ℕ) → gives_up id event reply ≡ false) →
     ((id : ℕ) → made_by id (store start log).history event reply
     ≡ cond (nat_eq (length (store start log).watchers + 1) id) (Some w) None) →
     store start (with_line event reply log) ≡ with_watchers (store start log) ((store start log).watchers ++ Some w ∷ []) →
     AreTold start (with_line event reply log)
-watcher_begins start log event reply w are told made leaves =
+watcher_begins start log event reply w are told kept made leaves =
     let s : Standing = store start log in
     let next : ℕ = length s.watchers + 1 in
     let grown : List (Option Watching) = s.watchers ++ Some w ∷ [] in
-    let stands : (store start (with_line event reply log)).watchers ≡ grown = ap (λ (x : Standing). x.watchers) leaves in
-    let history : (store start (with_line event reply log)).history ≡ s.history = ap (λ (x : Standing). x.history) leaves in
+    let after : List Line = with_line event reply log in
+    let stands : (store start after).watchers ≡ grown = ap (λ (x : Standing). x.watchers) leaves in
+    let history : (store start after).history ≡ s.history = ap (λ (x : Standing). x.history) leaves in
     record {
       fresh = λ id above.
           let more : length grown < id = subst (λ (ws : List (Option Watching)). length ws < id) stands above in
           let count : length grown ≡ length s.watchers + 1 = length-append s.watchers (Some w ∷ []) in
           let old : length s.watchers < id = omega arith in
-          still_fresh start log event reply id (told id) (are.fresh id old);
-      each = λ id x there.
-          let at : watcher_at id grown ≡ Some x = subst (λ (ws : List (Option Watching)). watcher_at id ws ≡ Some x) stands there in
-          elim (nat_eq next id) as (λ b. nat_eq next id ≡ b → IsTold start (with_line event reply log) id x) [
+          still_new log event reply id (told id) (kept id) (are.fresh id old);
+      each = λ id.
+          subst (λ (ws : List (Option Watching)). IsTold start after id (watcher_at id ws)) (sym stands)
+          (elim (nat_eq next id) as (λ b. nat_eq next id ≡ b → IsTold start after id (watcher_at id grown)) [
             | true ↦ λ is.
                 let same : next ≡ id = equal_numbers next id is in
-                let found : Some w ≡ Some x =
-                sym (watcher_new s.watchers (Some w)) ∙ subst (λ n. watcher_at n grown ≡ Some x) (sym same) at in
-                let equal : w ≡ x = cc in
+                let there : watcher_at id grown ≡ Some w =
+                subst (λ n. watcher_at n grown ≡ Some w) same (watcher_new s.watchers (Some w)) in
                 let above : length s.watchers < id = omega arith in
-                let none : [] ≡ events_to id (with_line event reply log) = sym (still_fresh start log event reply id (told id) (are.fresh id above)) in
-                record {
+                let new : IsNew log id = are.fresh id above in
+                let none : [] ≡ events_to id after = sym (still_new log event reply id (told id) (kept id) new).nothing in
+                let first : Option Watching = made_by id s.history event reply in
+                let earlier : Option Watching = begun_watching start id log in
+                subst (IsTold start after id) (sym there) (record {
                   begun = w;
-                  is_begun = ap (λ (o : Option Watching). or_earlier o (begun_watching start id log))
-                      (made id ∙ ap (λ b. cond b (Some w) None) is);
-                  tells = subst (λ (h : History). Tells h (events_to id (with_line event reply log)) w x) (sym history)
-                      (subst (λ (es : List Event). Tells s.history es w x) none (subst (Tells s.history [] w) equal (begun_tells s.history w)));
-                }
+                  is_begun = ap (λ b. cond (b || is_given_up id log) None (or_earlier first earlier)) (kept id)
+                      ∙ ap (λ b. cond b None (or_earlier first earlier)) new.kept
+                      ∙ ap (λ (o : Option Watching). or_earlier o earlier) (made id ∙ ap (λ b. cond b (Some w) None) is);
+                  tells = subst (λ (h : History). Tells h (events_to id after) w w) (sym history)
+                      (subst (λ (es : List Event). Tells s.history es w w) none (begun_tells s.history w));
+                })
             | false ↦ λ is.
                 let ne : next ≢ id = differ next id is in
-                same_told start log event reply id x (told id) (made id ∙ ap (λ b. cond b (Some w) None) is)
-                (are.each id x (sym (watcher_old s.watchers (Some w) id ne) ∙ at))
-          ] refl;
+                subst (IsTold start after id) (sym (watcher_old s.watchers (Some w) id ne))
+                (same_told start log event reply id (watcher_at id s.watchers)
+                (record { told = told id; made = made id ∙ ap (λ b. cond b (Some w) None) is; kept = kept id }) (are.each id))
+          ] refl);
     }
 
 abbrev watch_of : Standing → Watched → ℕ → Bool → Result (WatchStep ℕ) WatchRefusal
@@ -301,17 +330,21 @@ watch_of s keys from empty =
     cond empty (Err EmptyKey) (Ok (record { answer = length s.watchers + 1; next = s.watchers ++ Some (watching_from s.history keys from) ∷ [] }))
 
 watch_by : (start : ℕ) (log : List Line) (event : WorldEvent) (reply : Result Reply Denied) (keys : Watched) (from : ℕ) (empty : Bool) →
-    AreTold start log → ((id : ℕ) → told_by id event reply ≡ []) →
+    AreTold start log → ((id : ℕ) → told_by id event reply ≡ []) → ((id : ℕ) → gives_up id event reply ≡ false) →
     ((id : ℕ) → made_by id (store start log).history event reply ≡ made id (watching_from (store start log).history keys from) reply) →
     reply ≡ reply_to WatchingReply (watch_step (store start log) (watch_of (store start log) keys from empty)) →
     store start (with_line event reply log) ≡ store_after_call (store start log) (watch_step (store start log) (watch_of (store start log) keys from empty)) →
     AreTold start (with_line event reply log)
-watch_by start log event reply keys from true are told made_so right leaves =
-    quiet start log event reply are told
-    (λ id. made_so id ∙ ap (λ (r : Result Reply Denied). made id (watching_from (store start log).history keys from) r) right)
+watch_by start log event reply keys from true are told kept made_so right leaves =
+    quiet start log event reply are
+    (λ id. record {
+      told = told id;
+      made = made_so id ∙ ap (λ (r : Result Reply Denied). made id (watching_from (store start log).history keys from) r) right;
+      kept = kept id;
+    })
     (ap (λ (x : Standing). x.watchers) leaves)
-watch_by start log event reply keys from false are told made_so right leaves =
-    watcher_begins start log event reply (watching_from (store start log).history keys from) are told
+watch_by start log event reply keys from false are told kept made_so right leaves =
+    watcher_begins start log event reply (watching_from (store start log).history keys from) are told kept
     (λ id. made_so id ∙ ap (λ (r : Result Reply Denied). made id (watching_from (store start log).history keys from) r) right) leaves
 
 -- ---- a poll
@@ -324,10 +357,10 @@ nothing_either_way true = refl
 nothing_either_way false = refl
 
 -- the watcher that is polled
-polled_told : (start : ℕ) (log : List Line) (reply : Result Reply Denied) (id most : ℕ) (w : Watching) → IsTold start log id w →
+polled_told : (start : ℕ) (log : List Line) (reply : Result Reply Denied) (id most : ℕ) (w : Watching) → IsBegun start log id w →
     reply ≡ reply_to (batch_reply id) (poll_of (store start log) id most (Some w)) →
     (store start (with_line (Poll id most) reply log)).history ≡ (store start log).history →
-    IsTold start (with_line (Poll id most) reply log) id (after_poll most (store start log).history w)
+    IsBegun start (with_line (Poll id most) reply log) id (after_poll most (store start log).history w)
 polled_told start log reply id most w is right history =
     let h : History = (store start log).history in
     let next : Watching = after_poll most h w in
@@ -347,73 +380,86 @@ poll_by : (start : ℕ) (log : List Line) (reply : Result Reply Denied) (id most
     AreTold start (with_line (Poll id most) reply log)
 poll_by start log reply id most None are found right leaves =
     quiet start log (Poll id most) reply are
-    (λ other. ap (λ (es : List Event). cond (nat_eq id other) es []) (ap events_in right) ∙ nothing_either_way (nat_eq id other))
-    (λ other. refl) (ap (λ (x : Standing). x.watchers) leaves)
+    (λ other. record {
+      told = ap (λ (es : List Event). cond (nat_eq id other) es []) (ap events_in right) ∙ nothing_either_way (nat_eq id other);
+      made = refl;
+      kept = refl;
+    })
+    (ap (λ (x : Standing). x.watchers) leaves)
 poll_by start log reply id most (Some w) are found right leaves =
     let s : Standing = store start log in
     let next : Watching = after_poll most s.history w in
     let set : List (Option Watching) = slice_set s.watchers (id - 1) (Some next) in
+    let after : List Line = with_line (Poll id most) reply log in
     let there : (0 < id) × (id ≤ length s.watchers) = watcher_there id s.watchers w found in
     let within : id ≤ length s.watchers = there.1 in
-    let stands : (store start (with_line (Poll id most) reply log)).watchers ≡ set = ap (λ (x : Standing). x.watchers) leaves in
-    let history : (store start (with_line (Poll id most) reply log)).history ≡ s.history = ap (λ (x : Standing). x.history) leaves in
+    let stands : (store start after).watchers ≡ set = ap (λ (x : Standing). x.watchers) leaves in
+    let history : (store start after).history ≡ s.history = ap (λ (x : Standing). x.history) leaves in
     record {
       fresh = λ other above.
           let more : length set < other = subst (λ (ws : List (Option Watching)). length ws < other) stands above in
           let count : length set ≡ length s.watchers = length-set s.watchers (id - 1) (Some next) in
           let old : length s.watchers < other = omega arith in
           let ne : nat_eq id other ≡ false = other_number id other (λ same. omega (arith, same)) in
-          still_fresh start log (Poll id most) reply other (ap (λ b. cond b (events_in reply) []) ne) (are.fresh other old);
-      each = λ other x at.
-          let found_so : watcher_at other set ≡ Some x = subst (λ (ws : List (Option Watching)). watcher_at other ws ≡ Some x) stands at in
-          elim (nat_eq id other) as (λ b. nat_eq id other ≡ b → IsTold start (with_line (Poll id most) reply log) other x) [
+          still_new log (Poll id most) reply other (ap (λ b. cond b (events_in reply) []) ne) refl (are.fresh other old);
+      each = λ other.
+          subst (λ (ws : List (Option Watching)). IsTold start after other (watcher_at other ws)) (sym stands)
+          (elim (nat_eq id other) as (λ b. nat_eq id other ≡ b → IsTold start after other (watcher_at other set)) [
             | true ↦ λ is.
                 let same : id ≡ other = equal_numbers id other is in
-                let both : Some next ≡ Some x =
-                sym (watcher_own id s.watchers (Some next) there.0 within) ∙ subst (λ n. watcher_at n set ≡ Some x) (sym same) found_so in
-                let equal : next ≡ x = cc in
-                subst (λ n. IsTold start (with_line (Poll id most) reply log) n x) same
-                (subst (λ (y : Watching). IsTold start (with_line (Poll id most) reply log) id y) equal
-                (polled_told start log reply id most w (are.each id w found) right history))
+                let old : IsBegun start log id w = subst (IsTold start log id) found (are.each id) in
+                subst (λ n. IsTold start after n (watcher_at n set)) same
+                (subst (IsTold start after id) (sym (watcher_own id s.watchers (Some next) there.0 within))
+                (polled_told start log reply id most w old right history))
             | false ↦ λ is.
                 let ne : id ≢ other = differ id other is in
-                same_told start log (Poll id most) reply other x (ap (λ b. cond b (events_in reply) []) is) refl
-                (are.each other x (sym (watcher_other id other s.watchers (Some next) there.0 ne) ∙ found_so))
-          ] refl;
+                subst (IsTold start after other) (sym (watcher_other id other s.watchers (Some next) there.0 ne))
+                (same_told start log (Poll id most) reply other (watcher_at other s.watchers)
+                (record { told = ap (λ b. cond b (events_in reply) []) is; made = refl; kept = refl }) (are.each other))
+          ] refl);
     }
 
 -- ---- a cancellation
 
 cancel_by : (start : ℕ) (log : List Line) (reply : Result Reply Denied) (id : ℕ) (o : Option Watching) → AreTold start log →
-    watcher_at id (store start log).watchers ≡ o →
+    watcher_at id (store start log).watchers ≡ o → reply ≡ reply_to (λ _. Cancelled id) (cancel_step (store start log) id o) →
     store start (with_line (Cancel id) reply log) ≡ store_after_call (store start log) (cancel_step (store start log) id o) →
     AreTold start (with_line (Cancel id) reply log)
-cancel_by start log reply id None are found leaves =
-    quiet start log (Cancel id) reply are (λ other. refl) (λ other. refl) (ap (λ (x : Standing). x.watchers) leaves)
-cancel_by start log reply id (Some w) are found leaves =
+cancel_by start log reply id None are found right leaves =
+    quiet start log (Cancel id) reply are
+    (λ other. record { told = refl; made = refl; kept = ap (λ (r : Result Reply Denied). is_id other (watcher_given_up r)) right })
+    (ap (λ (x : Standing). x.watchers) leaves)
+cancel_by start log reply id (Some w) are found right leaves =
     let s : Standing = store start log in
     let set : List (Option Watching) = slice_set s.watchers (id - 1) None in
+    let after : List Line = with_line (Cancel id) reply log in
     let there : (0 < id) × (id ≤ length s.watchers) = watcher_there id s.watchers w found in
-    let stands : (store start (with_line (Cancel id) reply log)).watchers ≡ set = ap (λ (x : Standing). x.watchers) leaves in
+    let within : id ≤ length s.watchers = there.1 in
+    let stands : (store start after).watchers ≡ set = ap (λ (x : Standing). x.watchers) leaves in
+    let up : (other : ℕ) → gives_up other (Cancel id) reply ≡ nat_eq id other =
+    λ other. ap (λ (r : Result Reply Denied). is_id other (watcher_given_up r)) right in
     record {
       fresh = λ other above.
           let more : length set < other = subst (λ (ws : List (Option Watching)). length ws < other) stands above in
           let count : length set ≡ length s.watchers = length-set s.watchers (id - 1) None in
           let old : length s.watchers < other = omega arith in
-          still_fresh start log (Cancel id) reply other refl (are.fresh other old);
-      each = λ other x at.
-          let found_so : watcher_at other set ≡ Some x = subst (λ (ws : List (Option Watching)). watcher_at other ws ≡ Some x) stands at in
-          elim (nat_eq id other) as (λ b. nat_eq id other ≡ b → IsTold start (with_line (Cancel id) reply log) other x) [
+          let ne : nat_eq id other ≡ false = other_number id other (λ same. omega (arith, same)) in
+          still_new log (Cancel id) reply other refl (up other ∙ ne) (are.fresh other old);
+      each = λ other.
+          subst (λ (ws : List (Option Watching)). IsTold start after other (watcher_at other ws)) (sym stands)
+          (elim (nat_eq id other) as (λ b. nat_eq id other ≡ b → IsTold start after other (watcher_at other set)) [
             | true ↦ λ is.
                 let same : id ≡ other = equal_numbers id other is in
-                let gone : None ≡ Some x =
-                sym (watcher_own id s.watchers None there.0 there.1) ∙ subst (λ n. watcher_at n set ≡ Some x) (sym same) found_so in
-                absurd (cc gone)
+                let gone : watcher_at other set ≡ None =
+                subst (λ n. watcher_at n set ≡ None) same (watcher_own id s.watchers None there.0 within) in
+                subst (IsTold start after other) (sym gone)
+                (ap (λ b. cond (b || is_given_up other log) None (or_earlier None (begun_watching start other log))) (up other ∙ is))
             | false ↦ λ is.
                 let ne : id ≢ other = differ id other is in
-                same_told start log (Cancel id) reply other x refl refl
-                (are.each other x (sym (watcher_other id other s.watchers None there.0 ne) ∙ found_so))
-          ] refl;
+                subst (IsTold start after other) (sym (watcher_other id other s.watchers None there.0 ne))
+                (same_told start log (Cancel id) reply other (watcher_at other s.watchers)
+                (record { told = refl; made = refl; kept = up other ∙ is }) (are.each other))
+          ] refl);
     }
 
 -- ---- every line
@@ -421,48 +467,60 @@ cancel_by start log reply id (Some w) are found leaves =
 told_more : (start : ℕ) (log : List Line) (event : WorldEvent) (reply : Result Reply Denied) → IsRight start log event reply → AreTold start log →
     AreTold start (with_line event reply log)
 told_more start log (Start program level limit) reply right are =
-    quiet start log (Start program level limit) reply are (λ id. refl) (λ id. refl) refl
+    quiet start log (Start program level limit) reply are (λ id. record { told = refl; made = refl; kept = refl }) refl
 told_more start log (Step runner) reply right are =
-    quiet start log (Step runner) reply are (λ id. refl) (λ id. refl) (step_stays (λ n. begun n log) (store start log) reply)
+    quiet start log (Step runner) reply are (λ id. record { told = refl; made = refl; kept = refl })
+    (step_stays (λ n. begun n log) (store start log) reply)
 told_more start log (Txn txn) reply right are =
     let s : Standing = store start log in
-    quiet start log (Txn txn) reply are (λ id. refl) (λ id. refl) (txn_stays s (outcome s.history (is_live_in s.live) txn))
+    quiet start log (Txn txn) reply are (λ id. record { told = refl; made = refl; kept = refl })
+    (txn_stays s (outcome s.history (is_live_in s.live) txn))
 told_more start log (Grant lease ttl) reply right are =
     let s : Standing = store start log in
-    quiet start log (Grant lease ttl) reply are (λ id. refl) (λ id. refl) (grant_stays s lease ttl (grant_refusal s.live lease ttl))
+    quiet start log (Grant lease ttl) reply are (λ id. record { told = refl; made = refl; kept = refl })
+    (grant_stays s lease ttl (grant_refusal s.live lease ttl))
 told_more start log (Keep lease) reply right are =
     let s : Standing = store start log in
-    quiet start log (Keep lease) reply are (λ id. refl) (λ id. refl) (keep_stays s lease (finmap.get s.live lease))
+    quiet start log (Keep lease) reply are (λ id. record { told = refl; made = refl; kept = refl }) (keep_stays s lease (finmap.get s.live lease))
 told_more start log (Revoke lease) reply right are =
     let s : Standing = store start log in
-    quiet start log (Revoke lease) reply are (λ id. refl) (λ id. refl)
+    quiet start log (Revoke lease) reply are (λ id. record { told = refl; made = refl; kept = refl })
     (revoke_stays s lease (is_live_in s.live lease) (is_used_up s.history (deletions_of s.history lease)))
 told_more start log (Advance moment) reply right are =
     let s : Standing = store start log in
-    quiet start log (Advance moment) reply are (λ id. refl) (λ id. refl) (advance_stays s moment (nat_lt moment s.moment))
+    quiet start log (Advance moment) reply are (λ id. record { told = refl; made = refl; kept = refl })
+    (advance_stays s moment (nat_lt moment s.moment))
 told_more start log (WatchKey key from) reply right are =
-    watch_by start log (WatchKey key from) reply (Key key) from (nat_eq (length (first_key (Key key))) 0) are (λ id. refl) (λ id. refl) right refl
+    watch_by start log (WatchKey key from) reply (Key key) from (nat_eq (length (first_key (Key key))) 0) are (λ id. refl) (λ id. refl)
+    (λ id. refl) right refl
 told_more start log (WatchRange first end from) reply right are =
     watch_by start log (WatchRange first end from) reply (Range first end) from (nat_eq (length (first_key (Range first end))) 0) are (λ id. refl)
-    (λ id. refl) right refl
+    (λ id. refl) (λ id. refl) right refl
 told_more start log (Poll watcher most) reply right are =
     poll_by start log reply watcher most (watcher_at watcher (store start log).watchers) are refl right refl
 told_more start log (Cancel watcher) reply right are =
-    cancel_by start log reply watcher (watcher_at watcher (store start log).watchers) are refl refl
+    cancel_by start log reply watcher (watcher_at watcher (store start log).watchers) are refl right refl
 
-none_there : (start : ℕ) (id : ℕ) (w : Watching) → watcher_at id [] ≡ Some w → IsTold start [] id w
-none_there start id w there =
-    let found : (0 < id) × (id ≤ 0) = watcher_there id [] w there in
-    let some : 0 < id = found.0 in
-    let within : id ≤ 0 = found.1 in
-    absurd (omega arith)
+none_there : (id : ℕ) → watcher_at id [] ≡ (let o : Option Watching = None in o)
+none_there id = elim (nat_eq id 0) as (λ b. cond b None (slice_index_or [] (id - 1) None) ≡ (let o : Option Watching = None in o)) [
+  | true ↦ refl
+  | false ↦ refl
+]
 
 are_told : (start : ℕ) (log : List Line) → AreRight start log → AreTold start log
-are_told start [] right = record { fresh = λ id above. refl; each = none_there start }
+are_told start [] right = record {
+  fresh = λ id above. record { nothing = refl; kept = refl };
+  each = λ id. subst (IsTold start [] id) (sym (none_there id)) refl;
+}
 are_told start (line ∷ log) right = told_more start log line.event line.reply right.0 (are_told start log right.1)
 
+told_so : (start : ℕ) (log : List Line) (id : ℕ) (o : Option Watching) → watcher_at id (store start log).watchers ≡ o → IsTold start log id o →
+    IsToldSo start log id (watching start id log)
+told_so start log id None found is = subst (IsToldSo start log id) (sym is) found
+told_so start log id (Some w) found is =
+    subst (IsToldSo start log id) (sym is.is_begun) (record { w = w; stands = found; same = is.tells.same; all = is.tells.all })
+
 pub watchers_are_told : Headline → WatchersAreTold
-watchers_are_told headline start events id w there =
+watchers_are_told headline start events id =
     let log : List Line = logged events (replies_to events (opened start)) [] in
-    let is : IsTold start log id w = (are_told start log (headline start events).replies).each id w there in
-    record { begun = is.begun; is_begun = is.is_begun; same = is.tells.same; all = is.tells.all }
+    told_so start log id (watcher_at id (store start log).watchers) refl ((are_told start log (headline start events).replies).each id)

@@ -53,9 +53,10 @@ pub fn answers_are_the_reads()
     ensures { AnswersAreTheReads }
 {}
 
-/// Over every list of events, a watcher that was not cancelled was told, by the batches of its polls, the
-/// events that it watches from its start on, each once and in order: those that it was told, followed by those
-/// that are pending for it, are all of them. So none is dropped, told twice, or told before an earlier one.
+/// Over every list of events, a watcher is there exactly where it was begun and not cancelled, and by the
+/// batches of its polls it was told the events that it watches from its start on, each once and in order: those
+/// that it was told, followed by those that are pending for it, are all of them. So none is dropped, told twice,
+/// or told before an earlier one.
 pub fn watchers_are_told()
     ensures { WatchersAreTold }
 {}

@@ -130,7 +130,6 @@ fn told_poll(polled: Result<Batch, PollRefusal>) -> Result<Batch, Refusal>
 }
 
 /// Tells the watchers of the last revision. Those that stood for the history before it stand for it then.
-#[tactic(auto, using(crate::proofs::Watching::told_of_it))]
 fn tell_watchers(watchers: &mut Watchers, keys: &Keys)
     ensures same { watchings watchers.new ≡ watchings watchers.old }
     ensures stand { (h : History) (changes : List Change) → keys.now.history ≡ add_revision h changes → StandFor h watchers.old → StandFor keys.now.history watchers.new }

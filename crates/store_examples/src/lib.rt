@@ -18,5 +18,3 @@ mod shown;
 mod store_watches;
 #[cfg(test)]
 mod transactions;
-#[cfg(test)]
-mod watchers;

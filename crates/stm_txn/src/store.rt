@@ -3,8 +3,10 @@ ghost use Rattle.std.specs.Prelude.{◌≡◌, ◌<◌, ◌≤◌, ℕ, List, []
 ghost use Rattle.std.specs.Prelude.{map, string_bytes, Ok, Err, None, Some, true, false};
 ghost use Rattle.std.specs.FinMap as finmap;
 ghost use Rattle.stm_history.specs.declared.revisions.TheConstants.{HIGHEST_REVISION, HIGHEST_NUMBER};
-ghost use Rattle.stm_history.specs.History.{now, add_revision, IsRevision, HasDistinctKeys};
+ghost use Rattle.stm_history.specs.declared.change.Change.{Change};
+ghost use Rattle.stm_history.specs.History.{History, now, add_revision, IsRevision, HasDistinctKeys};
 ghost use Rattle.stm_keys.specs.Keys.{DeletePresent};
+ghost use Rattle.stm_watch.specs.Calls.{watchings, StandFor};
 ghost use Rattle.stm_leases.specs.LeaseLog.{LogItem, Grant, Renew, Revoke};
 ghost use Rattle.stm_leases.specs.Leases.{StandsFor};
 ghost use Rattle.stm_leases.specs.Live.{is_live_in, AreInRange};
@@ -127,6 +129,14 @@ fn told_poll(polled: Result<Batch, PollRefusal>) -> Result<Batch, Refusal>
     }
 }
 
+/// Tells the watchers of the last revision. Those that stood for the history before it stand for it then.
+fn tell_watchers(watchers: &mut Watchers, keys: &Keys)
+    ensures same { watchings watchers.new ≡ watchings watchers.old }
+    ensures stand { (h : History) (changes : List Change) → keys.now.history ≡ add_revision h changes → StandFor h watchers.old → StandFor keys.now.history watchers.new }
+{
+    watchers.touched(keys.revision(), keys.last_events());
+}
+
 /// The deletions of these keys.
 fn deletions(alloc: Global, keys: Vec<String>) -> Result<Vec<Change>, AllocError>
     ensures { IfOk result (λ changes. changes.items ≡ map Change.Del (map string_bytes keys.items)) }
@@ -233,14 +243,13 @@ impl Store {
         let _ids_are_in_range = self.leases.is_live(0);
         let hangs = prepare_hangs(self.alloc, changes.as_slice())?;
         self.leases.reserve_attach(hangs.len())?;
-        let revision = match self.keys.apply(changes) {
-            Ok(revision) => revision,
+        match self.keys.apply(changes) {
+            Ok(_) => {}
             Err(ApplyRefusal::OutOfMemory) => return Err(Refusal::OutOfMemory),
             Err(ApplyRefusal::RevisionsUsedUp) => unreachable!(),
-        };
-        let events = self.keys.last_events();
-        self.watchers.touched(revision, events);
-        move_keys(&mut self.leases, events, hangs);
+        }
+        tell_watchers(&mut self.watchers, &self.keys);
+        move_keys(&mut self.leases, self.keys.last_events(), hangs);
         Ok(())
     }
 

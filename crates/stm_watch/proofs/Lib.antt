@@ -1,3 +1,4 @@
 pub mod Telling
 pub mod Giving
 pub mod Standing
+pub mod WorkedExamples

@@ -2,9 +2,10 @@
 ghost use Rattle.std.specs.Prelude.{◌≡◌, map};
 ghost use Rattle.stm_keys.specs.Events.{change_of_event};
 ghost use Rattle.stm_watch.specs.Keys.{is_watched, is_any_watched};
+ghost use Rattle.stm_watch.specs.Pending.{watching_from};
 ghost use Rattle.stm_watch.specs.Touch.{touch};
 
-use stm_keys::{Event, Text};
+use stm_keys::{Event, Keys, Text};
 
 /// The keys that a watcher watches.
 #[derive(Debug, Drop)]
@@ -46,6 +47,20 @@ pub struct Watching {
     pub watched: Watched,
     /// It was told, or did not want to know, what happened up to this revision.
     pub seen: u64,
+}
+
+impl Watching {
+    /// A new watcher. It is told what happens from a revision on, or with 0 what happens next.
+    pub(crate) fn starting(watched: Watched, from: u64, keys: &Keys) -> Watching
+        ensures { result ≡ watching_from keys.now.history watched from }
+    {
+        let seen = if from == 0 {
+            keys.revision()
+        } else {
+            from - 1
+        };
+        Watching { watched, seen }
+    }
 }
 
 /// A watcher, and whether it stands among those that are ready.

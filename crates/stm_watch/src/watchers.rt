@@ -7,7 +7,7 @@ ghost use Rattle.stm_watch.specs.Calls.{watch, poll, cancelled, Watches, Polls, 
 
 use crate::refusal::{NoWatcher, PollRefusal, WatchRefusal};
 use crate::slots::{first_ready, poll_slot, touch_all};
-use crate::told::next_told;
+use crate::told::is_told;
 use crate::watched::{Watched, Watcher, Watching};
 use std::alloc::{AllocError, Global};
 use std::marker::Model;
@@ -60,10 +60,8 @@ impl Watchers {
         ensures stand { StandFor keys.now.history self.new }
         ensures err { OnErr result (self.new ≡ self.old) }
     {
-        let alloc = *self.watchers.allocator();
-        let seen = if from == 0 { keys.revision() } else { from - 1 };
-        let ready = next_told(keys, &watched, seen)?.is_some();
-        let watching = Watching { watched, seen };
+        let watching = Watching::starting(watched, from, keys);
+        let ready = is_told(keys, &watching)?;
         self.watchers.push(Some(Watcher { watching, ready }))?;
         Ok(self.watchers.len() as u64)
     }

@@ -1,6 +1,6 @@
-use Rattle.std.proofs.Common.{◌≡◌, ◌∙◌, sym, ap, subst, arith, ℕ, ◌+◌, List, map}
+use Rattle.std.proofs.Common.{◌≡◌, ◌∙◌, sym, ap, subst, ℕ, List, map}
 use Rattle.stm_history.specs.declared.change.Change.{Change}
-use Rattle.stm_history.specs.History.{History, now, key_now, change_of, add_revision, HasDistinctKeys}
+use Rattle.stm_history.specs.History.{History, now, key_now, change_of, HasDistinctKeys}
 use Rattle.stm_keys.specs.Events.{change_of_event, events_of}
 use Rattle.stm_leases.specs.Leases.{Leases, lease_of}
 use Rattle.stm_watch.specs.Calls.{StandFor}
@@ -16,8 +16,8 @@ pub move_keys-requires-clause-distinct : goal.move_keys-requires-clause-distinct
 move_keys-requires-clause-distinct c =
     let h : History = c.self.inside.keys.history in
     let cs : List Change = c.args.changes.items in
-    let shown : map change_of_event c.last_events-events.result.now ≡ cs =
-    ap (map change_of_event) c.last_events-events.ensures ∙ ap (λ (x : History). map change_of_event (events_of x (now x))) c.in-Ok.ensures.ok
+    let shown : map change_of_event c.last_events.result.now ≡ cs =
+    ap (map change_of_event) c.last_events.ensures ∙ ap (λ (x : History). map change_of_event (events_of x (now x))) c.in-Ok.ensures.ok
     ∙ last_changes h cs in
     subst HasDistinctKeys (sym shown) c.requires.revision.1
 
@@ -25,8 +25,8 @@ pub move_keys-requires-clause-hangs : goal.move_keys-requires-clause-hangs
 move_keys-requires-clause-hangs c =
     let h : History = c.self.inside.keys.history in
     let cs : List Change = c.args.changes.items in
-    let shown : map change_of_event c.last_events-events.result.now ≡ cs =
-    ap (map change_of_event) c.last_events-events.ensures ∙ ap (λ (x : History). map change_of_event (events_of x (now x))) c.in-Ok.ensures.ok
+    let shown : map change_of_event c.last_events.result.now ≡ cs =
+    ap (map change_of_event) c.last_events.ensures ∙ ap (λ (x : History). map change_of_event (events_of x (now x))) c.in-Ok.ensures.ok
     ∙ last_changes h cs in
     c.in_ok-hangs.ensures ∙ ap hangs_of c.as_slice.ensures.value ∙ ap hangs_of (sym shown)
 
@@ -34,12 +34,11 @@ pub invariant_of-self-2 : goal.invariant_of-self-2
 invariant_of-self-2 c =
     let h : History = c.self.inside.keys.history in
     let cs : List Change = c.args.changes.items in
-    let shown : map change_of_event c.last_events-events.result.now ≡ cs =
-    ap (map change_of_event) c.last_events-events.ensures ∙ ap (λ (x : History). map change_of_event (events_of x (now x))) c.in-Ok.ensures.ok
+    let shown : map change_of_event c.last_events.result.now ≡ cs =
+    ap (map change_of_event) c.last_events.ensures ∙ ap (λ (x : History). map change_of_event (events_of x (now x))) c.in-Ok.ensures.ok
     ∙ last_changes h cs in
-    let numbered : c.in-Ok.revision ≡ now h + 1 = c.in-Ok.ensures.number ∙ ap now c.in-Ok.ensures.ok ∙ omega arith in
     subst (λ (next : History). ((key : List ℕ) → lease_of c.move_keys.new.leases key ≡ hanging (key_now next key)) × LeasesFit next.revisions
-        × StandFor next c.touched.new.self)
+        × StandFor next c.tell_watchers.new.watchers)
     (sym c.in-Ok.ensures.ok) (
       λ key.
           still_stored h cs key (lease_of c.reserve_attach.new.self key) (lease_of c.move_keys.new.leases key)
@@ -51,6 +50,6 @@ invariant_of-self-2 c =
             (subst (λ (s : StoreView). HangOnLive s.standing.live (hangs_of cs)) (sym c.self.view_is) c.requires.live),
         c.self.invariant.1,
       ),
-      subst (λ (l : List Change). StandFor (add_revision h l) c.touched.new.self) shown
-          (c.touched.ensures.stand h c.self.invariant.2 numbered),
+      subst (λ (x : History). StandFor x c.tell_watchers.new.watchers) c.in-Ok.ensures.ok
+          (c.tell_watchers.ensures.stand h cs c.in-Ok.ensures.ok c.self.invariant.2),
     )

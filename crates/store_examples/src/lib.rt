@@ -18,3 +18,5 @@ mod shown;
 mod store_watches;
 #[cfg(test)]
 mod transactions;
+#[cfg(test)]
+mod watchers;

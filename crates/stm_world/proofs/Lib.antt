@@ -18,3 +18,4 @@ pub mod SoundSteps
 pub mod Sound
 pub mod Headlines
 pub mod Telling
+pub mod WorkedExamples

@@ -1,10 +1,8 @@
 //! What a watcher watches, and how far it has been told.
-ghost use Rattle.std.specs.Prelude.{◌≡◌, map};
-ghost use Rattle.stm_keys.specs.Events.{change_of_event};
-ghost use Rattle.stm_watch.specs.Keys.{is_watched, is_any_watched};
-ghost use Rattle.stm_watch.specs.Touch.{touch};
+ghost use Rattle.std.specs.Prelude.{◌≡◌, ◌&&◌, nat_lt};
+ghost use Rattle.stm_watch.specs.Keys.{is_watched};
 
-use stm_keys::{Event, Text};
+use stm_keys::Text;
 
 /// The keys that a watcher watches.
 #[derive(Debug, Drop)]
@@ -25,18 +23,6 @@ impl Watched {
             Watched::Range { first, end } => first.cmp(key).is_le() && key.cmp(end).is_lt(),
         }
     }
-
-    /// Whether one of these events is of a key that is watched.
-    pub(crate) fn has_any(&self, events: &[Event]) -> bool
-        ensures { result ≡ is_any_watched self.now (map change_of_event events.now) }
-    {
-        for event in events {
-            if self.has(event.key()) {
-                return true;
-            }
-        }
-        false
-    }
 }
 
 /// A watcher as the rules see it.
@@ -48,6 +34,15 @@ pub struct Watching {
     pub seen: u64,
 }
 
+impl Watching {
+    /// Whether the watcher wants to know of a change of a key at a new revision.
+    pub(crate) fn wants(&self, revision: u64, key: &Text) -> bool
+        ensures { result ≡ (nat_lt self.now.seen revision && is_watched self.now.watched key.now) }
+    {
+        revision > self.seen && self.watched.has(key)
+    }
+}
+
 /// A watcher, and whether it stands among those that are ready.
 #[derive(Debug, Drop)]
 pub struct Watcher {
@@ -55,15 +50,4 @@ pub struct Watcher {
     pub watching: Watching,
     /// Whether events are pending.
     pub ready: bool,
-}
-
-impl Watcher {
-    /// Notes a new revision with these events.
-    pub(crate) fn touch(&mut self, revision: u64, events: &[Event])
-        ensures { self.new ≡ touch revision (map change_of_event events.now) self.old }
-    {
-        if revision > self.watching.seen && self.watching.watched.has_any(events) {
-            self.ready = true;
-        }
-    }
 }

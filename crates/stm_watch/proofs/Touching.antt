@@ -236,10 +236,10 @@ module _ (revision : ℕ) (key : List ℕ) where
         let long = listed.long ∙ length-map ws (option_map (λ (w : Watcher). w.watching.watched)) in
         omega (arith, below, long)
 
-    own : List (Option Watcher)
+    abbrev own : List (Option Watcher)
     own = touch_each revision key (places_at lists (of_key key)) ws
 
-    both : List (Option Watcher)
+    abbrev both : List (Option Watcher)
     both = touch_each revision key (places_on lists ranges) own
 
     -- a watcher of the key is on the key's list, or on that of the ranges

@@ -16,7 +16,7 @@ pub mod watched;
 pub mod watchers;
 
 pub use refusal::{NoWatcher, PollRefusal, WatchRefusal};
-pub use stm_keys::{Change, Event, Keys, Sequence, Text};
+pub use stm_keys::{Event, Keys, Sequence, Text};
 pub use told::Told;
 pub use watched::{Watched, Watcher, Watching};
 pub use watchers::{Batch, Watchers};

@@ -1,9 +1,9 @@
 //! What watchers are told of a revision.
 ghost use Rattle.std.specs.Prelude.{◌≡◌, IfOk};
-ghost use Rattle.stm_watch.specs.Pending.{matching};
+ghost use Rattle.stm_watch.specs.Pending.{matching, is_pending};
 ghost use Rattle.stm_watch.specs.Walk.{IsNext};
 
-use crate::watched::Watched;
+use crate::watched::{Watched, Watching};
 use std::alloc::AllocError;
 use stm_keys::{Event, Keys, Sequence};
 
@@ -44,4 +44,11 @@ pub(crate) fn next_told(
         }
     }
     Ok(None)
+}
+
+/// Whether events are pending for a watcher.
+pub(crate) fn is_told(keys: &Keys, watching: &Watching) -> Result<bool, AllocError>
+    ensures { IfOk result (λ told. told ≡ is_pending keys.now.history watching.now) }
+{
+    Ok(next_told(keys, &watching.watched, watching.seen)?.is_some())
 }

@@ -1,8 +1,9 @@
 //! What a watcher watches, and how far it has been told.
 ghost use Rattle.std.specs.Prelude.{◌≡◌, ◌&&◌, nat_lt};
 ghost use Rattle.stm_watch.specs.Keys.{is_watched};
+ghost use Rattle.stm_watch.specs.Pending.{watching_from};
 
-use stm_keys::Text;
+use stm_keys::{Keys, Text};
 
 /// The keys that a watcher watches.
 #[derive(Debug, Drop)]
@@ -35,6 +36,18 @@ pub struct Watching {
 }
 
 impl Watching {
+    /// A new watcher. It is told what happens from a revision on, or with 0 what happens next.
+    pub(crate) fn starting(watched: Watched, from: u64, keys: &Keys) -> Watching
+        ensures { result ≡ watching_from keys.now.history watched from }
+    {
+        let seen = if from == 0 {
+            keys.revision()
+        } else {
+            from - 1
+        };
+        Watching { watched, seen }
+    }
+
     /// Whether the watcher wants to know of a change of a key at a new revision.
     pub(crate) fn wants(&self, revision: u64, key: &Text) -> bool
         ensures { result ≡ (nat_lt self.now.seen revision && is_watched self.now.watched key.now) }

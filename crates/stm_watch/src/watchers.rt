@@ -8,7 +8,7 @@ ghost use Rattle.stm_watch.specs.Calls.{watch, poll, cancelled, Watches, Polls, 
 use crate::index::Index;
 use crate::refusal::{NoWatcher, PollRefusal, WatchRefusal};
 use crate::slots::Slots;
-use crate::told::next_told;
+use crate::told::is_told;
 use crate::touch::touch_all;
 use crate::watched::{Watched, Watcher, Watching};
 use std::alloc::{AllocError, Global};
@@ -70,10 +70,9 @@ impl Watchers {
         ensures stand { StandFor keys.now.history self.new }
         ensures err { OnErr result (self.new ≡ self.old) }
     {
-        let seen = if from == 0 { keys.revision() } else { from - 1 };
-        let ready = next_told(keys, &watched, seen)?.is_some();
-        let list = self.index.make_room(&watched)?;
-        let watching = Watching { watched, seen };
+        let watching = Watching::starting(watched, from, keys);
+        let ready = is_told(keys, &watching)?;
+        let list = self.index.make_room(&watching.watched)?;
         self.slots.push(Watcher { watching, ready })?;
         self.index.push(list);
         Ok(self.slots.len() as u64)
@@ -128,11 +127,15 @@ impl Watchers {
         ensures stand { (h : History) → StandFor h self.old → StandFor h self.new }
         ensures err { OnErr result (self.new ≡ self.old) }
     {
-        if id == 0 || !self.slots.has((id - 1) as usize) {
+        if id == 0 {
             return Err(NoWatcher);
         }
-        self.index.remove((id - 1) as usize);
-        self.slots.remove((id - 1) as usize);
+        let index = (id - 1) as usize;
+        if !self.slots.has(index) {
+            return Err(NoWatcher);
+        }
+        self.index.remove(index);
+        self.slots.remove(index);
         Ok(())
     }
 

@@ -5,10 +5,10 @@
 ghost use Rattle.std.specs.Prelude.{◌≡◌, ◌≤◌, IfOk};
 ghost use Rattle.stm_history.specs.History.{now};
 
-use crate::shown::show_state;
+use crate::shown::{show_event, show_state};
 use std::alloc::{AllocError, Global};
 use std::test::Fail;
-use stm_keys::{ApplyRefusal, Change, Event, HIGHEST_REVISION, Keys, Text};
+use stm_keys::{ApplyRefusal, Change, HIGHEST_REVISION, Keys, Text};
 
 /// A put of a key with a value, on no lease.
 fn put_of(alloc: Global, key: &str, value: &str) -> Result<Change, AllocError>
@@ -189,24 +189,13 @@ fn replace(alloc: Global, keys: &mut Keys) -> Result<u64, ApplyRefusal> {
     keys.apply(changes)
 }
 
-fn told_event(alloc: Global, event: &Event) -> Result<String, AllocError> {
-    let key = event.key();
-    match event {
-        Event::Put { state, .. } => {
-            let state = show_state(alloc, Some(state), "-")?;
-            format!(in alloc; "PUT {key} {state} ")
-        }
-        Event::Delete { revision, .. } => format!(in alloc; "DELETE {key} {revision} "),
-    }
-}
-
 /// The events of a revision, in their order.
 fn told_events(alloc: Global, keys: &Keys, revision: u64) -> Result<String, AllocError>
     requires { revision ≤ now keys.now.history }
 {
     let mut told = String::new(alloc);
     for event in keys.events_of(revision)? {
-        told.push_str(told_event(alloc, &event)?.as_str())?;
+        told.push_str(show_event(alloc, &event)?.as_str())?;
     }
     Ok(told)
 }
@@ -340,13 +329,13 @@ fn told_last_events(alloc: Global) -> Result<String, ApplyRefusal> {
     let mut keys = Keys::new(alloc);
     let mut told = String::new(alloc);
     for event in keys.last_events() {
-        told.push_str(told_event(alloc, event)?.as_str())?;
+        told.push_str(show_event(alloc, event)?.as_str())?;
     }
     told.push_str("| ")?;
     put_three(alloc, &mut keys)?;
     replace(alloc, &mut keys)?;
     for event in keys.last_events() {
-        told.push_str(told_event(alloc, event)?.as_str())?;
+        told.push_str(show_event(alloc, event)?.as_str())?;
     }
     Ok(told)
 }

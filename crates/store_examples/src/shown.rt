@@ -2,6 +2,7 @@
 
 use std::alloc::{AllocError, Global};
 use stm_history::KeyState;
+use stm_keys::Event;
 
 /// Adds an answer and `; ` to what is told; nothing where the answer is empty.
 pub fn add_answer(told: &mut String, answer: &str) -> Result<(), AllocError> {
@@ -34,5 +35,17 @@ pub fn show_state(
                 s.value, s.create_rev, s.mod_rev, s.version, s.lease
             )
         }
+    }
+}
+
+/// An event with its key's state, or the revision of a deletion.
+pub fn show_event(alloc: Global, event: &Event) -> Result<String, AllocError> {
+    let key = event.key();
+    match event {
+        Event::Put { state, .. } => {
+            let state = show_state(alloc, Some(state), "-")?;
+            format!(in alloc; "PUT {key} {state} ")
+        }
+        Event::Delete { revision, .. } => format!(in alloc; "DELETE {key} {revision} "),
     }
 }

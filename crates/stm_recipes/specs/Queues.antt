@@ -1,6 +1,6 @@
 -- Queues: items under the numbers from a head up to a tail. The programs that add and take an item, each as it would stand in the function
 -- that `clientv3/concurrency` has under "STM", and the items of a queue.
-use Rattle.std.specs.Prelude.{ℕ, ◌+◌, ◌-◌, nat_le, suc, zero, pos, negsuc, ℤ, List, [], ◌∷◌, ◌++◌, codes, Option, None, Some, Result, Ok, Err, if◌then◌else◌}
+use Rattle.std.specs.Prelude.{ℕ, ◌+◌, ◌-◌, nat_le, suc, zero, pos, negsuc, ℤ, List, [], ◌∷◌, ◌++◌, codes, Option, None, Some, option_map, Result, Ok, Err, if◌then◌else◌}
 use Rattle.std.specs.Fmt.{decimal}
 use Rattle.stm_program.specs.Syntax.{Expression, Statement, Block, Text, Variable, Get, Cat, Equal, Set, Put, Del, If, Emit, Abort, End, Then}
 use Rattle.stm_steps.specs.declared.fault.Fault.{Fault}
@@ -54,16 +54,19 @@ abbrev pub mark_of : Option StateEntry → Option ℕ
 mark_of None = Some 0
 mark_of (Some e) = number_or_none (written_number e.value)
 
-abbrev pub item_before : Option StateEntry → Option (List (List ℕ)) → Option (List (List ℕ))
+-- the item of a number, where there is one
+abbrev pub item_at : List StateEntry → List ℕ → ℕ → Option (List ℕ)
+item_at entries queue number = option_map (λ e. e.value) (find_entry (items_key queue ++ decimal number) entries)
+
+abbrev pub item_before : Option (List ℕ) → Option (List (List ℕ)) → Option (List (List ℕ))
 item_before None rest = None
-item_before (Some e) None = None
-item_before (Some e) (Some items) = Some (e.value ∷ items)
+item_before (Some item) None = None
+item_before (Some item) (Some items) = Some (item ∷ items)
 
 -- so many items, from a number on
 abbrev pub items_from : List StateEntry → List ℕ → ℕ → ℕ → Option (List (List ℕ))
 items_from entries queue first zero = Some []
-items_from entries queue first (suc left) =
-    item_before (find_entry (items_key queue ++ decimal first) entries) (items_from entries queue (first + 1) left)
+items_from entries queue first (suc left) = item_before (item_at entries queue first) (items_from entries queue (first + 1) left)
 
 abbrev pub items_between : List StateEntry → List ℕ → Option ℕ → Option ℕ → Option (List (List ℕ))
 items_between entries queue None tail = None

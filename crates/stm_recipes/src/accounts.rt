@@ -32,10 +32,10 @@ pub fn transfer(alloc: Global, from: &str, to: &str, amount: u32) -> Result<Prog
     Ok(Program::of(statements))
 }
 
-/// The program that adds an amount to an account, and makes the account where it is absent.
+/// The program that adds an amount to an account, and makes the account where it is absent. An empty value counts as 0 too.
 ///
-/// Where the account has a value that is no number, the run ends with the fault `NotANumber`; where it would have more
-/// than 64 bits hold, with `Overflow`.
+/// Where the account has another value that is no number, the run ends with the fault `NotANumber`; where it would have
+/// more than 64 bits hold, with `Overflow`. Then it writes nothing.
 ///
 /// A name has 1 to 1024 bytes. The one refusal is want of memory.
 #[tactic(auto, unfolding(crate::specs::Accounts::deposit_program))]

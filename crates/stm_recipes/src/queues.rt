@@ -15,7 +15,7 @@ use std::sync::Arc;
 use stm_program::{Expr, Program, Stmt};
 
 /// The program that adds an item at the end of a queue: under the queue's name, `/` and the tail's number. The tail, under
-/// the queue's name and `/tail`, becomes one more. A queue that has no tail begins at 0.
+/// the queue's name and `/tail`, becomes one more. A tail that is absent or empty counts as 0.
 ///
 /// Where the tail is no number, the run ends with the fault `NotANumber`; where it can't become one more, with `Overflow`;
 /// where the item's key would have more than 65536 bytes, with `TextTooLong`.
@@ -37,7 +37,7 @@ pub fn enqueue(alloc: Global, queue: &str, item: &str) -> Result<Program, AllocE
 }
 
 /// The program that takes the first item of a queue: it emits the item and deletes it. The head, under the queue's name and
-/// `/head`, becomes one more. A queue that has no head begins at 0.
+/// `/head`, becomes one more. A head or a tail that is absent or empty counts as 0.
 ///
 /// Where head and tail are the same text, the run aborts with `empty`. Where the head is no number, it ends with the fault
 /// `NotANumber`; where it can't become one more, with `Overflow`; where the item's key would have more than 65536 bytes, with

@@ -1,6 +1,7 @@
 pub mod Telling
 pub mod Giving
 pub mod Standing
+pub mod WorkedExamples
 pub mod Linked
 pub mod Marked
 pub mod Indexed

@@ -16,5 +16,3 @@ mod lists;
 mod shown;
 #[cfg(test)]
 mod transactions;
-#[cfg(test)]
-mod watchers;

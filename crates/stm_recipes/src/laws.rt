@@ -1,0 +1,38 @@
+//! What each recipe does alone, over any look-up that knows every key, such as a state. Each law stands on a function without a
+//! body.
+ghost use Rattle.stm_recipes.specs.Alone.{TransferAlone, DepositAlone, ReserveAlone, ReleaseAlone, EnqueueAlone, DequeueAlone};
+
+/// A transfer puts the first account's number less the amount, and then the second one's number and the amount. Where the first
+/// has less than the amount it aborts with `insufficient`, and where an account has no number, or the second one's sum is out of
+/// range, it ends with that fault.
+pub fn transfer_alone()
+    ensures { TransferAlone }
+{}
+
+/// A deposit puts the account's number and the amount, an absent account counting as 0.
+pub fn deposit_alone()
+    ensures { DepositAlone }
+{}
+
+/// A reservation puts the holder as the slot's value where the slot's modification revision is 0, and aborts with `held` elsewhere.
+pub fn reserve_alone()
+    ensures { ReserveAlone }
+{}
+
+/// A release deletes the slot where its value is the holder, and aborts with `not held` elsewhere.
+pub fn release_alone()
+    ensures { ReleaseAlone }
+{}
+
+/// An enqueue puts the item under the queue's name, `/` and the tail, and then the tail and one, an absent tail counting as 0. Where
+/// the tail is no number or can't become one more, or the item's key would be too long, it ends with that fault.
+pub fn enqueue_alone()
+    ensures { EnqueueAlone }
+{}
+
+/// A dequeue emits and deletes the item under the queue's name, `/` and the head, and then puts the head and one, an absent head
+/// or tail counting as 0. Where head and tail are the same text it aborts with `empty`; where the head is no number or can't become
+/// one more, or the item's key would be too long, it ends with that fault.
+pub fn dequeue_alone()
+    ensures { DequeueAlone }
+{}

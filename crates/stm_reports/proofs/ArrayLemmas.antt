@@ -1,0 +1,78 @@
+-- Arrays of a word and parts, and of a number, a word and parts: what they spell, and what their spelling says of them.
+use Rattle.std.proofs.Common.{◌≡◌, ℕ, List, [], ◌∷◌, Option, Some, None, Ok, option_map, refl, ap, ◌∙◌}
+use Rattle.serde_json.specs.Data.{Data, null, boolean, number, string, array, object, Items, no_items, item}
+use Rattle.serde_json.specs.Find.{as_str}
+use Rattle.serde_json.specs.View.{items_of}
+use Rattle.stm_json.specs.Elements.{first_word, four_of}
+use Rattle.stm_json.proofs.ElementLemmas.{four_of-is}
+use Rattle.stm_reports.specs.Elements.{five_of, six_of}
+use Rattle.stm_reports.specs.Grammar.{Spells, SpellsItems}
+use Rattle.stm_reports.specs.LineData.{list, whole, word, numbered}
+use Rattle.stm_reports.specs.Parts.{number_of}
+use Rattle.stm_reports.proofs.PartLaws.{number_reads, number_no_text}
+
+-- ---- elements
+
+five_is : (a : Data) (ds : Items) (o : Option (Data × Data × Data × Data)) (p : Data × Data × Data × Data × Data) → four_of ds ≡ o
+    → option_map (λ (q : Data × Data × Data × Data). (a, q.0, q.1, q.2, q.3)) o ≡ Some p → item a ds ≡ items_of (p.0 ∷ p.1 ∷ p.2 ∷ p.3 ∷ p.4 ∷ [])
+five_is a ds None p e h = cc
+five_is a ds (Some q) p e h =
+    let k : (a, q.0, q.1, q.2, q.3) ≡ p = cc in
+    ap (item a) (four_of-is ds q e) ∙ ap (λ (r : Data × Data × Data × Data × Data). items_of (r.0 ∷ r.1 ∷ r.2 ∷ r.3 ∷ r.4 ∷ [])) k
+
+pub five_of-is : (ds : Items) (p : Data × Data × Data × Data × Data) → five_of ds ≡ Some p → ds ≡ items_of (p.0 ∷ p.1 ∷ p.2 ∷ p.3 ∷ p.4 ∷ [])
+five_of-is no_items p h = cc
+five_of-is (item a ds) p h = five_is a ds (four_of ds) p refl h
+
+six_is : (a : Data) (ds : Items) (o : Option (Data × Data × Data × Data × Data)) (p : Data × Data × Data × Data × Data × Data) → five_of ds ≡ o
+    → option_map (λ (q : Data × Data × Data × Data × Data). (a, q.0, q.1, q.2, q.3, q.4)) o ≡ Some p
+    → item a ds ≡ items_of (p.0 ∷ p.1 ∷ p.2 ∷ p.3 ∷ p.4 ∷ p.5 ∷ [])
+six_is a ds None p e h = cc
+six_is a ds (Some q) p e h =
+    let k : (a, q.0, q.1, q.2, q.3, q.4) ≡ p = cc in
+    ap (item a) (five_of-is ds q e)
+    ∙ ap (λ (r : Data × Data × Data × Data × Data × Data). items_of (r.0 ∷ r.1 ∷ r.2 ∷ r.3 ∷ r.4 ∷ r.5 ∷ [])) k
+
+pub six_of-is : (ds : Items) (p : Data × Data × Data × Data × Data × Data) → six_of ds ≡ Some p
+    → ds ≡ items_of (p.0 ∷ p.1 ∷ p.2 ∷ p.3 ∷ p.4 ∷ p.5 ∷ [])
+six_of-is no_items p h = cc
+six_of-is (item a ds) p h = six_is a ds (five_of ds) p refl h
+
+pub first_word-is : (ds : Items) (p : List ℕ × Items) → first_word ds ≡ Some p → ds ≡ item (string p.0) p.1
+first_word-is no_items p h = cc
+first_word-is (item null ds) p h = cc
+first_word-is (item (boolean b) ds) p h = cc
+first_word-is (item (number n) ds) p h = cc
+first_word-is (item (string s) ds) p h =
+    let e : (s, ds) ≡ p = cc in
+    ap (λ (q : List ℕ × Items). item (string q.0) q.1) e
+first_word-is (item (array es) ds) p h = cc
+first_word-is (item (object ms) ds) p h = cc
+
+-- ---- a word and parts
+
+abbrev pub worded_array : List ℕ → Items → Data
+worded_array w ds = array (item (string w) ds)
+
+pub worded_spells : (ds : Items) (w : List ℕ) (parts : List Data) → SpellsItems ds (items_of parts) → Spells (worded_array w ds) (list (word w
+    ∷ parts))
+worded_spells ds w parts more = (item (string w) ds, refl, (string w, ds, refl, refl, more))
+
+pub worded_shape : (d : Data) (w : List ℕ) (parts : List Data) → Spells d (list (word w ∷ parts))
+    → (ds : Items) × (d ≡ worded_array w ds) × SpellsItems ds (items_of parts)
+worded_shape d w parts (all, i, (v, rest, i0, s0, more)) = (rest, rw (i, i0, s0) refl, more)
+
+-- ---- a number, a word and parts
+
+abbrev pub numbered_array : Data → List ℕ → Items → Data
+numbered_array n w ds = array (item n (item (string w) ds))
+
+pub numbered_spells : (n : Data) (ds : Items) (x : ℕ) (w : List ℕ) (parts : List Data) → Spells n (whole x) → SpellsItems ds (items_of parts)
+    → Spells (numbered_array n w ds) (numbered x w parts)
+numbered_spells n ds x w parts of_number more =
+    (item n (item (string w) ds), refl, (n, item (string w) ds, refl, of_number, (string w, ds, refl, refl, more)))
+
+pub numbered_shape : (d : Data) (x : ℕ) (w : List ℕ) (parts : List Data) → Spells d (numbered x w parts)
+    → (n : Data) × (ds : Items) × (d ≡ numbered_array n w ds) × (number_of n ≡ Ok x) × (as_str n ≡ None) × SpellsItems ds (items_of parts)
+numbered_shape d x w parts (all, i, (n, r0, i0, s0, (v, r1, i1, s1, more))) =
+    (n, r1, rw (i, i0, i1, s1) refl, number_reads n x s0, number_no_text n x s0, more)

@@ -1,0 +1,13 @@
+pub mod WordLaws
+pub mod PartLaws
+pub mod ArrayLemmas
+pub mod StateLaws
+pub mod ElementLaws
+pub mod EventTold
+pub mod EventMeans
+pub mod EventReads
+pub mod LineLaws
+pub mod CutLemmas
+pub mod LoopLemmas
+pub mod LineInLemmas
+pub mod ReportLaws

@@ -1,0 +1,30 @@
+-- What bytes hold.
+use Rattle.std.specs.Prelude.{ℕ, suc, List, [], ◌∷◌, take, drop, Bool, Option, Some, None, if◌then◌else◌, ◌==◌}
+use Rattle.std.specs.List.{slice_split}
+use Rattle.std.specs.Str.{is_utf8}
+use Rattle.serde_json.specs.Data.{Data}
+use Rattle.serde_json.specs.Read.{read}
+
+-- the data that bytes are the JSON of, in UTF-8
+abbrev pub data_of : List ℕ → Option Data
+data_of bytes = if is_utf8 bytes then read bytes else None
+
+abbrev pub is_line_feed : ℕ → Bool
+is_line_feed b = b == 10
+
+-- the parts that line feeds cut bytes into: one more than there are line feeds
+abbrev pub parts_of : List ℕ → List (List ℕ)
+parts_of bytes = slice_split is_line_feed bytes
+
+-- how many bytes stand before the first line feed, or all of them
+abbrev pub line_length : List ℕ → ℕ
+line_length [] = 0
+line_length (b ∷ bs) = if is_line_feed b then 0 else suc (line_length bs)
+
+-- what stands before the first line feed, and what stands behind it
+abbrev pub split_behind : List ℕ → List ℕ → Option (List ℕ × List ℕ)
+split_behind front [] = None
+split_behind front (b ∷ behind) = Some (front, behind)
+
+abbrev pub first_cut : List ℕ → Option (List ℕ × List ℕ)
+first_cut bytes = split_behind (take (line_length bytes) bytes) (drop (line_length bytes) bytes)

@@ -1,0 +1,12 @@
+-- The elements of longer arrays, where there are so many.
+use Rattle.std.specs.Prelude.{Option, None, option_map}
+use Rattle.serde_json.specs.Data.{Data, Items, no_items, item}
+use Rattle.stm_json.specs.Elements.{four_of}
+
+abbrev pub five_of : Items → Option (Data × Data × Data × Data × Data)
+five_of no_items = None
+five_of (item a ds) = option_map (λ p. (a, p.0, p.1, p.2, p.3)) (four_of ds)
+
+abbrev pub six_of : Items → Option (Data × Data × Data × Data × Data × Data)
+six_of no_items = None
+six_of (item a ds) = option_map (λ p. (a, p.0, p.1, p.2, p.3, p.4)) (five_of ds)

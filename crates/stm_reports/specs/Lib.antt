@@ -1,0 +1,11 @@
+pub mod Names
+pub mod Words
+pub mod LineData
+pub mod Elements
+pub mod Parts
+pub mod Bytes
+pub mod Reading
+pub mod Grammar
+pub mod FirstFault
+pub use Rattle.stm_json.specs.Outcome
+pub use Rattle.stm_json.specs.Tells

@@ -1,0 +1,27 @@
+-- The names of refusals, as a report spells them.
+use Rattle.std.specs.Prelude.{ℕ, List, codes}
+use Rattle.stm_meaning.specs.Faults.{fault_name}
+use Rattle.stm_reports.specs.declared.causes.RefusalName.{RefusalName}
+use Rattle.stm_reports.specs.declared.causes.RefusalName.TheVariants.{Fault, OutOfMemory, BadProgram, FutureRevision, Compacted, RevisionsUsedUp}
+use Rattle.stm_reports.specs.declared.causes.RefusalName.TheVariants.{LeaseExists, TtlOutOfRange, LeaseIdOutOfRange, LeaseNotFound, NoWatcher, TooManyOps}
+use Rattle.stm_reports.specs.declared.causes.RefusalName.TheVariants.{DuplicateKey, TimeGoesBack, BadLimit, NoRunner, Behind, Unvouched}
+
+abbrev pub refusal_text : RefusalName → List ℕ
+refusal_text (Fault fault) = fault_name fault
+refusal_text OutOfMemory = codes "OutOfMemory"
+refusal_text BadProgram = codes "BadProgram"
+refusal_text FutureRevision = codes "FutureRevision"
+refusal_text Compacted = codes "Compacted"
+refusal_text RevisionsUsedUp = codes "RevisionsUsedUp"
+refusal_text LeaseExists = codes "LeaseExists"
+refusal_text TtlOutOfRange = codes "TtlOutOfRange"
+refusal_text LeaseIdOutOfRange = codes "LeaseIdOutOfRange"
+refusal_text LeaseNotFound = codes "LeaseNotFound"
+refusal_text NoWatcher = codes "NoWatcher"
+refusal_text TooManyOps = codes "TooManyOps"
+refusal_text DuplicateKey = codes "DuplicateKey"
+refusal_text TimeGoesBack = codes "TimeGoesBack"
+refusal_text BadLimit = codes "BadLimit"
+refusal_text NoRunner = codes "NoRunner"
+refusal_text Behind = codes "Behind"
+refusal_text Unvouched = codes "Unvouched"

@@ -1,0 +1,74 @@
+//! The names of refusals.
+ghost use Rattle.std.specs.Prelude.{◌≡◌};
+ghost use Rattle.stm_reports.specs.Names.{refusal_text};
+
+use stm_meaning::Fault;
+
+/// The name of a refusal, as a report spells it.
+#[derive(Clone, Copy, Debug, PartialEq, Eq)]
+pub enum RefusalName {
+    /// One of the faults that end a program; a call may be refused for an empty key as well.
+    Fault(Fault),
+    /// A growth was refused.
+    OutOfMemory,
+    /// A text is not in its grammar.
+    BadProgram,
+    /// A revision is above the store's counter.
+    FutureRevision,
+    /// A revision is below the store's floor.
+    Compacted,
+    /// Something was to change at the highest revision.
+    RevisionsUsedUp,
+    /// The lease is live already.
+    LeaseExists,
+    /// A time to live is out of range.
+    TtlOutOfRange,
+    /// A lease id is out of range.
+    LeaseIdOutOfRange,
+    /// The lease is not live.
+    LeaseNotFound,
+    /// There is no such watcher, or it was cancelled.
+    NoWatcher,
+    /// A transaction's list is too long.
+    TooManyOps,
+    /// A branch puts a key twice, or puts and deletes it.
+    DuplicateKey,
+    /// A moment is below the store's.
+    TimeGoesBack,
+    /// A run was to be started with 0 commits.
+    BadLimit,
+    /// There is no such runner, or it has ended.
+    NoRunner,
+    /// The store's counter is below what the caller has seen.
+    Behind,
+    /// A key has the modification revision that was read, and another value.
+    Unvouched,
+}
+
+impl RefusalName {
+    /// The name as the report spells it.
+    pub fn name(self) -> &'static str
+        ensures { result.now ≡ refusal_text self }
+    {
+        match self {
+            RefusalName::Fault(fault) => fault.name(),
+            RefusalName::OutOfMemory => "OutOfMemory",
+            RefusalName::BadProgram => "BadProgram",
+            RefusalName::FutureRevision => "FutureRevision",
+            RefusalName::Compacted => "Compacted",
+            RefusalName::RevisionsUsedUp => "RevisionsUsedUp",
+            RefusalName::LeaseExists => "LeaseExists",
+            RefusalName::TtlOutOfRange => "TtlOutOfRange",
+            RefusalName::LeaseIdOutOfRange => "LeaseIdOutOfRange",
+            RefusalName::LeaseNotFound => "LeaseNotFound",
+            RefusalName::NoWatcher => "NoWatcher",
+            RefusalName::TooManyOps => "TooManyOps",
+            RefusalName::DuplicateKey => "DuplicateKey",
+            RefusalName::TimeGoesBack => "TimeGoesBack",
+            RefusalName::BadLimit => "BadLimit",
+            RefusalName::NoRunner => "NoRunner",
+            RefusalName::Behind => "Behind",
+            RefusalName::Unvouched => "Unvouched",
+        }
+    }
+}

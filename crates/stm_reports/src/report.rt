@@ -1,0 +1,10 @@
+//! Reports.
+use crate::line::ReportLine;
+use stm_history::Sequence;
+
+/// What a report tells, line by line.
+#[derive(Debug, Drop)]
+pub struct Report {
+    /// The lines in order.
+    pub lines: Sequence<ReportLine>,
+}

@@ -20,7 +20,8 @@ within [] i some = absurd (cc)
 within (x ∷ xs) zero some = omega arith
 within (x ∷ xs) (suc i) some = let rest = within xs i some in omega (arith, rest)
 
-pub slot_of_map : {A B : Type 0} (f : A → B) (xs : List (Option A)) (i : ℕ) → slice_index_or (map (option_map f) xs) i None ≡ option_map f (slice_index_or xs i None)
+pub slot_of_map : {A B : Type 0} (f : A → B) (xs : List (Option A)) (i : ℕ)
+    → slice_index_or (map (option_map f) xs) i None ≡ option_map f (slice_index_or xs i None)
 slot_of_map f xs i = get_or-map (option_map f) xs i None
 
 some_before_map : {A B : Type 0} (f : A → B) (o : Option A) → IsSome (option_map f o) → IsSome o
@@ -62,7 +63,8 @@ slot_of_more (z ∷ xs) x y (suc i) is = elim (slot_of_more xs x y i is) [
 
 module _ (marks : List (Option Mark)) (old new : Lists ℕ) (ready idle : ℕ) (marked : AreMarked marks old ready idle) where
   -- one watcher more
-  pub marked_more : (is : Bool) (node : ℕ) → Updates old new (list_of ready idle is) (Some (entries_at old (list_of ready idle is) ++ (node, length marks) ∷ []))
+  pub marked_more : (is : Bool) (node : ℕ)
+      → Updates old new (list_of ready idle is) (Some (entries_at old (list_of ready idle is) ++ (node, length marks) ∷ []))
       → AreMarked (marks ++ Some (record { ready = is; node = node }) ∷ []) new ready idle
   marked_more is node updates =
       record {
@@ -72,7 +74,8 @@ module _ (marks : List (Option Mark)) (old new : Lists ℕ) (ready idle : ℕ) (
           | inl before ↦ more_kept old new (list_of ready idle is) node (length marks) updates (list_of ready idle m.ready) m.node i (marked.stands i m before)
           | inr here ↦
               subst (λ (m : Mark). Holds (entries_at new (list_of ready idle m.ready)) m.node i) here.1
-              (subst (λ (k : ℕ). Holds (entries_at new (list_of ready idle is)) node k) (sym here.0) (more_new old new (list_of ready idle is) node (length marks) updates))
+              (subst (λ (k : ℕ). Holds (entries_at new (list_of ready idle is)) node k) (sym here.0)
+              (more_new old new (list_of ready idle is) node (length marks) updates))
         ];
         only = λ b n i h. elim (more_from old new (list_of ready idle is) node (length marks) updates (list_of ready idle b) n i h) [
           | inl before ↦
@@ -111,7 +114,8 @@ marked_less marks old new ready idle marked i m at on updates gone =
       stands = λ j k is. elim (cases_eq j i) [
         | inl same ↦
             let none : slice_index_or (slice_set marks i None) i None ≡ None = get_or-set_same marks i None None below in
-            let some : slice_index_or (slice_set marks i None) i None ≡ Some k = subst (λ (n : ℕ). slice_index_or (slice_set marks i None) n None ≡ Some k) same is in
+            let some : slice_index_or (slice_set marks i None) i None ≡ Some k =
+            subst (λ (n : ℕ). slice_index_or (slice_set marks i None) n None ≡ Some k) same is in
             absurd (cc)
         | inr differs ↦
             less_kept old new m.node on.place on.stands updates gone (list_of ready idle k.ready) k.node j (λ e. differs (e ∙ on.number))

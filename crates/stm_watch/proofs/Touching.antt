@@ -267,7 +267,8 @@ module _ (revision : ℕ) (key : List ℕ) where
     slot_touched : (j : ℕ) → slice_index_or both j None ≡ option_map (touch_key revision key) (slice_index_or ws j None)
     slot_touched j = by_slot (slice_index_or ws j None) refl
       where
-        by_slot : (o : Option Watcher) → slice_index_or ws j None ≡ o → slice_index_or both j None ≡ option_map (touch_key revision key) (slice_index_or ws j None)
+        by_slot : (o : Option Watcher) → slice_index_or ws j None ≡ o
+            → slice_index_or both j None ≡ option_map (touch_key revision key) (slice_index_or ws j None)
         by_slot None is = either_same j (ap (option_map (touch_key revision key)) is ∙ sym is)
         by_slot (Some w) is = elim (cases_Bool (is_watched w.watching.watched key)) [
           | inl matches ↦
@@ -281,10 +282,11 @@ module _ (revision : ℕ) (key : List ℕ) where
         ≡ map (option_map (touch_key revision key)) ws
     all_touched = same_lists both (map (option_map (touch_key revision key)) ws) (long ∙ sym (length-map ws (option_map (touch_key revision key))))
         (λ k d below.
-            let under : k < length ws = omega (arith, below, long) in
-            let mapped : k < length (map (option_map (touch_key revision key)) ws) = omega (arith, under, length-map ws (option_map (touch_key revision key))) in
-            read_at both k d below ∙ slot_touched k ∙ sym (slot_of_map (touch_key revision key) ws k)
-            ∙ sym (read_at (map (option_map (touch_key revision key)) ws) k d mapped))
+        let under : k < length ws = omega (arith, below, long) in
+        let mapped : k < length (map (option_map (touch_key revision key)) ws) = omega
+        (arith, under, length-map ws (option_map (touch_key revision key))) in
+        read_at both k d below ∙ slot_touched k ∙ sym (slot_of_map (touch_key revision key) ws k)
+        ∙ sym (read_at (map (option_map (touch_key revision key)) ws) k d mapped))
       where
         long : length both ≡ length ws
         long = length_each (places_on lists ranges) own ∙ length_each (places_at lists (of_key key)) ws

@@ -20,9 +20,7 @@ fn touch_list(slots: &mut Slots, lists: &Lists<usize>, list: ListId, revision: u
 {
     let mut next = lists.front(list);
     for _count in 0..lists.len(list) {
-        let Some(node) = next else {
-            unreachable!()
-        };
+        let Some(node) = next else { unreachable!() };
         slots.touch(*lists.get(node), revision, key);
         next = lists.next(node);
     }

@@ -40,11 +40,7 @@ impl Watching {
     pub(crate) fn starting(watched: Watched, from: u64, keys: &Keys) -> Watching
         ensures { result ≡ watching_from keys.now.history watched from }
     {
-        let seen = if from == 0 {
-            keys.revision()
-        } else {
-            from - 1
-        };
+        let seen = if from == 0 { keys.revision() } else { from - 1 };
         Watching { watched, seen }
     }
 

@@ -15,7 +15,8 @@ touch_list-requires-clause-within c node i h =
     ap length c.touch_its_own.ensures
     ∙ length_each c.args.revision c.args.key.now (places_at c.args.index.now.lists (get_by_text c.args.index.now.keys c.args.key.now)) c.args.slots.now in
     subst (λ (n : ℕ). i < n) (sym long)
-    (listed_within c.args.revision c.args.key.now c.args.index.now.lists (get_by_text c.args.index.now.keys) c.args.index.now.ranges c.args.index.now.nodes.items
+    (listed_within c.args.revision c.args.key.now c.args.index.now.lists (get_by_text c.args.index.now.keys) c.args.index.now.ranges
+    c.args.index.now.nodes.items
     c.args.slots.now c.requires c.args.index.now.ranges node i h)
 
 pub returns : goal.returns

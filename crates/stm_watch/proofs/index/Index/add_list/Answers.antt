@@ -25,7 +25,8 @@ returns-clause-kept c ws covers =
     let of_key : List ℕ → Option ℕ = get_by_text c.args.self.now.keys in
     let key : List ℕ = string_bytes c.into_string.result in
     let is : key ≡ c.args.key.now = c.into_string.ensures ∙ c.in_ok-key.ensures.cases in
-    let keys : (q : List ℕ) → get_by_text c.insert.new.self q ≡ cond (bytes_eq key q) (Some c.in_ok-list.list) (of_key q) = λ q. hash_map_updates_text key c.reserve.new.self c.insert.new.self (Some c.in_ok-list.list) c.in-Ok.ensures.updates q
+    let keys : (q : List ℕ) → get_by_text c.insert.new.self q ≡ cond (bytes_eq key q) (Some c.in_ok-list.list) (of_key q) = λ q. hash_map_updates_text key
+    c.reserve.new.self c.insert.new.self (Some c.in_ok-list.list) c.in-Ok.ensures.updates q
     ∙ ap (λ o. cond (bytes_eq key q) (Some c.in_ok-list.list) o) (ap (lookup (λ k. bytes_eq q (string_bytes k))) c.reserve.ensures.entries) in
     let none : of_key key ≡ None = ap of_key is ∙ c.requires in
     listed_new c.args.self.now.lists c.new_list.new.self (list_for c.args.self.now) _ c.args.self.now.nodes.items ws c.in_ok-list.list

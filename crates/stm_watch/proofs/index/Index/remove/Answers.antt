@@ -6,7 +6,8 @@ use Rattle.stm_watch.proofs.index.Index.remove.Goals as goal
 
 pub unlink-requires : goal.unlink-requires
 unlink-requires c =
-    let found = listed_node c.args.self.now.lists (list_for c.args.self.now) c.args.self.now.nodes.items c.requires.0 c.args.index c.in-Some.node c.index.result.now
+    let found = listed_node c.args.self.now.lists (list_for c.args.self.now) c.args.self.now.nodes.items c.requires.0 c.args.index c.in-Some.node
+    c.index.result.now
     c.requires.1 c.requires.2 c.index.ensures c.in-Some.is in
     node_on c.args.self.now.lists found.0 c.in-Some.node c.args.index found.2
 

@@ -17,7 +17,8 @@ invariant_of-self c =
     c.index.ensures c.in-Some.is in
     let on = mark_place c.self.inside.marks.items c.self.inside.lists c.self.inside.lists c.self.inside.ready c.self.inside.idle c.self.invariant
     c.args.index c.in-Some.mark.node c.in-Some.mark.ready at in
-    marked_less c.self.inside.marks.items c.self.inside.lists c.unlink.new.self c.self.inside.ready c.self.inside.idle c.self.invariant c.args.index c.in-Some.mark at on
+    marked_less c.self.inside.marks.items c.self.inside.lists c.unlink.new.self c.self.inside.ready c.self.inside.idle c.self.invariant c.args.index
+    c.in-Some.mark at on
     (c.unlink.ensures.unlinked on.place on.stands) c.unlink.ensures.gone
 
 pub returns : goal.returns

@@ -19,7 +19,8 @@ push_back-requires c =
     c.index.ensures c.in-Some.is in
     let on = mark_place c.self.inside.marks.items c.self.inside.lists c.self.inside.lists c.self.inside.ready c.self.inside.idle c.self.invariant
     c.args.index c.in-Some.mark.node c.in-Some.mark.ready at in
-    let less = marked_less c.self.inside.marks.items c.self.inside.lists c.unlink.new.self c.self.inside.ready c.self.inside.idle c.self.invariant c.args.index c.in-Some.mark
+    let less = marked_less c.self.inside.marks.items c.self.inside.lists c.unlink.new.self c.self.inside.ready c.self.inside.idle c.self.invariant
+    c.args.index c.in-Some.mark
     at on (c.unlink.ensures.unlinked on.place on.stands) c.unlink.ensures.gone in
     subst (HasList c.unlink.new.self) (sym c.list_of-list.ensures) (less.there c.args.ready)
 
@@ -29,7 +30,8 @@ invariant_of-self c =
     c.index.ensures c.in-Some.is in
     let on = mark_place c.self.inside.marks.items c.self.inside.lists c.self.inside.lists c.self.inside.ready c.self.inside.idle c.self.invariant
     c.args.index c.in-Some.mark.node c.in-Some.mark.ready at in
-    let less = marked_less c.self.inside.marks.items c.self.inside.lists c.unlink.new.self c.self.inside.ready c.self.inside.idle c.self.invariant c.args.index c.in-Some.mark
+    let less = marked_less c.self.inside.marks.items c.self.inside.lists c.unlink.new.self c.self.inside.ready c.self.inside.idle c.self.invariant
+    c.args.index c.in-Some.mark
     at on (c.unlink.ensures.unlinked on.place on.stands) c.unlink.ensures.gone in
     marked_again c.self.inside.marks.items c.unlink.new.self c.push_back.new.self c.self.inside.ready c.self.inside.idle c.args.index c.in-Ok.node c.args.ready
     (within c.self.inside.marks.items c.args.index (subst IsSome (sym at) refl)) less

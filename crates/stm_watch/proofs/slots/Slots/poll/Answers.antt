@@ -13,7 +13,8 @@ invariant_of-self-2 c =
     let read : c.index.result.now ≡ slot =
     c.index.ensures ∙ get_or-set_same c.self.inside.watchers.items c.args.index slot c.index.result.now there in
     let polled = subst (λ r. SlotPolls c.args.keys.now.history c.args.most c.index_mut.result.now r slot) c.in_ok-batch.was c.poll_slot.ensures in
-    let mark = ap Some (c.is_ready.ensures ∙ ap is_ready read) ∙ polled_mark c.args.keys.now.history c.args.most c.index_mut.result.now slot c.in_ok-batch.batch polled in
+    let mark = ap Some (c.is_ready.ensures ∙ ap is_ready read) ∙ polled_mark c.args.keys.now.history c.args.most c.index_mut.result.now slot
+    c.in_ok-batch.batch polled in
     c.set.ensures
     ∙ ap (λ l. slice_set l c.args.index (Some c.is_ready.result)) c.self.invariant
     ∙ ap (slice_set _ c.args.index) mark

@@ -13,4 +13,5 @@ returns-clause-stand c =
 
 pub push-requires-2-clause-list : goal.push-requires-2-clause-list
 push-requires-2-clause-list c =
-    (c.make_room.ensures.kept (watched_of c.self.inside.slots) c.self.invariant).there c.starting-watching.result.watched c.in_ok-list.list c.in_ok-list.ensures.list
+    (c.make_room.ensures.kept (watched_of c.self.inside.slots) c.self.invariant).there c.starting-watching.result.watched c.in_ok-list.list
+    c.in_ok-list.ensures.list

@@ -8,7 +8,8 @@ pub invariant_of-self : goal.invariant_of-self
 invariant_of-self c =
     let there : c.args.id - 1 < length c.self.inside.slots = omega (arith, c.if-id-eq0.false, c.if-id-len.false, c.len.ensures) in
     subst (Covers c.self.inside.index)
-    (sym (place_watched c.args.keys.now.history (c.args.id - 1) c.args.most c.self.inside.slots c.poll.new.self c.poll.result c.poll.ensures there)) c.self.invariant
+    (sym (place_watched c.args.keys.now.history (c.args.id - 1) c.args.most c.self.inside.slots c.poll.new.self c.poll.result c.poll.ensures there))
+    c.self.invariant
 
 pub returns-clause-answer : goal.returns-clause-answer
 returns-clause-answer c =

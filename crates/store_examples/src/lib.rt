@@ -16,3 +16,5 @@ mod lists;
 mod shown;
 #[cfg(test)]
 mod transactions;
+#[cfg(test)]
+mod watchers;

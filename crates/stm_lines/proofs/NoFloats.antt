@@ -6,6 +6,8 @@ use Rattle.serde_json.specs.View.{items_of}
 use Rattle.serde_json.specs.Written.{has_float, items_have_float}
 use Rattle.stm_history.specs.declared.key_state.KeyState.{KeyState}
 use Rattle.stm_history.specs.declared.key_state.ReadAnswer.{ReadAnswer}
+use Rattle.stm_keys.specs.declared.event.Event.{Event}
+use Rattle.stm_keys.specs.declared.event.Event.TheVariants.{Put as PutEvent, Delete as DeleteEvent}
 use Rattle.stm_meaning.specs.declared.value.Value.{Value}
 use Rattle.stm_meaning.specs.declared.value.Value.TheVariants.{Text, Number}
 use Rattle.stm_meaning.specs.declared.trace_item.TraceItem.{TraceItem}
@@ -15,9 +17,9 @@ use Rattle.stm_txn.specs.declared.answer.OpAnswer.{OpAnswer}
 use Rattle.stm_txn.specs.declared.answer.OpAnswer.TheVariants.{Get as GetAnswer, Put as PutAnswer, Del as DelAnswer}
 use Rattle.stm_world.specs.declared.reply.Reply.{Reply}
 use Rattle.stm_world.specs.declared.reply.Reply.TheVariants.{Started, Fetched, Committed, Conflict, GaveUp, Aborted, Faulted, Ended}
-use Rattle.stm_world.specs.declared.reply.Reply.TheVariants.{Txn, Granted, Kept, Revoked, Advanced}
+use Rattle.stm_world.specs.declared.reply.Reply.TheVariants.{Txn, Granted, Kept, Revoked, Advanced, Watching, Batch, Cancelled}
 use Rattle.stm_world.specs.declared.refusal.Denied.{Denied}
-use Rattle.stm_lines.specs.Lines.{value_data, trace_data, value_or_null, answer_data, state_or_null, op_answer_data, expired_data}
+use Rattle.stm_lines.specs.Lines.{value_data, trace_data, value_or_null, answer_data, state_or_null, op_answer_data, expired_data, event_data}
 use Rattle.stm_lines.specs.Lines.{reply_line, event_line}
 
 items_of-no_floats : {A : Type 0} (f : A → Data) → ((x : A) → has_float (f x) ≡ false) → (xs : List A) → items_have_float (items_of (map f xs)) ≡ false
@@ -55,6 +57,10 @@ op_answer_data-no_float (DelAnswer count) = refl
 expired_data-no_float : (e : Expired) → has_float (expired_data e) ≡ false
 expired_data-no_float e = refl
 
+event_data-no_float : (e : Event) → has_float (event_data e) ≡ false
+event_data-no_float (PutEvent key state) = refl
+event_data-no_float (DeleteEvent key revision) = refl
+
 pub reply_line-no_float : (n : ℕ) (reply : Reply) → has_float (reply_line n reply) ≡ false
 reply_line-no_float n (Started runner) = refl
 reply_line-no_float n (Fetched runner key mod_rev of_rev revision) = refl
@@ -74,6 +80,9 @@ reply_line-no_float n (Granted id) = refl
 reply_line-no_float n (Kept id) = refl
 reply_line-no_float n (Revoked id revision) = refl
 reply_line-no_float n (Advanced now expired) = rw (items_of-no_floats expired_data expired_data-no_float expired) refl
+reply_line-no_float n (Watching watcher) = refl
+reply_line-no_float n (Batch watcher upto events) = rw (items_of-no_floats event_data event_data-no_float events) refl
+reply_line-no_float n (Cancelled watcher) = refl
 
 pub event_line-no_float : (n : ℕ) (reply : Result Reply Denied) → has_float (event_line n reply) ≡ false
 event_line-no_float n (Ok reply) = reply_line-no_float n reply

@@ -1,7 +1,8 @@
 -- The lines of a report, as JSON data.
 --
 -- The words are those of docs/FORMATS.md, "Reports"; what a transaction's line tells is what etcd's API reference, "Transaction",
--- has in a `TxnResponse`: whether it succeeded, the header's revision, and a response for each operation.
+-- has in a `TxnResponse`: whether it succeeded, the header's revision, and a response for each operation; what a batch's line tells
+-- of each event is what the reference, "Watch", has in an `Event`: its type, and the key with its state or the revision of its deletion.
 use Rattle.std.specs.Prelude.{ℕ, List, [], ◌∷◌, map, Option, Some, None, Result, Ok, Err, codes}
 use Rattle.serde_json.specs.Data.{Data, null, boolean, number, string, array, unsigned}
 use Rattle.serde_json.specs.Find.{of_integer}
@@ -9,6 +10,8 @@ use Rattle.serde_json.specs.View.{items_of}
 use Rattle.stm_history.specs.declared.key_state.KeyState.{KeyState}
 use Rattle.stm_history.specs.declared.key_state.ReadAnswer.{ReadAnswer}
 use Rattle.stm_history.specs.History.{mod_of}
+use Rattle.stm_keys.specs.declared.event.Event.{Event}
+use Rattle.stm_keys.specs.declared.event.Event.TheVariants.{Put as PutEvent, Delete as DeleteEvent}
 use Rattle.stm_leases.specs.LeaseLog.{Term}
 use Rattle.stm_meaning.specs.declared.value.Value.{Value}
 use Rattle.stm_meaning.specs.declared.value.Value.TheVariants.{Text, Number}
@@ -21,7 +24,7 @@ use Rattle.stm_txn.specs.declared.answer.OpAnswer.TheVariants.{Get as GetAnswer,
 use Rattle.stm_txn.specs.Names.{refusal_name as store_refusal_name}
 use Rattle.stm_world.specs.declared.reply.Reply.{Reply}
 use Rattle.stm_world.specs.declared.reply.Reply.TheVariants.{Started, Fetched, Committed, Conflict, GaveUp, Aborted, Faulted, Ended}
-use Rattle.stm_world.specs.declared.reply.Reply.TheVariants.{Txn, Granted, Kept, Revoked, Advanced}
+use Rattle.stm_world.specs.declared.reply.Reply.TheVariants.{Txn, Granted, Kept, Revoked, Advanced, Watching, Batch, Cancelled}
 use Rattle.stm_world.specs.declared.refusal.Denied.{Denied}
 use Rattle.stm_world.specs.Names.{refusal_name}
 
@@ -64,6 +67,13 @@ op_answer_data (DelAnswer count) = list (string (codes "del") ∷ whole count �
 abbrev pub expired_data : Expired → Data
 expired_data e = list (whole e.id ∷ whole e.revision ∷ [])
 
+-- what a watcher is shown: a put with the key's state since, and a deletion with its revision
+abbrev pub event_data : Event → Data
+event_data (PutEvent key state) =
+    list (string (codes "PUT") ∷ string key
+    ∷ string state.value ∷ whole state.create_rev ∷ whole state.mod_rev ∷ whole state.version ∷ whole state.lease ∷ [])
+event_data (DeleteEvent key revision) = list (string (codes "DELETE") ∷ string key ∷ whole revision ∷ [])
+
 -- ---- event lines: the number of the event, the word, and what it tells
 
 abbrev pub reply_line : ℕ → Reply → Data
@@ -86,6 +96,29 @@ reply_line n (Granted id) = list (whole n ∷ string (codes "granted") ∷ whole
 reply_line n (Kept id) = list (whole n ∷ string (codes "kept") ∷ whole id ∷ [])
 reply_line n (Revoked id revision) = list (whole n ∷ string (codes "revoked") ∷ whole id ∷ whole revision ∷ [])
 reply_line n (Advanced now expired) = list (whole n ∷ string (codes "advanced") ∷ whole now ∷ list (map expired_data expired) ∷ [])
+reply_line n (Watching watcher) = list (whole n ∷ string (codes "watching") ∷ whole watcher ∷ [])
+reply_line n (Batch watcher upto events) =
+    list (whole n ∷ string (codes "batch") ∷ whole watcher ∷ whole upto ∷ list (map event_data events) ∷ [])
+reply_line n (Cancelled watcher) = list (whole n ∷ string (codes "cancelled") ∷ whole watcher ∷ [])
+
+-- the reply tells of a runner
+abbrev pub IsOfRunner : Reply → Type 0
+IsOfRunner (Started runner) = Unit {0}
+IsOfRunner (Fetched runner key mod_rev of_rev revision) = Unit {0}
+IsOfRunner (Committed runner revision attempts output trace answers) = Unit {0}
+IsOfRunner (Conflict runner key seen now) = Unit {0}
+IsOfRunner (GaveUp runner attempts key seen now) = Unit {0}
+IsOfRunner (Aborted runner text) = Unit {0}
+IsOfRunner (Faulted runner fault) = Unit {0}
+IsOfRunner (Ended runner cause) = Unit {0}
+IsOfRunner other = ⊥
+
+-- the reply tells of a commit that the store took
+abbrev pub IsOfCommit : Reply → Type 0
+IsOfCommit (Committed runner revision attempts output trace answers) = Unit {0}
+IsOfCommit (Conflict runner key seen now) = Unit {0}
+IsOfCommit (GaveUp runner attempts key seen now) = Unit {0}
+IsOfCommit other = ⊥
 
 abbrev pub event_line : ℕ → Result Reply Denied → Data
 event_line n (Ok reply) = reply_line n reply

@@ -3,17 +3,18 @@ ghost use Rattle.std.specs.Prelude.{◌≡◌, [], ◌∷◌, false, IfOk};
 ghost use Rattle.serde_json.specs.View.{view};
 ghost use Rattle.serde_json.specs.Data.{string};
 ghost use Rattle.serde_json.specs.Written.{has_float};
-ghost use Rattle.stm_world.specs.declared.reply.Reply.TheVariants.{Txn, Advanced};
-ghost use Rattle.stm_lines.specs.Lines.{list, whole, reply_line, event_line};
+ghost use Rattle.stm_world.specs.declared.reply.Reply.TheVariants.{Txn, Advanced, Batch};
+ghost use Rattle.stm_lines.specs.Lines.{list, whole, reply_line, event_line, IsOfRunner, IsOfCommit};
 
 use crate::runners::{Commit, committed_json, conflict_json, fetched_json, gave_up_json};
 use crate::spelled::array;
 use serde_json::{Value as Json, json};
 use std::alloc::{AllocError, Global};
+use stm_keys::Event;
 use stm_txn::{Expired, TxnAnswer};
 use stm_world::{Denied, Reply};
 
-/// The line of a runner or a lease that is named and no more.
+/// The line of a runner, a lease or a watcher that is named and no more.
 fn named_json(alloc: Global, number: u64, word: &str, id: u64) -> Result<Json, AllocError>
     ensures { IfOk result (λ v. view v ≡ list (whole number ∷ string word.now ∷ whole id ∷ [])) }
 {
@@ -54,22 +55,26 @@ fn advanced_json(
     json!(in alloc; [number, "advanced", now, expired])
 }
 
-/// The line of an event that was taken.
-fn reply_json(alloc: Global, number: u64, reply: &Reply) -> Result<Json, AllocError>
+/// The line of what a watcher was given.
+fn batch_json(
+    alloc: Global,
+    number: u64,
+    watcher: u64,
+    upto: u64,
+    events: &[Event],
+) -> Result<Json, AllocError>
+    ensures { IfOk result (λ v. view v ≡ reply_line number (Batch watcher upto events.now)) }
+{
+    let events = array(alloc, events)?;
+    json!(in alloc; [number, "batch", watcher, upto, events])
+}
+
+/// The line of a commit that the store took, or that failed.
+fn commit_json(alloc: Global, number: u64, reply: &Reply) -> Result<Json, AllocError>
+    requires { IsOfCommit reply.now }
     ensures { IfOk result (λ v. view v ≡ reply_line number reply.now) }
 {
     match reply {
-        Reply::Started { runner } => named_json(alloc, number, "started", *runner),
-        Reply::Fetched {
-            runner,
-            key,
-            mod_rev,
-            of_rev,
-            revision,
-        } => {
-            let key = key.as_str();
-            fetched_json(alloc, number, *runner, key, *mod_rev, *of_rev, *revision)
-        }
         Reply::Committed {
             runner,
             revision,
@@ -101,6 +106,27 @@ fn reply_json(alloc: Global, number: u64, reply: &Reply) -> Result<Json, AllocEr
             seen,
             now,
         } => gave_up_json(alloc, number, *runner, *attempts, key.as_str(), *seen, *now),
+        _ => unreachable!(),
+    }
+}
+
+/// The line of an event of a runner that was taken.
+fn runner_json(alloc: Global, number: u64, reply: &Reply) -> Result<Json, AllocError>
+    requires { IsOfRunner reply.now }
+    ensures { IfOk result (λ v. view v ≡ reply_line number reply.now) }
+{
+    match reply {
+        Reply::Started { runner } => named_json(alloc, number, "started", *runner),
+        Reply::Fetched {
+            runner,
+            key,
+            mod_rev,
+            of_rev,
+            revision,
+        } => {
+            let key = key.as_str();
+            fetched_json(alloc, number, *runner, key, *mod_rev, *of_rev, *revision)
+        }
         Reply::Aborted { runner, text } => {
             told_json(alloc, number, "aborted", *runner, text.as_str())
         }
@@ -110,6 +136,15 @@ fn reply_json(alloc: Global, number: u64, reply: &Reply) -> Result<Json, AllocEr
         Reply::Ended { runner, cause } => {
             told_json(alloc, number, "ended", *runner, cause.name())
         }
+        _ => commit_json(alloc, number, reply),
+    }
+}
+
+/// The line of an event that was taken.
+fn reply_json(alloc: Global, number: u64, reply: &Reply) -> Result<Json, AllocError>
+    ensures { IfOk result (λ v. view v ≡ reply_line number reply.now) }
+{
+    match reply {
         Reply::Txn { answer } => txn_json(alloc, number, answer),
         Reply::Granted { id } => named_json(alloc, number, "granted", *id),
         Reply::Kept { id } => named_json(alloc, number, "kept", *id),
@@ -117,6 +152,14 @@ fn reply_json(alloc: Global, number: u64, reply: &Reply) -> Result<Json, AllocEr
         Reply::Advanced { now, expired } => {
             advanced_json(alloc, number, *now, expired.as_slice())
         }
+        Reply::Watching { watcher } => named_json(alloc, number, "watching", *watcher),
+        Reply::Batch {
+            watcher,
+            upto,
+            events,
+        } => batch_json(alloc, number, *watcher, *upto, events.as_slice()),
+        Reply::Cancelled { watcher } => named_json(alloc, number, "cancelled", *watcher),
+        _ => runner_json(alloc, number, reply),
     }
 }
 

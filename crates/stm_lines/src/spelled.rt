@@ -3,11 +3,13 @@ ghost use Rattle.std.specs.Prelude.{◌≡◌, IfOk, map};
 ghost use Rattle.serde_json.specs.Data.{Data};
 ghost use Rattle.serde_json.specs.View.{view};
 ghost use Rattle.stm_history.specs.History.{mod_of};
-ghost use Rattle.stm_lines.specs.Lines.{list, value_data, trace_data, answer_data, value_or_null, expired_data};
+ghost use Rattle.stm_keys.specs.declared.event.Event.TheVariants.{Put as PutEvent};
+ghost use Rattle.stm_lines.specs.Lines.{list, value_data, trace_data, answer_data, value_or_null, expired_data, event_data};
 
 use serde_json::{Value as Json, json};
 use std::alloc::{AllocError, Global};
 use stm_history::{KeyState, ReadAnswer};
+use stm_keys::Event;
 use stm_meaning::{TraceItem, Value};
 use stm_txn::Expired;
 
@@ -90,5 +92,26 @@ impl Spelled for Expired {
 
     fn to_json(&self, alloc: Global) -> Result<Json, AllocError> {
         json!(in alloc; [self.id, self.revision])
+    }
+}
+
+/// What a watcher is shown of a put.
+fn put_json(alloc: Global, key: &str, state: &KeyState) -> Result<Json, AllocError>
+    ensures { IfOk result (λ v. view v ≡ event_data (PutEvent key.now state.now)) }
+{
+    let value = state.value.as_str();
+    json!(in alloc; ["PUT", key, value, state.create_rev, state.mod_rev, state.version, state.lease])
+}
+
+impl Spelled for Event {
+    ghost spelled = { event_data };
+
+    fn to_json(&self, alloc: Global) -> Result<Json, AllocError> {
+        match self {
+            Event::Put { key, state } => put_json(alloc, key.as_str(), state),
+            Event::Delete { key, revision } => {
+                json!(in alloc; ["DELETE", key.as_str(), *revision])
+            }
+        }
     }
 }

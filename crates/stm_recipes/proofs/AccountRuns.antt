@@ -1,9 +1,8 @@
 -- The runs of transfers and deposits.
-use Rattle.std.proofs.Common.{◌≡◌, ℕ, ◌<◌, ◌≤◌, ◌^◌, ◌-◌, Bool, true, false, List, [], ◌∷◌, ◌++◌, length, replicate, refl, sym, ◌∙◌, ap, arith}
+use Rattle.std.proofs.Common.{◌≡◌, ℕ, ◌<◌, ◌≤◌, ◌^◌, ◌-◌, Bool, true, false, List, [], ◌∷◌, length, replicate, refl, sym, ◌∙◌, ap, arith}
 use Rattle.std.specs.Prelude.{ℤ, pos, negsuc, neg_ℤ, ◌-ℤ◌, Result, Ok, Err, codes, nat_lt, int_lt, if◌then◌else◌, ◌==◌}
 use Rattle.std.specs.Fmt.{signed_decimal}
 use Rattle.std.specs.Str.Parse.{digits_value}
-use Rattle.std.proofs.lemmas.Bool.Decides.{nat_tests}
 use Rattle.std.proofs.lemmas.Grind.{common_steps}
 use Rattle.std.proofs.lemmas.Int.{ints}
 use Rattle.stm_program.specs.Syntax.{Block, Text, NumOf, Get, Abort, End, Then}
@@ -11,19 +10,19 @@ use Rattle.stm_program.specs.Writes.{last_write}
 use Rattle.stm_program.specs.declared.operator.Operator.TheVariants.{Sub}
 use Rattle.stm_program.specs.declared.write.Write.TheVariants.{Put as PutWrite}
 use Rattle.stm_steps.specs.declared.value.Value.{Value}
-use Rattle.stm_steps.specs.declared.value.Value.TheVariants.{Text as TextValue, Number as NumberValue}
+use Rattle.stm_steps.specs.declared.value.Value.TheVariants.{Number as NumberValue}
 use Rattle.stm_steps.specs.declared.fault.Fault.{Fault}
 use Rattle.stm_steps.specs.declared.fault.Fault.TheVariants.{Overflow, NotANumber}
 use Rattle.stm_steps.specs.Answer.{Lookup}
 use Rattle.stm_steps.specs.Values.{arithmetic, computed, as_number, written_number, signed_number, is_numeral, number_or, is_in_range, less, text_in}
 use Rattle.stm_steps.specs.Session.{Session, fresh, with_variable, with_write}
-use Rattle.stm_steps.specs.Outcome.{Outcome, Gives, Stops, and_then, given}
+use Rattle.stm_steps.specs.Outcome.{Gives, and_then, given}
 use Rattle.stm_meaning.specs.Meaning.{evaluate, holds, branch, run_statement, run_block, run_over}
 use Rattle.stm_meaning.specs.Laws.{KnowsEachKey}
 use Rattle.stm_meaning.specs.Leaves.{value_in, value_after}
-use Rattle.stm_recipes.specs.Accounts.{read_balance, refuse_below, withdraw, pay, transfer_program, zero_if_empty, put_sum, deposit_program}
+use Rattle.stm_recipes.specs.Accounts.{refuse_below, withdraw, pay, transfer_program, put_sum, deposit_program}
 use Rattle.stm_recipes.specs.Alone.{aborted, put_added, or_zero, moved, moved_or_refused, transferred, deposited, TransferAlone, DepositAlone}
-use Rattle.stm_recipes.proofs.Steps.{deed_in, told, does, after_get, text_of_key, number_of_key, number_put, number_is_put, put_of_sum, told_sum, silent, holding}
+use Rattle.stm_recipes.proofs.Steps.{deed_in, told, does, after_get, number_of_key, number_put, number_is_put, put_of_sum, told_sum, silent, holding}
 use Rattle.stm_recipes.proofs.Steps.{count_read, last_sum}
 
 -- ---- numbers that are read are in range
@@ -51,11 +50,12 @@ unfolding written_number
 written_in_range [] z e = absurd (cc)
 written_in_range (c ∷ cs) z e =
     signed_in_range (c == 45) (signed_number neg_ℤ cs) (signed_number (λ y. y) (c ∷ cs)) z
-    (λ f. numeral_in_range (is_numeral cs) (neg_ℤ (pos (digits_value 10 cs))) z f) (λ f. numeral_in_range (is_numeral (c ∷ cs)) (pos (digits_value 10 (c ∷ cs))) z f) e
+    (λ f. numeral_in_range (is_numeral cs) (neg_ℤ (pos (digits_value 10 cs))) z f)
+    (λ f. numeral_in_range (is_numeral (c ∷ cs)) (pos (digits_value 10 (c ∷ cs))) z f) e
 
 -- ---- differences of numbers that are not below are in range
 
-difference_in_range : (z : ℤ) (amount : ℕ) → is_in_range z ≡ true → int_lt z (pos amount) ≡ false → is_in_range (z -ℤ pos amount) ≡ true
+pub difference_in_range : (z : ℤ) (amount : ℕ) → is_in_range z ≡ true → int_lt z (pos amount) ≡ false → is_in_range (z -ℤ pos amount) ≡ true
 difference_in_range (pos n) amount fits above =
     let small : n < 2 ^ 63 = grind (arith, common_steps) in
     let order : amount ≤ n = grind (arith, common_steps) in
@@ -94,7 +94,8 @@ module _ (look : Lookup) (knows : KnowsEachKey look) (from to : List ℕ) (amoun
   unfolding run_block
   paid s =
       ap (λ o. told (and_then o (λ _. run_block look End)))
-      (put_of_sum look to amount (NumOf (Get (Text to))) (written_number (value_after s.writes (value_in look) to)) (silent s) (after_get look to (silent s)) long_to
+      (put_of_sum look to amount (NumOf (Get (Text to))) (written_number (value_after s.writes (value_in look) to)) (silent s)
+      (after_get look to (silent s)) long_to
       (number_of_key look knows to (silent s) long_to))
       ∙ told_sum look to amount (written_number (value_after s.writes (value_in look) to)) (after_get look to (silent s))
 
@@ -125,7 +126,8 @@ module _ (look : Lookup) (knows : KnowsEachKey look) (from to : List ℕ) (amoun
   transfer_runs : deed_in (run_over look (transfer_program from to amount)) ≡ transferred from to amount (value_in look)
   unfolding run_over run_block transfer_program fresh last_write
   transfer_runs =
-      ap (λ o. told (and_then (and_then o (λ y t. Gives (tt {0}) (with_variable 0 y t))) (λ _. run_block look testing))) (number_of_key look knows from fresh long_from)
+      ap (λ o. told (and_then (and_then o (λ y t. Gives (tt {0}) (with_variable 0 y t))) (λ _. run_block look testing)))
+      (number_of_key look knows from fresh long_from)
       ∙ balance_read (written_number (value_in look from)) (NumberValue (pos 0)) others (after_get look from fresh) (written_in_range (value_in look from))
 
 pub transfer_alone : TransferAlone

@@ -10,16 +10,16 @@ use Rattle.stm_steps.specs.declared.value.Value.TheVariants.{Text as TextValue, 
 use Rattle.stm_steps.specs.declared.fault.Fault.{Fault}
 use Rattle.stm_steps.specs.declared.fault.Fault.TheVariants.{TextTooLong}
 use Rattle.stm_steps.specs.Answer.{Lookup}
-use Rattle.stm_steps.specs.Values.{put_of, del_of, computed, written_number, equal, concatenated, longest_text, text_in}
+use Rattle.stm_steps.specs.Values.{put_of, computed, written_number, equal, concatenated, longest_text, text_in}
 use Rattle.stm_steps.specs.Session.{Session, fresh, with_variable, with_write, with_output}
-use Rattle.stm_steps.specs.Outcome.{Outcome, Gives, Stops, and_then, given}
-use Rattle.stm_meaning.specs.Meaning.{evaluate, holds, branch, run_statement, run_block, run_over}
+use Rattle.stm_steps.specs.Outcome.{Gives, and_then, given}
+use Rattle.stm_meaning.specs.Meaning.{evaluate, holds, branch, run_block, run_over}
 use Rattle.stm_meaning.specs.Laws.{KnowsEachKey}
 use Rattle.stm_meaning.specs.Leaves.{value_in}
 use Rattle.stm_recipes.specs.Names.{head_key, tail_key, items_key}
 use Rattle.stm_recipes.specs.Accounts.{read_text, zero_if_empty, put_sum}
 use Rattle.stm_recipes.specs.Queues.{put_item, enqueue_program, refuse_empty, name_item, emit_item, delete_item, dequeue_program}
-use Rattle.stm_recipes.specs.Alone.{Deed, aborted, faulted, put_number, put_added, or_zero, put_at, enqueued, emitting, taken_at, taken_or_refused, dequeued}
+use Rattle.stm_recipes.specs.Alone.{aborted, faulted, put_number, put_added, or_zero, put_at, enqueued, emitting, taken_at, taken_or_refused, dequeued}
 use Rattle.stm_recipes.specs.Alone.{EnqueueAlone, DequeueAlone}
 use Rattle.stm_recipes.proofs.Steps.{deed_in, told, does, after_get, gotten, number_put, sum_put, is_put, is_deletion, holding, holding_two}
 use Rattle.stm_recipes.proofs.Steps.{count_read, second_read, sum_of_first, last_sum}

@@ -1,15 +1,15 @@
 -- The runs of reservations and releases.
 use Rattle.std.proofs.Common.{◌≡◌, ℕ, ◌<◌, Bool, true, false, List, [], ◌∷◌, length, refl, ◌∙◌, ap}
-use Rattle.std.specs.Prelude.{pos, Ok, codes, nat_eq, bytes_eq, if◌then◌else◌}
-use Rattle.stm_program.specs.Syntax.{Block, Text, Abort, Del, End, Then}
+use Rattle.std.specs.Prelude.{pos, codes, nat_eq, bytes_eq, if◌then◌else◌}
+use Rattle.stm_program.specs.Syntax.{Text, Abort, Del, End, Then}
 use Rattle.stm_program.specs.Writes.{last_write}
 use Rattle.stm_program.specs.declared.write.Write.TheVariants.{Put as PutWrite, Del as DelWrite}
 use Rattle.stm_steps.specs.declared.value.Value.TheVariants.{Text as TextValue, Number as NumberValue}
 use Rattle.stm_steps.specs.Answer.{Lookup}
 use Rattle.stm_steps.specs.Values.{equal, text_in}
 use Rattle.stm_steps.specs.Session.{Session, fresh, with_write}
-use Rattle.stm_steps.specs.Outcome.{Outcome, Gives, Stops, and_then, given}
-use Rattle.stm_meaning.specs.Meaning.{evaluate, holds, branch, run_statement, run_block, run_over}
+use Rattle.stm_steps.specs.Outcome.{Gives, and_then, given}
+use Rattle.stm_meaning.specs.Meaning.{evaluate, holds, branch, run_block, run_over}
 use Rattle.stm_meaning.specs.Laws.{KnowsEachKey}
 use Rattle.stm_meaning.specs.Leaves.{value_in, mod_rev_in}
 use Rattle.stm_recipes.specs.Slots.{hold, reserve_program, release_program}

@@ -1,22 +1,18 @@
 -- What the statements of the recipes come to, each over a look-up that knows every key.
-use Rattle.std.proofs.Common.{◌≡◌, ℕ, ◌<◌, ◌+◌, Bool, true, false, List, [], ◌∷◌, ◌++◌, length, refl, sym, ◌∙◌, ap, arith, length-append}
-use Rattle.std.specs.Prelude.{ℤ, pos, ◌+ℤ◌, Result, Ok, Err, codes, nat_le, if◌then◌else◌}
+use Rattle.std.proofs.Common.{◌≡◌, ℕ, ◌<◌, List, [], ◌∷◌, length, refl, sym, ◌∙◌, ap}
+use Rattle.std.specs.Prelude.{ℤ, pos, Result, Ok, Err}
 use Rattle.std.specs.Fmt.{signed_decimal}
-use Rattle.stm_program.specs.Syntax.{Expression, Statement, Block, Text, Number, Variable, Get, Arithmetic, Cat, TextOf, NumOf, Put, End, Then}
-use Rattle.stm_program.specs.declared.operator.Operator.TheVariants.{Add, Sub}
-use Rattle.stm_program.specs.declared.write.Write.{Write}
+use Rattle.stm_program.specs.Syntax.{Expression, Block, Text, Number, Variable, Get, Arithmetic, TextOf, NumOf, Put, End, Then}
+use Rattle.stm_program.specs.declared.operator.Operator.TheVariants.{Add}
 use Rattle.stm_program.specs.declared.write.Write.TheVariants.{Put as PutWrite, Del}
 use Rattle.stm_steps.specs.declared.value.Value.{Value}
 use Rattle.stm_steps.specs.declared.value.Value.TheVariants.{Text as TextValue, Number as NumberValue}
 use Rattle.stm_steps.specs.declared.fault.Fault.{Fault}
-use Rattle.stm_steps.specs.declared.fault.Fault.TheVariants.{Overflow, TextTooLong}
 use Rattle.stm_steps.specs.declared.stop.Stop.TheVariants.{Faulted as FaultedStop}
-use Rattle.stm_steps.specs.declared.run.End.TheVariants.{Done}
-use Rattle.stm_steps.specs.declared.run.Run.{Run}
 use Rattle.stm_steps.specs.declared.run.Answered.{Answered}
 use Rattle.stm_steps.specs.declared.run.Answered.TheVariants.{Ended, Wants}
 use Rattle.stm_steps.specs.Answer.{Lookup}
-use Rattle.stm_steps.specs.Values.{key_in, put_of, del_of, num_of, text_of, arithmetic, computed, as_number, written_number, equal, concatenated, longest_text}
+use Rattle.stm_steps.specs.Values.{key_in, put_of, del_of, num_of, text_of, arithmetic, computed, as_number, written_number, equal}
 use Rattle.stm_steps.specs.Session.{Session, with_variable, with_write}
 use Rattle.stm_steps.specs.Outcome.{Outcome, Gives, Stops, and_then, given}
 use Rattle.stm_meaning.specs.Meaning.{evaluate, holds, run_statement, run_block, run_over, answered, get_key, rev_key}

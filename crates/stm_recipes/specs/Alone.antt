@@ -1,6 +1,6 @@
 -- What the recipes do alone. Each is said by cases on what its keys hold, for any look-up that knows every key, such as a state.
 use Rattle.std.specs.Prelude.{◌≡◌, ℕ, ◌<◌, ◌+◌, nat_le, nat_eq, bytes_eq, int_lt, if◌then◌else◌, ℤ, pos, ◌+ℤ◌, ◌-ℤ◌, List, [], ◌∷◌, ◌++◌, length, codes}
-use Rattle.std.specs.Prelude.{Result, Ok, Err}
+use Rattle.std.specs.Prelude.{Result, Ok, Err, true, false}
 use Rattle.std.specs.Fmt.{signed_decimal}
 use Rattle.stm_program.specs.Syntax.{Block}
 use Rattle.stm_program.specs.declared.write.Write.{Write}
@@ -14,7 +14,7 @@ use Rattle.stm_steps.specs.declared.run.End.TheVariants.{Done, Aborted, Faulted}
 use Rattle.stm_steps.specs.declared.run.Run.{Run}
 use Rattle.stm_steps.specs.declared.run.Answered.TheVariants.{Ended}
 use Rattle.stm_steps.specs.Answer.{Lookup}
-use Rattle.stm_steps.specs.Values.{written_number, number_or, longest_text}
+use Rattle.stm_steps.specs.Values.{written_number, number_or, is_in_range, longest_text}
 use Rattle.stm_meaning.specs.Meaning.{run_over}
 use Rattle.stm_meaning.specs.Laws.{KnowsEachKey}
 use Rattle.stm_meaning.specs.Leaves.{value_in, mod_rev_in, value_after}
@@ -144,3 +144,20 @@ EnqueueAlone = (look : Lookup) (queue item : List ℕ) → KnowsEachKey look →
 abbrev pub DequeueAlone : Type 0
 DequeueAlone = (look : Lookup) (queue : List ℕ) → KnowsEachKey look → 0 < length queue →
     Does look (dequeue_program queue) (dequeued queue (value_in look))
+
+-- ---- transfers that can be paid
+
+-- one account pays another: both sums are put
+abbrev pub PaysAnother : Type 0
+PaysAnother = (from to : List ℕ) (amount : ℕ) (values : List ℕ → List ℕ) (balance other : ℤ) →
+    bytes_eq from to ≡ false → written_number (values from) ≡ Ok balance → written_number (values to) ≡ Ok other →
+    int_lt balance (pos amount) ≡ false → is_in_range (other +ℤ pos amount) ≡ true →
+    transferred from to amount values
+    ≡ done (Put from (signed_decimal (balance -ℤ pos amount)) 0 ∷ Put to (signed_decimal (other +ℤ pos amount)) 0 ∷ [])
+
+-- an account that pays itself has its number at last
+abbrev pub PaysItself : Type 0
+PaysItself = (account : List ℕ) (amount : ℕ) (values : List ℕ → List ℕ) (balance : ℤ) →
+    written_number (values account) ≡ Ok balance → int_lt balance (pos amount) ≡ false →
+    transferred account account amount values
+    ≡ done (Put account (signed_decimal (balance -ℤ pos amount)) 0 ∷ Put account (signed_decimal balance) 0 ∷ [])

@@ -1,6 +1,7 @@
 -- Queues: items under the numbers from a head up to a tail. The programs that add and take an item, each as it would stand in the function
 -- that `clientv3/concurrency` has under "STM", and the items of a queue.
-use Rattle.std.specs.Prelude.{ℕ, ◌+◌, ◌-◌, nat_le, suc, zero, pos, negsuc, ℤ, List, [], ◌∷◌, ◌++◌, codes, Option, None, Some, option_map, Result, Ok, Err, if◌then◌else◌}
+use Rattle.std.specs.Prelude.{ℕ, ◌+◌, ◌-◌, nat_le, suc, zero, pos, negsuc, ℤ, List, [], ◌∷◌, ◌++◌, codes, Option, None, Some, option_map, if◌then◌else◌}
+use Rattle.std.specs.Prelude.{Result, Ok, Err}
 use Rattle.std.specs.Fmt.{decimal}
 use Rattle.stm_program.specs.Syntax.{Expression, Statement, Block, Text, Variable, Get, Cat, Equal, Set, Put, Del, If, Emit, Abort, End, Then}
 use Rattle.stm_steps.specs.declared.fault.Fault.{Fault}

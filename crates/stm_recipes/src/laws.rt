@@ -1,6 +1,6 @@
 //! What each recipe does alone, over any look-up that knows every key, such as a state. Each law stands on a function without a
 //! body.
-ghost use Rattle.stm_recipes.specs.Alone.{TransferAlone, DepositAlone, ReserveAlone, ReleaseAlone, EnqueueAlone, DequeueAlone};
+ghost use Rattle.stm_recipes.specs.Alone.{TransferAlone, DepositAlone, ReserveAlone, ReleaseAlone, EnqueueAlone, DequeueAlone, PaysAnother, PaysItself};
 
 /// A transfer puts the first account's number less the amount, and then the second one's number and the amount. Where the first
 /// has less than the amount it aborts with `insufficient`, and where an account has no number, or the second one's sum is out of
@@ -35,4 +35,15 @@ pub fn enqueue_alone()
 /// one more, or the item's key would be too long, it ends with that fault.
 pub fn dequeue_alone()
     ensures { DequeueAlone }
+{}
+
+/// A transfer between two accounts that have numbers, the first at least the amount, puts the first one's number less the amount and
+/// the second one's and the amount, where this is in range.
+pub fn pays_another()
+    ensures { PaysAnother }
+{}
+
+/// A transfer of an account to itself puts its number less the amount, and then its number again, where it has at least the amount.
+pub fn pays_itself()
+    ensures { PaysItself }
 {}

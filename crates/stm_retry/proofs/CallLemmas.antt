@@ -10,7 +10,7 @@ use Rattle.stm_txn.specs.declared.answer.TxnAnswer.{TxnAnswer}
 use Rattle.stm_txn.specs.declared.advance.Expired.{Expired}
 use Rattle.stm_txn.specs.declared.refusal.Refusal.{Refusal as StoreRefusal}
 use Rattle.stm_txn.specs.declared.refusal.Refusal.TheVariants.{OutOfMemory, EmptyKey, FutureRevision, Compacted, RevisionsUsedUp, LeaseExists, TtlOutOfRange}
-use Rattle.stm_txn.specs.declared.refusal.Refusal.TheVariants.{LeaseIdOutOfRange, LeaseNotFound, TooManyOps, DuplicateKey, TimeGoesBack}
+use Rattle.stm_txn.specs.declared.refusal.Refusal.TheVariants.{LeaseIdOutOfRange, LeaseNotFound, NoWatcher, TooManyOps, DuplicateKey, TimeGoesBack}
 use Rattle.stm_txn.specs.Standing.{Standing, Step as StoreStep, Advance as StoreAdvance, IsRefusalOf, refusal_of, transacted, advanced}
 use Rattle.stm_txn.specs.Standing.{at_moment, HasCome, IsStopped, IsCutShort as StoreCutShort}
 use Rattle.stm_entries.specs.declared.entry.Entry.{Entry}
@@ -42,6 +42,7 @@ refusal_tells event d LeaseExists old new want other = other (λ e. absurd (cc))
 refusal_tells event d TtlOutOfRange old new want other = other (λ e. absurd (cc))
 refusal_tells event d LeaseIdOutOfRange old new want other = other (λ e. absurd (cc))
 refusal_tells event d LeaseNotFound old new want other = other (λ e. absurd (cc))
+refusal_tells event d NoWatcher old new want other = other (λ e. absurd (cc))
 refusal_tells event d TooManyOps old new want other = other (λ e. absurd (cc))
 refusal_tells event d DuplicateKey old new want other = other (λ e. absurd (cc))
 refusal_tells event d TimeGoesBack old new want other = other (λ e. absurd (cc))

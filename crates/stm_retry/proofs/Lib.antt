@@ -1,5 +1,6 @@
 pub mod Wants
 pub mod CallLemmas
+pub mod WatchCalls
 pub mod StateLemmas
 pub mod RunnerLemmas
 pub mod SlotLemmas

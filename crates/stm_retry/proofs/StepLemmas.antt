@@ -1,7 +1,7 @@
 -- The parts of a runner's step, as the code has them at hand.
 use Rattle.std.proofs.Common.{◌≡◌, ◌≢◌, ℕ, ◌+◌, ◌<◌, List, [], ◌∷◌, ◌++◌, length, map, Option, Some, None, Result, Ok, Err, Bool, true, false, cond, refl, sym}
 use Rattle.std.proofs.Common.{◌∙◌, ap, subst, ◌⊎◌, inl, inr, ◌≤◌}
-use Rattle.std.specs.Prelude.{nat_eq, slice_get, IsOk, is_ok, IsErr}
+use Rattle.std.specs.Prelude.{nat_eq, slice_get, IsOk, is_ok}
 use Rattle.std.specs.declared.alloc.AllocError.{AllocError}
 use Rattle.std.proofs.lemmas.List.Elements.{All-nil, All-cons, All-head, All-tail}
 use Rattle.stm_history.specs.declared.key_state.ReadAnswer.{ReadAnswer}
@@ -51,7 +51,7 @@ use Rattle.stm_retry.specs.declared.told.Told.TheVariants.{GoesOn, Ends}
 use Rattle.stm_retry.specs.MachineTells.{Tells}
 use Rattle.stm_retry.specs.RunnerView.{AreNamed, next_for, with_answer, begun_again}
 use Rattle.stm_retry.specs.RunnerTells.{Workplace, workplace, world_around, reply_in, slot_after, Leaves, TellsEnd, IsReady, may_go_on}
-use Rattle.stm_retry.specs.RunnerTells.{told_of_failure}
+use Rattle.stm_retry.specs.RunnerTells.{told_of_failure, reply_told, slot_left}
 use Rattle.stm_world.proofs.Truth.{base_is_reached}
 use Rattle.stm_world.proofs.Slots.{other_number, count_grows}
 use Rattle.stm_retry.proofs.SlotLemmas.{put_back, put_there}
@@ -457,7 +457,7 @@ start_refuses program level w = refl
 
 -- ---- the step, with the places ----
 
-pub told_tells : (id : ℕ) (old : World) (r q : Runner) (after : Standing) (entries : List Entry) (slots : List Slot) (told : Told) (found : Option Runner) →
+told_tells : (id : ℕ) (old : World) (r q : Runner) (after : Standing) (entries : List Entry) (slots : List Slot) (told : Told) (found : Option Runner) →
     found ≡ Some r → Leaves id (Ok told) (workplace old.standing old.entries r) (workplace after entries q) (step_live id r) →
     slots ≡ with_slot id (slot_after told q) (with_slot id Over old.runners) →
     Tells (Ok (Ok (reply_in told))) old (record { standing = after; runners = slots; entries = entries }) (step_runner id found old)
@@ -470,7 +470,7 @@ told_tells id old r q after entries slots told (Some other) is leaves put =
           ∙ ap (λ (l : List Slot). record { standing = after; runners = l; entries = entries }) (sym (put ∙ put_there id old.runners (slot_after told q))),
     )
 
-pub ran_out_tells : (id : ℕ) (old : World) (r q : Runner) (after : Standing) (entries : List Entry) (slots : List Slot) (e : AllocError)
+ran_out_tells : (id : ℕ) (old : World) (r q : Runner) (after : Standing) (entries : List Entry) (slots : List Slot) (e : AllocError)
     (found : Option Runner) → found ≡ Some r → runner_at id old.runners ≡ Some r → workplace after entries q ≡ workplace old.standing old.entries r →
     slots ≡ with_slot id (Live q) (with_slot id Over old.runners) →
     Tells (Err e) old (record { standing = after; runners = slots; entries = entries }) (step_runner id found old)
@@ -485,8 +485,11 @@ ran_out_tells id old r q after entries slots e (Some other) is there leaves put 
       live_is_taken id other old,
     )
 
--- the exit where memory ran out
-pub at_error : (o : Result (Result Reply Denied) AllocError) (old new : World) (s : Stepped) → IsErr o → ((e : AllocError) → Tells (Err e) old new s) →
-    Tells o old new s
-at_error (Ok reply) old new s is tells = absurd (cc)
-at_error (Err e) old new s is tells = tells e
+-- the reply to the step of a runner that runs, told or not for want of memory
+pub outcome_tells : (id : ℕ) (old : World) (r q : Runner) (after : Standing) (entries : List Entry) (slots : List Slot)
+    (outcome : Result Told AllocError) (found : Option Runner) → found ≡ Some r → runner_at id old.runners ≡ Some r →
+    Leaves id outcome (workplace old.standing old.entries r) (workplace after entries q) (step_live id r) →
+    slots ≡ with_slot id (slot_left outcome q) (with_slot id Over old.runners) →
+    Tells (reply_told outcome) old (record { standing = after; runners = slots; entries = entries }) (step_runner id found old)
+outcome_tells id old r q after entries slots (Ok told) found is there leaves put = told_tells id old r q after entries slots told found is leaves put
+outcome_tells id old r q after entries slots (Err e) found is there leaves put = ran_out_tells id old r q after entries slots e found is there leaves put

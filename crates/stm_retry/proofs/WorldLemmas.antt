@@ -20,7 +20,7 @@ use Rattle.stm_txn.specs.declared.advance.Expired.{Expired}
 use Rattle.stm_txn.specs.declared.answer.FailedCompare.{FailedCompare}
 use Rattle.stm_txn.specs.declared.refusal.Refusal.{Refusal as StoreRefusal}
 use Rattle.stm_txn.specs.declared.refusal.Refusal.TheVariants.{OutOfMemory, EmptyKey, FutureRevision, Compacted, RevisionsUsedUp, LeaseExists, TtlOutOfRange}
-use Rattle.stm_txn.specs.declared.refusal.Refusal.TheVariants.{LeaseIdOutOfRange, LeaseNotFound, TooManyOps, DuplicateKey, TimeGoesBack}
+use Rattle.stm_txn.specs.declared.refusal.Refusal.TheVariants.{LeaseIdOutOfRange, LeaseNotFound, NoWatcher, TooManyOps, DuplicateKey, TimeGoesBack}
 use Rattle.stm_txn.specs.Commits.{revision_read}
 use Rattle.stm_txn.specs.Outcome.{Done}
 use Rattle.stm_compile.specs.Committed.{committed}
@@ -28,7 +28,7 @@ use Rattle.stm_compile.specs.Conflicts.{Seen, seen_by}
 use Rattle.stm_attempt.specs.Settled.{run_on}
 use Rattle.stm_attempt.specs.Fetches.{at_of}
 use Rattle.stm_world.specs.declared.event.WorldEvent.{WorldEvent}
-use Rattle.stm_world.specs.declared.event.WorldEvent.TheVariants.{Start, Step, Txn, Grant, Keep, Revoke, Advance}
+use Rattle.stm_world.specs.declared.event.WorldEvent.TheVariants.{Start, Step, Txn, Grant, Keep, Revoke, Advance, WatchKey, WatchRange, Poll, Cancel}
 use Rattle.stm_world.specs.declared.reply.Reply.{Reply}
 use Rattle.stm_world.specs.declared.refusal.Refusal.{Refusal}
 use Rattle.stm_world.specs.declared.refusal.Refusal.TheVariants.{Store, BadLimit, NoRunner}
@@ -163,6 +163,10 @@ want_sound (Grant id ttl) expired old new sound want = unchanged_sound expired o
 want_sound (Keep id) expired old new sound want = unchanged_sound expired old new sound want.0
 want_sound (Revoke id) expired old new sound want = unchanged_sound expired old new sound want.0
 want_sound (Advance moment) expired old new sound want = advance_sound moment expired old new sound want.1
+want_sound (WatchKey key from) expired old new sound want = unchanged_sound expired old new sound want.0
+want_sound (WatchRange first end from) expired old new sound want = unchanged_sound expired old new sound want.0
+want_sound (Poll watcher most) expired old new sound want = unchanged_sound expired old new sound want.0
+want_sound (Cancel watcher) expired old new sound want = unchanged_sound expired old new sound want.0
 
 is_step_sound : (event : WorldEvent) (reply : Result Reply Denied) (old new : World) → IsSound old → IsStep (step event old) reply new → IsSound new
 is_step_sound event reply old new sound is = subst IsSound is.next_is (step_is_sound event old sound)
@@ -179,6 +183,7 @@ store_cases LeaseExists event d old new told = inr (refl, told)
 store_cases TtlOutOfRange event d old new told = inr (refl, told)
 store_cases LeaseIdOutOfRange event d old new told = inr (refl, told)
 store_cases LeaseNotFound event d old new told = inr (refl, told)
+store_cases NoWatcher event d old new told = inr (refl, told)
 store_cases TooManyOps event d old new told = inr (refl, told)
 store_cases DuplicateKey event d old new told = inr (refl, told)
 store_cases TimeGoesBack event d old new told = inr (refl, told)

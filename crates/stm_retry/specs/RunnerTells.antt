@@ -11,6 +11,7 @@ use Rattle.stm_attempt.specs.ReadyRun.{ReadyRun, ready_run}
 use Rattle.stm_entries.specs.declared.entry.Entry.{Entry}
 use Rattle.stm_world.specs.declared.reply.Reply.{Reply}
 use Rattle.stm_world.specs.declared.reply.Reply.TheVariants.{Conflict, GaveUp, Aborted, Faulted}
+use Rattle.stm_world.specs.declared.refusal.Denied.{Denied}
 use Rattle.stm_world.specs.World.{World, Stepped, Runner, Slot, Over, Live, with_slot}
 use Rattle.stm_retry.specs.declared.told.Told.{Told}
 use Rattle.stm_retry.specs.declared.told.Told.TheVariants.{GoesOn, Ends}
@@ -31,6 +32,11 @@ world_around p slots = record { standing = p.standing; runners = slots; entries 
 abbrev pub reply_in : Told → Reply
 reply_in (GoesOn reply) = reply
 reply_in (Ends reply) = reply
+
+-- the reply to the step, where memory did not run out
+abbrev pub reply_told : Result Told AllocError → Result (Result Reply Denied) AllocError
+reply_told (Ok told) = Ok (Ok (reply_in told))
+reply_told (Err e) = Err e
 
 -- where the runner stands then
 abbrev pub slot_after : Told → Runner → Slot

@@ -13,11 +13,12 @@ mod slots;
 mod state;
 mod store_calls;
 mod told;
+mod watch_calls;
 pub mod world;
 
 pub use stm_history::{ReadAnswer, Sequence, Text};
 pub use stm_meaning::{Fault, State, TraceItem, Value};
 pub use stm_program::{Level, Program};
 pub use stm_txn::{Expired, Refusal as StoreRefusal, Store, Txn, TxnAnswer};
-pub use stm_world::{Denied, Entry, Refusal, Reply, WorldEvent};
+pub use stm_world::{Denied, Entry, Event, Refusal, Reply, WorldEvent};
 pub use world::{RunStop, World};

@@ -8,6 +8,7 @@ ghost use Rattle.stm_retry.specs.Tells.{Tells};
 
 use crate::slots::Slot;
 use crate::store_calls::{advance, grant, keep, make_txn, revoke};
+use crate::watch_calls::{cancel, poll, watch_key, watch_range};
 use std::alloc::{AllocError, Global};
 use std::marker::Model;
 use stm_history::Sequence;
@@ -98,6 +99,14 @@ impl Machine {
             WorldEvent::Advance { now } => {
                 advance(alloc, &mut self.store, &mut self.entries, *now)
             }
+            WorldEvent::WatchKey { key, from } => {
+                watch_key(alloc, &mut self.store, key.as_str(), *from)
+            }
+            WorldEvent::WatchRange { first, end, from } => {
+                watch_range(alloc, &mut self.store, first.as_str(), end.as_str(), *from)
+            }
+            WorldEvent::Poll { watcher, most } => poll(alloc, &mut self.store, *watcher, *most),
+            WorldEvent::Cancel { watcher } => cancel(alloc, &mut self.store, *watcher),
         }
     }
 }

@@ -16,7 +16,7 @@ ghost use Rattle.stm_world.specs.World.{Runner as LiveRunner, start_runner, step
 ghost use Rattle.stm_retry.specs.declared.told.Told.TheVariants.{GoesOn, Ends};
 ghost use Rattle.stm_retry.specs.MachineTells.{Tells};
 ghost use Rattle.stm_retry.specs.RunnerView.{task_of, AreNamed, with_answer, begun_again};
-ghost use Rattle.stm_retry.specs.RunnerTells.{workplace, Leaves, TellsEnd, IsReady, told_of_failure, may_go_on, reply_in, slot_left};
+ghost use Rattle.stm_retry.specs.RunnerTells.{workplace, Leaves, TellsEnd, IsReady, told_of_failure, may_go_on, reply_in, reply_told, slot_left};
 
 use crate::copies::{copies_of, entry_of};
 use crate::machine::{Machine, denied};
@@ -235,6 +235,16 @@ fn reply_in(told: Told) -> Reply
     }
 }
 
+/// The reply to a step of a runner, where memory did not run out.
+fn reply_of(outcome: Result<Told, AllocError>) -> Result<Result<Reply, Denied>, AllocError>
+    ensures { result ≡ reply_told outcome }
+{
+    match outcome {
+        Ok(told) => Ok(Ok(reply_in(told))),
+        Err(error) => Err(error),
+    }
+}
+
 impl Machine {
     /// Adds a runner, whose run may send so many commits, and gives its number.
     ///
@@ -293,7 +303,6 @@ impl Machine {
         let told = step_live(alloc, &mut self.store, &mut self.entries, id, &mut runner);
         let slot = slot_after(&told, runner);
         put_slot(&mut self.runners, id, slot);
-        let told = told?;
-        Ok(Ok(reply_in(told)))
+        reply_of(told)
     }
 }

@@ -17,7 +17,7 @@ use stm_txn::{Expired, Refusal as StoreRefusal, Store, Txn};
 use stm_world::{Denied, Entry, Refusal, Reply};
 
 /// The store's refusal of a call.
-fn refuse(alloc: Global, cause: StoreRefusal) -> Result<Reply, Denied>
+pub(crate) fn refuse(alloc: Global, cause: StoreRefusal) -> Result<Reply, Denied>
     ensures { result ≡ denied_for (OfStore cause) }
 {
     Err(denied(alloc, Refusal::Store(cause)))

@@ -123,6 +123,8 @@ impl World {
     /// the store refuses. A commit that fails begins a new attempt, or ends the run where it may send no more.
     /// Every other event is one call of the store.
     ///
+    /// An event about a watcher is no entry, and leaves history, leases and moment as they are.
+    ///
     /// An event is refused as `BadLimit` (a start with limit 0), as `NoRunner` (a step of a runner that is not
     /// there or has ended), or for the store's cause. A refused event leaves the world as it was, but for an
     /// advance that stopped on its way (`RevisionsUsedUp`, `OutOfMemory`): the moment is set, the leases that

@@ -10,17 +10,17 @@ use Rattle.stm_program.specs.declared.level.Level.{Level}
 use Rattle.stm_program.specs.declared.level.Level.TheVariants.{SerializableSnapshot, Serializable, RepeatableReads, ReadCommitted}
 use Rattle.stm_program_json.proofs.StatementComplete.{program_reads}
 use Rattle.stm_txn_json.specs.Grammar.{spelled, SpellsEach}
-use Rattle.stm_txn_json.specs.Reading.{txn_of}
+use Rattle.stm_txn_json.specs.Reading.{text_of, txn_of}
 use Rattle.stm_txn_json.proofs.GrammarComplete.{txn_reads}
-use Rattle.stm_txn_json.proofs.PartLemmas.{number_reads, up_to_reads}
+use Rattle.stm_txn_json.proofs.PartLemmas.{text_reads, number_reads, up_to_reads}
 use Rattle.stm_world.specs.declared.event.WorldEvent.{WorldEvent}
-use Rattle.stm_world.specs.declared.event.WorldEvent.TheVariants.{Start, Step, Txn, Grant, Keep, Revoke, Advance}
+use Rattle.stm_world.specs.declared.event.WorldEvent.TheVariants.{Start, Step, Txn, Grant, Keep, Revoke, Advance, WatchKey, WatchRange, Poll, Cancel}
 use Rattle.stm_texts.specs.declared.scenario.Scenario.{Scenario}
 use Rattle.stm_history.specs.declared.revisions.TheConstants.{HIGHEST_NUMBER, HIGHEST_REVISION}
 use Rattle.stm_texts.specs.declared.events.TheConstants.{HIGHEST_LIMIT, MOST_EVENTS}
 use Rattle.stm_texts.specs.Grammar.{level_text, SpellsNumbered, SpellsEvent, SpellsElements, SpellsData, SpellsScenario}
-use Rattle.stm_texts.specs.Reading.{level_named, level_of, event_of, event_after, events_from, begins, scenario_list, scenario_of, scenario_read}
-use Rattle.stm_texts.specs.Reading.{scenario_in}
+use Rattle.stm_texts.specs.Reading.{level_named, level_of, watcher_event, event_of, event_after, events_from, begins, scenario_list, scenario_of}
+use Rattle.stm_texts.specs.Reading.{scenario_read, scenario_in}
 use Rattle.stm_texts.proofs.ScenarioLemmas.{scenario_in-short}
 
 -- ---- levels
@@ -45,7 +45,7 @@ unfolding event_of
 txn_event_reads d a b c is = rw is refl
 
 event_reads : (d : Data) (e : WorldEvent) → SpellsEvent d e → event_of d ≡ Ok e
-unfolding event_of
+unfolding event_of watcher_event
 event_reads d (Start program level limit) (a, b, c, is, word, within_limit, of_program, fits) =
     let l : level_of a ≡ Ok level = ap level_of word ∙ level_reads level in
     let n = up_to_reads HIGHEST_LIMIT b limit (omega arith) within_limit in
@@ -62,6 +62,20 @@ event_reads d (Grant id ttl) (a, b, is, of_id, of_ttl) =
 event_reads d (Keep id) s = numbered_reads (codes "keep") Keep (λ a n e. rw e refl) d id s
 event_reads d (Revoke id) s = numbered_reads (codes "revoke") Revoke (λ a n e. rw e refl) d id s
 event_reads d (Advance now) s = numbered_reads (codes "advance") Advance (λ a n e. rw e refl) d now s
+event_reads d (WatchKey key from) (a, is, in_range) =
+    let k : text_of (string key) ≡ Ok key = text_reads (string key) key refl in
+    let n = up_to_reads HIGHEST_NUMBER a from (omega arith) in_range in
+    ap event_of is ∙ rw (k, n) refl
+event_reads d (WatchRange first end from) (a, is, in_range) =
+    let f : text_of (string first) ≡ Ok first = text_reads (string first) first refl in
+    let l : text_of (string end) ≡ Ok end = text_reads (string end) end refl in
+    let n = up_to_reads HIGHEST_NUMBER a from (omega arith) in_range in
+    ap event_of is ∙ rw (f, l, n) refl
+event_reads d (Poll watcher most) (a, b, is, of_watcher, of_most) =
+    let w = up_to_reads HIGHEST_NUMBER a watcher (omega arith) of_watcher in
+    let m = up_to_reads HIGHEST_NUMBER b most (omega arith) of_most in
+    ap event_of is ∙ rw (w, m) refl
+event_reads d (Cancel watcher) s = numbered_reads (codes "cancel") Cancel (λ a n e. rw e refl) d watcher s
 
 event_after-reads : (before : ℕ) (d : Data) (e : WorldEvent) → before < MOST_EVENTS → SpellsEvent d e → event_after before d ≡ Ok e
 unfolding event_after
@@ -87,6 +101,10 @@ no_opening d (Grant id ttl) (a, b, is, of_id, of_ttl) = ap (λ (x : Data). begin
 no_opening d (Keep id) (a, is, in_range) = ap (λ (x : Data). begins (worded x)) is
 no_opening d (Revoke id) (a, is, in_range) = ap (λ (x : Data). begins (worded x)) is
 no_opening d (Advance now) (a, is, in_range) = ap (λ (x : Data). begins (worded x)) is
+no_opening d (WatchKey key from) (a, is, in_range) = ap (λ (x : Data). begins (worded x)) is
+no_opening d (WatchRange first end from) (a, is, in_range) = ap (λ (x : Data). begins (worded x)) is
+no_opening d (Poll watcher most) (a, b, is, of_watcher, of_most) = ap (λ (x : Data). begins (worded x)) is
+no_opening d (Cancel watcher) (a, is, in_range) = ap (λ (x : Data). begins (worded x)) is
 
 -- ---- scenarios
 

@@ -32,7 +32,8 @@ use Rattle.stm_texts.specs.declared.reading.TheConstants.{MOST_BYTES}
 use Rattle.stm_texts.specs.Bytes.{data_of}
 use Rattle.stm_texts.specs.Grammar.{level_text, SpellsNumbered, SpellsEvent, SpellsElements, SpellsData, SpellsScenario}
 use Rattle.stm_texts.specs.Reading.{level_named, level_of, start_of, grant_of, number_alone, step_of, keep_of, revoke_of, advance_of, txn_event}
-use Rattle.stm_texts.specs.Reading.{event_worded, event_of, event_after, events_from, begins, opening_of}
+use Rattle.stm_texts.specs.Reading.{watcher_event, event_worded, event_of, event_after, events_from, begins, opening_of}
+use Rattle.stm_texts.proofs.WatcherSound.{watcher_sound}
 use Rattle.stm_texts.specs.Reading.{scenario_after, scenario_list, scenario_of, scenario_read, scenario_in}
 
 -- ---- levels
@@ -113,7 +114,7 @@ word_sound : (d : Data) (p : List ℕ × Items) (e : WorldEvent) (start step txn
     → same p.0 (codes "start") ≡ start → same p.0 (codes "step") ≡ step → same p.0 (codes "txn") ≡ txn → same p.0 (codes "grant") ≡ grant
     → same p.0 (codes "keep") ≡ keep → same p.0 (codes "revoke") ≡ revoke → same p.0 (codes "advance") ≡ advance
     → cond start (start_of (three_of p.1)) (cond step (step_of (one_of p.1)) (cond txn (txn_event d) (cond grant (grant_of (two_of p.1))
-    (cond keep (keep_of (one_of p.1)) (cond revoke (revoke_of (one_of p.1)) (cond advance (advance_of (one_of p.1)) (bad Shape))))))) ≡ Ok e
+    (cond keep (keep_of (one_of p.1)) (cond revoke (revoke_of (one_of p.1)) (cond advance (advance_of (one_of p.1)) (watcher_event p.0 p.1))))))) ≡ Ok e
     → SpellsEvent d e
 word_sound d p e true step txn grant keep revoke advance w s1 s2 s3 s4 s5 s6 s7 h =
     start_sound d p (three_of p.1) e w ((bytes_eq-Decides p.0 (codes "start")).0 s1) refl h
@@ -128,7 +129,7 @@ word_sound d p e false false false false false true advance w s1 s2 s3 s4 s5 s6 
     numbered_sound (codes "revoke") Revoke (λ x n s. s) d p e w ((bytes_eq-Decides p.0 (codes "revoke")).0 s6) h
 word_sound d p e false false false false false false true w s1 s2 s3 s4 s5 s6 s7 h =
     numbered_sound (codes "advance") Advance (λ x n s. s) d p e w ((bytes_eq-Decides p.0 (codes "advance")).0 s7) h
-word_sound d p e false false false false false false false w s1 s2 s3 s4 s5 s6 s7 h = cc
+word_sound d p e false false false false false false false w s1 s2 s3 s4 s5 s6 s7 h = watcher_sound d p e w h
 
 array_sound : (d : Data) (o : Option (List ℕ × Items)) (e : WorldEvent) → worded d ≡ o → event_worded d o ≡ Ok e → SpellsEvent d e
 array_sound d None e w h = cc

@@ -30,9 +30,10 @@ use Rattle.stm_texts.specs.declared.events.TheConstants.{HIGHEST_LIMIT, MOST_EVE
 use Rattle.stm_texts.specs.declared.reading.TheConstants.{MOST_BYTES}
 use Rattle.stm_texts.specs.Bytes.{data_of}
 use Rattle.stm_texts.specs.Reading.{level_named, level_of, start_of, grant_of, number_alone, step_of, keep_of, revoke_of, advance_of, txn_event}
-use Rattle.stm_texts.specs.Reading.{event_of, event_after, events_from, begins, opening_of, scenario_after, scenario_of, scenario_read, scenario_in}
+use Rattle.stm_texts.specs.Reading.{watcher_event, event_of, event_after, events_from, begins, opening_of, scenario_after, scenario_of, scenario_read, scenario_in}
 use Rattle.stm_texts.specs.FirstFault.{level_words, placed, program_faults, event_table, event_faults, events_faults, elements_faults, data_faults}
 use Rattle.stm_texts.specs.FirstFault.{first_fault, IsFirstFault}
+use Rattle.stm_texts.proofs.WatcherFaults.{watcher_rows, watcher_faulted}
 
 -- ---- parts
 
@@ -121,9 +122,9 @@ txn_event-faulted p w ds is =
 
 word_tested : (p w : List ℕ) (ds : Items) (start step txn grant keep revoke advance : Bool) → same w (codes "txn") ≡ txn
     → first_of (sorted_faults p (cond start (Some start_sorts) (cond step (Some numbered_sorts) (cond txn (Some txn_sorts) (cond grant (Some grant_sorts)
-    (cond keep (Some numbered_sorts) (cond revoke (Some numbered_sorts) (cond advance (Some numbered_sorts) None))))))) ds)
+    (cond keep (Some numbered_sorts) (cond revoke (Some numbered_sorts) (cond advance (Some numbered_sorts) (watcher_rows w)))))))) ds)
     ≡ fault_of p (cond start (start_of (three_of ds)) (cond step (step_of (one_of ds)) (cond txn (txn_event (txn_array w ds)) (cond grant (grant_of (two_of ds))
-    (cond keep (keep_of (one_of ds)) (cond revoke (revoke_of (one_of ds)) (cond advance (advance_of (one_of ds)) (bad Shape))))))))
+    (cond keep (keep_of (one_of ds)) (cond revoke (revoke_of (one_of ds)) (cond advance (advance_of (one_of ds)) (watcher_event w ds))))))))
 word_tested p w ds true step txn grant keep revoke advance is = start_faulted p ds
 word_tested p w ds false true txn grant keep revoke advance is = numbered_faulted Step p ds
 word_tested p w ds false false true grant keep revoke advance is = txn_event-faulted p w ds is
@@ -131,7 +132,7 @@ word_tested p w ds false false false true keep revoke advance is = grant_faulted
 word_tested p w ds false false false false true revoke advance is = numbered_faulted Keep p ds
 word_tested p w ds false false false false false true advance is = numbered_faulted Revoke p ds
 word_tested p w ds false false false false false false true is = numbered_faulted Advance p ds
-word_tested p w ds false false false false false false false is = wrong_is {A = WorldEvent} p Shape (bad Shape) refl
+word_tested p w ds false false false false false false false is = watcher_faulted p w ds
 
 worded_faulted : (p : List ℕ) (d : Data) → first_of (worded_faults event_table p d) ≡ fault_of p (event_of d)
 unfolding event_of

@@ -8,7 +8,7 @@ use Rattle.stm_json.specs.declared.read_error.ReadError.{ReadError}
 use Rattle.stm_json.specs.declared.read_error.ReadError.TheVariants as error
 use Rattle.stm_json.specs.Outcome.{step}
 use Rattle.stm_program_json.specs.FirstFault.{first_fault as program_fault}
-use Rattle.stm_txn_json.specs.Faults.{Faults, first_of, wrong, WordOf, NumberIn, By, Table, worded_faults}
+use Rattle.stm_txn_json.specs.Faults.{Faults, first_of, wrong, AnyText, WordOf, NumberIn, By, Table, worded_faults}
 use Rattle.stm_txn_json.specs.FirstFault.{any_number, txn_row}
 use Rattle.stm_txn_json.specs.Words.{same}
 use Rattle.stm_history.specs.declared.revisions.TheConstants.{HIGHEST_REVISION}
@@ -40,6 +40,10 @@ event_table =
     ∷ (codes "keep", any_number ∷ [])
     ∷ (codes "revoke", any_number ∷ [])
     ∷ (codes "advance", any_number ∷ [])
+    ∷ (codes "watch_key", AnyText ∷ any_number ∷ [])
+    ∷ (codes "watch_range", AnyText ∷ AnyText ∷ any_number ∷ [])
+    ∷ (codes "poll", any_number ∷ any_number ∷ [])
+    ∷ (codes "cancel", any_number ∷ [])
     ∷ []
 
 -- an event that so many others stand before

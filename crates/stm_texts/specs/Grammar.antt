@@ -7,7 +7,7 @@ use Rattle.stm_program.specs.declared.level.Level.TheVariants.{SerializableSnaps
 use Rattle.stm_program_json.specs.Grammar.{SpellsProgram}
 use Rattle.stm_txn_json.specs.Grammar.{spelled, SpellsNumberIn, SpellsEach, SpellsTxn}
 use Rattle.stm_world.specs.declared.event.WorldEvent.{WorldEvent}
-use Rattle.stm_world.specs.declared.event.WorldEvent.TheVariants.{Start, Step, Txn, Grant, Keep, Revoke, Advance}
+use Rattle.stm_world.specs.declared.event.WorldEvent.TheVariants.{Start, Step, Txn, Grant, Keep, Revoke, Advance, WatchKey, WatchRange, Poll, Cancel}
 use Rattle.stm_texts.specs.declared.scenario.Scenario.{Scenario}
 use Rattle.stm_history.specs.declared.revisions.TheConstants.{HIGHEST_NUMBER, HIGHEST_REVISION}
 use Rattle.stm_texts.specs.declared.events.TheConstants.{HIGHEST_LIMIT, MOST_EVENTS}
@@ -36,6 +36,13 @@ SpellsEvent d (Grant id ttl) = (a : Data) × (b : Data) × (d ≡ spelled (codes
 SpellsEvent d (Keep id) = SpellsNumbered (codes "keep") d id
 SpellsEvent d (Revoke id) = SpellsNumbered (codes "revoke") d id
 SpellsEvent d (Advance now) = SpellsNumbered (codes "advance") d now
+SpellsEvent d (WatchKey key from) = (a : Data) × (d ≡ spelled (codes "watch_key") (string key ∷ a ∷ []))
+    × SpellsNumberIn 0 HIGHEST_NUMBER a from
+SpellsEvent d (WatchRange first end from) = (a : Data) × (d ≡ spelled (codes "watch_range") (string first ∷ string end ∷ a ∷ []))
+    × SpellsNumberIn 0 HIGHEST_NUMBER a from
+SpellsEvent d (Poll watcher most) = (a : Data) × (b : Data) × (d ≡ spelled (codes "poll") (a ∷ b ∷ []))
+    × SpellsNumberIn 0 HIGHEST_NUMBER a watcher × SpellsNumberIn 0 HIGHEST_NUMBER b most
+SpellsEvent d (Cancel watcher) = SpellsNumbered (codes "cancel") d watcher
 
 -- events one after the other, alone or behind an array of the word begin and the opening revision
 abbrev pub SpellsElements : Items → Option ℕ → List WorldEvent → Type 0

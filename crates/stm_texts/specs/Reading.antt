@@ -8,10 +8,10 @@ use Rattle.stm_history.specs.declared.revisions.TheConstants.{HIGHEST_NUMBER, HI
 use Rattle.stm_program.specs.declared.level.Level.{Level}
 use Rattle.stm_program.specs.declared.level.Level.TheVariants.{SerializableSnapshot, Serializable, RepeatableReads, ReadCommitted}
 use Rattle.stm_program_json.specs.Reading.{program_of}
-use Rattle.stm_txn_json.specs.Reading.{on_text, txn_of}
+use Rattle.stm_txn_json.specs.Reading.{on_text, text_of, txn_of}
 use Rattle.stm_txn_json.specs.Words.{same}
 use Rattle.stm_world.specs.declared.event.WorldEvent.{WorldEvent}
-use Rattle.stm_world.specs.declared.event.WorldEvent.TheVariants.{Start, Step, Txn, Grant, Keep, Revoke, Advance}
+use Rattle.stm_world.specs.declared.event.WorldEvent.TheVariants.{Start, Step, Txn, Grant, Keep, Revoke, Advance, WatchKey, WatchRange, Poll, Cancel}
 use Rattle.stm_json.specs.declared.cause.Cause.TheVariants.{NotJson, Shape, TooLong, TooMany}
 use Rattle.stm_texts.specs.declared.events.TheConstants.{HIGHEST_LIMIT, MOST_EVENTS}
 use Rattle.stm_texts.specs.declared.reading.TheConstants.{MOST_BYTES}
@@ -65,6 +65,39 @@ advance_of o = number_alone o >>= λ now. Ok (Advance now)
 abbrev pub txn_event : Data → Outcome WorldEvent
 txn_event d = txn_of d >>= λ t. Ok (Txn t)
 
+-- ---- events of watchers
+
+abbrev pub watch_key_of : Option (Data × Data) → Outcome WorldEvent
+watch_key_of None = bad Shape
+watch_key_of (Some p) =
+    within 1 (text_of p.0) >>= λ key. within 2 (number_up_to HIGHEST_NUMBER p.1) >>= λ from. Ok (WatchKey key from)
+
+abbrev pub watch_range_of : Option (Data × Data × Data) → Outcome WorldEvent
+watch_range_of None = bad Shape
+watch_range_of (Some p) =
+    within 1 (text_of p.0) >>= λ first. within 2 (text_of p.1) >>= λ end. within 3 (number_up_to HIGHEST_NUMBER p.2) >>= λ from. Ok
+    (WatchRange first end from)
+
+abbrev pub poll_of : Option (Data × Data) → Outcome WorldEvent
+poll_of None = bad Shape
+poll_of (Some p) =
+    within 1 (number_up_to HIGHEST_NUMBER p.0) >>= λ watcher. within 2 (number_up_to HIGHEST_NUMBER p.1) >>= λ most. Ok (Poll watcher most)
+
+abbrev pub cancel_of : Option Data → Outcome WorldEvent
+cancel_of None = bad Shape
+cancel_of (Some d) = within 1 (number_up_to HIGHEST_NUMBER d) >>= λ watcher. Ok (Cancel watcher)
+
+-- the event of a watcher's word, by the elements behind it
+unfoldable pub watcher_event : List ℕ → Items → Outcome WorldEvent
+watcher_event w ds =
+    if same w (codes "watch_key") then watch_key_of (two_of ds)
+    else (if same w (codes "watch_range") then watch_range_of (three_of ds)
+    else (if same w (codes "poll") then poll_of (two_of ds)
+    else (if same w (codes "cancel") then cancel_of (one_of ds)
+    else bad Shape)))
+
+-- ---- any event
+
 -- the event of data that are an array of a word and elements
 abbrev pub event_worded : Data → Option (List ℕ × Items) → Outcome WorldEvent
 event_worded d None = bad Shape
@@ -76,7 +109,7 @@ event_worded d (Some p) =
     else (if same p.0 (codes "keep") then keep_of (one_of p.1)
     else (if same p.0 (codes "revoke") then revoke_of (one_of p.1)
     else (if same p.0 (codes "advance") then advance_of (one_of p.1)
-    else bad Shape))))))
+    else watcher_event p.0 p.1))))))
 
 unfoldable pub event_of : Data → Outcome WorldEvent
 event_of d = event_worded d (worded d)

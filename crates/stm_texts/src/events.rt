@@ -7,6 +7,7 @@ ghost use Rattle.stm_json.specs.Elements.{number_up_to, one_of, two_of, three_of
 ghost use Rattle.stm_json.specs.Outcome.{within as within_list};
 ghost use Rattle.stm_json.specs.Tells.{Tells};
 
+use crate::watchers::watcher_event;
 use serde_json::Value;
 use std::alloc::Global;
 use stm_history::HIGHEST_NUMBER;
@@ -153,7 +154,7 @@ fn event(alloc: Global, value: &Value) -> Result<WorldEvent, ReadError>
     } else if word == "advance" {
         advance(alloc, elements)
     } else {
-        Err(fault(alloc, Cause::Shape))
+        watcher_event(alloc, word, elements)
     }
 }
 

@@ -4,6 +4,7 @@
 mod events;
 mod reading;
 mod scenario;
+mod watchers;
 
 pub use events::MOST_EVENTS;
 pub use reading::{MOST_BYTES, read_scenario};

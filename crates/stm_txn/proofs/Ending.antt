@@ -179,8 +179,9 @@ pub ended_free : (s : Standing) (id : ℕ) → is_used_up s.history (deletions_o
 ended_free s id used = ap (λ b. cond b (Err RevisionsUsedUp) (Ok (without_lease s id))) used
 
 pub is_without : (s next : Standing) (id : ℕ) → next.history ≡ with_changes s.history (deletions_of s.history id) →
-    next.live ≡ finmap.remove s.live id → next.moment ≡ s.moment → next ≡ without_lease s id
-is_without s next id history live moment = λ i. record { history = history i; live = live i; moment = moment i }
+    next.live ≡ finmap.remove s.live id → next.moment ≡ s.moment → next.watchers ≡ s.watchers → next ≡ without_lease s id
+is_without s next id history live moment watchers =
+    λ i. record { history = history i; live = live i; moment = moment i; watchers = watchers i }
 
 ended_case : (used : Bool) (taken next : Standing) → cond used (Err RevisionsUsedUp) (Ok taken) ≡ Ok next → taken ≡ next
 ended_case true taken next is = cc

@@ -10,3 +10,4 @@ pub mod Refusing
 pub mod Advancing
 pub mod Applying
 pub mod Fitting
+pub mod Touching

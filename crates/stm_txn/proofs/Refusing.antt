@@ -1,5 +1,5 @@
 -- Why transactions are refused, found before they are made.
-use Rattle.std.proofs.Common.{◌≡◌, ◌∙◌, List, Option, None, sym, ap}
+use Rattle.std.proofs.Common.{◌≡◌, ◌∙◌, List, [], Option, None, sym, ap}
 use Rattle.stm_history.specs.History.{History, key_now}
 use Rattle.stm_leases.specs.Live.{Live, is_live_in}
 use Rattle.stm_txn.specs.declared.txn.Op.{Op}
@@ -18,4 +18,4 @@ pub chosen_refused : (h : History) (live : Live) (txn : Txn) (failed : Option Fa
     first_failed (key_now h) 0 txn.compares ≡ failed → chosen failed txn ≡ ops → told ≡ refusal_of (outcome_copied h (is_live_in live) failed ops) →
     told ≡ refusal_of (outcome h (is_live_in live) txn)
 chosen_refused h live txn failed ops told whole first branch is =
-    is ∙ sym (ap refusal_of (as_run (record { history = h; live = live; moment = 0 }) txn failed ops whole first branch))
+    is ∙ sym (ap refusal_of (as_run (record { history = h; live = live; moment = 0; watchers = [] }) txn failed ops whole first branch))

@@ -12,6 +12,7 @@ pub mod LeaseKeys
 pub mod Moves
 pub mod Grants
 pub mod Standing
+pub mod WatchTold
 pub mod Advances
 pub mod Numbers
 pub mod Store

@@ -1,32 +1,43 @@
 -- What a store is, and what each of its calls makes of it.
 --
--- etcd's API reference, "Transaction" and "Lease": a transaction is one step; a grant makes a lease live, a keep-alive
--- renews it, and a revocation or its expiry ends it with its keys. This store's own choices are that the keys go in one
--- revision, ascending by bytes, and that due leases end by the moment when they were due, then by id.
+-- etcd's API reference, "Transaction", "Lease" and "Watch": a transaction is one step; a grant makes a lease live, a
+-- keep-alive renews it, and a revocation or its expiry ends it with its keys; a watcher is told of every change from its
+-- start on, whatever made it. This store's own choices are that the keys of a lease go in one revision, ascending by
+-- bytes, that due leases end by the moment when they were due, then by id, and that watchers are polled.
 use Rattle.std.specs.Prelude.{◌≡◌, ◌⊎◌, ℕ, zero, suc, nat_lt, if◌then◌else◌, List, [], ◌∷◌, ◌++◌, length, Option, Some, None, IsOk, Result, Ok, Err}
 use Rattle.std.specs.FinMap as finmap
 use Rattle.stm_history.specs.History.{History, now, opened_at}
 use Rattle.stm_leases.specs.LeaseLog.{LogItem, Expire}
 use Rattle.stm_leases.specs.Live.{Live, is_live_in, grant_refusal}
 use Rattle.stm_leases.specs.DueFirst.{first_due}
+use Rattle.stm_watch.specs.declared.watched.Watched.{Watched}
+use Rattle.stm_watch.specs.declared.watched.Watching.{Watching}
+use Rattle.stm_watch.specs.declared.watchers.Batch.{Batch}
+use Rattle.stm_watch.specs.declared.refusal.WatchRefusal.{WatchRefusal}
+use Rattle.stm_watch.specs.declared.refusal.WatchRefusal.TheVariants.{EmptyKey as NoKey, OutOfMemory as NoMemory}
+use Rattle.stm_watch.specs.declared.refusal.PollRefusal.{PollRefusal}
+use Rattle.stm_watch.specs.declared.refusal.PollRefusal.TheVariants.{NoWatcher as NoneToPoll, OutOfMemory as NoMemoryToPoll}
+use Rattle.stm_watch.specs.Calls.{watch, poll, watcher_at, Step as WatchStep, cancelled as without_watcher}
 use Rattle.stm_txn.specs.declared.txn.Txn.{Txn}
 use Rattle.stm_txn.specs.declared.answer.TxnAnswer.{TxnAnswer}
 use Rattle.stm_txn.specs.declared.advance.Expired.{Expired}
 use Rattle.stm_txn.specs.declared.refusal.Refusal.{Refusal}
-use Rattle.stm_txn.specs.declared.refusal.Refusal.TheVariants.{OutOfMemory, LeaseNotFound, RevisionsUsedUp, TimeGoesBack}
+use Rattle.stm_txn.specs.declared.refusal.Refusal.TheVariants.{OutOfMemory, EmptyKey, LeaseNotFound, NoWatcher, RevisionsUsedUp, TimeGoesBack}
 use Rattle.stm_txn.specs.Outcome.{Done, outcome, with_changes, is_used_up}
 use Rattle.stm_txn.specs.Grants.{grant_refusal_of}
 use Rattle.stm_txn.specs.LeaseKeys.{deletions_of}
 
--- a store: its history, its live leases with their terms, and its moment in seconds
+-- a store: its history, its live leases with their terms, its moment in seconds, and its watchers, watcher 1 first, with
+-- nothing where one was cancelled
 pub record Standing : Type 0 where
   pub history : History
   pub live : Live
   pub moment : ℕ
+  pub watchers : List (Option Watching)
 
 -- a store that opens at a revision
 abbrev pub opening : ℕ → Standing
-opening number = record { history = opened_at number; live = finmap.empty; moment = 0 }
+opening number = record { history = opened_at number; live = finmap.empty; moment = 0; watchers = [] }
 
 -- what a call that is not refused comes to: its answer, and the store after it
 pub record Step (A : Type 0) : Type 0 where
@@ -57,7 +68,7 @@ abbrev pub told : {A : Type 0} → Result A Refusal → Standing → Result (Ste
 told (Ok answer) next = Ok record { answer = answer; next = next }
 told (Err refusal) next = Err refusal
 
--- a transaction, which leaves leases and moment
+-- a transaction, which leaves leases, moment and watchers
 abbrev pub step_of : Standing → Result Done Refusal → Result (Step TxnAnswer) Refusal
 step_of s (Ok done) = Ok record { answer = done.answer; next = with_history s done.history }
 step_of s (Err refusal) = Err refusal
@@ -162,3 +173,43 @@ IsCutShort whole expired cause left =
 abbrev pub with_expiries : List Expired → List LogItem → List LogItem
 with_expiries [] log = log
 with_expiries (e ∷ es) log = with_expiries es (Expire e.id ∷ log)
+
+-- ---- watchers: a change moves none of them, it makes events pending
+
+-- the store with other watchers
+abbrev pub with_watchers : Standing → List (Option Watching) → Standing
+with_watchers s ws = record s { watchers = ws }
+
+-- why a watch is refused
+abbrev pub watch_cause : WatchRefusal → Refusal
+watch_cause NoKey = EmptyKey
+watch_cause NoMemory = OutOfMemory
+
+abbrev pub watch_step : Standing → Result (WatchStep ℕ) WatchRefusal → Result (Step ℕ) Refusal
+watch_step s (Ok step) = Ok record { answer = step.answer; next = with_watchers s step.next }
+watch_step s (Err cause) = Err (watch_cause cause)
+
+-- a watch from a revision on, 0 for the next one, which answers the watcher's number
+abbrev pub watched : Standing → Watched → ℕ → Result (Step ℕ) Refusal
+watched s keys from = watch_step s (watch s.history keys from s.watchers)
+
+-- why a poll is refused
+abbrev pub poll_cause : PollRefusal → Refusal
+poll_cause NoneToPoll = NoWatcher
+poll_cause NoMemoryToPoll = OutOfMemory
+
+abbrev pub poll_step : Standing → Result (WatchStep Batch) PollRefusal → Result (Step Batch) Refusal
+poll_step s (Ok step) = Ok record { answer = step.answer; next = with_watchers s step.next }
+poll_step s (Err cause) = Err (poll_cause cause)
+
+-- a poll of a watcher, of at most so many revisions
+abbrev pub polled : Standing → ℕ → ℕ → Result (Step Batch) Refusal
+polled s id most = poll_step s (poll s.history id most s.watchers)
+
+-- a cancellation of what stands at a watcher's place
+abbrev pub cancel_step : Standing → ℕ → Option Watching → Result (Step (Unit {0})) Refusal
+cancel_step s id None = Err NoWatcher
+cancel_step s id (Some w) = Ok record { answer = tt; next = with_watchers s (without_watcher id s.watchers) }
+
+abbrev pub cancelled : Standing → ℕ → Result (Step (Unit {0})) Refusal
+cancelled s id = cancel_step s id (watcher_at id s.watchers)

@@ -1,11 +1,12 @@
 -- What contracts see of a store.
-use Rattle.std.specs.Prelude.{ℕ, List, refl}
+use Rattle.std.specs.Prelude.{ℕ, List, Option, refl}
 use Rattle.std.specs.Coded.{Coded, code_by, coded×, coded_ℕ}
 use Rattle.std.specs.FinMap as finmap
 use Rattle.stm_history.specs.declared.key_state.KeyState.{KeyState}
 use Rattle.stm_keys.specs.Keys.{Contents}
 use Rattle.stm_leases.specs.Live.{Live}
 use Rattle.stm_leases.specs.Leases.{term_code}
+use Rattle.stm_watch.specs.declared.watched.Watching.{Watching}
 use Rattle.stm_txn.specs.Standing.{Standing}
 
 -- What a store is, and beside it the list of its present keys in the order in which `Keys::at` tells them. No call's
@@ -15,9 +16,15 @@ pub record StoreView : Type 0 where
   pub present : List (List ℕ × KeyState)
 
 -- a store is stored as its parts
-abbrev pub store_code : Coded Contents → Coded StoreView
-store_code contents =
-    code_by (Contents × (Live × ℕ)) (coded× contents (coded× (finmap.code coded_ℕ term_code) coded_ℕ))
-    (λ s. (record { history = s.standing.history; present = s.present }, (s.standing.live, s.standing.moment)))
-    (λ p. record { standing = record { history = p.0.history; live = p.1.0; moment = p.1.1 }; present = p.0.present })
+abbrev pub store_code : Coded Contents → Coded (List (Option Watching)) → Coded StoreView
+store_code contents watchers =
+    code_by (Contents × (Live × (ℕ × List (Option Watching)))) (coded× contents (coded× (finmap.code coded_ℕ term_code) (coded× coded_ℕ watchers)))
+    (λ s. (
+      record { history = s.standing.history; present = s.present },
+      (s.standing.live, (s.standing.moment, s.standing.watchers)),
+    ))
+    (λ p. record {
+      standing = record { history = p.0.history; live = p.1.0; moment = p.1.1.0; watchers = p.1.1.1 };
+      present = p.0.present;
+    })
     (λ _. refl)

@@ -1,4 +1,4 @@
-//! Transactions over a key store and its leases.
+//! Transactions over a key store, its leases and its watchers.
 //!
 //! `Store` has the behaviour of a single-member etcd v3: one call is one step, and a refused call changes
 //! nothing but where it says so.
@@ -24,5 +24,6 @@ pub use refusal::Refusal;
 pub use short_list::ShortList;
 pub use stm_history::ReadAnswer;
 pub use stm_keys::{Change, Event, HIGHEST_REVISION, KeyState, Keys, Sequence, Text};
+pub use stm_watch::{Batch, Told, Watched, Watching};
 pub use store::Store;
 pub use txn::{Compare, Op, Order, Target, Txn};

@@ -13,7 +13,7 @@ use std::fmt;
 pub enum Refusal {
     /// A growth was refused.
     OutOfMemory,
-    /// A key is empty.
+    /// A key is empty, or the first key of a range.
     EmptyKey,
     /// A revision is above the store's counter.
     FutureRevision,
@@ -29,6 +29,8 @@ pub enum Refusal {
     LeaseIdOutOfRange,
     /// The lease is not live.
     LeaseNotFound,
+    /// There is no such watcher, or it was cancelled.
+    NoWatcher,
     /// One of a transaction's three lists has more than 128 elements.
     TooManyOps,
     /// A branch puts a key twice, or puts and deletes it.
@@ -52,6 +54,7 @@ impl Refusal {
             Refusal::TtlOutOfRange => "TtlOutOfRange",
             Refusal::LeaseIdOutOfRange => "LeaseIdOutOfRange",
             Refusal::LeaseNotFound => "LeaseNotFound",
+            Refusal::NoWatcher => "NoWatcher",
             Refusal::TooManyOps => "TooManyOps",
             Refusal::DuplicateKey => "DuplicateKey",
             Refusal::TimeGoesBack => "TimeGoesBack",

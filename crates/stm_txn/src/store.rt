@@ -3,8 +3,10 @@ ghost use Rattle.std.specs.Prelude.{◌≡◌, ◌<◌, ◌≤◌, ℕ, List, []
 ghost use Rattle.std.specs.Prelude.{map, string_bytes, Ok, Err, None, Some, true, false};
 ghost use Rattle.std.specs.FinMap as finmap;
 ghost use Rattle.stm_history.specs.declared.revisions.TheConstants.{HIGHEST_REVISION, HIGHEST_NUMBER};
-ghost use Rattle.stm_history.specs.History.{now, add_revision, IsRevision, HasDistinctKeys};
+ghost use Rattle.stm_history.specs.declared.change.Change.{Change};
+ghost use Rattle.stm_history.specs.History.{History, now, add_revision, IsRevision, HasDistinctKeys};
 ghost use Rattle.stm_keys.specs.Keys.{DeletePresent};
+ghost use Rattle.stm_watch.specs.Calls.{watchings, StandFor};
 ghost use Rattle.stm_leases.specs.LeaseLog.{LogItem, Grant, Renew, Revoke};
 ghost use Rattle.stm_leases.specs.Leases.{StandsFor};
 ghost use Rattle.stm_leases.specs.Live.{is_live_in, AreInRange};
@@ -13,6 +15,7 @@ ghost use Rattle.stm_txn.specs.Branches.{branch_refusal};
 ghost use Rattle.stm_txn.specs.LookUps.{changes_copied, answers_copied, outcome_copied};
 ghost use Rattle.stm_txn.specs.Outcome.{is_used_up, chosen};
 ghost use Rattle.stm_txn.specs.Grants.{grant_refusal_of, grant_told};
+ghost use Rattle.stm_txn.specs.WatchTold.{watch_told, poll_told};
 
 use crate::advance::{AdvanceRefused, Expired};
 use crate::answer::{FailedCompare, TxnAnswer};
@@ -29,20 +32,25 @@ use std::marker::Model;
 use stm_history::{Change, Sequence, Text};
 use stm_keys::{ApplyRefusal, HIGHEST_REVISION, Keys};
 use stm_leases::{GrantError, KeysError, Leases};
+use stm_watch::{Batch, PollRefusal, WatchRefusal, Watchers};
 
-/// A store: its keys at every revision, its leases, and its moment in whole seconds.
+/// A store: its keys at every revision, its leases, its moment in whole seconds, and its watchers.
 ///
-/// Each key hangs on the lease that its state names: that is kept in every store.
+/// Each key hangs on the lease that its state names, and a watcher is ready exactly where events of it are pending:
+/// that is kept in every store.
 #[derive(Drop)]
 pub struct Store {
     keys: Keys,
     leases: Leases,
     moment: u64,
+    watchers: Watchers,
     alloc: Global,
 }
 
 impl Model for Store {
+    ghost use Rattle.std.specs.Coded.{codes};
     ghost use Rattle.stm_leases.specs.Leases.{lease_of};
+    ghost use Rattle.stm_watch.specs.Calls.{watchings, StandFor};
     ghost use Rattle.stm_txn.specs.Leasing.{HangAsStored};
     ghost use Rattle.stm_txn.specs.Numbers.{LeasesFit};
     ghost use Rattle.stm_txn.specs.Store.{StoreView, store_code};
@@ -50,14 +58,14 @@ impl Model for Store {
 
     ghost Value = { StoreView };
 
-    ghost coded = { store_code key_store.the_row.coded };
+    ghost coded = { store_code key_store.the_row.coded (Prim.hlevel (codes)) };
 
     ghost view = { λ s. record {
-      standing = record { history = s.keys.history; live = s.leases.live; moment = s.moment };
+      standing = record { history = s.keys.history; live = s.leases.live; moment = s.moment; watchers = watchings s.watchers };
       present = s.keys.present;
     } };
 
-    ghost invariant = { λ s. HangAsStored (lease_of s.leases) s.keys.history × LeasesFit s.keys.history.revisions };
+    ghost invariant = { λ s. HangAsStored (lease_of s.leases) s.keys.history × LeasesFit s.keys.history.revisions × StandFor s.keys.history s.watchers };
 }
 
 /// Whether a branch is to change something at the highest revision.
@@ -99,6 +107,36 @@ fn told_grant(granted: Result<(), GrantError>) -> Result<(), Refusal>
     }
 }
 
+/// What a watch answers.
+fn told_watch(watched: Result<u64, WatchRefusal>) -> Result<u64, Refusal>
+    ensures { result ≡ watch_told watched }
+{
+    match watched {
+        Ok(id) => Ok(id),
+        Err(WatchRefusal::EmptyKey) => Err(Refusal::EmptyKey),
+        Err(WatchRefusal::OutOfMemory) => Err(Refusal::OutOfMemory),
+    }
+}
+
+/// What a poll answers.
+fn told_poll(polled: Result<Batch, PollRefusal>) -> Result<Batch, Refusal>
+    ensures { result ≡ poll_told polled }
+{
+    match polled {
+        Ok(batch) => Ok(batch),
+        Err(PollRefusal::NoWatcher) => Err(Refusal::NoWatcher),
+        Err(PollRefusal::OutOfMemory) => Err(Refusal::OutOfMemory),
+    }
+}
+
+/// Tells the watchers of the last revision. Those that stood for the history before it stand for it then.
+fn tell_watchers(watchers: &mut Watchers, keys: &Keys)
+    ensures same { watchings watchers.new ≡ watchings watchers.old }
+    ensures stand { (h : History) (changes : List Change) → keys.now.history ≡ add_revision h changes → StandFor h watchers.old → StandFor keys.now.history watchers.new }
+{
+    watchers.touched(keys.revision(), keys.last_events());
+}
+
 /// The deletions of these keys.
 fn deletions(alloc: Global, keys: Vec<String>) -> Result<Vec<Change>, AllocError>
     ensures { IfOk result (λ changes. changes.items ≡ map Change.Del (map string_bytes keys.items)) }
@@ -119,6 +157,9 @@ impl Store {
     ghost use Rattle.stm_txn.specs.Outcome.{with_changes, answer_of};
     ghost use Rattle.stm_txn.specs.Numbers.{AnswerFits, StatesFit, ExpiredFits, AllExpiredFit};
     ghost use Rattle.stm_txn.specs.Standing.{opening, IsRefusalOf, ComesTo, refusal_of, transacted, granted, kept_alive, told, ended, revoked};
+    ghost use Rattle.stm_txn.specs.Standing.{watched, polled, cancelled};
+    ghost use Rattle.stm_watch.specs.declared.watched.Watched.TheVariants.{Key, Range};
+    ghost use Rattle.stm_watch.specs.Calls.{IsNextPending};
     ghost use Rattle.stm_txn.specs.Standing.{after, expired_in, expire_all, at_moment, advanced, HasCome, IsStopped, IsCutShort, with_expiries};
 
     /// An empty store at revision 1 and moment 0. Want of memory is its only refusal.
@@ -143,6 +184,7 @@ impl Store {
             keys: Keys::with_revision(alloc, start),
             leases: Leases::new(alloc),
             moment: 0,
+            watchers: Watchers::new(alloc)?,
             alloc,
         })
     }
@@ -185,7 +227,7 @@ impl Store {
         self.leases.is_live(id)
     }
 
-    /// Adds a revision with these changes, and moves their keys to their leases.
+    /// Adds a revision with these changes, moves their keys to their leases, and tells the watchers.
     fn change(&mut self, changes: Vec<Change>) -> Result<(), Refusal>
         requires revision { IsRevision changes.items }
         requires room { now self.old.standing.history < HIGHEST_REVISION }
@@ -194,6 +236,7 @@ impl Store {
         ensures ok { OnOk result (self.new.standing.history ≡ add_revision self.old.standing.history changes.items) }
         ensures live { self.new.standing.live ≡ self.old.standing.live }
         ensures moment { self.new.standing.moment ≡ self.old.standing.moment }
+        ensures watchers { self.new.standing.watchers ≡ self.old.standing.watchers }
         ensures memory { IsOkUnless result Refusal.OutOfMemory }
         ensures err { OnErr result (self.new ≡ self.old) }
     {
@@ -205,6 +248,7 @@ impl Store {
             Err(ApplyRefusal::OutOfMemory) => return Err(Refusal::OutOfMemory),
             Err(ApplyRefusal::RevisionsUsedUp) => unreachable!(),
         }
+        tell_watchers(&mut self.watchers, &self.keys);
         move_keys(&mut self.leases, self.keys.last_events(), hangs);
         Ok(())
     }
@@ -218,6 +262,7 @@ impl Store {
         ensures ok { OnOk result (self.new.standing.history ≡ with_changes self.old.standing.history changes.items) }
         ensures live { self.new.standing.live ≡ self.old.standing.live }
         ensures moment { self.new.standing.moment ≡ self.old.standing.moment }
+        ensures watchers { self.new.standing.watchers ≡ self.old.standing.watchers }
         ensures memory { IsOkUnless result Refusal.OutOfMemory }
         ensures err { OnErr result (self.new ≡ self.old) }
     {
@@ -240,6 +285,7 @@ impl Store {
         ensures history { OnOk result (self.new.standing.history ≡ with_changes self.old.standing.history (changes_copied self.old.standing.history [] ops.now)) }
         ensures live { self.new.standing.live ≡ self.old.standing.live }
         ensures moment { self.new.standing.moment ≡ self.old.standing.moment }
+        ensures watchers { self.new.standing.watchers ≡ self.old.standing.watchers }
         ensures memory { IsOkUnless result Refusal.OutOfMemory }
         ensures err { OnErr result (self.new ≡ self.old) }
     {
@@ -260,6 +306,7 @@ impl Store {
             ≡ Ok (record { answer = answer; history = self.new.standing.history })) }
         ensures live { self.new.standing.live ≡ self.old.standing.live }
         ensures moment { self.new.standing.moment ≡ self.old.standing.moment }
+        ensures watchers { self.new.standing.watchers ≡ self.old.standing.watchers }
         ensures refused { IfErr result (IsRefusalOf (outcome_copied self.old.standing.history (is_live_in self.old.standing.live) failed ops.now)) }
         ensures err { OnErr result (self.new ≡ self.old) }
     {
@@ -478,6 +525,65 @@ impl Store {
         self.moment = moment;
         let expired = self.expire_due()?;
         Ok(expired)
+    }
+
+    /// Watches a key from a revision on, 0 for the next one, and gives the watcher's number: 1, 2, 3, .., which is
+    /// never used again. A start above the counter waits for that revision.
+    ///
+    /// It is refused for the first of `EmptyKey` and `OutOfMemory` that holds, and then changes nothing, and takes no
+    /// number. (etcd's API reference, "Watch": `key` and `start_revision` of a `WatchCreateRequest`.)
+    pub fn watch_key(&mut self, key: &str, from: u64) -> Result<u64, Refusal>
+        ensures step { ComesTo (watched self.old.standing (Key key.now) from) result self.new.standing }
+        ensures present { self.new.present ≡ self.old.present }
+        ensures err { OnErr result (self.new ≡ self.old) }
+    {
+        let watched = self.watchers.watch_key(key, from, &self.keys);
+        told_watch(watched)
+    }
+
+    /// Watches the keys from `first` on that are below `end`, by bytes, as `watch_key` watches one. An `end` that is
+    /// not above `first` leaves none. `EmptyKey` is answered where `first` is empty.
+    pub fn watch_range(&mut self, first: &str, end: &str, from: u64) -> Result<u64, Refusal>
+        ensures step { ComesTo (watched self.old.standing (Range first.now end.now) from) result self.new.standing }
+        ensures present { self.new.present ≡ self.old.present }
+        ensures err { OnErr result (self.new ≡ self.old) }
+    {
+        let watched = self.watchers.watch_range(first, end, from, &self.keys);
+        told_watch(watched)
+    }
+
+    /// Cancels a watcher. It takes no memory. `NoWatcher` is answered where there is none with this number, or it was
+    /// cancelled, and changes nothing.
+    pub fn cancel(&mut self, id: u64) -> Result<(), Refusal>
+        ensures step { cancelled self.old.standing id ≡ told result self.new.standing }
+        ensures present { self.new.present ≡ self.old.present }
+        ensures err { OnErr result (self.new ≡ self.old) }
+    {
+        match self.watchers.cancel(id) {
+            Ok(()) => Ok(()),
+            Err(_) => Err(Refusal::NoWatcher),
+        }
+    }
+
+    /// A watcher for which events are pending, `None` exactly where there is none. It takes no memory.
+    pub fn next_ready(&self) -> Option<u64>
+        ensures { IsNextPending self.now.standing.history self.now.standing.watchers result }
+    {
+        self.watchers.next_ready()
+    }
+
+    /// Gives a watcher the pending events of at most so many revisions, and whole revisions only, and notes how far it
+    /// has been told.
+    ///
+    /// It is refused for the first of `NoWatcher`, where there is none with this number or it was cancelled, and
+    /// `OutOfMemory` that holds, and then changes nothing: a poll that wanted memory gives the same batch later.
+    pub fn poll(&mut self, id: u64, most: u64) -> Result<Batch, Refusal>
+        ensures step { ComesTo (polled self.old.standing id most) result self.new.standing }
+        ensures present { self.new.present ≡ self.old.present }
+        ensures err { OnErr result (self.new ≡ self.old) }
+    {
+        let polled = self.watchers.poll(id, &self.keys, most);
+        told_poll(polled)
     }
 
     /// Why a transaction would be refused now, other than for want of memory. It takes no memory.

@@ -24,15 +24,20 @@ pub(crate) fn text(alloc: Global, value: &Value) -> Result<Text, ReadError>
     }
 }
 
-/// A text that is an element of an array. A fault's place is that in the array.
-pub(crate) fn text_part(alloc: Global, index: usize, value: &Value) -> Result<Text, ReadError>
+/// A text that is an element of an array, of any length. Anything else is `Shape`.
+///
+/// A fault's place is that in the array. `OutOfMemory` comes where a growth was refused.
+pub fn text_part(alloc: Global, index: usize, value: &Value) -> Result<Text, ReadError>
     ensures { Tells (λ t. t) result (within_list index (text_of (view value.now))) }
 {
     within(alloc, index, text(alloc, value))
 }
 
-/// A number that is an element of an array. A fault's place is that in the array.
-pub(crate) fn number_part(alloc: Global, index: usize, value: &Value) -> Result<u64, ReadError>
+/// A whole number from 0 to 9223372036854775807 that is an element of an array. Another whole number of 64 bits is
+/// `Range`, anything else `Shape`.
+///
+/// A fault's place is that in the array. `OutOfMemory` comes where a growth was refused.
+pub fn number_part(alloc: Global, index: usize, value: &Value) -> Result<u64, ReadError>
     ensures { Tells (λ n. n) result (within_list index (number_up_to HIGHEST_NUMBER (view value.now))) }
 {
     within(alloc, index, number_within(alloc, HIGHEST_NUMBER, value))

@@ -75,7 +75,7 @@ txn_follows s txn = txn_by s txn (outcome s.history (is_live_in s.live) txn) ref
 
 -- ---- leases ----
 
-abbrev granted_by : Standing → ℕ → ℕ → Option GrantError → Result (Step (Unit {0})) Refusal
+abbrev pub granted_by : Standing → ℕ → ℕ → Option GrantError → Result (Step (Unit {0})) Refusal
 granted_by s id ttl o =
     elim o [
       | Some cause ↦ Err (grant_refusal_of cause)
@@ -91,7 +91,7 @@ pub grant_follows : (s : Standing) (id ttl : ℕ) →
     EntriesFollow s (store_after_call s (granted s id ttl)) (if_taken (granted s id ttl) (GrantEntry id ttl s.moment))
 grant_follows s id ttl = grant_by s id ttl (grant_refusal s.live id ttl) refl
 
-abbrev kept_by : Standing → ℕ → Option Term → Result (Step (Unit {0})) Refusal
+abbrev pub kept_by : Standing → ℕ → Option Term → Result (Step (Unit {0})) Refusal
 kept_by s id o =
     elim o [
       | None ↦ Err LeaseNotFound
@@ -111,7 +111,7 @@ pub keep_follows : (s : Standing) (id : ℕ) →
     EntriesFollow s (store_after_call s (kept_alive s id)) (if_taken (kept_alive s id) (Renew id s.moment))
 keep_follows s id = keep_by s id (finmap.get s.live id) refl
 
-abbrev revoked_by : Standing → ℕ → Bool → Bool → Result (Step ℕ) Refusal
+abbrev pub revoked_by : Standing → ℕ → Bool → Bool → Result (Step ℕ) Refusal
 revoked_by s id live used = cond live (with_revision (cond used (Err RevisionsUsedUp) (Ok (without_lease s id)))) (Err LeaseNotFound)
 
 revoke_by : (s : Standing) (id : ℕ) (live used : Bool) → is_live_in s.live id ≡ live → is_used_up s.history (deletions_of s.history id) ≡ used →
@@ -149,14 +149,14 @@ one_more_expiry s next last id expired live is rest =
     }
 
 -- what a lease that is due makes of the rest of an advance
-abbrev advance_ended : ℕ → Standing → ℕ → Result Standing Refusal → Advance
+abbrev pub advance_ended : ℕ → Standing → ℕ → Result Standing Refusal → Advance
 advance_ended many s id o =
     elim o [
       | Err cause ↦ record { expired = []; leaves = s; cause = Some cause }
       | Ok next ↦ after (expired_in id next ∷ []) (expire_up_to many next)
     ]
 
-abbrev advance_due : ℕ → Standing → Option ℕ → Advance
+abbrev pub advance_due : ℕ → Standing → Option ℕ → Advance
 advance_due many s o =
     elim o [
       | None ↦ record { expired = []; leaves = s; cause = None }
@@ -188,7 +188,7 @@ at_moment_follows many s moment =
     let e = expiries_follow many (at_moment s moment) in
     record { replays = e.replays; legal = e.legal; keeps = e.keeps }
 
-abbrev advance_back : Standing → ℕ → Bool → Advance
+abbrev pub advance_back : Standing → ℕ → Bool → Advance
 advance_back s moment back = cond back (record { expired = []; leaves = s; cause = Some TimeGoesBack }) (expire_all (at_moment s moment))
 
 advance_by : (s : Standing) (moment : ℕ) (back : Bool) →

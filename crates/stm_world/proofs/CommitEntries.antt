@@ -91,7 +91,7 @@ taken s task reads run done law t =
     committed_run s task reads run done law t ok.no_conflict in
     record { alone = alone; applies = ok.applies; replayed = replayed_run s task reads run done alone t.is_done ok.applies }
 
-grown_by : (h : History) (is_live : ℕ → Bool) (changes : List Change) (done : Done) → applied h is_live changes ≡ Ok done → Keeps h done.history
+pub grown_by : (h : History) (is_live : ℕ → Bool) (changes : List Change) (done : Done) → applied h is_live changes ≡ Ok done → Keeps h done.history
 grown_by h is_live changes done is =
     subst (λ (x : History). Keeps h x) (applied_history h is_live changes done is) (keeps_changes h (effective h changes))
 

@@ -6,15 +6,18 @@ use Rattle.std.specs.Prelude.{nat_eq, option_map, Result}
 use Rattle.stm_txn.specs.declared.advance.Expired.{Expired}
 use Rattle.stm_txn.specs.declared.refusal.Refusal.{Refusal as StoreRefusal}
 use Rattle.stm_txn.specs.Standing.{Standing, Step as StoreStep, Advance as StoreAdvance, transacted, granted, kept_alive, revoked, advanced}
+use Rattle.stm_txn.specs.Standing.{watched, polled, cancelled}
+use Rattle.stm_watch.specs.declared.watched.Watched.TheVariants.{Key, Range}
 use Rattle.stm_entries.specs.declared.entry.Entry.{Entry}
 use Rattle.stm_entries.specs.declared.entry.Entry.TheVariants.{Grant as GrantEntry, Renew, Revoke as RevokeEntry}
 use Rattle.stm_entries.specs.Replayed.{without_moment}
 use Rattle.stm_world.specs.declared.event.WorldEvent.{WorldEvent}
 use Rattle.stm_world.specs.declared.event.WorldEvent.TheVariants.{Start, Step, Txn, Grant, Keep, Revoke, Advance}
+use Rattle.stm_world.specs.declared.event.WorldEvent.TheVariants.{WatchKey, WatchRange, Poll, Cancel}
 use Rattle.stm_world.specs.declared.reply.Reply.{Reply}
-use Rattle.stm_world.specs.declared.reply.Reply.TheVariants.{Started, Txn as TxnDone, Granted, Kept, Revoked}
+use Rattle.stm_world.specs.declared.reply.Reply.TheVariants.{Started, Txn as TxnDone, Granted, Kept, Revoked, Watching, Cancelled}
 use Rattle.stm_world.specs.declared.refusal.Refusal.TheVariants.{BadLimit, NoRunner}
-use Rattle.stm_world.specs.Told.{denied, reply_to, store_after_call, advance_reply}
+use Rattle.stm_world.specs.Told.{denied, reply_to, store_after_call, advance_reply, batch_reply}
 use Rattle.stm_world.specs.Task.{Task}
 use Rattle.stm_world.specs.Log.{Line, begun, running, started, store, runner_started, if_told, expired_told, entries_told, told}
 use Rattle.stm_world.specs.Right.{RunnerIsRight}
@@ -33,6 +36,7 @@ use Rattle.stm_world.proofs.Following.{FollowsAt, FollowsStep, with_line, world_
 use Rattle.stm_world.proofs.RunnerSteps.{CommitLaws, live_follows}
 use Rattle.stm_world.proofs.Entered.{nothing_follows}
 use Rattle.stm_world.proofs.Calls.{txn_follows, grant_follows, keep_follows, revoke_follows, advance_follows}
+use Rattle.stm_world.proofs.WatchCalls.{watch_follows, poll_follows, cancel_follows}
 
 -- ---- starts ----
 
@@ -205,6 +209,41 @@ event_follows start log runners entries (Advance moment) laws f =
       follows = no_runner_touched start log runners entries (expiries a.expired) (Advance moment) (advance_reply moment a.expired a.cause) f refl
           (no_number_at moment a) (λ id. by_advance id moment a.expired a.cause)
           (ap expiries (sym (expiries_told moment a.expired a.cause))) (advance_follows (store start log) moment);
+    }
+event_follows start log runners entries (WatchKey key from) laws f =
+    let s : Standing = store start log in
+    let o = watched s (Key key) from in
+    record {
+      standing = refl;
+      follows = nothing_touched start log runners entries (WatchKey key from) (reply_to Watching o) f refl (no_number Watching o (λ x. refl))
+          (λ id. by_call id Watching o (λ x. by_reply id (Watching x) refl)) refl (watch_follows s (Key key) from);
+    }
+event_follows start log runners entries (WatchRange first end from) laws f =
+    let s : Standing = store start log in
+    let o = watched s (Range first end) from in
+    record {
+      standing = refl;
+      follows = nothing_touched start log runners entries (WatchRange first end from) (reply_to Watching o) f refl
+          (no_number Watching o (λ x. refl)) (λ id. by_call id Watching o (λ x. by_reply id (Watching x) refl)) refl
+          (watch_follows s (Range first end) from);
+    }
+event_follows start log runners entries (Poll watcher most) laws f =
+    let s : Standing = store start log in
+    let o = polled s watcher most in
+    record {
+      standing = refl;
+      follows = nothing_touched start log runners entries (Poll watcher most) (reply_to (batch_reply watcher) o) f refl
+          (no_number (batch_reply watcher) o (λ x. refl)) (λ id. by_call id (batch_reply watcher) o (λ x. by_reply id (batch_reply watcher x) refl)) refl
+          (poll_follows s watcher most);
+    }
+event_follows start log runners entries (Cancel watcher) laws f =
+    let s : Standing = store start log in
+    let o = cancelled s watcher in
+    record {
+      standing = refl;
+      follows = nothing_touched start log runners entries (Cancel watcher) (reply_to (λ _. Cancelled watcher) o) f refl
+          (no_number (λ _. Cancelled watcher) o (λ x. refl)) (λ id. by_call id (λ _. Cancelled watcher) o (λ x. by_reply id (Cancelled watcher) refl))
+          refl (cancel_follows s watcher);
     }
 
 -- ---- whole runs ----

@@ -1,4 +1,5 @@
 pub mod Wrong
+pub mod Polling
 pub mod Truth
 pub mod Entered
 pub mod ReadOrder
@@ -12,6 +13,8 @@ pub mod CommitCases
 pub mod CommitEntries
 pub mod RunnerSteps
 pub mod Calls
+pub mod WatchCalls
 pub mod SoundSteps
 pub mod Sound
 pub mod Headlines
+pub mod Telling

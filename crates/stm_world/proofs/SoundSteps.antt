@@ -16,6 +16,8 @@ use Rattle.stm_txn.specs.declared.refusal.Refusal.{Refusal as StoreRefusal}
 use Rattle.stm_txn.specs.Outcome.{Done}
 use Rattle.stm_txn.specs.Commits.{revision_read}
 use Rattle.stm_txn.specs.Standing.{Standing, with_history, transacted, granted, kept_alive, revoked, advanced, Advance as StoreAdvance}
+use Rattle.stm_txn.specs.Standing.{watched, polled, cancelled}
+use Rattle.stm_watch.specs.declared.watched.Watched.TheVariants.{Key, Range}
 use Rattle.stm_compile.specs.Committed.{committed}
 use Rattle.stm_compile.specs.Conflicts.{Seen, seen_by}
 use Rattle.stm_compile.specs.Laws.{CommitIsTheRunNow}
@@ -30,6 +32,7 @@ use Rattle.stm_entries.proofs.Replaying.{replay_goes_on, all_legal}
 use Rattle.stm_entries.proofs.Adding.{replay_only_adds}
 use Rattle.stm_world.specs.declared.event.WorldEvent.{WorldEvent}
 use Rattle.stm_world.specs.declared.event.WorldEvent.TheVariants.{Start, Step, Txn, Grant, Keep, Revoke, Advance}
+use Rattle.stm_world.specs.declared.event.WorldEvent.TheVariants.{WatchKey, WatchRange, Poll, Cancel}
 use Rattle.stm_world.specs.declared.reply.Reply.{Reply}
 use Rattle.stm_world.specs.declared.reply.Reply.TheVariants.{Started, Fetched, Conflict, GaveUp, Aborted, Faulted, Ended}
 use Rattle.stm_world.specs.declared.refusal.Refusal.TheVariants.{BadLimit}
@@ -42,6 +45,7 @@ use Rattle.stm_world.specs.Sound.{KnowsTruth, IsSound}
 use Rattle.stm_world.proofs.Truth.{known_stays, fetch_true, conflict_true}
 use Rattle.stm_world.proofs.Entered.{EntriesFollow, nothing_follows}
 use Rattle.stm_world.proofs.Calls.{txn_follows, grant_follows, keep_follows, revoke_follows, advance_follows}
+use Rattle.stm_world.proofs.WatchCalls.{watch_follows, poll_follows, cancel_follows}
 use Rattle.stm_world.proofs.CommitEntries.{Takes, taken, commit_follows_entry}
 use Rattle.stm_world.proofs.Slots.{equal_numbers, differ, runner_there, runner_own, runner_other, runner_new, runner_old}
 
@@ -76,6 +80,10 @@ pub call_sound : (w : World) (after : Standing) (more : List Entry) → IsSound 
     IsSound (world_with after w.runners (w.entries ++ more))
 call_sound w after more sound e =
     sound_with w w.runners after more sound e (λ id r found. known_stays w.standing.history after.history r.known e.keeps (sound.truth id r found))
+
+-- an event that is no entry
+watch_sound : (w : World) (after : Standing) → IsSound w → EntriesFollow w.standing after [] → IsSound (world_with after w.runners w.entries)
+watch_sound w after sound e = subst (λ (es : List Entry). IsSound (world_with after w.runners es)) (append-nil w.entries) (call_sound w after [] sound e)
 
 -- a step that leads a runner to another place
 slot_sound : (w : World) (id : ℕ) (r : Runner) (slot : Slot) (after : Standing) (more : List Entry) → IsSound w → runner_at id w.runners ≡ Some r →
@@ -240,3 +248,11 @@ event_sound (Revoke lease) w law sound =
 event_sound (Advance moment) w law sound =
     let done : StoreAdvance = advanced w.standing moment in
     call_sound w done.leaves (expiries done.expired) sound (advance_follows w.standing moment)
+event_sound (WatchKey key from) w law sound =
+    watch_sound w (store_after_call w.standing (watched w.standing (Key key) from)) sound (watch_follows w.standing (Key key) from)
+event_sound (WatchRange first end from) w law sound =
+    watch_sound w (store_after_call w.standing (watched w.standing (Range first end) from)) sound (watch_follows w.standing (Range first end) from)
+event_sound (Poll watcher most) w law sound =
+    watch_sound w (store_after_call w.standing (polled w.standing watcher most)) sound (poll_follows w.standing watcher most)
+event_sound (Cancel watcher) w law sound =
+    watch_sound w (store_after_call w.standing (cancelled w.standing watcher)) sound (cancel_follows w.standing watcher)

@@ -18,22 +18,24 @@ use Rattle.stm_attempt.specs.Settled.{run_on, wanted, answer_for, served, taken,
 use Rattle.stm_attempt.specs.Fetches.{base_of, at_of}
 use Rattle.stm_world.specs.Task.{Task, answer_at, with_served, after_fetch, after_conflict}
 use Rattle.stm_world.specs.Sound.{KnowsTruth}
+use Rattle.stm_world.proofs.Polling.{Carries, carries_changes}
 
--- what was true of one history is true of another
+-- what was true of one history is true of another, and what watchers were told of it goes on
 abbrev pub Keeps : History → History → Type 0
-Keeps before after = (answers : List ReadAnswer) → AreTrue before answers → AreTrue after answers
+Keeps before after = ((answers : List ReadAnswer) → AreTrue before answers → AreTrue after answers) × Carries before after
 
 pub keeps_same : (h : History) → Keeps h h
-keeps_same h answers t = t
+keeps_same h = (λ answers t. t, λ told begun w t. t)
 
 pub keeps_twice : (a b c : History) → Keeps a b → Keeps b c → Keeps a c
-keeps_twice a b c first second answers t = second answers (first answers t)
+keeps_twice a b c first second =
+    (λ answers t. second.0 answers (first.0 answers t), λ told begun w t. second.1 told begun w (first.1 told begun w t))
 
 pub keeps_changes : (h : History) (changes : List Change) → Keeps h (with_changes h changes)
-keeps_changes h changes answers t = true_answers_stay h changes answers t
+keeps_changes h changes = (λ answers t. true_answers_stay h changes answers t, carries_changes h changes)
 
 pub known_stays : (h after : History) (known : Known) → Keeps h after → KnowsTruth h known → KnowsTruth after known
-known_stays h after known keeps t = (keeps known.reads t.0, keeps known.prefetched t.1)
+known_stays h after known keeps t = (keeps.0 known.reads t.0, keeps.0 known.prefetched t.1)
 
 pub one_more_true : (h : History) (answers : List ReadAnswer) (a : ReadAnswer) → AreTrue h answers → IsTrueAnswer h a → AreTrue h (answers ++ a ∷ [])
 one_more_true h [] a t new = (new, tt)

@@ -1,5 +1,6 @@
 -- Wrong logs are none.
-use Rattle.std.proofs.Common.{◌≡◌, ◌≢◌, ℕ, ◌+◌, ◌≤◌, List, [], ◌∷◌, Option, Some, None, Ok, Err, Bool, true, false, cond, refl, sym, ◌∙◌, ap, subst, arith}
+use Rattle.std.proofs.Common.{◌≡◌, ◌≢◌, ℕ, ◌+◌, ◌≤◌, zero, suc, List, [], ◌∷◌, take, Option, Some, None, Ok, Err, Bool, true, false, cond}
+use Rattle.std.proofs.Common.{refl, sym, ◌∙◌, ap, subst, arith}
 use Rattle.std.specs.Prelude.{nat_eq, Result}
 use Rattle.std.specs.Cmp.{unsigned_Decides}
 use Rattle.stm_program.specs.Syntax.{ProgramTree}
@@ -10,15 +11,22 @@ use Rattle.stm_meaning.specs.declared.run.Answered.TheVariants.{Ended as EndedRu
 use Rattle.stm_attempt.specs.Settled.{run_on}
 use Rattle.stm_world.specs.declared.event.WorldEvent.{WorldEvent}
 use Rattle.stm_world.specs.declared.event.WorldEvent.TheVariants.{Start, Step, Txn, Grant, Keep, Revoke, Advance}
+use Rattle.stm_world.specs.declared.event.WorldEvent.TheVariants.{WatchKey, WatchRange, Poll, Cancel}
 use Rattle.stm_world.specs.declared.reply.Reply.{Reply}
 use Rattle.stm_world.specs.declared.reply.Reply.TheVariants.{Started, Fetched, Committed, Conflict, GaveUp, Aborted, Faulted, Ended}
-use Rattle.stm_world.specs.declared.reply.Reply.TheVariants.{Txn as TxnDone, Granted, Kept, Revoked, Advanced}
+use Rattle.stm_world.specs.declared.reply.Reply.TheVariants.{Txn as TxnDone, Granted, Kept, Revoked, Advanced, Watching as WatchingReply, Batch, Cancelled}
 use Rattle.stm_world.specs.declared.refusal.Denied.{Denied}
 use Rattle.stm_world.specs.declared.refusal.Refusal.TheVariants.{NoRunner}
 use Rattle.stm_txn.specs.declared.advance.Expired.{Expired}
 use Rattle.stm_txn.specs.declared.refusal.Refusal.{Refusal as StoreRefusal}
-use Rattle.stm_txn.specs.Standing.{Step as StoreStep, transacted, granted, kept_alive, revoked, advanced}
-use Rattle.stm_world.specs.Told.{denied, reply_to, advance_reply}
+use Rattle.stm_txn.specs.Standing.{Standing, Step as StoreStep, transacted, granted, kept_alive, revoked, advanced, watched, poll_step, polled, cancelled}
+use Rattle.stm_keys.specs.declared.event.Event.{Event}
+use Rattle.stm_watch.specs.declared.told.Told.{Told}
+use Rattle.stm_watch.specs.declared.watched.Watched.TheVariants.{Key, Range}
+use Rattle.stm_watch.specs.declared.watched.Watching.{Watching}
+use Rattle.stm_watch.specs.Pending.{pending, events_told}
+use Rattle.stm_watch.specs.Calls.{watcher_at, poll_found}
+use Rattle.stm_world.specs.Told.{denied, reply_to, advance_reply, batch_reply}
 use Rattle.stm_world.specs.Task.{Task}
 use Rattle.stm_world.specs.Log.{Line, begun, running, started, is_start, runner_started, is_id, task_in, store, told}
 use Rattle.stm_world.specs.Right.{IsRight, AreRight, RunnerIsRight, Situation, ReplyIsRight, EndsWith, situation}
@@ -75,6 +83,14 @@ given_next start log (Revoke lease) reply id right named =
 given_next start log (Advance moment) reply id right named =
     let done = advanced (store start log) moment in
     let none = ap runner_started right ∙ advance_gives_none moment done.expired done.cause in absurd (cc)
+given_next start log (WatchKey key from) reply id right named =
+    let none = ap runner_started right ∙ call_gives_none WatchingReply (watched (store start log) (Key key) from) (λ x. refl) in absurd (cc)
+given_next start log (WatchRange first end from) reply id right named =
+    let none = ap runner_started right ∙ call_gives_none WatchingReply (watched (store start log) (Range first end) from) (λ x. refl) in absurd (cc)
+given_next start log (Poll watcher most) reply id right named =
+    let none = ap runner_started right ∙ call_gives_none (batch_reply watcher) (polled (store start log) watcher most) (λ x. refl) in absurd (cc)
+given_next start log (Cancel watcher) reply id right named =
+    let none = ap runner_started right ∙ call_gives_none (λ _. Cancelled watcher) (cancelled (store start log) watcher) (λ x. refl) in absurd (cc)
 
 begun_here : (id runner count : ℕ) (b : Bool) (here rest : Option Task) (task : Task) → nat_eq runner id ≡ b → runner ≡ count + 1 →
     (rest ≡ Some task → id ≤ count) → cond b here rest ≡ Some task → id ≤ count + 1
@@ -117,6 +133,9 @@ another at (Granted lease) runner named right = absurd right
 another at (Kept lease) runner named right = absurd right
 another at (Revoked lease revision) runner named right = absurd right
 another at (Advanced moment expired) runner named right = absurd right
+another at (WatchingReply watcher) runner named right = absurd right
+another at (Batch watcher upto events) runner named right = absurd right
+another at (Cancelled watcher) runner named right = absurd right
 
 another_by : (start : ℕ) (log : List Line) (id runner : ℕ) (o : Option Task) (reply : Reply) → runner_told reply ≡ Some runner → runner ≢ id
     → RunnerIsRight start log id o (Ok reply) → ⊥
@@ -141,6 +160,44 @@ another_abort start log id task run text runs is_run done right =
     not_aborted (situation start log id task) run text is_run done
     (subst (λ (o : Option Task). RunnerIsRight start log id o (Ok (Aborted id text))) runs right).1
 
+-- ---- watchers ----
+
+-- the reply to a poll, by what stands at the watcher's place
+abbrev told_of : Standing → ℕ → ℕ → Option Watching → Result Reply Denied
+told_of s id most o = reply_to (batch_reply id) (poll_step s (poll_found s.history id most s.watchers o))
+
+refused_poll : (start : ℕ) (log : List Line) (id most : ℕ) (w : Watching) (refusal : Denied) → watcher_at id (store start log).watchers ≡ Some w
+    → IsRight start log (Poll id most) (Err refusal) → ⊥
+refused_poll start log id most w refusal there right =
+    let told : Err refusal ≡ told_of (store start log) id most (Some w) =
+    subst (λ (o : Option Watching). Err refusal ≡ told_of (store start log) id most o) there right in absurd (cc)
+
+poll_of_none : (start : ℕ) (log : List Line) (id most : ℕ) (reply : Reply) → watcher_at id (store start log).watchers ≡ None
+    → IsRight start log (Poll id most) (Ok reply) → ⊥
+poll_of_none start log id most reply none right =
+    let told : Ok reply ≡ told_of (store start log) id most None =
+    subst (λ (o : Option Watching). Ok reply ≡ told_of (store start log) id most o) none right in absurd (cc)
+
+watcher_named : (s : Standing) (id most watcher upto : ℕ) (events : List Event) (o : Option Watching)
+    → Ok (Batch watcher upto events) ≡ told_of s id most o → watcher ≡ id
+watcher_named s id most watcher upto events None told = absurd (cc)
+watcher_named s id most watcher upto events (Some w) told = cc
+
+none_taken : (most : ℕ) → take most (let none : List Told = [] in none) ≡ []
+none_taken zero = refl
+none_taken (suc most) = refl
+
+event_not_pending : (start : ℕ) (log : List Line) (id most upto : ℕ) (w : Watching) (event : Event) (events : List Event)
+    → watcher_at id (store start log).watchers ≡ Some w → pending (store start log).history w ≡ []
+    → IsRight start log (Poll id most) (Ok (Batch id upto (event ∷ events))) → ⊥
+event_not_pending start log id most upto w event events there none right =
+    let s : Standing = store start log in
+    let told : Ok (Batch id upto (event ∷ events)) ≡ told_of s id most (Some w) =
+    subst (λ (o : Option Watching). Ok (Batch id upto (event ∷ events)) ≡ told_of s id most o) there right in
+    let same : event ∷ events ≡ events_told (take most (pending s.history w)) = cc in
+    let nothing : event ∷ events ≡ [] = same ∙ ap (λ (ts : List Told). events_told (take most ts)) none ∙ ap events_told (none_taken most) in
+    absurd (cc)
+
 pub wrong_logs : WrongLogs
 wrong_logs = record {
   causeless_refusal = causeless_refusal;
@@ -149,4 +206,9 @@ wrong_logs = record {
   step_of_none = step_of_none;
   another_runner = another_runner;
   another_abort = another_abort;
+  refused_poll = refused_poll;
+  poll_of_none = poll_of_none;
+  another_watcher = λ start log id most watcher upto events other right.
+      other (watcher_named (store start log) id most watcher upto events (watcher_at id (store start log).watchers) right);
+  event_not_pending = event_not_pending;
 }

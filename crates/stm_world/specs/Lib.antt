@@ -8,3 +8,4 @@ pub mod World
 pub mod Sound
 pub mod Headline
 pub mod WrongLogs
+pub mod Telling

@@ -9,7 +9,8 @@ use Rattle.stm_meaning.specs.declared.value.Value.{Value}
 use Rattle.stm_meaning.specs.declared.trace_item.TraceItem.{TraceItem}
 use Rattle.stm_meaning.specs.Meaning.{run_over}
 use Rattle.stm_txn.specs.declared.advance.Expired.{Expired}
-use Rattle.stm_txn.specs.Standing.{Standing, opening, with_history, transacted, granted, kept_alive, revoked, advanced}
+use Rattle.stm_txn.specs.Standing.{Standing, opening, with_history, transacted, granted, kept_alive, revoked, advanced, watched, polled, cancelled}
+use Rattle.stm_watch.specs.declared.watched.Watched.TheVariants.{Key, Range}
 use Rattle.stm_attempt.specs.Known.{Known}
 use Rattle.stm_entries.specs.declared.entry.Entry.{Entry}
 use Rattle.stm_entries.specs.declared.entry.Entry.TheVariants.{Program, Foreign, Grant as GrantEntry, Renew, Revoke as RevokeEntry, Expire}
@@ -17,6 +18,7 @@ use Rattle.stm_entries.specs.Replayed.{without_moment}
 use Rattle.stm_entries.specs.Alone.{seen_at, left_by_run}
 use Rattle.stm_world.specs.declared.event.WorldEvent.{WorldEvent}
 use Rattle.stm_world.specs.declared.event.WorldEvent.TheVariants.{Start, Step, Txn, Grant, Keep, Revoke, Advance}
+use Rattle.stm_world.specs.declared.event.WorldEvent.TheVariants.{WatchKey, WatchRange, Poll, Cancel}
 use Rattle.stm_world.specs.declared.reply.Reply.{Reply}
 use Rattle.stm_world.specs.declared.reply.Reply.TheVariants.{Started, Fetched, Committed, Conflict, GaveUp, Aborted, Faulted, Ended, Advanced}
 use Rattle.stm_world.specs.declared.refusal.Denied.{Denied}
@@ -108,6 +110,10 @@ store_after task_of (Grant id ttl) reply s = store_after_call s (granted s id tt
 store_after task_of (Keep id) reply s = store_after_call s (kept_alive s id)
 store_after task_of (Revoke id) reply s = store_after_call s (revoked s id)
 store_after task_of (Advance moment) reply s = (advanced s moment).leaves
+store_after task_of (WatchKey key from) reply s = store_after_call s (watched s (Key key) from)
+store_after task_of (WatchRange first end from) reply s = store_after_call s (watched s (Range first end) from)
+store_after task_of (Poll watcher most) reply s = store_after_call s (polled s watcher most)
+store_after task_of (Cancel watcher) reply s = store_after_call s (cancelled s watcher)
 
 -- the store, which opened at a revision, after a log
 abbrev pub store : ℕ → List Line → Standing
@@ -137,7 +143,8 @@ expired_told (Ok (Advanced moment expired)) = expired
 expired_told (Ok other) = []
 expired_told (Err refusal) = refusal.expired
 
--- what an event is entered as: a transaction where it changed something, and each lease that an advance expired
+-- what an event is entered as: a transaction where it changed something, and each lease that an advance expired; nothing about
+-- watchers is entered
 abbrev pub entries_of : (ℕ → Option Task) → Standing → Standing → WorldEvent → Result Reply Denied → List Entry
 entries_of task_of before after (Start program level limit) reply = []
 entries_of task_of before after (Step runner) reply = entries_of_step task_of reply
@@ -146,6 +153,10 @@ entries_of task_of before after (Grant id ttl) reply = if_told reply (GrantEntry
 entries_of task_of before after (Keep id) reply = if_told reply (Renew id before.moment)
 entries_of task_of before after (Revoke id) reply = if_told reply (RevokeEntry id)
 entries_of task_of before after (Advance moment) reply = map (λ (e : Expired). Expire e.id) (expired_told reply)
+entries_of task_of before after (WatchKey key from) reply = []
+entries_of task_of before after (WatchRange first end from) reply = []
+entries_of task_of before after (Poll watcher most) reply = []
+entries_of task_of before after (Cancel watcher) reply = []
 
 -- what a line adds to the entries
 abbrev pub line_entries : ℕ → Line → List Line → List Entry

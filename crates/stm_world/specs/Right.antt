@@ -1,7 +1,7 @@
 -- When a reply is right after a log, whatever made it.
 --
--- The Go package `concurrency`, "STM" and "Isolation", and etcd's API reference, "Transaction" and "Lease". Nothing here knows
--- how a world makes its replies: a line is judged by the lines before it.
+-- The Go package `concurrency`, "STM" and "Isolation", and etcd's API reference, "Transaction", "Lease" and "Watch". Nothing here
+-- knows how a world makes its replies: a line is judged by the lines before it.
 use Rattle.std.specs.Prelude.{◌≡◌, ◌≢◌, ℕ, ◌+◌, ◌<◌, ◌≤◌, List, [], ◌∷◌, Option, Some, None, Result, Ok, Err}
 use Rattle.stm_history.specs.declared.key_state.ReadAnswer.{ReadAnswer}
 use Rattle.stm_history.specs.History.{now, key_at, mod_of}
@@ -18,7 +18,8 @@ use Rattle.stm_txn.specs.declared.answer.FailedCompare.{FailedCompare}
 use Rattle.stm_txn.specs.declared.refusal.Refusal.{Refusal as StoreRefusal}
 use Rattle.stm_txn.specs.Outcome.{Done}
 use Rattle.stm_txn.specs.Commits.{revision_read}
-use Rattle.stm_txn.specs.Standing.{Standing, transacted, granted, kept_alive, revoked, advanced}
+use Rattle.stm_txn.specs.Standing.{Standing, transacted, granted, kept_alive, revoked, advanced, watched, polled, cancelled}
+use Rattle.stm_watch.specs.declared.watched.Watched.TheVariants.{Key, Range}
 use Rattle.stm_compile.specs.Committed.{committed}
 use Rattle.stm_compile.specs.Conflicts.{IsConflict}
 use Rattle.stm_attempt.specs.Settled.{run_on}
@@ -26,12 +27,13 @@ use Rattle.stm_attempt.specs.Fetches.{at_of}
 use Rattle.stm_entries.specs.Alone.{seen_at}
 use Rattle.stm_world.specs.declared.event.WorldEvent.{WorldEvent}
 use Rattle.stm_world.specs.declared.event.WorldEvent.TheVariants.{Start, Step, Txn, Grant, Keep, Revoke, Advance}
+use Rattle.stm_world.specs.declared.event.WorldEvent.TheVariants.{WatchKey, WatchRange, Poll, Cancel}
 use Rattle.stm_world.specs.declared.reply.Reply.{Reply}
 use Rattle.stm_world.specs.declared.reply.Reply.TheVariants.{Started, Fetched, Committed, Conflict, GaveUp, Aborted, Faulted, Ended}
-use Rattle.stm_world.specs.declared.reply.Reply.TheVariants.{Txn as TxnDone, Granted, Kept, Revoked}
+use Rattle.stm_world.specs.declared.reply.Reply.TheVariants.{Txn as TxnDone, Granted, Kept, Revoked, Watching, Cancelled}
 use Rattle.stm_world.specs.declared.refusal.Refusal.TheVariants.{BadLimit, NoRunner}
 use Rattle.stm_world.specs.declared.refusal.Denied.{Denied}
-use Rattle.stm_world.specs.Told.{denied, reply_to, advance_reply}
+use Rattle.stm_world.specs.Told.{denied, reply_to, advance_reply, batch_reply}
 use Rattle.stm_world.specs.Task.{Task, answers_told}
 use Rattle.stm_world.specs.Asked.{keys_read}
 use Rattle.stm_world.specs.Log.{Line, running, started, failures, store, told}
@@ -141,6 +143,10 @@ IsRight start log (Keep id) reply = reply ≡ reply_to (λ _. Kept id) (kept_ali
 IsRight start log (Revoke id) reply = reply ≡ reply_to (Revoked id) (revoked (store start log) id)
 IsRight start log (Advance moment) reply =
     reply ≡ advance_reply moment (advanced (store start log) moment).expired (advanced (store start log) moment).cause
+IsRight start log (WatchKey key from) reply = reply ≡ reply_to Watching (watched (store start log) (Key key) from)
+IsRight start log (WatchRange first end from) reply = reply ≡ reply_to Watching (watched (store start log) (Range first end) from)
+IsRight start log (Poll watcher most) reply = reply ≡ reply_to (batch_reply watcher) (polled (store start log) watcher most)
+IsRight start log (Cancel watcher) reply = reply ≡ reply_to (λ _. Cancelled watcher) (cancelled (store start log) watcher)
 
 -- each line of a log is right after the lines before it
 abbrev pub AreRight : ℕ → List Line → Type 0

@@ -1,12 +1,13 @@
 -- What the world replies to the calls of its store that are no runner's.
 --
--- etcd's API reference, "Transaction" and "Lease": each such call is one of the store, and the reply is its answer.
+-- etcd's API reference, "Transaction", "Lease" and "Watch": each such call is one of the store, and the reply is its answer.
 use Rattle.std.specs.Prelude.{ℕ, List, [], Option, Some, None, Result, Ok, Err}
 use Rattle.stm_txn.specs.declared.advance.Expired.{Expired}
 use Rattle.stm_txn.specs.declared.refusal.Refusal.{Refusal as StoreRefusal}
 use Rattle.stm_txn.specs.Standing.{Standing, Step}
+use Rattle.stm_watch.specs.declared.watchers.Batch.{Batch}
 use Rattle.stm_world.specs.declared.reply.Reply.{Reply}
-use Rattle.stm_world.specs.declared.reply.Reply.TheVariants.{Advanced}
+use Rattle.stm_world.specs.declared.reply.Reply.TheVariants.{Advanced, Batch as BatchTold}
 use Rattle.stm_world.specs.declared.refusal.Refusal.{Refusal}
 use Rattle.stm_world.specs.declared.refusal.Refusal.TheVariants.{Store}
 use Rattle.stm_world.specs.declared.refusal.Denied.{Denied}
@@ -29,3 +30,7 @@ store_after_call s (Err cause) = s
 abbrev pub advance_reply : ℕ → List Expired → Option StoreRefusal → Result Reply Denied
 advance_reply moment expired None = Ok (Advanced moment expired)
 advance_reply moment expired (Some cause) = Err (record { cause = Store cause; expired = expired })
+
+-- the reply to a poll: the events, and up to which revision everything is told
+abbrev pub batch_reply : ℕ → Batch → Reply
+batch_reply watcher batch = BatchTold watcher batch.upto batch.events

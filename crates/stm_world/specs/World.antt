@@ -1,8 +1,8 @@
 -- The world's step: from a world and one event to the reply and the next world.
 --
 -- The Go package `concurrency`, "STM", for a runner's step: it makes at most one transaction, the fetch of the key that its
--- program wants or its commit. etcd's API reference, "Transaction" and "Lease", for the other events, each of which is one call
--- of the store.
+-- program wants or its commit. etcd's API reference, "Transaction", "Lease" and "Watch", for the other events, each of which is
+-- one call of the store.
 use Rattle.std.specs.Prelude.{ℕ, ◌+◌, ◌-◌, nat_eq, nat_lt, if◌then◌else◌, List, [], ◌∷◌, ◌++◌, map, length, Option, None, Some}
 use Rattle.std.specs.Prelude.{slice_get, slice_set, Result, Ok, Err}
 use Rattle.stm_history.specs.declared.key_state.ReadAnswer.{ReadAnswer}
@@ -20,7 +20,8 @@ use Rattle.stm_txn.specs.declared.answer.FailedCompare.{FailedCompare}
 use Rattle.stm_txn.specs.declared.refusal.Refusal.{Refusal as StoreRefusal}
 use Rattle.stm_txn.specs.Outcome.{Done}
 use Rattle.stm_txn.specs.Commits.{revision_read}
-use Rattle.stm_txn.specs.Standing.{Standing, opening, with_history, transacted, granted, kept_alive, revoked, advanced}
+use Rattle.stm_txn.specs.Standing.{Standing, opening, with_history, transacted, granted, kept_alive, revoked, advanced, watched, polled, cancelled}
+use Rattle.stm_watch.specs.declared.watched.Watched.TheVariants.{Key, Range}
 use Rattle.stm_compile.specs.Committed.{committed}
 use Rattle.stm_compile.specs.Conflicts.{Seen, seen_by}
 use Rattle.stm_attempt.specs.Known.{Known}
@@ -30,13 +31,14 @@ use Rattle.stm_entries.specs.declared.entry.Entry.{Entry}
 use Rattle.stm_entries.specs.declared.entry.Entry.TheVariants.{Program, Foreign, Grant as GrantEntry, Renew, Revoke as RevokeEntry, Expire}
 use Rattle.stm_world.specs.declared.event.WorldEvent.{WorldEvent}
 use Rattle.stm_world.specs.declared.event.WorldEvent.TheVariants.{Start, Step, Txn, Grant, Keep, Revoke, Advance}
+use Rattle.stm_world.specs.declared.event.WorldEvent.TheVariants.{WatchKey, WatchRange, Poll, Cancel}
 use Rattle.stm_world.specs.declared.reply.Reply.{Reply}
 use Rattle.stm_world.specs.declared.reply.Reply.TheVariants.{Started, Fetched, Committed, Conflict, GaveUp, Aborted, Faulted, Ended}
-use Rattle.stm_world.specs.declared.reply.Reply.TheVariants.{Txn as TxnDone, Granted, Kept, Revoked}
+use Rattle.stm_world.specs.declared.reply.Reply.TheVariants.{Txn as TxnDone, Granted, Kept, Revoked, Watching, Cancelled}
 use Rattle.stm_world.specs.declared.refusal.Refusal.{Refusal}
 use Rattle.stm_world.specs.declared.refusal.Refusal.TheVariants.{BadLimit, NoRunner}
 use Rattle.stm_world.specs.declared.refusal.Denied.{Denied}
-use Rattle.stm_world.specs.Told.{denied, reply_to, store_after_call, advance_reply}
+use Rattle.stm_world.specs.Told.{denied, reply_to, store_after_call, advance_reply, batch_reply}
 use Rattle.stm_world.specs.Task.{Task, nothing_known, answer_at, after_fetch, after_conflict, answers_told}
 
 -- a runner whose run goes on: its task, the commits of it that failed, and what it knows in its attempt
@@ -188,6 +190,10 @@ if_changed before after txn = if nat_lt (now before.history) (now after.history)
 abbrev pub expiries : List Expired → List Entry
 expiries expired = map (λ (e : Expired). Expire e.id) expired
 
+-- a call that is about watchers, which is no entry
+abbrev pub watch_called : Result Reply Denied → Standing → World → Stepped
+watch_called reply next w = record { reply = reply; next = record { standing = next; runners = w.runners; entries = w.entries } }
+
 -- the step of the world
 abbrev pub step : WorldEvent → World → Stepped
 step (Start program level limit) w = start_runner (record { program = program; level = level; limit = limit }) w
@@ -211,6 +217,18 @@ step (Revoke id) w =
 step (Advance moment) w =
     let done = advanced w.standing moment in
     called (advance_reply moment done.expired done.cause) done.leaves (expiries done.expired) w
+step (WatchKey key from) w =
+    let o = watched w.standing (Key key) from in
+    watch_called (reply_to Watching o) (store_after_call w.standing o) w
+step (WatchRange first end from) w =
+    let o = watched w.standing (Range first end) from in
+    watch_called (reply_to Watching o) (store_after_call w.standing o) w
+step (Poll watcher most) w =
+    let o = polled w.standing watcher most in
+    watch_called (reply_to (batch_reply watcher) o) (store_after_call w.standing o) w
+step (Cancel watcher) w =
+    let o = cancelled w.standing watcher in
+    watch_called (reply_to (λ _. Cancelled watcher) o) (store_after_call w.standing o) w
 
 -- ---- whole runs ----
 

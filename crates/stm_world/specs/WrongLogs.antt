@@ -1,17 +1,21 @@
 -- Logs that are wrong, so that it shows what being right rules out.
-use Rattle.std.specs.Prelude.{◌≡◌, ◌≢◌, ℕ, List, Option, Some, None, Ok, Err}
+use Rattle.std.specs.Prelude.{◌≡◌, ◌≢◌, ℕ, List, [], ◌∷◌, Option, Some, None, Ok, Err}
 use Rattle.stm_program.specs.Syntax.{ProgramTree}
 use Rattle.stm_program.specs.declared.level.Level.{Level}
 use Rattle.stm_meaning.specs.declared.run.End.TheVariants.{Done}
 use Rattle.stm_meaning.specs.declared.run.Run.{Run}
 use Rattle.stm_meaning.specs.declared.run.Answered.TheVariants.{Ended}
+use Rattle.stm_keys.specs.declared.event.Event.{Event}
+use Rattle.stm_watch.specs.declared.watched.Watching.{Watching}
+use Rattle.stm_watch.specs.Pending.{pending}
+use Rattle.stm_watch.specs.Calls.{watcher_at}
 use Rattle.stm_attempt.specs.Settled.{run_on}
-use Rattle.stm_world.specs.declared.event.WorldEvent.TheVariants.{Start, Step}
+use Rattle.stm_world.specs.declared.event.WorldEvent.TheVariants.{Start, Step, Poll}
 use Rattle.stm_world.specs.declared.reply.Reply.{Reply}
-use Rattle.stm_world.specs.declared.reply.Reply.TheVariants.{Started, Fetched, Committed, Conflict, GaveUp, Aborted, Faulted, Ended as EndedReply}
+use Rattle.stm_world.specs.declared.reply.Reply.TheVariants.{Started, Fetched, Committed, Conflict, GaveUp, Aborted, Faulted, Ended as EndedReply, Batch}
 use Rattle.stm_world.specs.declared.refusal.Denied.{Denied}
 use Rattle.stm_world.specs.Task.{Task}
-use Rattle.stm_world.specs.Log.{Line, begun, running, told}
+use Rattle.stm_world.specs.Log.{Line, begun, running, store, told}
 use Rattle.stm_world.specs.Right.{IsRight, AreRight}
 
 -- the runner of whose step a reply tells
@@ -44,3 +48,16 @@ pub record WrongLogs : Type 0 where
   pub another_abort : (start : ℕ) (log : List Line) (id : ℕ) (task : Task) (run : Run) (text : List ℕ) → running id log ≡ Some task
       → run_on task.program (told start id task log).reads ≡ Ended run → run.end ≡ Done
       → IsRight start log (Step id) (Ok (Aborted id text)) → ⊥
+  -- a watcher that is there is not refused a poll, for NoWatcher or anything else
+  pub refused_poll : (start : ℕ) (log : List Line) (id most : ℕ) (w : Watching) (refusal : Denied)
+      → watcher_at id (store start log).watchers ≡ Some w → IsRight start log (Poll id most) (Err refusal) → ⊥
+  -- a watcher that was not made, or was cancelled, has no batch
+  pub poll_of_none : (start : ℕ) (log : List Line) (id most : ℕ) (reply : Reply) → watcher_at id (store start log).watchers ≡ None
+      → IsRight start log (Poll id most) (Ok reply) → ⊥
+  -- a poll of a watcher is told of no other watcher
+  pub another_watcher : (start : ℕ) (log : List Line) (id most watcher upto : ℕ) (events : List Event) → watcher ≢ id
+      → IsRight start log (Poll id most) (Ok (Batch watcher upto events)) → ⊥
+  -- where no events are pending, none is told
+  pub event_not_pending : (start : ℕ) (log : List Line) (id most upto : ℕ) (w : Watching) (event : Event) (events : List Event)
+      → watcher_at id (store start log).watchers ≡ Some w → pending (store start log).history w ≡ []
+      → IsRight start log (Poll id most) (Ok (Batch id upto (event ∷ events))) → ⊥

@@ -1,4 +1,5 @@
 //! The events of a world.
+use stm_history::Text;
 use stm_program::{Level, Program};
 use stm_txn::Txn;
 
@@ -35,5 +36,27 @@ pub enum WorldEvent {
     /// The store's moment becomes this one, and what is due then expires.
     Advance {
         now: u64,
+    },
+    /// A new watcher of a key, from this revision on; 0 stands for the next one, and one that is yet to come
+    /// is waited for.
+    WatchKey {
+        key: Text,
+        from: u64,
+    },
+    /// A new watcher of the keys from `first` to before `end`, by bytes, from this revision on, as for a key.
+    /// Where `end` is not above `first`, there are none.
+    WatchRange {
+        first: Text,
+        end: Text,
+        from: u64,
+    },
+    /// What is pending for a watcher is told, of at most so many revisions.
+    Poll {
+        watcher: u64,
+        most: u64,
+    },
+    /// A watcher is given up.
+    Cancel {
+        watcher: u64,
     },
 }

@@ -2,6 +2,7 @@
 ghost use Rattle.stm_world.specs.Asked.{AnswersAreTheReads};
 ghost use Rattle.stm_world.specs.Headline.{Headline, OneState, ReadOnce};
 ghost use Rattle.stm_world.specs.Sound.{WorldsAreSound};
+ghost use Rattle.stm_world.specs.Telling.{WatchersAreTold};
 ghost use Rattle.stm_world.specs.WrongLogs.{WrongLogs};
 
 /// The headline. Over every list of events, in any interleaving of any number of runners, from every
@@ -29,7 +30,8 @@ pub fn keys_are_read_once()
 
 /// Some logs that are none: a step of a runner that runs is refused, or a start that may send a commit; a
 /// number is given twice; a runner's step is answered with another runner's reply; a program that is done is
-/// told to have aborted.
+/// told to have aborted; a poll of a watcher that is there is refused, or one of a watcher that is not there
+/// is answered; a poll tells another watcher's batch, or an event where none is pending.
 pub fn wrong_logs_are_none()
     ensures { WrongLogs }
 {}
@@ -49,4 +51,12 @@ pub fn worlds_are_sound()
 /// The answers that a commit was made on are such, and the headline says so of each.
 pub fn answers_are_the_reads()
     ensures { AnswersAreTheReads }
+{}
+
+/// Over every list of events, a watcher is there exactly where it was begun and not cancelled, and by the
+/// batches of its polls it was told the events that it watches from its start on, each once and in order: those
+/// that it was told, followed by those that are pending for it, are all of them. So none is dropped, told twice,
+/// or told before an earlier one.
+pub fn watchers_are_told()
+    ensures { WatchersAreTold }
 {}

@@ -15,6 +15,7 @@ pub use refusal::{Denied, Refusal};
 pub use reply::Reply;
 pub use stm_entries::Entry;
 pub use stm_history::{ReadAnswer, Sequence, Text};
+pub use stm_keys::Event;
 pub use stm_meaning::{Fault, TraceItem, Value};
 pub use stm_program::{Level, Program};
 pub use stm_txn::{Expired, Refusal as StoreRefusal, Txn, TxnAnswer};

@@ -1,5 +1,6 @@
 //! The replies to events.
 use stm_history::{ReadAnswer, Sequence, Text};
+use stm_keys::Event;
 use stm_meaning::{Fault, TraceItem, Value};
 use stm_txn::{Expired, Refusal, TxnAnswer};
 
@@ -83,5 +84,20 @@ pub enum Reply {
     Advanced {
         now: u64,
         expired: Sequence<Expired>,
+    },
+    /// A key or a range is watched, by the watcher with this number.
+    Watching {
+        watcher: u64,
+    },
+    /// What was pending for a watcher: the revision up to which everything is told now, and the events, by
+    /// their revisions, those of one revision in the order of its operations.
+    Batch {
+        watcher: u64,
+        upto: u64,
+        events: Sequence<Event>,
+    },
+    /// A watcher was given up. Its number is not given again.
+    Cancelled {
+        watcher: u64,
     },
 }

@@ -35,6 +35,10 @@ const EXAMPLE: &str = "A scenario is a JSON array of events, in their order:
   [\"grant\",ID,TTL]                    a lease is granted for so many seconds
   [\"keep\",ID] and [\"revoke\",ID]       a lease is renewed, or ends with its keys
   [\"advance\",NOW]                     the moment is set, and the leases that are due end with their keys
+  [\"watch_key\",KEY,FROM]              a key is watched from a revision on (0: the next one)
+  [\"watch_range\",FIRST,END,FROM]      so are the keys from FIRST to before END, by bytes
+  [\"poll\",WATCHER,MAX]                a watcher is given what is pending, of at most MAX revisions
+  [\"cancel\",WATCHER]                  a watcher is given up
 
 LEVEL is ReadCommitted, RepeatableReads, Serializable or SerializableSnapshot. This scenario starts a
 program that puts a key, and lets it take a step:

@@ -105,7 +105,7 @@ const FIRST_PUT_REPORT: &str = "[1,\"started\",1]
 ";
 
 /// Scenarios, each with its report.
-const REPORTS: [(&str, &str); 10] = [
+const REPORTS: [(&str, &str); 14] = [
     // An empty scenario.
     ("[]", "[\"end\",1,0]\n"),
     // The first put.
@@ -170,7 +170,8 @@ const REPORTS: [(&str, &str); 10] = [
     ),
     // A written key that another changed, at SerializableSnapshot.
     (
-        "[[\"txn\",[],[[\"put\",\"a\",\"1\",0],[\"put\",\"b\",\"1\",0]],[]],[\"start\",\"SerializableSnapshot\",1,[[\"set\",0,[\"get\",\"a\"]],[\"put\",\"b\",\"9\",0]]],[\"step\",1],[\"txn\",[],[[\"put\",\"b\",\"2\",0]],[]],[\"step\",1]]",
+        "[[\"txn\",[],[[\"put\",\"a\",\"1\",0],[\"put\",\"b\",\"1\",0]],[]],
+  [\"start\",\"SerializableSnapshot\",1,[[\"set\",0,[\"get\",\"a\"]],[\"put\",\"b\",\"9\",0]]],[\"step\",1],[\"txn\",[],[[\"put\",\"b\",\"2\",0]],[]],[\"step\",1]]",
         "[1,\"txn\",true,2,[[\"put\"],[\"put\"]]]
 [2,\"started\",1]
 [3,\"fetched\",1,\"a\",2,2,2]
@@ -193,10 +194,76 @@ const REPORTS: [(&str, &str); 10] = [
 [\"end\",9223372036854775806,4]
 ",
     ),
+    // Keys that go when their leases expire are told in one revision, ascending by bytes.
+    (
+        "[[\"grant\",1,5],[\"grant\",2,10],[\"txn\",[],[[\"put\",\"b\",\"1\",2],[\"put\",\"a\",\"1\",1]],[]],[\"txn\",[],[[\"put\",\"a\",\"1\",2]],[]],[\"advance\",5],
+  [\"watch_range\",\"a\",\"c\",0],[\"advance\",10],[\"poll\",1,10]]",
+        "[1,\"granted\",1]
+[2,\"granted\",2]
+[3,\"txn\",true,2,[[\"put\"],[\"put\"]]]
+[4,\"txn\",true,3,[[\"put\"]]]
+[5,\"advanced\",5,[[1,3]]]
+[6,\"watching\",1]
+[7,\"advanced\",10,[[2,4]]]
+[8,\"batch\",1,4,[[\"DELETE\",\"a\",4],[\"DELETE\",\"b\",4]]]
+[\"end\",4,6]
+",
+    ),
+    // One revision is told in the order of its operations, and not twice.
+    (
+        "[[\"watch_range\",\"a\",\"d\",0],[\"txn\",[],[[\"put\",\"c\",\"1\",0],[\"put\",\"a\",\"1\",0],[\"put\",\"b\",\"1\",0]],[]],[\"poll\",1,1],[\"poll\",1,1]]",
+        "[1,\"watching\",1]
+[2,\"txn\",true,2,[[\"put\"],[\"put\"],[\"put\"]]]
+[3,\"batch\",1,2,[[\"PUT\",\"c\",\"1\",2,2,1,0],[\"PUT\",\"a\",\"1\",2,2,1,0],[\"PUT\",\"b\",\"1\",2,2,1,0]]]
+[4,\"batch\",1,2,[]]
+[\"key\",\"a\",\"1\",2,2,1,0]
+[\"key\",\"b\",\"1\",2,2,1,0]
+[\"key\",\"c\",\"1\",2,2,1,0]
+[\"end\",2,1]
+",
+    ),
+    // Refusals, among them of a watcher that is not there.
+    (
+        "[[\"grant\",0,5],[\"grant\",3,0],[\"grant\",3,9000000000],[\"grant\",3,5],[\"keep\",4],[\"advance\",7],[\"advance\",6],[\"keep\",3],[\"cancel\",1],[\"step\",1],
+  [\"start\",\"Serializable\",0,[]],[\"revoke\",3]]",
+        "[1,\"refused\",\"LeaseIdOutOfRange\",[]]
+[2,\"refused\",\"TtlOutOfRange\",[]]
+[3,\"granted\",3]
+[4,\"refused\",\"LeaseExists\",[]]
+[5,\"refused\",\"LeaseNotFound\",[]]
+[6,\"advanced\",7,[]]
+[7,\"refused\",\"TimeGoesBack\",[]]
+[8,\"kept\",3]
+[9,\"refused\",\"NoWatcher\",[]]
+[10,\"refused\",\"NoRunner\",[]]
+[11,\"refused\",\"BadLimit\",[]]
+[12,\"revoked\",3,1]
+[\"end\",1,3]
+",
+    ),
+    // Three watchers, of which one is cancelled and polled, and one that waits for a revision to come.
+    (
+        "[[\"watch_key\",\"a\",0],[\"watch_range\",\"a\",\"c\",0],[\"watch_key\",\"b\",1],[\"txn\",[],[[\"put\",\"b\",\"1\",0]],[]],[\"cancel\",2],[\"poll\",3,0],[\"poll\",3,1],
+  [\"poll\",2,1],[\"cancel\",2],[\"watch_key\",\"c\",9],[\"poll\",4,5]]",
+        "[1,\"watching\",1]
+[2,\"watching\",2]
+[3,\"watching\",3]
+[4,\"txn\",true,2,[[\"put\"]]]
+[5,\"cancelled\",2]
+[6,\"batch\",3,0,[]]
+[7,\"batch\",3,2,[[\"PUT\",\"b\",\"1\",2,2,1,0]]]
+[8,\"refused\",\"NoWatcher\",[]]
+[9,\"refused\",\"NoWatcher\",[]]
+[10,\"watching\",4]
+[11,\"batch\",4,8,[]]
+[\"key\",\"b\",\"1\",2,2,1,0]
+[\"end\",2,1]
+",
+    ),
 ];
 
 /// Bad texts, each with what is said of its first fault.
-const REFUSED: [(&str, &str); 8] = [
+const REFUSED: [(&str, &str); 12] = [
     ("[[\"step\",1]", "stmrun: bad scenario at : NotJson\n"),
     ("{}", "stmrun: bad scenario at : Shape\n"),
     (
@@ -223,6 +290,22 @@ const REFUSED: [(&str, &str); 8] = [
     (
         "[[\"start\",\"ReadCommitted\",-1,[[\"emit\",1.5]]]]",
         "stmrun: bad scenario at /0/2: Range\n",
+    ),
+    (
+        "[[\"watch_key\",1,-1]]",
+        "stmrun: bad scenario at /0/1: Shape\n",
+    ),
+    (
+        "[[\"watch_range\",\"a\",0]]",
+        "stmrun: bad scenario at /0: Shape\n",
+    ),
+    (
+        "[[\"step\",1],[\"poll\",1,-1]]",
+        "stmrun: bad scenario at /1/2: Range\n",
+    ),
+    (
+        "[[\"cancel\",\"1\"]]",
+        "stmrun: bad scenario at /0/1: Shape\n",
     ),
 ];
 

@@ -1,8 +1,7 @@
-use Rattle.std.proofs.Common.{◌≡◌, ◌+◌, ◌*◌, ◌^◌, drop, map, sym, ◌∙◌, ap, subst, Some, to_z}
+use Rattle.std.proofs.Common.{◌+◌, ◌*◌, ◌^◌, drop, map, sym, ◌∙◌, ap, subst, Some, to_z}
 use Rattle.std.specs.Prelude.{ℤ, pos, neg_ℤ, ◌+ℤ◌, ◌≤ℤ◌}
 use Rattle.std.proofs.lemmas.Int.{to_z-of_z}
 use mir.Syntax.{w64, w128}
-use Rattle.stm_steps.specs.States.{find_entry}
 use Rattle.stm_recipes.specs.Accounts.{sum_of, total_of}
 use Rattle.stm_recipes.proofs.ReaderLemmas.{total_of-next, balance_fits, above-next, below-next}
 use Rattle.stm_recipes.proofs.readers.total.Goals as goal

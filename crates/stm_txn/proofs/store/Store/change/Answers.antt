@@ -3,6 +3,7 @@ use Rattle.stm_history.specs.declared.change.Change.{Change}
 use Rattle.stm_history.specs.History.{History, now, key_now, change_of, HasDistinctKeys}
 use Rattle.stm_keys.specs.Events.{change_of_event, events_of}
 use Rattle.stm_leases.specs.Leases.{Leases, lease_of}
+use Rattle.stm_watch.specs.Calls.{StandFor}
 use Rattle.stm_txn.specs.Leasing.{hanging, hung_after, hangs_of, HangOnLive}
 use Rattle.stm_txn.specs.Numbers.{LeasesFit}
 use Rattle.stm_txn.specs.Store.{StoreView}
@@ -36,7 +37,8 @@ invariant_of-self-2 c =
     let shown : map change_of_event c.last_events.result.now ≡ cs =
     ap (map change_of_event) c.last_events.ensures ∙ ap (λ (x : History). map change_of_event (events_of x (now x))) c.in-Ok.ensures.ok
     ∙ last_changes h cs in
-    subst (λ (next : History). ((key : List ℕ) → lease_of c.move_keys.new.leases key ≡ hanging (key_now next key)) × LeasesFit next.revisions)
+    subst (λ (next : History). ((key : List ℕ) → lease_of c.move_keys.new.leases key ≡ hanging (key_now next key)) × LeasesFit next.revisions
+        × StandFor next c.tell_watchers.new.watchers)
     (sym c.in-Ok.ensures.ok) (
       λ key.
           still_stored h cs key (lease_of c.reserve_attach.new.self key) (lease_of c.move_keys.new.leases key)
@@ -48,4 +50,6 @@ invariant_of-self-2 c =
             (subst (λ (s : StoreView). HangOnLive s.standing.live (hangs_of cs)) (sym c.self.view_is) c.requires.live),
         c.self.invariant.1,
       ),
+      subst (λ (x : History). StandFor x c.tell_watchers.new.watchers) c.in-Ok.ensures.ok
+          (c.tell_watchers.ensures.stand h cs c.in-Ok.ensures.ok c.self.invariant.2),
     )

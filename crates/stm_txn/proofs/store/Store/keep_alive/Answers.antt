@@ -11,4 +11,5 @@ invariant_of-self c = (
       c.keep_alive.ensures.err)
       ∙ c.self.invariant.0 key,
   c.self.invariant.1,
+  c.self.invariant.2,
 )

@@ -17,3 +17,4 @@ returns-clause-step c =
     (sym (c.find_failed-failed.ensures ∙ ap (first_failed (key_now c.self.inside.keys.history) 0) c.as_slice.ensures
     ∙ ap (λ (s : StoreView). first_failed (key_now s.standing.history) 0 c.args.txn.now.compares) c.self.view_is))
     (sym c.choose.ensures) c.run.ensures.ok c.run.ensures.refused c.run.ensures.live c.run.ensures.moment
+    c.run.ensures.watchers

@@ -1,9 +1,11 @@
-use Rattle.std.proofs.Common.{◌∙◌, sym, ap, subst, ℕ}
+use Rattle.std.proofs.Common.{◌∙◌, sym, ap, subst, ℕ, List, Option}
 use Rattle.std.specs.Cmp.Lexicographic.{slice_cmp}
 use Rattle.std.specs.Ordering.{nat_cmp}
 use Rattle.std.specs.FinMap as finmap
 use Rattle.stm_history.specs.History.{History, key_now}
 use Rattle.stm_leases.specs.Live.{Live}
+use Rattle.stm_watch.specs.declared.watched.Watcher.{Watcher}
+use Rattle.stm_watch.specs.Calls.{StandFor}
 use Rattle.stm_txn.specs.Leasing.{hanging}
 use Rattle.stm_txn.specs.Numbers.{LeasesFit}
 use Rattle.stm_txn.proofs.store.Store.with_revision.Goals as goal
@@ -15,6 +17,7 @@ invariant_of-result c = (
       ∙ finmap.get-empty (slice_cmp nat_cmp) key
       ∙ ap (λ h. hanging (key_now h key)) (sym c.with_revision.ensures.history),
   subst (λ (h : History). LeasesFit h.revisions) (sym c.with_revision.ensures.history) tt,
+  subst (λ (ws : List (Option Watcher)). StandFor c.with_revision.result.history ws) (sym c.in_ok-new.ensures) tt,
 )
 
 pub returns-clause-log : goal.returns-clause-log

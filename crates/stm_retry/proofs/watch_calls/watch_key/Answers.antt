@@ -1,0 +1,15 @@
+use Rattle.std.proofs.Common.{ap, refl}
+use Rattle.stm_watch.specs.declared.watched.Watched.TheVariants.{Key}
+use Rattle.stm_txn.specs.Standing.{Standing, watched}
+use Rattle.stm_txn.specs.Store.{StoreView}
+use Rattle.stm_world.specs.declared.event.WorldEvent.TheVariants.{WatchKey}
+use Rattle.stm_world.specs.declared.reply.Reply.TheVariants.{Watching}
+use Rattle.stm_retry.proofs.WatchCalls.{watched_never, watch_refused}
+use Rattle.stm_retry.proofs.watch_calls.watch_key.Goals as goal
+
+pub returns-in-Err : goal.returns-in-Err
+returns-in-Err c =
+    let s : Standing = c.args.store.now.standing in
+    watch_refused (WatchKey c.args.key.now c.args.from) Watching s c.watch_key.new.self.standing (watched s (Key c.args.key.now) c.args.from)
+    c.refuse.result c.in-Err.cause (λ runners es. refl) (λ runners es taken. ((refl, refl), taken)) (watched_never s (Key c.args.key.now) c.args.from)
+    c.in-Err.ensures.step c.refuse.ensures (ap (λ (v : StoreView). v.standing) c.in-Err.ensures.err)

@@ -1,0 +1,7 @@
+use Rattle.stm_txn.proofs.Touching.{told_of_it}
+use Rattle.stm_txn.proofs.store.tell_watchers.Goals as goal
+
+pub returns-clause-stand : goal.returns-clause-stand
+returns-clause-stand c =
+    told_of_it c.args.keys.now.history c.revision.result c.last_events.result.now c.args.watchers.now c.touched.new.self c.touched.ensures.stand
+    c.revision.ensures.value c.last_events.ensures

@@ -1,0 +1,526 @@
+-- Each watcher is told all: line by line, what was told and what is pending make up the whole.
+use Rattle.std.proofs.Common.{◌≡◌, ◌≢◌, ℕ, ◌+◌, ◌-◌, ◌<◌, ◌≤◌, zero, suc, List, [], ◌∷◌, ◌++◌, length, map, Option, Some, None, Ok, Err}
+use Rattle.std.proofs.Common.{Bool, true, false, cond, refl, sym, ◌∙◌, ap, subst, arith, append-nil, slice_index_or, slice_set}
+use Rattle.std.proofs.lemmas.List.{length-set, length-append, get_or-set_same, get_or-set_other}
+use Rattle.std.specs.Prelude.{nat_eq, nat_lt, Result, ◌||◌}
+use Rattle.std.specs.FinMap as finmap
+use Rattle.stm_history.specs.declared.key_state.ReadAnswer.{ReadAnswer}
+use Rattle.stm_history.specs.History.{History}
+use Rattle.stm_leases.specs.LeaseLog.{Term}
+use Rattle.stm_leases.specs.Live.{is_live_in, grant_refusal}
+use Rattle.stm_leases.specs.declared.errors.GrantError.{GrantError}
+use Rattle.stm_leases.specs.DueFirst.{first_due}
+use Rattle.stm_program.specs.Writes.{latest_writes}
+use Rattle.stm_meaning.specs.declared.run.End.{End}
+use Rattle.stm_meaning.specs.declared.run.End.TheVariants.{Done as DoneEnd, Aborted as AbortedEnd, Faulted as FaultedEnd}
+use Rattle.stm_meaning.specs.declared.run.Run.{Run}
+use Rattle.stm_meaning.specs.declared.run.Answered.{Answered}
+use Rattle.stm_meaning.specs.declared.run.Answered.TheVariants.{Ended as EndedRun, Wants}
+use Rattle.stm_meaning.specs.Meaning.{run_over}
+use Rattle.stm_keys.specs.declared.event.Event.{Event}
+use Rattle.stm_watch.specs.declared.watched.Watched.{Watched}
+use Rattle.stm_watch.specs.declared.watched.Watched.TheVariants.{Key, Range}
+use Rattle.stm_watch.specs.declared.watched.Watching.{Watching}
+use Rattle.stm_watch.specs.Keys.{first_key}
+use Rattle.stm_watch.specs.Pending.{watching_from, batch_of, after_poll}
+use Rattle.stm_watch.specs.declared.watchers.Batch.{Batch}
+use Rattle.stm_watch.specs.declared.refusal.WatchRefusal.{WatchRefusal}
+use Rattle.stm_watch.specs.declared.refusal.WatchRefusal.TheVariants.{EmptyKey}
+use Rattle.stm_watch.specs.Calls.{watcher_at, poll_found, Step as WatchStep}
+use Rattle.stm_txn.specs.declared.refusal.Refusal.{Refusal as StoreRefusal}
+use Rattle.stm_txn.specs.Outcome.{Done, outcome, is_used_up}
+use Rattle.stm_txn.specs.LeaseKeys.{deletions_of}
+use Rattle.stm_txn.specs.Standing.{Standing, Step as StoreStep, step_of, ended, expire_up_to, at_moment, with_watchers}
+use Rattle.stm_txn.specs.Standing.{watch_step, poll_step, cancel_step}
+use Rattle.stm_txn.proofs.Ending.{ended_is}
+use Rattle.stm_compile.specs.Now.{as_change}
+use Rattle.stm_entries.specs.Replayed.{Replayed, without_moment}
+use Rattle.stm_entries.specs.Alone.{seen_at, applied_run, history_left, left_by, left_by_run}
+use Rattle.stm_world.specs.declared.event.WorldEvent.{WorldEvent}
+use Rattle.stm_world.specs.declared.event.WorldEvent.TheVariants.{Start, Step, Txn, Grant, Keep, Revoke, Advance}
+use Rattle.stm_world.specs.declared.event.WorldEvent.TheVariants.{WatchKey, WatchRange, Poll, Cancel}
+use Rattle.stm_world.specs.declared.reply.Reply.{Reply}
+use Rattle.stm_world.specs.declared.reply.Reply.TheVariants.{Committed, Watching as WatchingReply, Cancelled}
+use Rattle.stm_world.specs.declared.refusal.Denied.{Denied}
+use Rattle.stm_world.specs.Told.{reply_to, batch_reply, store_after_call}
+use Rattle.stm_world.specs.Task.{Task}
+use Rattle.stm_world.specs.Log.{Line, is_id, begun, with_commit, store_after_step, store_after, store}
+use Rattle.stm_world.specs.Right.{IsRight, AreRight}
+use Rattle.stm_world.specs.World.{opened, replies_to}
+use Rattle.stm_world.specs.Headline.{logged, Headline}
+use Rattle.stm_world.specs.Telling.{made, made_by, or_earlier, begun_watching, events_in, told_by, events_to, watcher_given_up, gives_up, is_given_up, watching}
+use Rattle.stm_world.specs.Telling.{IsToldSo, WatchersAreTold}
+use Rattle.stm_world.proofs.Polling.{Tells, begun_tells, polled_tells}
+use Rattle.stm_world.proofs.Truth.{Keeps, keeps_same}
+use Rattle.stm_world.proofs.CommitEntries.{grown_by}
+use Rattle.stm_world.proofs.Slots.{equal_numbers, same_number, other_number, differ}
+use Rattle.stm_world.proofs.Calls.{txn_follows, grant_follows, keep_follows, revoke_follows, advance_follows}
+use Rattle.stm_world.proofs.Calls.{granted_by, kept_by, revoked_by, advance_ended, advance_due, advance_back}
+use Rattle.stm_world.proofs.WatchCalls.{watch_follows, poll_follows, cancel_follows}
+
+-- ---- what an event makes of the history
+
+left_keeps : (r : Replayed) (run : Run) (o : Result Done StoreRefusal) → applied_run r run ≡ o → Keeps r.history (history_left r.history o)
+left_keeps r run (Ok done) is = grown_by r.history (is_live_in r.live) (map as_change (latest_writes run.writes)) done is
+left_keeps r run (Err cause) is = keeps_same r.history
+
+end_keeps : (r : Replayed) (run : Run) (end : End) → Keeps r.history (left_by run end r).history
+end_keeps r run DoneEnd = left_keeps r run (applied_run r run) refl
+end_keeps r run (AbortedEnd text) = keeps_same r.history
+end_keeps r run (FaultedEnd fault) = keeps_same r.history
+
+run_keeps : (r : Replayed) (answered : Answered) → Keeps r.history (left_by_run answered r).history
+run_keeps r (EndedRun run) = end_keeps r run run.end
+run_keeps r (Wants key trace) = keeps_same r.history
+
+commit_keeps : (s : Standing) (answers : List ReadAnswer) (o : Option Task) → Keeps s.history (with_commit s answers o).history
+commit_keeps s answers None = keeps_same s.history
+commit_keeps s answers (Some task) = run_keeps (without_moment s) (run_over (seen_at task.level answers s.history) task.program.statements)
+
+step_keeps : (task_of : ℕ → Option Task) (s : Standing) (reply : Result Reply Denied) → Keeps s.history (store_after_step task_of s reply).history
+step_keeps task_of s (Ok (Committed runner revision attempts output trace answers)) = commit_keeps s answers (task_of runner)
+step_keeps task_of s (Ok other) = keeps_same s.history
+step_keeps task_of s (Err refusal) = keeps_same s.history
+
+event_keeps : (task_of : ℕ → Option Task) (event : WorldEvent) (reply : Result Reply Denied) (s : Standing) →
+    Keeps s.history (store_after task_of event reply s).history
+event_keeps task_of (Start program level limit) reply s = keeps_same s.history
+event_keeps task_of (Step runner) reply s = step_keeps task_of s reply
+event_keeps task_of (Txn txn) reply s = (txn_follows s txn).keeps
+event_keeps task_of (Grant id ttl) reply s = (grant_follows s id ttl).keeps
+event_keeps task_of (Keep id) reply s = (keep_follows s id).keeps
+event_keeps task_of (Revoke id) reply s = (revoke_follows s id).keeps
+event_keeps task_of (Advance moment) reply s = (advance_follows s moment).keeps
+event_keeps task_of (WatchKey key from) reply s = (watch_follows s (Key key) from).keeps
+event_keeps task_of (WatchRange first end from) reply s = (watch_follows s (Range first end) from).keeps
+event_keeps task_of (Poll watcher most) reply s = (poll_follows s watcher most).keeps
+event_keeps task_of (Cancel watcher) reply s = (cancel_follows s watcher).keeps
+
+-- ---- the watchers stay at an event that is about no watcher
+
+commit_stays : (s : Standing) (answers : List ReadAnswer) (o : Option Task) → (with_commit s answers o).watchers ≡ s.watchers
+commit_stays s answers None = refl
+commit_stays s answers (Some task) = refl
+
+step_stays : (task_of : ℕ → Option Task) (s : Standing) (reply : Result Reply Denied) → (store_after_step task_of s reply).watchers ≡ s.watchers
+step_stays task_of s (Ok (Committed runner revision attempts output trace answers)) = commit_stays s answers (task_of runner)
+step_stays task_of s (Ok other) = refl
+step_stays task_of s (Err refusal) = refl
+
+txn_stays : (s : Standing) (o : Result Done StoreRefusal) → (store_after_call s (step_of s o)).watchers ≡ s.watchers
+txn_stays s (Ok done) = refl
+txn_stays s (Err cause) = refl
+
+grant_stays : (s : Standing) (id ttl : ℕ) (o : Option GrantError) → (store_after_call s (granted_by s id ttl o)).watchers ≡ s.watchers
+grant_stays s id ttl None = refl
+grant_stays s id ttl (Some cause) = refl
+
+keep_stays : (s : Standing) (id : ℕ) (o : Option Term) → (store_after_call s (kept_by s id o)).watchers ≡ s.watchers
+keep_stays s id None = refl
+keep_stays s id (Some term) = refl
+
+revoke_stays : (s : Standing) (id : ℕ) (live used : Bool) → (store_after_call s (revoked_by s id live used)).watchers ≡ s.watchers
+revoke_stays s id false used = refl
+revoke_stays s id true true = refl
+revoke_stays s id true false = refl
+
+ended_stays : (many : ℕ) (s : Standing) (id : ℕ) (o : Result Standing StoreRefusal) → ended s id ≡ o →
+    ((next : Standing) → (expire_up_to many next).leaves.watchers ≡ next.watchers) → (advance_ended many s id o).leaves.watchers ≡ s.watchers
+ended_stays many s id (Err cause) is goes = refl
+ended_stays many s id (Ok next) is goes = goes next ∙ sym (ap (λ (x : Standing). x.watchers) (ended_is s next id is))
+
+due_stays : (many : ℕ) (s : Standing) (o : Option ℕ) → ((next : Standing) → (expire_up_to many next).leaves.watchers ≡ next.watchers) →
+    (advance_due many s o).leaves.watchers ≡ s.watchers
+due_stays many s None goes = refl
+due_stays many s (Some id) goes = ended_stays many s id (ended s id) refl goes
+
+expiries_stay : (many : ℕ) (s : Standing) → (expire_up_to many s).leaves.watchers ≡ s.watchers
+expiries_stay zero s = refl
+expiries_stay (suc many) s = due_stays many s (first_due s.live s.moment) (λ next. expiries_stay many next)
+
+advance_stays : (s : Standing) (moment : ℕ) (back : Bool) → (advance_back s moment back).leaves.watchers ≡ s.watchers
+advance_stays s moment true = refl
+advance_stays s moment false = expiries_stay (finmap.len s.live) (at_moment s moment)
+
+-- ---- line by line
+
+abbrev with_line : WorldEvent → Result Reply Denied → List Line → List Line
+with_line event reply log = record { event = event; reply = reply } ∷ log
+
+-- a line that tells a watcher nothing, does not make it, and does not give it up
+record IsQuiet (h : History) (id : ℕ) (event : WorldEvent) (reply : Result Reply Denied) : Type 0 where
+  told : told_by id event reply ≡ []
+  made : made_by id h event reply ≡ None
+  kept : gives_up id event reply ≡ false
+
+-- a watcher that stands so began by the log, and was told all
+record IsBegun (start : ℕ) (log : List Line) (id : ℕ) (w : Watching) : Type 0 where
+  begun : Watching
+  is_begun : watching start id log ≡ Some begun
+  tells : Tells (store start log).history (events_to id log) begun w
+
+-- what the log tells of a number, by what stands there
+abbrev IsTold : ℕ → List Line → ℕ → Option Watching → Type 0
+IsTold start log id None = watching start id log ≡ None
+IsTold start log id (Some w) = IsBegun start log id w
+
+-- a number that was not given
+record IsNew (log : List Line) (id : ℕ) : Type 0 where
+  nothing : events_to id log ≡ []
+  kept : is_given_up id log ≡ false
+
+record AreTold (start : ℕ) (log : List Line) : Type 0 where
+  fresh : (id : ℕ) → length (store start log).watchers < id → IsNew log id
+  each : (id : ℕ) → IsTold start log id (watcher_at id (store start log).watchers)
+
+same_watching : (start : ℕ) (log : List Line) (event : WorldEvent) (reply : Result Reply Denied) (id : ℕ) →
+    IsQuiet (store start log).history id event reply → watching start id (with_line event reply log) ≡ watching start id log
+same_watching start log event reply id q =
+    ap (λ b. cond (b || is_given_up id log) None (or_earlier (made_by id (store start log).history event reply) (begun_watching start id log))) q.kept
+    ∙ ap (λ (o : Option Watching). cond (is_given_up id log) None (or_earlier o (begun_watching start id log))) q.made
+
+same_told : (start : ℕ) (log : List Line) (event : WorldEvent) (reply : Result Reply Denied) (id : ℕ) (o : Option Watching) →
+    IsQuiet (store start log).history id event reply → IsTold start log id o → IsTold start (with_line event reply log) id o
+same_told start log event reply id None q is = same_watching start log event reply id q ∙ is
+same_told start log event reply id (Some w) q is =
+    let s : Standing = store start log in
+    let after : History = (store start (with_line event reply log)).history in
+    let same : events_to id log ≡ events_to id (with_line event reply log) =
+    sym (ap (λ (es : List Event). events_to id log ++ es) q.told ∙ append-nil (events_to id log)) in
+    record {
+      begun = is.begun;
+      is_begun = same_watching start log event reply id q ∙ is.is_begun;
+      tells = subst (λ (es : List Event). Tells after es is.begun w) same
+          ((event_keeps (λ runner. begun runner log) event reply s).1 (events_to id log) is.begun w is.tells);
+    }
+
+still_new : (log : List Line) (event : WorldEvent) (reply : Result Reply Denied) (id : ℕ) → told_by id event reply ≡ [] →
+    gives_up id event reply ≡ false → IsNew log id → IsNew (with_line event reply log) id
+still_new log event reply id told kept new = record {
+  nothing = ap (λ (es : List Event). events_to id log ++ es) told ∙ append-nil (events_to id log) ∙ new.nothing;
+  kept = ap (λ b. b || is_given_up id log) kept ∙ new.kept;
+}
+
+-- a line that is about no watcher
+quiet : (start : ℕ) (log : List Line) (event : WorldEvent) (reply : Result Reply Denied) → AreTold start log →
+    ((id : ℕ) → IsQuiet (store start log).history id event reply) →
+    (store start (with_line event reply log)).watchers ≡ (store start log).watchers → AreTold start (with_line event reply log)
+quiet start log event reply are q stays = record {
+  fresh = λ id above. still_new log event reply id (q id).told (q id).kept
+      (are.fresh id (subst (λ (ws : List (Option Watching)). length ws < id) stays above));
+  each = λ id. subst (λ (ws : List (Option Watching)). IsTold start (with_line event reply log) id (watcher_at id ws)) (sym stays)
+      (same_told start log event reply id (watcher_at id (store start log).watchers) (q id) (are.each id));
+}
+
+-- ---- places of watchers
+
+new_place : (ws : List (Option Watching)) (o : Option Watching) → slice_index_or (ws ++ o ∷ []) (length ws) None ≡ o
+new_place [] o = refl
+new_place (x ∷ ws) o = new_place ws o
+
+old_place : (ws : List (Option Watching)) (o : Option Watching) (i : ℕ) → i ≢ length ws →
+    slice_index_or (ws ++ o ∷ []) i None ≡ slice_index_or ws i None
+old_place [] o zero ne = absurd (ne refl)
+old_place [] o (suc i) ne = refl
+old_place (x ∷ ws) o zero ne = refl
+old_place (x ∷ ws) o (suc i) ne = old_place ws o i (λ e. ne (ap suc e))
+
+place_within : (ws : List (Option Watching)) (i : ℕ) (w : Watching) → slice_index_or ws i None ≡ Some w → i < length ws
+place_within [] i w is = absurd (cc)
+place_within (x ∷ ws) zero w is = omega arith
+place_within (x ∷ ws) (suc i) w is = let rest : i < length ws = place_within ws i w is in omega arith
+
+positive_by : (id : ℕ) (b : Bool) (o : Option Watching) (w : Watching) → nat_eq id 0 ≡ b → cond b None o ≡ Some w → (0 < id) × (o ≡ Some w)
+positive_by id true o w is found = absurd (cc)
+positive_by id false o w is found = let ne : id ≢ 0 = differ id 0 is in (omega arith, found)
+
+-- a watcher that is there has a number above 0, and at most their number
+watcher_there : (id : ℕ) (ws : List (Option Watching)) (w : Watching) → watcher_at id ws ≡ Some w → (0 < id) × (id ≤ length ws)
+watcher_there id ws w found =
+    let there : (0 < id) × (slice_index_or ws (id - 1) None ≡ Some w) = positive_by id (nat_eq id 0) (slice_index_or ws (id - 1) None) w refl found in
+    let some : 0 < id = there.0 in
+    let within : id - 1 < length ws = place_within ws (id - 1) w there.1 in
+    (some, omega arith)
+
+at_positive : (id : ℕ) (o : Option Watching) → 0 < id → cond (nat_eq id 0) None o ≡ o
+at_positive id o some = ap (λ b. cond b None o) (other_number id 0 (omega arith))
+
+by_number : (id : ℕ) (P Q : Option Watching) → (id ≢ 0 → P ≡ Q) → cond (nat_eq id 0) None P ≡ cond (nat_eq id 0) None Q
+by_number id P Q alike = elim (nat_eq id 0) as (λ b. nat_eq id 0 ≡ b → cond b None P ≡ cond b None Q) [
+  | true ↦ λ e. refl
+  | false ↦ λ e. alike (differ id 0 e)
+] refl
+
+watcher_new : (ws : List (Option Watching)) (o : Option Watching) → watcher_at (length ws + 1) (ws ++ o ∷ []) ≡ o
+watcher_new ws o =
+    at_positive (length ws + 1) (slice_index_or (ws ++ o ∷ []) (length ws + 1 - 1) None) (omega arith)
+    ∙ ap (λ n. slice_index_or (ws ++ o ∷ []) n None) last
+    ∙ new_place ws o
+  where
+    last : length ws + 1 - 1 ≡ length ws
+    last = omega arith
+
+watcher_old : (ws : List (Option Watching)) (o : Option Watching) (id : ℕ) → length ws + 1 ≢ id → watcher_at id (ws ++ o ∷ []) ≡ watcher_at id ws
+watcher_old ws o id ne =
+    by_number id (slice_index_or (ws ++ o ∷ []) (id - 1) None) (slice_index_or ws (id - 1) None) (λ some.
+    old_place ws o (id - 1) (omega arith))
+
+watcher_own : (id : ℕ) (ws : List (Option Watching)) (o : Option Watching) → 0 < id → id ≤ length ws → watcher_at id (slice_set ws (id - 1) o) ≡ o
+watcher_own id ws o some within =
+    at_positive id (slice_index_or (slice_set ws (id - 1) o) (id - 1) None) some ∙ get_or-set_same ws (id - 1) o None (omega arith)
+
+watcher_other : (id other : ℕ) (ws : List (Option Watching)) (o : Option Watching) → 0 < id → id ≢ other →
+    watcher_at other (slice_set ws (id - 1) o) ≡ watcher_at other ws
+watcher_other id other ws o some ne =
+    by_number other (slice_index_or (slice_set ws (id - 1) o) (other - 1) None) (slice_index_or ws (other - 1) None) (λ positive.
+    get_or-set_other ws (id - 1) (other - 1) o None (omega arith))
+
+-- ---- a watch
+
+-- a line that makes a watcher
+watcher_begins : (start : ℕ) (log : List Line) (event : WorldEvent) (reply : Result Reply Denied) (w : Watching) → AreTold start log →
+    ((id : ℕ) → told_by id event reply ≡ []) → ((id : ℕ) → gives_up id event reply ≡ false) →
+    ((id : ℕ) → made_by id (store start log).history event reply
+    ≡ cond (nat_eq (length (store start log).watchers + 1) id) (Some w) None) →
+    store start (with_line event reply log) ≡ with_watchers (store start log) ((store start log).watchers ++ Some w ∷ []) →
+    AreTold start (with_line event reply log)
+watcher_begins start log event reply w are told kept made leaves =
+    let s : Standing = store start log in
+    let next : ℕ = length s.watchers + 1 in
+    let grown : List (Option Watching) = s.watchers ++ Some w ∷ [] in
+    let after : List Line = with_line event reply log in
+    let stands : (store start after).watchers ≡ grown = ap (λ (x : Standing). x.watchers) leaves in
+    let history : (store start after).history ≡ s.history = ap (λ (x : Standing). x.history) leaves in
+    record {
+      fresh = λ id above.
+          let more : length grown < id = subst (λ (ws : List (Option Watching)). length ws < id) stands above in
+          let count : length grown ≡ length s.watchers + 1 = length-append s.watchers (Some w ∷ []) in
+          let old : length s.watchers < id = omega arith in
+          still_new log event reply id (told id) (kept id) (are.fresh id old);
+      each = λ id.
+          subst (λ (ws : List (Option Watching)). IsTold start after id (watcher_at id ws)) (sym stands)
+          (elim (nat_eq next id) as (λ b. nat_eq next id ≡ b → IsTold start after id (watcher_at id grown)) [
+            | true ↦ λ is.
+                let same : next ≡ id = equal_numbers next id is in
+                let there : watcher_at id grown ≡ Some w =
+                subst (λ n. watcher_at n grown ≡ Some w) same (watcher_new s.watchers (Some w)) in
+                let above : length s.watchers < id = omega arith in
+                let new : IsNew log id = are.fresh id above in
+                let none : [] ≡ events_to id after = sym (still_new log event reply id (told id) (kept id) new).nothing in
+                let first : Option Watching = made_by id s.history event reply in
+                let earlier : Option Watching = begun_watching start id log in
+                subst (IsTold start after id) (sym there) (record {
+                  begun = w;
+                  is_begun = ap (λ b. cond (b || is_given_up id log) None (or_earlier first earlier)) (kept id)
+                      ∙ ap (λ b. cond b None (or_earlier first earlier)) new.kept
+                      ∙ ap (λ (o : Option Watching). or_earlier o earlier) (made id ∙ ap (λ b. cond b (Some w) None) is);
+                  tells = subst (λ (h : History). Tells h (events_to id after) w w) (sym history)
+                      (subst (λ (es : List Event). Tells s.history es w w) none (begun_tells s.history w));
+                })
+            | false ↦ λ is.
+                let ne : next ≢ id = differ next id is in
+                subst (IsTold start after id) (sym (watcher_old s.watchers (Some w) id ne))
+                (same_told start log event reply id (watcher_at id s.watchers)
+                (record { told = told id; made = made id ∙ ap (λ b. cond b (Some w) None) is; kept = kept id }) (are.each id))
+          ] refl);
+    }
+
+abbrev watch_of : Standing → Watched → ℕ → Bool → Result (WatchStep ℕ) WatchRefusal
+watch_of s keys from empty =
+    cond empty (Err EmptyKey) (Ok (record { answer = length s.watchers + 1; next = s.watchers ++ Some (watching_from s.history keys from) ∷ [] }))
+
+watch_by : (start : ℕ) (log : List Line) (event : WorldEvent) (reply : Result Reply Denied) (keys : Watched) (from : ℕ) (empty : Bool) →
+    AreTold start log → ((id : ℕ) → told_by id event reply ≡ []) → ((id : ℕ) → gives_up id event reply ≡ false) →
+    ((id : ℕ) → made_by id (store start log).history event reply ≡ made id (watching_from (store start log).history keys from) reply) →
+    reply ≡ reply_to WatchingReply (watch_step (store start log) (watch_of (store start log) keys from empty)) →
+    store start (with_line event reply log) ≡ store_after_call (store start log) (watch_step (store start log) (watch_of (store start log) keys from empty)) →
+    AreTold start (with_line event reply log)
+watch_by start log event reply keys from true are told kept made_so right leaves =
+    quiet start log event reply are
+    (λ id. record {
+      told = told id;
+      made = made_so id ∙ ap (λ (r : Result Reply Denied). made id (watching_from (store start log).history keys from) r) right;
+      kept = kept id;
+    })
+    (ap (λ (x : Standing). x.watchers) leaves)
+watch_by start log event reply keys from false are told kept made_so right leaves =
+    watcher_begins start log event reply (watching_from (store start log).history keys from) are told kept
+    (λ id. made_so id ∙ ap (λ (r : Result Reply Denied). made id (watching_from (store start log).history keys from) r) right) leaves
+
+-- ---- a poll
+
+abbrev poll_of : Standing → ℕ → ℕ → Option Watching → Result (StoreStep Batch) StoreRefusal
+poll_of s id most o = poll_step s (poll_found s.history id most s.watchers o)
+
+nothing_either_way : (b : Bool) → cond b [] [] ≡ (let es : List Event = [] in es)
+nothing_either_way true = refl
+nothing_either_way false = refl
+
+-- the watcher that is polled
+polled_told : (start : ℕ) (log : List Line) (reply : Result Reply Denied) (id most : ℕ) (w : Watching) → IsBegun start log id w →
+    reply ≡ reply_to (batch_reply id) (poll_of (store start log) id most (Some w)) →
+    (store start (with_line (Poll id most) reply log)).history ≡ (store start log).history →
+    IsBegun start (with_line (Poll id most) reply log) id (after_poll most (store start log).history w)
+polled_told start log reply id most w is right history =
+    let h : History = (store start log).history in
+    let next : Watching = after_poll most h w in
+    let told : (batch_of most h w).events ≡ told_by id (Poll id most) reply =
+    sym (ap (λ b. cond b (events_in reply) []) (same_number id) ∙ ap events_in right) in
+    record {
+      begun = is.begun;
+      is_begun = is.is_begun;
+      tells = subst (λ (x : History). Tells x (events_to id log ++ told_by id (Poll id most) reply) is.begun next) (sym history)
+          (subst (λ (es : List Event). Tells h (events_to id log ++ es) is.begun next) told
+          (polled_tells most h (events_to id log) is.begun w is.tells));
+    }
+
+poll_by : (start : ℕ) (log : List Line) (reply : Result Reply Denied) (id most : ℕ) (o : Option Watching) → AreTold start log →
+    watcher_at id (store start log).watchers ≡ o → reply ≡ reply_to (batch_reply id) (poll_of (store start log) id most o) →
+    store start (with_line (Poll id most) reply log) ≡ store_after_call (store start log) (poll_of (store start log) id most o) →
+    AreTold start (with_line (Poll id most) reply log)
+poll_by start log reply id most None are found right leaves =
+    quiet start log (Poll id most) reply are
+    (λ other. record {
+      told = ap (λ (es : List Event). cond (nat_eq id other) es []) (ap events_in right) ∙ nothing_either_way (nat_eq id other);
+      made = refl;
+      kept = refl;
+    })
+    (ap (λ (x : Standing). x.watchers) leaves)
+poll_by start log reply id most (Some w) are found right leaves =
+    let s : Standing = store start log in
+    let next : Watching = after_poll most s.history w in
+    let set : List (Option Watching) = slice_set s.watchers (id - 1) (Some next) in
+    let after : List Line = with_line (Poll id most) reply log in
+    let there : (0 < id) × (id ≤ length s.watchers) = watcher_there id s.watchers w found in
+    let within : id ≤ length s.watchers = there.1 in
+    let stands : (store start after).watchers ≡ set = ap (λ (x : Standing). x.watchers) leaves in
+    let history : (store start after).history ≡ s.history = ap (λ (x : Standing). x.history) leaves in
+    record {
+      fresh = λ other above.
+          let more : length set < other = subst (λ (ws : List (Option Watching)). length ws < other) stands above in
+          let count : length set ≡ length s.watchers = length-set s.watchers (id - 1) (Some next) in
+          let old : length s.watchers < other = omega arith in
+          let ne : nat_eq id other ≡ false = other_number id other (λ same. omega (arith, same)) in
+          still_new log (Poll id most) reply other (ap (λ b. cond b (events_in reply) []) ne) refl (are.fresh other old);
+      each = λ other.
+          subst (λ (ws : List (Option Watching)). IsTold start after other (watcher_at other ws)) (sym stands)
+          (elim (nat_eq id other) as (λ b. nat_eq id other ≡ b → IsTold start after other (watcher_at other set)) [
+            | true ↦ λ is.
+                let same : id ≡ other = equal_numbers id other is in
+                let old : IsBegun start log id w = subst (IsTold start log id) found (are.each id) in
+                subst (λ n. IsTold start after n (watcher_at n set)) same
+                (subst (IsTold start after id) (sym (watcher_own id s.watchers (Some next) there.0 within))
+                (polled_told start log reply id most w old right history))
+            | false ↦ λ is.
+                let ne : id ≢ other = differ id other is in
+                subst (IsTold start after other) (sym (watcher_other id other s.watchers (Some next) there.0 ne))
+                (same_told start log (Poll id most) reply other (watcher_at other s.watchers)
+                (record { told = ap (λ b. cond b (events_in reply) []) is; made = refl; kept = refl }) (are.each other))
+          ] refl);
+    }
+
+-- ---- a cancellation
+
+cancel_by : (start : ℕ) (log : List Line) (reply : Result Reply Denied) (id : ℕ) (o : Option Watching) → AreTold start log →
+    watcher_at id (store start log).watchers ≡ o → reply ≡ reply_to (λ _. Cancelled id) (cancel_step (store start log) id o) →
+    store start (with_line (Cancel id) reply log) ≡ store_after_call (store start log) (cancel_step (store start log) id o) →
+    AreTold start (with_line (Cancel id) reply log)
+cancel_by start log reply id None are found right leaves =
+    quiet start log (Cancel id) reply are
+    (λ other. record { told = refl; made = refl; kept = ap (λ (r : Result Reply Denied). is_id other (watcher_given_up r)) right })
+    (ap (λ (x : Standing). x.watchers) leaves)
+cancel_by start log reply id (Some w) are found right leaves =
+    let s : Standing = store start log in
+    let set : List (Option Watching) = slice_set s.watchers (id - 1) None in
+    let after : List Line = with_line (Cancel id) reply log in
+    let there : (0 < id) × (id ≤ length s.watchers) = watcher_there id s.watchers w found in
+    let within : id ≤ length s.watchers = there.1 in
+    let stands : (store start after).watchers ≡ set = ap (λ (x : Standing). x.watchers) leaves in
+    let up : (other : ℕ) → gives_up other (Cancel id) reply ≡ nat_eq id other =
+    λ other. ap (λ (r : Result Reply Denied). is_id other (watcher_given_up r)) right in
+    record {
+      fresh = λ other above.
+          let more : length set < other = subst (λ (ws : List (Option Watching)). length ws < other) stands above in
+          let count : length set ≡ length s.watchers = length-set s.watchers (id - 1) None in
+          let old : length s.watchers < other = omega arith in
+          let ne : nat_eq id other ≡ false = other_number id other (λ same. omega (arith, same)) in
+          still_new log (Cancel id) reply other refl (up other ∙ ne) (are.fresh other old);
+      each = λ other.
+          subst (λ (ws : List (Option Watching)). IsTold start after other (watcher_at other ws)) (sym stands)
+          (elim (nat_eq id other) as (λ b. nat_eq id other ≡ b → IsTold start after other (watcher_at other set)) [
+            | true ↦ λ is.
+                let same : id ≡ other = equal_numbers id other is in
+                let gone : watcher_at other set ≡ None =
+                subst (λ n. watcher_at n set ≡ None) same (watcher_own id s.watchers None there.0 within) in
+                subst (IsTold start after other) (sym gone)
+                (ap (λ b. cond (b || is_given_up other log) None (or_earlier None (begun_watching start other log))) (up other ∙ is))
+            | false ↦ λ is.
+                let ne : id ≢ other = differ id other is in
+                subst (IsTold start after other) (sym (watcher_other id other s.watchers None there.0 ne))
+                (same_told start log (Cancel id) reply other (watcher_at other s.watchers)
+                (record { told = refl; made = refl; kept = up other ∙ is }) (are.each other))
+          ] refl);
+    }
+
+-- ---- every line
+
+told_more : (start : ℕ) (log : List Line) (event : WorldEvent) (reply : Result Reply Denied) → IsRight start log event reply → AreTold start log →
+    AreTold start (with_line event reply log)
+told_more start log (Start program level limit) reply right are =
+    quiet start log (Start program level limit) reply are (λ id. record { told = refl; made = refl; kept = refl }) refl
+told_more start log (Step runner) reply right are =
+    quiet start log (Step runner) reply are (λ id. record { told = refl; made = refl; kept = refl })
+    (step_stays (λ n. begun n log) (store start log) reply)
+told_more start log (Txn txn) reply right are =
+    let s : Standing = store start log in
+    quiet start log (Txn txn) reply are (λ id. record { told = refl; made = refl; kept = refl })
+    (txn_stays s (outcome s.history (is_live_in s.live) txn))
+told_more start log (Grant lease ttl) reply right are =
+    let s : Standing = store start log in
+    quiet start log (Grant lease ttl) reply are (λ id. record { told = refl; made = refl; kept = refl })
+    (grant_stays s lease ttl (grant_refusal s.live lease ttl))
+told_more start log (Keep lease) reply right are =
+    let s : Standing = store start log in
+    quiet start log (Keep lease) reply are (λ id. record { told = refl; made = refl; kept = refl }) (keep_stays s lease (finmap.get s.live lease))
+told_more start log (Revoke lease) reply right are =
+    let s : Standing = store start log in
+    quiet start log (Revoke lease) reply are (λ id. record { told = refl; made = refl; kept = refl })
+    (revoke_stays s lease (is_live_in s.live lease) (is_used_up s.history (deletions_of s.history lease)))
+told_more start log (Advance moment) reply right are =
+    let s : Standing = store start log in
+    quiet start log (Advance moment) reply are (λ id. record { told = refl; made = refl; kept = refl })
+    (advance_stays s moment (nat_lt moment s.moment))
+told_more start log (WatchKey key from) reply right are =
+    watch_by start log (WatchKey key from) reply (Key key) from (nat_eq (length (first_key (Key key))) 0) are (λ id. refl) (λ id. refl)
+    (λ id. refl) right refl
+told_more start log (WatchRange first end from) reply right are =
+    watch_by start log (WatchRange first end from) reply (Range first end) from (nat_eq (length (first_key (Range first end))) 0) are (λ id. refl)
+    (λ id. refl) (λ id. refl) right refl
+told_more start log (Poll watcher most) reply right are =
+    poll_by start log reply watcher most (watcher_at watcher (store start log).watchers) are refl right refl
+told_more start log (Cancel watcher) reply right are =
+    cancel_by start log reply watcher (watcher_at watcher (store start log).watchers) are refl right refl
+
+none_there : (id : ℕ) → watcher_at id [] ≡ (let o : Option Watching = None in o)
+none_there id = elim (nat_eq id 0) as (λ b. cond b None (slice_index_or [] (id - 1) None) ≡ (let o : Option Watching = None in o)) [
+  | true ↦ refl
+  | false ↦ refl
+]
+
+are_told : (start : ℕ) (log : List Line) → AreRight start log → AreTold start log
+are_told start [] right = record {
+  fresh = λ id above. record { nothing = refl; kept = refl };
+  each = λ id. subst (IsTold start [] id) (sym (none_there id)) refl;
+}
+are_told start (line ∷ log) right = told_more start log line.event line.reply right.0 (are_told start log right.1)
+
+told_so : (start : ℕ) (log : List Line) (id : ℕ) (o : Option Watching) → watcher_at id (store start log).watchers ≡ o → IsTold start log id o →
+    IsToldSo start log id (watching start id log)
+told_so start log id None found is = subst (IsToldSo start log id) (sym is) found
+told_so start log id (Some w) found is =
+    subst (IsToldSo start log id) (sym is.is_begun) (record { w = w; stands = found; same = is.tells.same; all = is.tells.all })
+
+pub watchers_are_told : Headline → WatchersAreTold
+watchers_are_told headline start events id =
+    let log : List Line = logged events (replies_to events (opened start)) [] in
+    told_so start log id (watcher_at id (store start log).watchers) refl ((are_told start log (headline start events).replies).each id)

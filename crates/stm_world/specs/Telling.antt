@@ -1,0 +1,95 @@
+-- What a watcher is told over a whole log: every event that it watches, once and in order.
+--
+-- etcd's API guarantees, "Watch APIs": what a watch is told is ordered, unique, reliable and atomic. Events come by their revisions,
+-- none twice, none between is dropped, and those of a revision come together.
+use Rattle.std.specs.Prelude.{◌≡◌, ℕ, nat_eq, Bool, false, ◌||◌, if◌then◌else◌, List, [], ◌∷◌, ◌++◌, Option, Some, None, Result, Ok}
+use Rattle.stm_history.specs.History.{History}
+use Rattle.stm_keys.specs.declared.event.Event.{Event}
+use Rattle.stm_watch.specs.declared.watched.Watched.TheVariants.{Key, Range}
+use Rattle.stm_watch.specs.declared.watched.Watching.{Watching}
+use Rattle.stm_watch.specs.Pending.{watching_from, pending, events_told}
+use Rattle.stm_watch.specs.Calls.{watcher_at}
+use Rattle.stm_world.specs.declared.event.WorldEvent.{WorldEvent}
+use Rattle.stm_world.specs.declared.event.WorldEvent.TheVariants.{WatchKey, WatchRange, Poll, Cancel}
+use Rattle.stm_world.specs.declared.reply.Reply.{Reply}
+use Rattle.stm_world.specs.declared.reply.Reply.TheVariants.{Watching as WatchingReply, Batch, Cancelled}
+use Rattle.stm_world.specs.declared.refusal.Denied.{Denied}
+use Rattle.stm_world.specs.Log.{Line, is_id, store}
+use Rattle.stm_world.specs.World.{opened, replies_to}
+use Rattle.stm_world.specs.Headline.{logged}
+
+-- the watcher that a reply gives its number
+abbrev pub watcher_made : Result Reply Denied → Option ℕ
+watcher_made (Ok (WatchingReply watcher)) = Some watcher
+watcher_made other = None
+
+abbrev pub made : ℕ → Watching → Result Reply Denied → Option Watching
+made id w reply = if is_id id (watcher_made reply) then Some w else None
+
+-- the watcher with a number that an event makes: what it watches, and from which revision on
+abbrev pub made_by : ℕ → History → WorldEvent → Result Reply Denied → Option Watching
+made_by id h (WatchKey key from) reply = made id (watching_from h (Key key) from) reply
+made_by id h (WatchRange first end from) reply = made id (watching_from h (Range first end) from) reply
+made_by id h other reply = None
+
+abbrev pub or_earlier : Option Watching → Option Watching → Option Watching
+or_earlier None earlier = earlier
+or_earlier (Some w) earlier = Some w
+
+-- how a watcher began
+abbrev pub begun_watching : ℕ → ℕ → List Line → Option Watching
+begun_watching start id [] = None
+begun_watching start id (line ∷ older) =
+    or_earlier (made_by id (store start older).history line.event line.reply) (begun_watching start id older)
+
+-- the watcher that a reply tells to be given up
+abbrev pub watcher_given_up : Result Reply Denied → Option ℕ
+watcher_given_up (Ok (Cancelled watcher)) = Some watcher
+watcher_given_up other = None
+
+abbrev pub gives_up : ℕ → WorldEvent → Result Reply Denied → Bool
+gives_up id (Cancel watcher) reply = is_id id (watcher_given_up reply)
+gives_up id other reply = false
+
+-- whether a watcher was given up
+abbrev pub is_given_up : ℕ → List Line → Bool
+is_given_up id [] = false
+is_given_up id (line ∷ older) = gives_up id line.event line.reply || is_given_up id older
+
+-- how a watcher began that was not given up
+abbrev pub watching : ℕ → ℕ → List Line → Option Watching
+watching start id log = if is_given_up id log then None else begun_watching start id log
+
+-- the events that a reply tells
+abbrev pub events_in : Result Reply Denied → List Event
+events_in (Ok (Batch watcher upto events)) = events
+events_in other = []
+
+-- the events that a line tells a watcher: those of the batch of its poll
+abbrev pub told_by : ℕ → WorldEvent → Result Reply Denied → List Event
+told_by id (Poll watcher most) reply = if nat_eq watcher id then events_in reply else []
+told_by id other reply = []
+
+-- the events that a watcher was told by all its batches, in their order
+abbrev pub events_to : ℕ → List Line → List Event
+events_to id [] = []
+events_to id (line ∷ older) = events_to id older ++ told_by id line.event line.reply
+
+-- A watcher that began so stands in the store; and what it was told, followed by what is pending for it, is what would be pending
+-- for it had it never been polled: each event that it watches from its start on, once, in order.
+pub record IsToldAll (start : ℕ) (log : List Line) (id : ℕ) (begun : Watching) : Type 0 where
+  pub w : Watching
+  pub stands : watcher_at id (store start log).watchers ≡ Some w
+  pub same : w.watched ≡ begun.watched
+  pub all : events_to id log ++ events_told (pending (store start log).history w) ≡ events_told (pending (store start log).history begun)
+
+-- a watcher is there exactly where it began and was not given up, and it is told all
+abbrev pub IsToldSo : ℕ → List Line → ℕ → Option Watching → Type 0
+IsToldSo start log id None = watcher_at id (store start log).watchers ≡ None
+IsToldSo start log id (Some begun) = IsToldAll start log id begun
+
+-- Every watcher is told all.
+abbrev pub WatchersAreTold : Type 0
+WatchersAreTold =
+    (start : ℕ) (events : List WorldEvent) (id : ℕ)
+    → IsToldSo start (logged events (replies_to events (opened start)) []) id (watching start id (logged events (replies_to events (opened start)) []))

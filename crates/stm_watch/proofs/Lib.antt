@@ -2,3 +2,8 @@ pub mod Telling
 pub mod Giving
 pub mod Standing
 pub mod WorkedExamples
+pub mod Linked
+pub mod Marked
+pub mod Indexed
+pub mod Placed
+pub mod Touching

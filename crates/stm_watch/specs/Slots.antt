@@ -1,5 +1,5 @@
 -- What a poll makes of one place. No public clause cites this module.
-use Rattle.std.specs.Prelude.{◌≡◌, ℕ, Option, Some, None, IsSome, Result, Ok, Err}
+use Rattle.std.specs.Prelude.{◌≡◌, ℕ, true, List, slice_index_or, slice_set, Option, Some, None, IsSome, Result, Ok, Err}
 use Rattle.stm_history.specs.History.{History}
 use Rattle.stm_watch.specs.declared.watched.Watching.{Watching}
 use Rattle.stm_watch.specs.declared.watched.Watcher.{Watcher}
@@ -22,3 +22,12 @@ abbrev pub SlotPolls : History → ℕ → Option Watcher → Result Batch PollR
 SlotPolls h most old (Ok batch) new = IsPolled h most old batch new
 SlotPolls h most old (Err NoWatcher) new = (old ≡ None) × (new ≡ old)
 SlotPolls h most old (Err OutOfMemory) new = IsSome old × (new ≡ old)
+
+-- a watcher that is ready from then on
+abbrev pub made_ready : Watcher → Watcher
+made_ready w = record w { ready = true }
+
+-- the same, where the place is one of several
+abbrev pub PlacePolls : History → ℕ → ℕ → List (Option Watcher) → Result Batch PollRefusal → List (Option Watcher) → Type 0
+PlacePolls h most i old result new =
+    (slot : Option Watcher) × (new ≡ slice_set old i slot) × SlotPolls h most (slice_index_or old i None) result slot

@@ -1,10 +1,29 @@
 -- What a new revision makes of a watcher's readiness.
-use Rattle.std.specs.Prelude.{ℕ, List, ◌||◌, ◌&&◌, nat_lt}
+use Rattle.std.specs.Prelude.{ℕ, List, [], ◌∷◌, Option, Some, None, option_map, slice_index_or, slice_set, Bool, false, not, ◌||◌, ◌&&◌, nat_lt}
 use Rattle.stm_history.specs.declared.change.Change.{Change}
 use Rattle.stm_watch.specs.declared.watched.Watcher.{Watcher}
-use Rattle.stm_watch.specs.Keys.{is_any_watched}
+use Rattle.stm_watch.specs.Keys.{is_watched, is_any_watched}
+
+-- it is ready from then on, if it wants to know of a change of this key at that revision
+abbrev pub touch_key : ℕ → List ℕ → Watcher → Watcher
+touch_key revision key w =
+    record w { ready = w.ready || (nat_lt w.watching.seen revision && is_watched w.watching.watched key) }
 
 -- it is ready from then on, if it wants to know of a change of that revision
 abbrev pub touch : ℕ → List Change → Watcher → Watcher
 touch revision changes w =
     record w { ready = w.ready || (nat_lt w.watching.seen revision && is_any_watched w.watching.watched changes) }
+
+-- whether an idle watcher wants to know of it
+abbrev pub wants : ℕ → List ℕ → Option Watcher → Bool
+wants revision key None = false
+wants revision key (Some w) = not w.ready && (nat_lt w.watching.seen revision && is_watched w.watching.watched key)
+
+-- the watchers after a change of a key at one place
+abbrev pub touch_at : ℕ → List ℕ → ℕ → List (Option Watcher) → List (Option Watcher)
+touch_at revision key i ws = slice_set ws i (option_map (touch_key revision key) (slice_index_or ws i None))
+
+-- the watchers after a change of a key at these places, one after the other
+abbrev pub touch_each : ℕ → List ℕ → List ℕ → List (Option Watcher) → List (Option Watcher)
+touch_each revision key [] ws = ws
+touch_each revision key (i ∷ is) ws = touch_each revision key is (touch_at revision key i ws)

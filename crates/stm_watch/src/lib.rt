@@ -6,9 +6,12 @@
 #![tactic(auto)]
 
 mod gather;
+mod index;
+mod readiness;
 pub mod refusal;
 mod slots;
 pub mod told;
+mod touch;
 pub mod watched;
 pub mod watchers;
 

@@ -1,11 +1,9 @@
 //! What a watcher watches, and how far it has been told.
-ghost use Rattle.std.specs.Prelude.{◌≡◌, map};
-ghost use Rattle.stm_keys.specs.Events.{change_of_event};
-ghost use Rattle.stm_watch.specs.Keys.{is_watched, is_any_watched};
+ghost use Rattle.std.specs.Prelude.{◌≡◌, ◌&&◌, nat_lt};
+ghost use Rattle.stm_watch.specs.Keys.{is_watched};
 ghost use Rattle.stm_watch.specs.Pending.{watching_from};
-ghost use Rattle.stm_watch.specs.Touch.{touch};
 
-use stm_keys::{Event, Keys, Text};
+use stm_keys::{Keys, Text};
 
 /// The keys that a watcher watches.
 #[derive(Debug, Drop)]
@@ -26,18 +24,6 @@ impl Watched {
             Watched::Range { first, end } => first.cmp(key).is_le() && key.cmp(end).is_lt(),
         }
     }
-
-    /// Whether one of these events is of a key that is watched.
-    pub(crate) fn has_any(&self, events: &[Event]) -> bool
-        ensures { result ≡ is_any_watched self.now (map change_of_event events.now) }
-    {
-        for event in events {
-            if self.has(event.key()) {
-                return true;
-            }
-        }
-        false
-    }
 }
 
 /// A watcher as the rules see it.
@@ -54,12 +40,15 @@ impl Watching {
     pub(crate) fn starting(watched: Watched, from: u64, keys: &Keys) -> Watching
         ensures { result ≡ watching_from keys.now.history watched from }
     {
-        let seen = if from == 0 {
-            keys.revision()
-        } else {
-            from - 1
-        };
+        let seen = if from == 0 { keys.revision() } else { from - 1 };
         Watching { watched, seen }
+    }
+
+    /// Whether the watcher wants to know of a change of a key at a new revision.
+    pub(crate) fn wants(&self, revision: u64, key: &Text) -> bool
+        ensures { result ≡ (nat_lt self.now.seen revision && is_watched self.now.watched key.now) }
+    {
+        revision > self.seen && self.watched.has(key)
     }
 }
 
@@ -70,15 +59,4 @@ pub struct Watcher {
     pub watching: Watching,
     /// Whether events are pending.
     pub ready: bool,
-}
-
-impl Watcher {
-    /// Notes a new revision with these events.
-    pub(crate) fn touch(&mut self, revision: u64, events: &[Event])
-        ensures { self.new ≡ touch revision (map change_of_event events.now) self.old }
-    {
-        if revision > self.watching.seen && self.watching.watched.has_any(events) {
-            self.ready = true;
-        }
-    }
 }

@@ -5,9 +5,11 @@ ghost use Rattle.stm_keys.specs.Events.{change_of_event};
 ghost use Rattle.stm_watch.specs.Pending.{watching_from};
 ghost use Rattle.stm_watch.specs.Calls.{watch, poll, cancelled, Watches, Polls, watchings, watcher_at, StandFor, IsNextReady, IsNextPending};
 
+use crate::index::Index;
 use crate::refusal::{NoWatcher, PollRefusal, WatchRefusal};
-use crate::slots::{first_ready, poll_slot, touch_all};
+use crate::slots::Slots;
 use crate::told::is_told;
+use crate::touch::touch_all;
 use crate::watched::{Watched, Watcher, Watching};
 use std::alloc::{AllocError, Global};
 use std::marker::Model;
@@ -26,9 +28,11 @@ pub struct Batch {
 ///
 /// Contracts see them by number, 1 first, each with the mark whether it is ready; nothing stands where one was
 /// cancelled. They stand for a history where each is ready exactly where events of it are pending.
-#[derive(Debug, Drop)]
+#[derive(Drop)]
 pub struct Watchers {
-    watchers: Vec<Option<Watcher>>,
+    slots: Slots,
+    index: Index,
+    alloc: Global,
 }
 
 impl Model for Watchers {
@@ -37,7 +41,11 @@ impl Model for Watchers {
 
     ghost Value = { List (Option Kept) };
 
-    ghost view = { λ s. s.watchers.items };
+    ghost use Rattle.stm_watch.specs.Kept.{Covers, watched_of};
+
+    ghost view = { λ s. s.slots };
+
+    ghost invariant = { λ s. Covers s.index (watched_of s.slots) };
 }
 
 impl Watchers {
@@ -48,7 +56,9 @@ impl Watchers {
         ensures { IfOk result (λ watchers. watchers ≡ []) }
     {
         Ok(Watchers {
-            watchers: Vec::new(alloc),
+            slots: Slots::new(alloc)?,
+            index: Index::new(alloc)?,
+            alloc,
         })
     }
 
@@ -62,8 +72,10 @@ impl Watchers {
     {
         let watching = Watching::starting(watched, from, keys);
         let ready = is_told(keys, &watching)?;
-        self.watchers.push(Some(Watcher { watching, ready }))?;
-        Ok(self.watchers.len() as u64)
+        let list = self.index.make_room(&watching.watched)?;
+        self.slots.push(Watcher { watching, ready })?;
+        self.index.push(list);
+        Ok(self.slots.len() as u64)
     }
 
     /// Watches a key from a revision on, 0 for the next one, and gives the watcher's number: 1, 2, 3, .., which is
@@ -79,7 +91,7 @@ impl Watchers {
         if key.is_empty() {
             return Err(WatchRefusal::EmptyKey);
         }
-        let key = Text::copy_of(*self.watchers.allocator(), key)?;
+        let key = Text::copy_of(self.alloc, key)?;
         let id = self.add(Watched::Key(key), from, keys)?;
         Ok(id)
     }
@@ -101,9 +113,8 @@ impl Watchers {
         if first.is_empty() {
             return Err(WatchRefusal::EmptyKey);
         }
-        let alloc = *self.watchers.allocator();
-        let first = Text::copy_of(alloc, first)?;
-        let end = Text::copy_of(alloc, end)?;
+        let first = Text::copy_of(self.alloc, first)?;
+        let end = Text::copy_of(self.alloc, end)?;
         let id = self.add(Watched::Range { first, end }, from, keys)?;
         Ok(id)
     }
@@ -116,14 +127,15 @@ impl Watchers {
         ensures stand { (h : History) → StandFor h self.old → StandFor h self.new }
         ensures err { OnErr result (self.new ≡ self.old) }
     {
-        if id == 0 || id > self.watchers.len() as u64 {
+        if id == 0 {
             return Err(NoWatcher);
         }
         let index = (id - 1) as usize;
-        if self.watchers[index].is_none() {
+        if !self.slots.has(index) {
             return Err(NoWatcher);
         }
-        self.watchers[index] = None;
+        self.index.remove(index);
+        self.slots.remove(index);
         Ok(())
     }
 
@@ -134,7 +146,7 @@ impl Watchers {
         ensures same { watchings self.new ≡ watchings self.old }
         ensures stand { (h : History) → StandFor h self.old → revision ≡ now h + 1 → StandFor (add_revision h (map change_of_event events.now)) self.new }
     {
-        touch_all(&mut self.watchers, revision, events);
+        touch_all(&mut self.slots, &self.index, revision, events);
     }
 
     /// A watcher that is ready, `None` where none is. It takes no memory.
@@ -144,7 +156,7 @@ impl Watchers {
         ensures ready { IsNextReady self.now result }
         ensures pending { (h : History) → StandFor h self.now → IsNextPending h (watchings self.now) result }
     {
-        first_ready(self.watchers.as_slice())
+        self.slots.first_ready()
     }
 
     /// Gives a watcher the pending events of at most so many revisions, and whole revisions only.
@@ -158,10 +170,9 @@ impl Watchers {
         ensures stand { StandFor keys.now.history self.new }
         ensures err { OnErr result (self.new ≡ self.old) }
     {
-        if id == 0 || id > self.watchers.len() as u64 {
+        if id == 0 || id > self.slots.len() as u64 {
             return Err(PollRefusal::NoWatcher);
         }
-        let alloc = *self.watchers.allocator();
-        poll_slot(alloc, &mut self.watchers[(id - 1) as usize], keys, most)
+        self.slots.poll((id - 1) as usize, keys, most)
     }
 }

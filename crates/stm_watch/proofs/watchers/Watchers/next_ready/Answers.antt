@@ -5,6 +5,4 @@ use Rattle.stm_watch.proofs.watchers.Watchers.next_ready.Goals as goal
 
 pub returns-clause-pending : goal.returns-clause-pending
 returns-clause-pending c h stand =
-    let ready : IsNextReady c.args.self.now c.first_ready.result =
-    subst (λ ws. IsNextReady ws c.first_ready.result) (c.as_slice.ensures.value ∙ c.self.view_is) c.first_ready.ensures in
-    next_pending h c.args.self.now c.first_ready.result stand ready
+    next_pending h c.args.self.now c.first_ready.result stand (subst (λ ws. IsNextReady ws c.first_ready.result) c.self.view_is c.first_ready.ensures)

@@ -1,0 +1,364 @@
+-- What a new revision makes of the watchers, key by key.
+use Rattle.std.proofs.Common.{◌≡◌, ◌⊎◌, ℕ, zero, suc, ◌<◌, ◌≤◌, ◌+◌, Bool, true, false, ◌||◌, ◌&&◌, List, [], ◌∷◌, ◌++◌, length, map, take, Option, Some, None, IsSome, unwrap_or, option_map, slice_index_or, slice_set}
+use Rattle.std.proofs.Common.{refl, sym, ap, subst, ◌∙◌, inl, inr, arith, length-append, append-nil, append_assoc}
+use Rattle.std.specs.Prelude.{nat_lt}
+use Rattle.std.specs.Str.{bytes_eq}
+use Rattle.std.specs.List.{list_any}
+use Rattle.std.proofs.lemmas.Bool.{cases_Bool, cases_eq}
+use Rattle.std.proofs.lemmas.List.{get_or-set_same, get_or-set_other, get_or_past, length-set, length-map, map-append, same_lists}
+use Rattle.std.proofs.lemmas.List.Folds.{list_any-append}
+use Rattle.std.proofs.lemmas.Option.{same_Some}
+use Rattle.std.proofs.lemmas.Slice.Eq.{bytes_eq-Decides}
+use Rattle.std.proofs.Math.ListN.{get_or-map}
+use Rattle.stm_history.specs.declared.change.Change.{Change}
+use Rattle.stm_history.specs.History.{key_of}
+use Rattle.stm_keys.specs.declared.event.Event.{Event}
+use Rattle.stm_keys.specs.declared.event.Event.TheVariants.{Put, Delete}
+use Rattle.stm_keys.specs.Events.{change_of_event, key_of_event}
+use Rattle.stm_lists.specs.Lists.{Lists, Place, list_at, entries_at, HasList, HasNode, StandsAt, first_node}
+use Rattle.stm_watch.specs.declared.watched.Watched.{Watched}
+use Rattle.stm_watch.specs.declared.watched.Watched.TheVariants.{Key, Range}
+use Rattle.stm_watch.specs.declared.watched.Watcher.{Watcher}
+use Rattle.stm_watch.specs.Keys.{is_watched, is_any_watched}
+use Rattle.stm_watch.specs.Kept.{Holds, AreListed, list_in, watched_of, places_on, places_at}
+use Rattle.stm_watch.specs.Touch.{touch, touch_key, touch_at, touch_each}
+use Rattle.stm_watch.proofs.Linked.{holds-right}
+use Rattle.stm_watch.proofs.Marked.{within, read_at, slot_of_map}
+
+-- ---- one place
+
+touched_twice : (revision : ℕ) (key : List ℕ) (o : Option Watcher) →
+    option_map (touch_key revision key) (option_map (touch_key revision key) o) ≡ option_map (touch_key revision key) o
+touched_twice revision key None = refl
+touched_twice revision key (Some w) =
+    ap (λ b. Some (record w { ready = b })) (twice w.ready (nat_lt w.watching.seen revision && is_watched w.watching.watched key))
+  where
+    twice : (a b : Bool) → ((a || b) || b) ≡ (a || b)
+    twice true b = refl
+    twice false true = refl
+    twice false false = refl
+
+-- a watcher of other keys stays as it is
+untouched : (revision : ℕ) (key : List ℕ) (w : Watcher) → is_watched w.watching.watched key ≡ false → touch_key revision key w ≡ w
+untouched revision key w not_watched =
+    ap (λ b. record w { ready = w.ready || (nat_lt w.watching.seen revision && b) }) not_watched
+    ∙ ap (λ b. record w { ready = b }) (never w.ready (nat_lt w.watching.seen revision))
+  where
+    never : (a b : Bool) → (a || (b && false)) ≡ a
+    never true b = refl
+    never false true = refl
+    never false false = refl
+
+module _ (revision : ℕ) (key : List ℕ) where
+  -- ---- several places
+
+  pub length_each : (is : List ℕ) (ws : List (Option Watcher)) → length (touch_each revision key is ws) ≡ length ws
+  length_each [] ws = refl
+  length_each (i ∷ is) ws =
+      length_each is (touch_at revision key i ws) ∙ length-set ws i (option_map (touch_key revision key) (slice_index_or ws i None))
+
+  each_more : (is : List ℕ) (i : ℕ) (ws : List (Option Watcher)) →
+      touch_each revision key (is ++ i ∷ []) ws ≡ touch_at revision key i (touch_each revision key is ws)
+  each_more [] i ws = refl
+  each_more (j ∷ is) i ws = each_more is i (touch_at revision key j ws)
+
+  -- what stands at the place that was touched
+  touched_here : (i : ℕ) (ws : List (Option Watcher)) →
+      slice_index_or (touch_at revision key i ws) i None ≡ option_map (touch_key revision key) (slice_index_or ws i None)
+  touched_here zero [] = refl
+  touched_here (suc i) [] = refl
+  touched_here zero (w ∷ ws) = refl
+  touched_here (suc i) (w ∷ ws) = touched_here i ws
+
+  at_either : (i j : ℕ) (ws : List (Option Watcher)) →
+      (slice_index_or (touch_at revision key i ws) j None ≡ slice_index_or ws j None)
+      ⊎ (slice_index_or (touch_at revision key i ws) j None ≡ option_map (touch_key revision key) (slice_index_or ws j None))
+  at_either i j ws = elim (cases_eq j i) [
+    | inl same ↦ inr (subst (λ (k : ℕ). slice_index_or (touch_at revision key i ws) k None ≡ option_map (touch_key revision key) (slice_index_or ws k None))
+        (sym same) (touched_here i ws))
+    | inr differs ↦ inl (get_or-set_other ws i j (option_map (touch_key revision key) (slice_index_or ws i None)) None differs)
+  ]
+
+  each_either : (is : List ℕ) (j : ℕ) (ws : List (Option Watcher)) →
+      (slice_index_or (touch_each revision key is ws) j None ≡ slice_index_or ws j None)
+      ⊎ (slice_index_or (touch_each revision key is ws) j None ≡ option_map (touch_key revision key) (slice_index_or ws j None))
+  each_either [] j ws = inl refl
+  each_either (i ∷ is) j ws = elim (at_either i j ws) [
+    | inl before ↦ elim (each_either is j (touch_at revision key i ws)) [
+      | inl kept ↦ inl (kept ∙ before)
+      | inr touched ↦ inr (touched ∙ ap (option_map (touch_key revision key)) before)
+    ]
+    | inr before ↦ elim (each_either is j (touch_at revision key i ws)) [
+      | inl kept ↦ inr (kept ∙ before)
+      | inr touched ↦ inr (touched ∙ ap (option_map (touch_key revision key)) before ∙ touched_twice revision key (slice_index_or ws j None))
+    ]
+  ]
+
+  again : (x o : Option Watcher) → (x ≡ o) ⊎ (x ≡ option_map (touch_key revision key) o)
+      → option_map (touch_key revision key) x ≡ option_map (touch_key revision key) o
+  again x o either = elim either [
+    | inl before ↦ ap (option_map (touch_key revision key)) before
+    | inr before ↦ ap (option_map (touch_key revision key)) before ∙ touched_twice revision key o
+  ]
+
+  -- what was touched once stays so
+  each_after : (is : List ℕ) (j : ℕ) (ws : List (Option Watcher)) (o : Option Watcher) → slice_index_or ws j None ≡ option_map (touch_key revision key) o
+      → slice_index_or (touch_each revision key is ws) j None ≡ option_map (touch_key revision key) o
+  each_after is j ws o was = elim (each_either is j ws) [
+    | inl kept ↦ kept ∙ was
+    | inr touched ↦ touched ∙ ap (option_map (touch_key revision key)) was ∙ touched_twice revision key o
+  ]
+
+  -- each place on a list is touched
+  each_holds : (es : List (ℕ × ℕ)) (node j : ℕ) (ws : List (Option Watcher)) → Holds es node j
+      → slice_index_or (touch_each revision key (map (λ e. e.1) es) ws) j None ≡ option_map (touch_key revision key) (slice_index_or ws j None)
+  each_holds [] node j ws h = absurd h
+  each_holds (e ∷ es) node j ws h = elim h [
+    | inl here ↦
+        each_after (map (λ e. e.1) es) j (touch_at revision key e.1 ws) (slice_index_or ws j None)
+        (subst (λ (k : ℕ). slice_index_or (touch_at revision key e.1 ws) k None ≡ option_map (touch_key revision key) (slice_index_or ws k None)) here.1
+        (touched_here e.1 ws))
+    | inr there ↦ each_holds es node j (touch_at revision key e.1 ws) there
+        ∙ again (slice_index_or (touch_at revision key e.1 ws) j None) (slice_index_or ws j None) (at_either e.1 j ws)
+  ]
+
+  -- ---- a walk along a list
+
+  pub record IsWalked (lists : Lists ℕ) (list count : ℕ) (next : Option ℕ) (old ws : List (Option Watcher)) : Type 0 where
+    pub passed : List (ℕ × ℕ)
+    pub rest : List (ℕ × ℕ)
+    pub split : entries_at lists list ≡ passed ++ rest
+    pub counted : length passed ≡ count
+    pub next_is : next ≡ first_node rest
+    pub done : ws ≡ touch_each revision key (map (λ e. e.1) passed) old
+
+  there : (o : Option (List (ℕ × ℕ))) → IsSome o → o ≡ Some (unwrap_or o [])
+  there None some = absurd (cc)
+  there (Some xs) some = refl
+
+  -- the place of the next node
+  pub record IsNextPlace (lists : Lists ℕ) (list count : ℕ) (node : ℕ) (old ws : List (Option Watcher)) : Type 0 where
+    pub place : Place ℕ
+    pub stands : StandsAt lists node place
+    pub here : place.list ≡ list
+    pub holds : Holds (entries_at lists list) node place.value
+    pub counted : length place.before ≡ count
+    pub done : ws ≡ touch_each revision key (map (λ e. e.1) place.before) old
+
+  pub walk_place : (lists : Lists ℕ) (list count : ℕ) (next : Option ℕ) (node : ℕ) (old ws : List (Option Watcher)) → HasList lists list
+      → IsWalked lists list count next old ws → next ≡ Some node → IsNextPlace lists list count node old ws
+  walk_place lists list count next node old ws has walked is = by_rest walked.rest walked.split (sym walked.next_is ∙ is)
+    where
+      by_rest : (rest : List (ℕ × ℕ)) → entries_at lists list ≡ walked.passed ++ rest → first_node rest ≡ Some node → IsNextPlace lists list count node old ws
+      by_rest [] split first = absurd (cc)
+      by_rest (entry ∷ rest) split first =
+          let same : entry.0 ≡ node = same_Some entry.0 node first in
+          let entries : entries_at lists list ≡ walked.passed ++ (node, entry.1) ∷ rest = split ∙ ap (λ (n : ℕ). walked.passed ++ (n, entry.1) ∷ rest) same in
+          record {
+            place = record { list = list; before = walked.passed; value = entry.1; after = rest };
+            stands = record { stands = there (list_at lists list) has ∙ ap Some entries };
+            here = refl;
+            holds = subst (λ xs. Holds xs node entry.1) (sym entries) (holds-right node entry.1 walked.passed ((node, entry.1) ∷ rest) (inl (refl, refl)));
+            counted = walked.counted;
+            done = walked.done;
+          }
+
+  pub walk_node : (lists : Lists ℕ) (list count : ℕ) (next : Option ℕ) (node : ℕ) (old ws : List (Option Watcher)) → HasList lists list
+      → IsWalked lists list count next old ws → next ≡ Some node → HasNode lists node
+  walk_node lists list count next node old ws has walked is =
+      let found = walk_place lists list count next node old ws has walked is in (found.place, found.stands)
+
+  pub walk_within : (lists : Lists ℕ) (list count : ℕ) (next : Option ℕ) (node i : ℕ) (old ws : List (Option Watcher)) → HasList lists list
+      → IsWalked lists list count next old ws → next ≡ Some node → ((place : Place ℕ) → StandsAt lists node place → i ≡ place.value)
+      → ((node i : ℕ) → Holds (entries_at lists list) node i → i < length old) → i < length ws
+  walk_within lists list count next node i old ws has walked is got below =
+      let found = walk_place lists list count next node old ws has walked is in
+      let value = got found.place found.stands in
+      let under : found.place.value < length old = below node found.place.value found.holds in
+      let long = ap length found.done ∙ length_each (map (λ e. e.1) found.place.before) old in
+      omega (arith, value, under, long)
+
+  pub walk_more : (lists : Lists ℕ) (list count : ℕ) (next : Option ℕ) (node i : ℕ) (after : Option ℕ) (old ws new : List (Option Watcher)) → HasList lists list
+      → IsWalked lists list count next old ws → next ≡ Some node → ((place : Place ℕ) → StandsAt lists node place → i ≡ place.value)
+      → ((place : Place ℕ) → StandsAt lists node place → after ≡ first_node place.after)
+      → new ≡ touch_at revision key i ws → IsWalked lists list (count + 1) after old new
+  walk_more lists list count next node i after old ws new has walked is got follows touched =
+      let found = walk_place lists list count next node old ws has walked is in
+      let place = found.place in
+      let value = got place found.stands in
+      let entries : entries_at lists list ≡ place.before ++ (node, place.value) ∷ place.after =
+      ap (λ (l : ℕ). entries_at lists l) (sym found.here) ∙ ap (λ o. unwrap_or o []) found.stands.stands in
+      record {
+        passed = place.before ++ (node, place.value) ∷ [];
+        rest = place.after;
+        split = entries ∙ sym (append_assoc place.before ((node, place.value) ∷ []) place.after);
+        counted = length-append place.before ((node, place.value) ∷ []) ∙ ap (λ (n : ℕ). n + 1) found.counted;
+        next_is = follows place found.stands;
+        done = touched
+            ∙ ap (λ (k : ℕ). touch_at revision key k ws) value
+            ∙ ap (touch_at revision key place.value) found.done
+            ∙ sym (each_more (map (λ e. e.1) place.before) place.value old)
+            ∙ ap (λ is. touch_each revision key is old) (sym (map-append (λ e. e.1) place.before ((node, place.value) ∷ [])));
+      }
+
+  -- the walk does not end before its time
+  pub walk_lasts : (lists : Lists ℕ) (list count : ℕ) (next : Option ℕ) (old ws : List (Option Watcher)) → IsWalked lists list count next old ws
+      → next ≡ None → count < length (entries_at lists list) → ⊥
+  walk_lasts lists list count next old ws walked is below = by_rest walked.rest walked.split (sym walked.next_is ∙ is)
+    where
+      by_rest : (rest : List (ℕ × ℕ)) → entries_at lists list ≡ walked.passed ++ rest → first_node rest ≡ None → ⊥
+      by_rest [] split none =
+          let long = ap length (split ∙ append-nil walked.passed) in
+          let counted = walked.counted in
+          absurd (omega (arith, long, counted, below))
+      by_rest (entry ∷ rest) split none = absurd (cc)
+
+  pub walk_end : (lists : Lists ℕ) (list count : ℕ) (next : Option ℕ) (old ws : List (Option Watcher)) → IsWalked lists list count next old ws
+      → length (entries_at lists list) ≤ count → ws ≡ touch_each revision key (places_on lists list) old
+  walk_end lists list count next old ws walked all = by_rest walked.rest walked.split
+    where
+      by_rest : (rest : List (ℕ × ℕ)) → entries_at lists list ≡ walked.passed ++ rest → ws ≡ touch_each revision key (places_on lists list) old
+      by_rest [] split =
+          walked.done ∙ ap (λ (es : List (ℕ × ℕ)). touch_each revision key (map (λ e. e.1) es) old) (sym (split ∙ append-nil walked.passed))
+      by_rest (entry ∷ rest) split =
+          let long = ap length split ∙ length-append walked.passed (entry ∷ rest) in
+          let counted = walked.counted in
+          absurd (omega (arith, long, counted, all))
+
+  -- ---- all that a key concerns
+
+  module _ (lists : Lists ℕ) (of_key : List ℕ → Option ℕ) (ranges : ℕ) (nodes : List (Option ℕ)) (ws : List (Option Watcher))
+      (listed : AreListed lists (list_in of_key ranges) nodes (watched_of ws)) where
+    -- what is on lists stands at a place
+    pub listed_within : (list node i : ℕ) → Holds (entries_at lists list) node i → i < length ws
+    listed_within list node i h =
+        let below = within nodes i (subst IsSome (sym (listed.only list node i h)) refl) in
+        let long = listed.long ∙ length-map ws (option_map (λ (w : Watcher). w.watching.watched)) in
+        omega (arith, below, long)
+
+    abbrev own : List (Option Watcher)
+    own = touch_each revision key (places_at lists (of_key key)) ws
+
+    abbrev both : List (Option Watcher)
+    both = touch_each revision key (places_on lists ranges) own
+
+    -- a watcher of the key is on the key's list, or on that of the ranges
+    reached : (w : Watched) (list node j : ℕ) → is_watched w key ≡ true → list_in of_key ranges w ≡ Some list → Holds (entries_at lists list) node j
+        → slice_index_or both j None ≡ option_map (touch_key revision key) (slice_index_or ws j None)
+    reached (Key watched) list node j matches is h =
+        let same : watched ≡ key = (bytes_eq-Decides watched key).0 matches in
+        let at : of_key key ≡ Some list = ap of_key (sym same) ∙ is in
+        each_after (places_on lists ranges) j own (slice_index_or ws j None)
+        (ap (λ o. slice_index_or (touch_each revision key (places_at lists o) ws) j None) at ∙ each_holds (entries_at lists list) node j ws h)
+    reached (Range first end) list node j matches is h =
+        let here : ranges ≡ list = same_Some ranges list is in
+        let on : Holds (entries_at lists ranges) node j = subst (λ (l : ℕ). Holds (entries_at lists l) node j) (sym here) h in
+        each_holds (entries_at lists ranges) node j own on
+        ∙ again (slice_index_or own j None) (slice_index_or ws j None) (each_either (places_at lists (of_key key)) j ws)
+
+    -- where touching makes no difference
+    either_same : (j : ℕ) → option_map (touch_key revision key) (slice_index_or ws j None) ≡ slice_index_or ws j None
+        → slice_index_or both j None ≡ option_map (touch_key revision key) (slice_index_or ws j None)
+    either_same j same = each_after (places_on lists ranges) j own (slice_index_or ws j None) (elim (each_either (places_at lists (of_key key)) j ws) [
+      | inl kept ↦ kept ∙ sym same
+      | inr touched ↦ touched
+    ])
+
+    slot_touched : (j : ℕ) → slice_index_or both j None ≡ option_map (touch_key revision key) (slice_index_or ws j None)
+    slot_touched j = by_slot (slice_index_or ws j None) refl
+      where
+        by_slot : (o : Option Watcher) → slice_index_or ws j None ≡ o
+            → slice_index_or both j None ≡ option_map (touch_key revision key) (slice_index_or ws j None)
+        by_slot None is = either_same j (ap (option_map (touch_key revision key)) is ∙ sym is)
+        by_slot (Some w) is = elim (cases_Bool (is_watched w.watching.watched key)) [
+          | inl matches ↦
+              let had = listed.stands j w.watching.watched
+              (slot_of_map (λ (w : Watcher). w.watching.watched) ws j ∙ ap (option_map (λ (w : Watcher). w.watching.watched)) is) in
+              reached w.watching.watched had.0 had.1 j matches had.2 had.4
+          | inr other ↦ either_same j (ap (option_map (touch_key revision key)) is ∙ ap Some (untouched revision key w other) ∙ sym is)
+        ]
+
+    pub all_touched : touch_each revision key (places_on lists ranges) (touch_each revision key (places_at lists (of_key key)) ws)
+        ≡ map (option_map (touch_key revision key)) ws
+    all_touched = same_lists both (map (option_map (touch_key revision key)) ws) (long ∙ sym (length-map ws (option_map (touch_key revision key))))
+        (λ k d below.
+        let under : k < length ws = omega (arith, below, long) in
+        let mapped : k < length (map (option_map (touch_key revision key)) ws) = omega
+        (arith, under, length-map ws (option_map (touch_key revision key))) in
+        read_at both k d below ∙ slot_touched k ∙ sym (slot_of_map (touch_key revision key) ws k)
+        ∙ sym (read_at (map (option_map (touch_key revision key)) ws) k d mapped))
+      where
+        long : length both ≡ length ws
+        long = length_each (places_on lists ranges) own ∙ length_each (places_at lists (of_key key)) ws
+
+-- what is watched stays
+pub watched_touched : (f : Watcher → Watcher) (ws : List (Option Watcher)) → ((w : Watcher) → (f w).watching ≡ w.watching)
+    → watched_of (map (option_map f) ws) ≡ watched_of ws
+watched_touched f [] same = refl
+watched_touched f (None ∷ ws) same = ap (λ l. None ∷ l) (watched_touched f ws same)
+watched_touched f (Some w ∷ ws) same =
+    ap (λ x. Some x.watched ∷ watched_of (map (option_map f) ws)) (same w) ∙ ap (λ l. Some w.watching.watched ∷ l) (watched_touched f ws same)
+
+pub watched_each : (revision : ℕ) (key : List ℕ) (is : List ℕ) (ws : List (Option Watcher)) → watched_of (touch_each revision key is ws) ≡ watched_of ws
+watched_each revision key [] ws = refl
+watched_each revision key (i ∷ is) ws = watched_each revision key is (touch_at revision key i ws) ∙ at i ws
+  where
+    at : (i : ℕ) (ws : List (Option Watcher)) → watched_of (touch_at revision key i ws) ≡ watched_of ws
+    at zero [] = refl
+    at (suc i) [] = refl
+    at zero (None ∷ ws) = refl
+    at zero (Some w ∷ ws) = refl
+    at (suc i) (w ∷ ws) = ap (λ l. option_map (λ (w : Watcher). w.watching.watched) w ∷ l) (at i ws)
+
+-- ---- one event after the other
+
+shown_key : (e : Event) → key_of (change_of_event e) ≡ key_of_event e
+shown_key (Put key state) = refl
+shown_key (Delete key revision) = refl
+
+touch_one_more : (revision : ℕ) (e : Event) (es : List Event) (o : Option Watcher) →
+    option_map (touch_key revision (key_of_event e)) (option_map (touch revision (map change_of_event es)) o)
+    ≡ option_map (touch revision (map change_of_event (es ++ e ∷ []))) o
+touch_one_more revision e es None = refl
+touch_one_more revision e es (Some w) =
+    let watched = w.watching.watched in
+    let wants = nat_lt w.watching.seen revision in
+    let any = is_any_watched watched (map change_of_event es) in
+    let one = is_watched watched (key_of (change_of_event e)) in
+    ap (λ k. Some (record w { ready = (w.ready || (wants && any)) || (wants && is_watched watched k) })) (sym (shown_key e))
+    ∙ ap (λ b. Some (record w { ready = b })) (joined w.ready wants any one)
+    ∙ ap (λ b. Some (record w { ready = w.ready || (wants && b) }))
+    (sym (ap (is_any_watched watched) (map-append change_of_event es (e ∷ []))
+    ∙ list_any-append (λ c. is_watched watched (key_of c)) (map change_of_event es) (change_of_event e ∷ [])
+    ∙ ap (λ b. any || b) (last one)))
+  where
+    joined : (a b c d : Bool) → ((a || (b && c)) || (b && d)) ≡ (a || (b && (c || d)))
+    joined true b c d = refl
+    joined false true true d = refl
+    joined false true false d = refl
+    joined false false c d = refl
+
+    last : (b : Bool) → (b || false) ≡ b
+    last true = refl
+    last false = refl
+
+pub touch_next : (revision : ℕ) (e : Event) (es : List Event) (ws : List (Option Watcher)) →
+    map (option_map (touch_key revision (key_of_event e))) (map (option_map (touch revision (map change_of_event es))) ws)
+    ≡ map (option_map (touch revision (map change_of_event (es ++ e ∷ [])))) ws
+touch_next revision e es [] = refl
+touch_next revision e es (o ∷ ws) =
+    ap (λ x. x ∷ map (option_map (touch_key revision (key_of_event e))) (map (option_map (touch revision (map change_of_event es))) ws))
+    (touch_one_more revision e es o)
+    ∙ ap (λ l. option_map (touch revision (map change_of_event (es ++ e ∷ []))) o ∷ l) (touch_next revision e es ws)
+
+pub touch_none : (revision : ℕ) (ws : List (Option Watcher)) → ws ≡ map (option_map (touch revision [])) ws
+touch_none revision [] = refl
+touch_none revision (None ∷ ws) = ap (λ l. None ∷ l) (touch_none revision ws)
+touch_none revision (Some w ∷ ws) =
+    ap (λ b. Some (record w { ready = b }) ∷ ws) (sym (never w.ready (nat_lt w.watching.seen revision)))
+    ∙ ap (λ l. Some (touch revision [] w) ∷ l) (touch_none revision ws)
+  where
+    never : (a b : Bool) → (a || (b && false)) ≡ a
+    never true b = refl
+    never false true = refl
+    never false false = refl

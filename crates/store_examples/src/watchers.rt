@@ -94,11 +94,7 @@ fn put_one(
     change(keys, watchers, changes)
 }
 
-fn put_three(
-    alloc: Global,
-    keys: &mut Keys,
-    watchers: &mut Watchers,
-) -> Result<u64, ApplyRefusal>
+fn put_three(alloc: Global, keys: &mut Keys, watchers: &mut Watchers) -> Result<u64, ApplyRefusal>
     requires { StandFor keys.old.history watchers.old }
     ensures { StandFor keys.new.history watchers.new }
 {

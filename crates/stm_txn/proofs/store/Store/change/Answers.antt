@@ -38,7 +38,7 @@ invariant_of-self-2 c =
     ap (map change_of_event) c.last_events.ensures ∙ ap (λ (x : History). map change_of_event (events_of x (now x))) c.in-Ok.ensures.ok
     ∙ last_changes h cs in
     subst (λ (next : History). ((key : List ℕ) → lease_of c.move_keys.new.leases key ≡ hanging (key_now next key)) × LeasesFit next.revisions
-        × StandFor next c.tell_watchers.new.watchers)
+    × StandFor next c.tell_watchers.new.watchers)
     (sym c.in-Ok.ensures.ok) (
       λ key.
           still_stored h cs key (lease_of c.reserve_attach.new.self key) (lease_of c.move_keys.new.leases key)

@@ -15,8 +15,6 @@ mod lists;
 #[cfg(test)]
 mod shown;
 #[cfg(test)]
-mod store_watches;
-#[cfg(test)]
 mod transactions;
 #[cfg(test)]
 mod watchers;

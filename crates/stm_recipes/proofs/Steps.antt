@@ -28,7 +28,7 @@ abbrev pub deed_in : Answered → Deed
 deed_in (Ended run) = deed_of run
 deed_in (Wants key trace) = done []
 
--- what was done when a run came to this
+-- what a run did that ended with such an outcome
 abbrev pub told : Outcome (Unit {0}) → Deed
 told outcome = deed_in (answered outcome)
 

@@ -248,28 +248,32 @@ impl Keys {
         Ok(before + 1)
     }
 
-    /// The events of a revision, in the order of operations: none at the opening revision and below.
+    /// The events of a revision, in the order of operations: none at the opening revision and below. They are not
+    /// copied, and it takes no memory.
+    pub fn events_at(&self, revision: u64) -> &[Event]
+        requires { revision ≤ now self.now.history }
+        ensures { result.now ≡ events_of self.now.history revision }
+    {
+        if revision <= self.opening {
+            return &[];
+        }
+        let index = (revision - self.opening - 1) as usize;
+        self.revisions[index].as_slice()
+    }
+
+    /// A copy of the events of a revision, as `events_at` has them.
     pub fn events_of(&self, revision: u64) -> Result<Vec<Event>, AllocError>
         requires { revision ≤ now self.now.history }
         ensures { IfOk result (λ events. events.items ≡ events_of self.now.history revision) }
     {
-        let alloc = *self.revisions.allocator();
-        if revision <= self.opening {
-            return Ok(Vec::new(alloc));
-        }
-        let index = (revision - self.opening - 1) as usize;
-        copy_events(alloc, self.revisions[index].as_slice())
+        copy_events(*self.revisions.allocator(), self.events_at(revision))
     }
 
     /// The events of the last revision, in the order of operations: none where there is no revision yet.
     pub fn last_events(&self) -> &[Event]
         ensures { result.now ≡ events_of self.now.history (now self.now.history) }
     {
-        let count = self.revisions.len();
-        if count == 0 {
-            return &[];
-        }
-        self.revisions[count - 1].as_slice()
+        self.events_at(self.revision())
     }
 
     /// The number of present keys, in constant time.

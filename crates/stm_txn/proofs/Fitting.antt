@@ -33,7 +33,7 @@ use Rattle.stm_txn.proofs.Bounding.{both, live_fits, NamesFit, names_fit, fits-p
 use Rattle.stm_txn.proofs.Applying.{failed_has_its_place, chosen_apart, failed_case, branch_run, IsDone, is_done}
 
 -- the state of a key once the changes so far are made
-changed_small : (h : History) (o : Option Change) (s : Option KeyState) → now h ≤ HIGHEST_REVISION →
+pub changed_small : (h : History) (o : Option Change) (s : Option KeyState) → now h ≤ HIGHEST_REVISION →
     IfSome s (λ k. (k.version ≤ length h.revisions) × (k.mod_rev ≤ now h) × (k.create_rev ≤ k.mod_rev) × (h.opening + 1 ≤ k.create_rev)) →
     IfSome (after_change (now h + 1) o s) HasSmallNumbers
 changed_small h None None bounded small = tt
@@ -44,7 +44,7 @@ changed_small h (Some (PutChange key value lease)) (Some s) bounded small =
     record { version = omega (arith, small.0); mod_rev = omega arith; create_rev = omega (arith, small.1, small.2) }
 changed_small h (Some (DelChange key)) s bounded small = tt
 
-abbrev IsSmallFor : History → Option KeyState → Type 0
+abbrev pub IsSmallFor : History → Option KeyState → Type 0
 IsSmallFor h s =
     IfSome s (λ k. (k.version ≤ length h.revisions) × (k.mod_rev ≤ now h) × (k.create_rev ≤ k.mod_rev) × (h.opening + 1 ≤ k.create_rev))
 

@@ -11,3 +11,4 @@ pub mod Advancing
 pub mod Applying
 pub mod Fitting
 pub mod Touching
+pub mod Polling

@@ -7,6 +7,8 @@ use Rattle.stm_history.specs.declared.key_state.ReadAnswer.{ReadAnswer}
 use Rattle.stm_history.specs.declared.revisions.TheConstants.{HIGHEST_NUMBER}
 use Rattle.stm_history.specs.History.{History, key_at}
 use Rattle.stm_keys.specs.Keys.{HasSmallNumbers}
+use Rattle.stm_keys.specs.declared.event.Event.{Event}
+use Rattle.stm_keys.specs.declared.event.Event.TheVariants.{Put as PutEvent, Delete as DeleteEvent}
 use Rattle.stm_txn.specs.declared.advance.Expired.{Expired}
 use Rattle.stm_txn.specs.declared.answer.OpAnswer.{OpAnswer}
 use Rattle.stm_txn.specs.declared.answer.OpAnswer.TheVariants.{Get, Put, Del}
@@ -39,6 +41,15 @@ pub record StateFits (s : KeyState) : Type 0 where
 -- each number of what a key was at any revision
 abbrev pub StatesFit : History → Type 0
 StatesFit h = (key : List ℕ) (revision : ℕ) → IfSome (key_at h key revision) StateFits
+
+-- each number of an event: of a put those of the state, of a deletion its revision
+abbrev pub EventFits : Event → Type 0
+EventFits (PutEvent key state) = StateFits state
+EventFits (DeleteEvent key revision) = revision ≤ HIGHEST_NUMBER
+
+abbrev pub EventsFit : List Event → Type 0
+EventsFit [] = Unit {0}
+EventsFit (e ∷ es) = EventFits e × EventsFit es
 
 pub record ReadFits (a : ReadAnswer) : Type 0 where
   pub of_rev : a.of_rev ≤ HIGHEST_NUMBER

@@ -155,7 +155,7 @@ impl Store {
     ghost use Rattle.stm_txn.specs.Leasing.{hangs_of, HangOnLive, lease_now};
     ghost use Rattle.stm_txn.specs.LeaseKeys.{deletions_of};
     ghost use Rattle.stm_txn.specs.Outcome.{with_changes, answer_of};
-    ghost use Rattle.stm_txn.specs.Numbers.{AnswerFits, StatesFit, ExpiredFits, AllExpiredFit};
+    ghost use Rattle.stm_txn.specs.Numbers.{AnswerFits, StatesFit, ExpiredFits, AllExpiredFit, EventsFit};
     ghost use Rattle.stm_txn.specs.Standing.{opening, IsRefusalOf, ComesTo, refusal_of, transacted, granted, kept_alive, told, ended, revoked};
     ghost use Rattle.stm_txn.specs.Standing.{watched, polled, cancelled};
     ghost use Rattle.stm_watch.specs.declared.watched.Watched.TheVariants.{Key, Range};
@@ -572,18 +572,30 @@ impl Store {
         self.watchers.next_ready()
     }
 
-    /// Gives a watcher the pending events of at most so many revisions, and whole revisions only, and notes how far it
-    /// has been told.
-    ///
-    /// It is refused for the first of `NoWatcher`, where there is none with this number or it was cancelled, and
-    /// `OutOfMemory` that holds, and then changes nothing: a poll that wanted memory gives the same batch later.
-    pub fn poll(&mut self, id: u64, most: u64) -> Result<Batch, Refusal>
+    /// A poll, without the bounds of its numbers.
+    fn take_batch(&mut self, id: u64, most: u64) -> Result<Batch, Refusal>
         ensures step { ComesTo (polled self.old.standing id most) result self.new.standing }
         ensures present { self.new.present ≡ self.old.present }
         ensures err { OnErr result (self.new ≡ self.old) }
     {
         let polled = self.watchers.poll(id, &self.keys, most);
         told_poll(polled)
+    }
+
+    /// Gives a watcher the pending events of at most so many revisions, and whole revisions only, and notes how far it
+    /// has been told. The numbers of the events are at most `HIGHEST_NUMBER`.
+    ///
+    /// It is refused for the first of `NoWatcher`, where there is none with this number or it was cancelled, and
+    /// `OutOfMemory` that holds, and then changes nothing: a poll that wanted memory gives the same batch later.
+    pub fn poll(&mut self, id: u64, most: u64) -> Result<Batch, Refusal>
+        ensures step { ComesTo (polled self.old.standing id most) result self.new.standing }
+        ensures present { self.new.present ≡ self.old.present }
+        ensures numbers { IfOk result (λ batch. EventsFit batch.events) }
+        ensures err { OnErr result (self.new ≡ self.old) }
+    {
+        let _counter = self.keys.revision();
+        let batch = self.take_batch(id, most)?;
+        Ok(batch)
     }
 
     /// Why a transaction would be refused now, other than for want of memory. It takes no memory.

@@ -1,10 +1,10 @@
 -- The batch of a poll, one revision after the other.
-use Rattle.std.proofs.Common.{◌≡◌, ℕ, ◌+◌, ◌≤◌, ◌<◌, max, Bool, true, false, cond}
+use Rattle.std.proofs.Common.{◌≡◌, ℕ, ◌+◌, ◌≤◌, max, Bool, false, cond}
 use Rattle.std.proofs.Common.{List, [], ◌∷◌, ◌++◌, length, take, refl, sym, ◌∙◌, ap, arith}
-use Rattle.std.proofs.Common.{append-nil, append_assoc, length-append, take_all, take_at}
+use Rattle.std.proofs.Common.{append-nil, append_assoc, length-append, take_all}
 use Rattle.std.specs.Prelude.{nat_le}
 use Rattle.std.proofs.Math.Nat.{le-max_right}
-use Rattle.std.proofs.lemmas.Bool.{le-leb, lt-leb}
+use Rattle.std.proofs.lemmas.Bool.{le-leb}
 use Rattle.std.proofs.lemmas.Grind.{flat_map-append}
 use Rattle.stm_history.specs.History.{History, now}
 use Rattle.stm_keys.specs.declared.event.Event.{Event}
@@ -55,16 +55,6 @@ made_whole most seen counter given long =
     ∙ ap (λ (b : Bool). batch (events_told given) (cond b (max seen counter) (last_told seen given)))
     (le-leb (length given) most long)
 
-made_part : (most seen counter : ℕ) (given : List Told) (t : Told) (ts : List Told) → length given ≡ most →
-    made most seen counter (given ++ t ∷ ts) ≡ batch (events_told given) (last_told seen given)
-made_part most seen counter given t ts long =
-    let all : List Told = given ++ t ∷ ts in
-    let longer : most < length all = omega (arith, length-append given (t ∷ ts)) in
-    ap (λ (us : List Told). batch (events_told us) (cond (nat_le (length all) most) (max seen counter) (last_told seen us)))
-    (take_at given (t ∷ ts) most long)
-    ∙ ap (λ (b : Bool). batch (events_told given) (cond b (max seen counter) (last_told seen given)))
-    (lt-leb (length all) most longer)
-
 -- what is told above a revision of a history
 abbrev pub above_of : History → Watching → ℕ → List Told
 above_of h w upto = told_above h.opening upto w.watched h.revisions
@@ -80,28 +70,7 @@ whole_batch most h w count events upto so_far room none =
     ∙ made_whole most w.seen (now h) given long
     ∙ ap (λ (es : List Event). batch (es) (max w.seen (now h))) (sym so_far.2)
 
-part_batch : (most : ℕ) (h : History) (w : Watching) (count : ℕ) (events : List Event) (upto : ℕ) (t : Told) (ts : List Told) →
-    AreGiven (pending h w) (above_of h w) w.seen count events upto → count ≡ most → above_of h w upto ≡ t ∷ ts
-    → batch_of most h w ≡ batch events upto
-part_batch most h w count events upto t ts so_far full next =
-    let given : List Told = so_far.0 in
-    let all : pending h w ≡ given ++ t ∷ ts = so_far.4 ∙ ap (λ (us : List Told). given ++ us) next in
-    ap (made most w.seen (now h)) all
-    ∙ made_part most w.seen (now h) given t ts (so_far.1 ∙ full)
-    ∙ ap (λ (es : List Event). batch (es) (last_told w.seen given)) (sym so_far.2)
-    ∙ ap (λ (n : ℕ). batch (events) (n)) (sym so_far.3)
-
-same_batch : (b : Batch) (events : List Event) (upto : ℕ) → b.events ≡ events → b.upto ≡ upto → b ≡ batch events upto
-same_batch b events upto e u =
-    ap (λ (es : List Event). batch (es) (b.upto)) e ∙ ap (λ (n : ℕ). batch (events) (n)) u
-
 -- ---- where nothing is pending after the batch
-
-pub all_given : (most : ℕ) (h : History) (w : Watching) (count : ℕ) (events : List Event) (upto : ℕ) (b : Batch) →
-    AreGiven (pending h w) (above_of h w) w.seen count events upto → count ≤ most → above_of h w upto ≡ []
-    → b.events ≡ events → b.upto ≡ max w.seen (now h) → b ≡ batch_of most h w
-all_given most h w count events upto b so_far room none e u =
-    same_batch b events (max w.seen (now h)) e u ∙ sym (whole_batch most h w count events upto so_far room none)
 
 pub no_more : (most : ℕ) (h : History) (w : Watching) (count : ℕ) (events : List Event) (upto : ℕ) →
     AreGiven (pending h w) (above_of h w) w.seen count events upto → count ≤ most → above_of h w upto ≡ []
@@ -109,18 +78,3 @@ pub no_more : (most : ℕ) (h : History) (w : Watching) (count : ℕ) (events : 
 no_more most h w count events upto so_far room none =
     ap (λ (b : Batch). is_some_told (above_of h w b.upto)) (whole_batch most h w count events upto so_far room none)
     ∙ ap is_some_told (nothing_above h.opening (max w.seen (now h)) w.watched h.revisions (le-max_right w.seen (now h)))
-
--- ---- where something is
-
-pub part_given : (most : ℕ) (h : History) (w : Watching) (count : ℕ) (events : List Event) (upto : ℕ) (t : Told) (ts : List Told) (b : Batch) →
-    AreGiven (pending h w) (above_of h w) w.seen count events upto → count ≡ most → above_of h w upto ≡ t ∷ ts
-    → b.events ≡ events → b.upto ≡ upto → b ≡ batch_of most h w
-part_given most h w count events upto t ts b so_far full next e u =
-    same_batch b events upto e u ∙ sym (part_batch most h w count events upto t ts so_far full next)
-
-pub some_more : (most : ℕ) (h : History) (w : Watching) (count : ℕ) (events : List Event) (upto : ℕ) (t : Told) (ts : List Told) →
-    AreGiven (pending h w) (above_of h w) w.seen count events upto → count ≡ most → above_of h w upto ≡ t ∷ ts
-    → is_pending h (after_poll most h w) ≡ true
-some_more most h w count events upto t ts so_far full next =
-    ap (λ (b : Batch). is_some_told (above_of h w b.upto)) (part_batch most h w count events upto t ts so_far full next)
-    ∙ ap is_some_told next

@@ -1,6 +1,6 @@
 -- The index of watchers after each change.
-use Rattle.std.proofs.Common.{◌≡◌, ◌≢◌, ◌⊎◌, ℕ, ◌<◌, ◌+◌, Bool, true, false, cond, List, [], ◌∷◌, ◌++◌, length, Option, Some, None, IsSome, unwrap_or, slice_index_or, slice_set}
-use Rattle.std.proofs.Common.{refl, sym, ap, subst, ◌∙◌, inl, inr, arith, length-append}
+use Rattle.std.proofs.Common.{◌≡◌, ◌⊎◌, ℕ, ◌<◌, ◌+◌, cond, List, [], ◌∷◌, ◌++◌, length, Option, Some, None, IsSome, unwrap_or, slice_index_or, slice_set}
+use Rattle.std.proofs.Common.{refl, sym, ap, subst, ◌∙◌, inl, inr, length-append}
 use Rattle.std.proofs.lemmas.Bool.{cases_Bool, cases_eq}
 use Rattle.std.proofs.lemmas.List.{get_or-set_same, get_or-set_other, get_or_append_left, length-set}
 use Rattle.std.proofs.lemmas.Option.{same_Some}
@@ -11,7 +11,7 @@ use Rattle.stm_lists.specs.Lists.{Lists, Place, list_at, entries_at, HasList, Ha
 use Rattle.stm_watch.specs.declared.watched.Watched.{Watched}
 use Rattle.stm_watch.specs.declared.watched.Watched.TheVariants.{Key, Range}
 use Rattle.stm_watch.specs.Kept.{Holds, AreListed, list_in}
-use Rattle.stm_watch.proofs.Linked.{IsOn, place_on, node_on, more_new, more_kept, more_from, more_there, less_kept, less_from, less_there}
+use Rattle.stm_watch.proofs.Linked.{place_on, more_new, more_kept, more_from, more_there, less_kept, less_from, less_there}
 use Rattle.stm_watch.proofs.Marked.{within, read_at, slot_of_more}
 
 pub some_is : {A : Type 0} (o : Option A) → IsSome o → (x : A) × (o ≡ Some x)

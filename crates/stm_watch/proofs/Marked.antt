@@ -1,12 +1,12 @@
 -- The readiness of watchers after each change.
-use Rattle.std.proofs.Common.{◌≡◌, ◌≢◌, ◌⊎◌, ℕ, zero, suc, ◌<◌, ◌≤◌, Bool, true, false, List, [], ◌∷◌, ◌++◌, length, map, Option, Some, None, IsSome, unwrap_or, option_map, slice_index_or, slice_set}
+use Rattle.std.proofs.Common.{◌≡◌, ◌⊎◌, ℕ, zero, suc, ◌<◌, Bool, true, false, List, [], ◌∷◌, ◌++◌, length, map, Option, Some, None, IsSome, unwrap_or, option_map, slice_index_or, slice_set}
 use Rattle.std.proofs.Common.{refl, sym, ap, subst, ◌∙◌, inl, inr, arith}
 use Rattle.std.proofs.lemmas.Bool.{cases_eq}
-use Rattle.std.proofs.lemmas.List.{get_or-set_same, get_or-set_other, get_or_past, get_or_append_left, length-set}
+use Rattle.std.proofs.lemmas.List.{get_or-set_same, get_or-set_other, get_or_append_left}
 use Rattle.std.proofs.lemmas.Option.{same_Some}
 use Rattle.std.proofs.Math.ListN.{get_or-map}
 use Rattle.std.proofs.Math.Seq.{get_or-append_seam}
-use Rattle.stm_lists.specs.Lists.{Lists, Place, list_at, entries_at, HasList, HasNode, StandsAt, Updates, first_node}
+use Rattle.stm_lists.specs.Lists.{Lists, Place, entries_at, HasNode, StandsAt, Updates, first_node}
 use Rattle.stm_watch.specs.declared.readiness.Mark.{Mark}
 use Rattle.stm_watch.specs.Kept.{Holds, AreMarked, list_of}
 use Rattle.stm_watch.specs.Ready.{IsFirst}
@@ -38,11 +38,14 @@ read_at [] i d below = absurd (omega arith)
 read_at (x ∷ xs) zero d below = refl
 read_at (x ∷ xs) (suc i) d below = read_at xs i d (omega arith)
 
-pub found_at : {A B : Type 0} (f : A → B) (xs : List (Option A)) (bs : List (Option B)) (i : ℕ) (o : Option A) (x : A) → map (option_map f) xs ≡ bs
-    → IsSome (slice_index_or bs i None) → o ≡ slice_index_or xs i o → o ≡ Some x → slice_index_or xs i None ≡ Some x
-found_at f xs bs i o x seen some at is =
-    let below = within xs i (some_below f xs i (subst (λ l. IsSome (slice_index_or l i None)) (sym seen) some)) in
-    sym (read_at xs i o below) ∙ sym at ∙ is
+pub found_at : {A : Type 0} (xs : List (Option A)) (i : ℕ) (o : Option A) (x : A) → IsSome (slice_index_or xs i None) → o ≡ slice_index_or xs i o → o ≡ Some x
+    → slice_index_or xs i None ≡ Some x
+found_at xs i o x some at is = sym (read_at xs i o (within xs i some)) ∙ sym at ∙ is
+
+pub set_twice : {A : Type 0} (xs : List A) (i : ℕ) (x y : A) → slice_set (slice_set xs i x) i y ≡ slice_set xs i y
+set_twice [] i x y = refl
+set_twice (z ∷ xs) zero x y = refl
+set_twice (z ∷ xs) (suc i) x y = ap (λ l. z ∷ l) (set_twice xs i x y)
 
 from_map : {A B : Type 0} (f : A → B) (o : Option A) (y : B) → option_map f o ≡ Some y → (x : A) × (o ≡ Some x) × (f x ≡ y)
 from_map f None y is = absurd (cc)
@@ -135,12 +138,12 @@ marked_less marks old new ready idle marked i m at on updates gone =
     below : i < length marks
     below = within marks i (subst IsSome (sym at) refl)
 
--- another mark at a place where none is
+-- a mark at a place where none is
 pub marked_again : (marks : List (Option Mark)) (old new : Lists ℕ) (ready idle : ℕ) (i node : ℕ) (is : Bool) → i < length marks
-    → AreMarked (slice_set marks i None) old ready idle
+    → slice_index_or marks i None ≡ None → AreMarked marks old ready idle
     → Updates old new (list_of ready idle is) (Some (entries_at old (list_of ready idle is) ++ (node, i) ∷ []))
     → AreMarked (slice_set marks i (Some (record { ready = is; node = node }))) new ready idle
-marked_again marks old new ready idle i node is below marked updates =
+marked_again marks old new ready idle i node is below none marked updates =
     record {
       there = λ b. more_there old new (list_of ready idle is) node i updates (list_of ready idle b) (marked.there b);
       apart = marked.apart;
@@ -152,18 +155,17 @@ marked_again marks old new ready idle i node is below marked updates =
             (subst (λ (n : ℕ). Holds (entries_at new (list_of ready idle is)) node n) (sym same) (more_new old new (list_of ready idle is) node i updates))
         | inr differs ↦
             more_kept old new (list_of ready idle is) node i updates (list_of ready idle k.ready) k.node j
-            (marked.stands j k (get_or-set_other marks i j None None differs ∙ sym (get_or-set_other marks i j (Some mark) None differs) ∙ at))
+            (marked.stands j k (sym (get_or-set_other marks i j (Some mark) None differs) ∙ at))
       ];
       only = λ b n j h. elim (more_from old new (list_of ready idle is) node i updates (list_of ready idle b) n j h) [
         | inl before ↦
             let was = marked.only b n j before in
             elim (cases_eq j i) [
               | inl same ↦
-                  let none : slice_index_or (slice_set marks i None) i None ≡ None = get_or-set_same marks i None None below in
-                  let some : slice_index_or (slice_set marks i None) i None ≡ Some (record { ready = b; node = n }) =
-                  subst (λ (k : ℕ). slice_index_or (slice_set marks i None) k None ≡ Some (record { ready = b; node = n })) same was in
+                  let some : slice_index_or marks i None ≡ Some (record { ready = b; node = n }) =
+                  subst (λ (k : ℕ). slice_index_or marks k None ≡ Some (record { ready = b; node = n })) same was in
                   absurd (cc)
-              | inr differs ↦ get_or-set_other marks i j (Some mark) None differs ∙ sym (get_or-set_other marks i j None None differs) ∙ was
+              | inr differs ↦ get_or-set_other marks i j (Some mark) None differs ∙ was
             ]
         | inr now ↦
             ap (λ (k : ℕ). slice_index_or (slice_set marks i (Some mark)) k None) now.2

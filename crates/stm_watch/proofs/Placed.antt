@@ -1,16 +1,15 @@
 -- The places of watchers and the marks of which are ready.
-use Rattle.std.proofs.Common.{◌≡◌, ◌≢◌, ℕ, ◌<◌, ◌-◌, Bool, true, false, cond, List, length, map, Option, Some, None, IsSome, option_map, slice_index_or, slice_set, Result, Ok, Err, OnErr}
+use Rattle.std.proofs.Common.{◌≡◌, ◌≢◌, ℕ, ◌<◌, ◌-◌, Bool, true, false, cond, List, length, Option, Some, None, IsSome, option_map, slice_index_or, slice_set, Result, Ok, Err, OnErr}
 use Rattle.std.proofs.Common.{refl, sym, ap, subst, ◌∙◌, nat_eq}
 use Rattle.std.proofs.lemmas.List.{map-set, set-get_or}
 use Rattle.std.proofs.Math.ListN.{get_or-map}
 use Rattle.stm_history.specs.History.{History}
 use Rattle.stm_watch.specs.declared.watched.Watcher.{Watcher}
 use Rattle.stm_watch.specs.declared.watchers.Batch.{Batch}
-use Rattle.stm_watch.specs.Calls.{is_ready, is_ready_at, IsNextReady, Polls, StandFor, poll, watchings}
+use Rattle.stm_watch.specs.Calls.{is_ready, IsNextReady, Polls, StandFor, poll, watchings}
 use Rattle.stm_watch.specs.Kept.{readiness_of, watched_of}
 use Rattle.stm_watch.specs.Ready.{IsFirst}
 use Rattle.stm_watch.specs.Slots.{IsPolled, SlotPolls, PlacePolls, made_ready}
-use Rattle.stm_watch.specs.declared.watched.Watched.{Watched}
 use Rattle.stm_watch.specs.declared.refusal.PollRefusal.{PollRefusal}
 use Rattle.stm_watch.specs.declared.refusal.PollRefusal.TheVariants.{NoWatcher, OutOfMemory}
 use Rattle.stm_watch.proofs.Marked.{read_at}
@@ -79,14 +78,6 @@ module _ (h : History) (i most : ℕ) (old new : List (Option Watcher)) (result 
       ∙ ap (slice_set (watched_of old) i) (kept_watched (slice_index_or old i None) did.0 result did.2
       ∙ sym (get_or-map (option_map (λ (w : Watcher). w.watching.watched)) old i None))
       ∙ set-get_or (watched_of old) i None
-
-  pub place_refused : OnErr result (new ≡ old)
-  place_refused = by_result result did.2
-    where
-      by_result : (r : Result Batch PollRefusal) → SlotPolls h most (slice_index_or old i None) r did.0 → OnErr r (new ≡ old)
-      by_result (Ok batch) polls = tt
-      by_result (Err NoWatcher) polls = did.1 ∙ ap (slice_set old i) polls.1 ∙ set-get_or old i None
-      by_result (Err OutOfMemory) polls = did.1 ∙ ap (slice_set old i) polls.1 ∙ set-get_or old i None
 
 some_mapped : {A B : Type 0} (f : A → B) (o : Option A) → IsSome o → IsSome (option_map f o)
 some_mapped f None some = absurd (cc)

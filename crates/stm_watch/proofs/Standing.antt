@@ -36,17 +36,6 @@ untouched_next f [] i d below = absurd (omega arith)
 untouched_next f (x ∷ xs) zero d below = refl
 untouched_next f (x ∷ xs) (suc i) d below = untouched_next f xs i d (omega arith)
 
--- one more place is touched
-pub touch_step : {A : Type 0} (f : A → A) (old items : List A) (i : ℕ) (x y : A) → i < length old → items ≡ map f (take i old) ++ drop i old
-    → x ≡ slice_index_or items i x → y ≡ f x → slice_set items i y ≡ map f (take (i + 1) old) ++ drop (i + 1) old
-touch_step f old items i x y below so_far at touched =
-    let one : suc i ≡ i + 1 = omega arith in
-    let same : x ≡ slice_index_or old i x = at ∙ ap (λ l. slice_index_or l i x) so_far ∙ untouched_next f old i x below in
-    ap (λ l. slice_set l i y) so_far
-    ∙ ap (λ z. slice_set (map f (take i old) ++ drop i old) i z) (touched ∙ ap f same)
-    ∙ touched_next f old i x below
-    ∙ ap (λ (n : ℕ). map f (take n old) ++ drop n old) one
-
 touched_stands : (h : History) (changes : List Change) (revision : ℕ) (o : Option Watcher) → revision ≡ now h + 1 → Stands h o
     → Stands (add_revision h changes) (option_map (touch revision changes) o)
 touched_stands h changes revision None is stands = tt
@@ -77,9 +66,6 @@ touched_same changes revision (w ∷ ws) =
 pub stand_with : (h : History) (ws : List (Option Watcher)) (o : Option Watcher) → StandFor h ws → Stands h o → StandFor h (ws ++ o ∷ [])
 stand_with h [] o stand stands = (stands, tt)
 stand_with h (w ∷ ws) o stand stands = (stand.0, stand_with h ws o stand.1 stands)
-
-pub watchings_with : (ws : List (Option Watcher)) (w : Watcher) → watchings (ws ++ Some w ∷ []) ≡ watchings ws ++ Some w.watching ∷ []
-watchings_with ws w = map-append (option_map (λ (w : Watcher). w.watching)) ws (Some w ∷ [])
 
 pub stand_set : (h : History) (ws : List (Option Watcher)) (i : ℕ) (o : Option Watcher) → StandFor h ws → Stands h o → StandFor h (slice_set ws i o)
 stand_set h [] i o stand stands = stand

@@ -16,7 +16,7 @@ use Rattle.stm_watch.specs.declared.told.Told.{Told}
 use Rattle.stm_watch.specs.declared.watched.Watched.{Watched}
 use Rattle.stm_watch.specs.declared.watched.Watching.{Watching}
 use Rattle.stm_watch.specs.Keys.{is_watched, is_any_watched}
-use Rattle.stm_watch.specs.Walk.{IsNext}
+use Rattle.stm_watch.specs.Walk.{IsNextNumber}
 use Rattle.stm_watch.specs.Pending.{matching, told_at, told_above, is_some_told, is_pending}
 
 -- what is told of the last of these revisions
@@ -103,6 +103,14 @@ told_at_none : (number : ℕ) (found : List Event) → length found ≡ 0 → to
 told_at_none number [] none = refl
 told_at_none number (e ∷ es) none = absurd (omega arith)
 
+pub some_long : (found : List Event) → is_some_told (told_at 0 found) ≡ true → 0 < length found
+some_long [] is = cc
+some_long (e ∷ es) is = omega arith
+
+pub none_long : (found : List Event) → is_some_told (told_at 0 found) ≡ false → length found ≡ 0
+none_long [] is = refl
+none_long (e ∷ es) is = cc
+
 module _ (h : History) (watched : Watched) (above passed : ℕ) (found : List Event) (opened : h.opening ≤ passed) (reached : passed < now h)
     (so_far : told_above h.opening above watched h.revisions ≡ told_above h.opening passed watched h.revisions)
     (is : found ≡ matching watched (events_of h (passed + 1))) where
@@ -122,17 +130,17 @@ module _ (h : History) (watched : Watched) (above passed : ℕ) (found : List Ev
   none_is_passed none =
       next_told ∙ ap (λ (ts : List Told). ts ++ told_above h.opening (passed + 1) watched h.revisions) (told_at_none (passed + 1) found none)
 
-pub none_next : (h : History) (watched : Watched) (above : ℕ) (o : Option Told) → IsNext h watched above o → is_some o ≡ false
+pub no_number_next : (h : History) (watched : Watched) (above : ℕ) (o : Option ℕ) → IsNextNumber h watched above o → is_some o ≡ false
     → told_above h.opening above watched h.revisions ≡ []
-none_next h watched above None next is = next
-none_next h watched above (Some t) next is = absurd (cc)
+no_number_next h watched above None next is = next
+no_number_next h watched above (Some number) next is = absurd (cc)
 
 -- ---- whether something is told
 
-pub next_is_pending : (h : History) (watched : Watched) (seen : ℕ) (o : Option Told) → IsNext h watched seen o
+pub next_is_pending : (h : History) (watched : Watched) (seen : ℕ) (o : Option ℕ) → IsNextNumber h watched seen o
     → is_some o ≡ is_pending h (record { watched = watched; seen = seen })
 next_is_pending h watched seen None next = ap is_some_told (sym next)
-next_is_pending h watched seen (Some t) next = ap is_some_told (sym next)
+next_is_pending h watched seen (Some number) next = ap is_some_told (sym next.1)
 
 is_some_append : (ts us : List Told) → is_some_told (ts ++ us) ≡ (is_some_told ts || is_some_told us)
 is_some_append [] us = refl

@@ -1,16 +1,12 @@
 -- What a new revision makes of the watchers, key by key.
-use Rattle.std.proofs.Common.{◌≡◌, ◌⊎◌, ℕ, zero, suc, ◌<◌, ◌≤◌, ◌+◌, Bool, true, false, ◌||◌, ◌&&◌, List, [], ◌∷◌, ◌++◌, length, map, take, Option, Some, None, IsSome, unwrap_or, option_map, slice_index_or, slice_set}
+use Rattle.std.proofs.Common.{◌≡◌, ◌⊎◌, ℕ, zero, suc, ◌<◌, ◌≤◌, ◌+◌, Bool, true, false, ◌||◌, ◌&&◌, List, [], ◌∷◌, ◌++◌, length, map, Option, Some, None, IsSome, unwrap_or, option_map, slice_index_or}
 use Rattle.std.proofs.Common.{refl, sym, ap, subst, ◌∙◌, inl, inr, arith, length-append, append-nil, append_assoc}
 use Rattle.std.specs.Prelude.{nat_lt}
-use Rattle.std.specs.Str.{bytes_eq}
-use Rattle.std.specs.List.{list_any}
 use Rattle.std.proofs.lemmas.Bool.{cases_Bool, cases_eq}
-use Rattle.std.proofs.lemmas.List.{get_or-set_same, get_or-set_other, get_or_past, length-set, length-map, map-append, same_lists}
+use Rattle.std.proofs.lemmas.List.{get_or-set_other, length-set, length-map, map-append, same_lists}
 use Rattle.std.proofs.lemmas.List.Folds.{list_any-append}
 use Rattle.std.proofs.lemmas.Option.{same_Some}
 use Rattle.std.proofs.lemmas.Slice.Eq.{bytes_eq-Decides}
-use Rattle.std.proofs.Math.ListN.{get_or-map}
-use Rattle.stm_history.specs.declared.change.Change.{Change}
 use Rattle.stm_history.specs.History.{key_of}
 use Rattle.stm_keys.specs.declared.event.Event.{Event}
 use Rattle.stm_keys.specs.declared.event.Event.TheVariants.{Put, Delete}
@@ -201,30 +197,6 @@ module _ (revision : ℕ) (key : List ℕ) where
             ∙ ap (λ is. touch_each revision key is old) (sym (map-append (λ e. e.1) place.before ((node, place.value) ∷ [])));
       }
 
-  -- the walk does not end before its time
-  pub walk_lasts : (lists : Lists ℕ) (list count : ℕ) (next : Option ℕ) (old ws : List (Option Watcher)) → IsWalked lists list count next old ws
-      → next ≡ None → count < length (entries_at lists list) → ⊥
-  walk_lasts lists list count next old ws walked is below = by_rest walked.rest walked.split (sym walked.next_is ∙ is)
-    where
-      by_rest : (rest : List (ℕ × ℕ)) → entries_at lists list ≡ walked.passed ++ rest → first_node rest ≡ None → ⊥
-      by_rest [] split none =
-          let long = ap length (split ∙ append-nil walked.passed) in
-          let counted = walked.counted in
-          absurd (omega (arith, long, counted, below))
-      by_rest (entry ∷ rest) split none = absurd (cc)
-
-  pub walk_end : (lists : Lists ℕ) (list count : ℕ) (next : Option ℕ) (old ws : List (Option Watcher)) → IsWalked lists list count next old ws
-      → length (entries_at lists list) ≤ count → ws ≡ touch_each revision key (places_on lists list) old
-  walk_end lists list count next old ws walked all = by_rest walked.rest walked.split
-    where
-      by_rest : (rest : List (ℕ × ℕ)) → entries_at lists list ≡ walked.passed ++ rest → ws ≡ touch_each revision key (places_on lists list) old
-      by_rest [] split =
-          walked.done ∙ ap (λ (es : List (ℕ × ℕ)). touch_each revision key (map (λ e. e.1) es) old) (sym (split ∙ append-nil walked.passed))
-      by_rest (entry ∷ rest) split =
-          let long = ap length split ∙ length-append walked.passed (entry ∷ rest) in
-          let counted = walked.counted in
-          absurd (omega (arith, long, counted, all))
-
   -- ---- all that a key concerns
 
   module _ (lists : Lists ℕ) (of_key : List ℕ → Option ℕ) (ranges : ℕ) (nodes : List (Option ℕ)) (ws : List (Option Watcher))
@@ -298,17 +270,6 @@ watched_touched f [] same = refl
 watched_touched f (None ∷ ws) same = ap (λ l. None ∷ l) (watched_touched f ws same)
 watched_touched f (Some w ∷ ws) same =
     ap (λ x. Some x.watched ∷ watched_of (map (option_map f) ws)) (same w) ∙ ap (λ l. Some w.watching.watched ∷ l) (watched_touched f ws same)
-
-pub watched_each : (revision : ℕ) (key : List ℕ) (is : List ℕ) (ws : List (Option Watcher)) → watched_of (touch_each revision key is ws) ≡ watched_of ws
-watched_each revision key [] ws = refl
-watched_each revision key (i ∷ is) ws = watched_each revision key is (touch_at revision key i ws) ∙ at i ws
-  where
-    at : (i : ℕ) (ws : List (Option Watcher)) → watched_of (touch_at revision key i ws) ≡ watched_of ws
-    at zero [] = refl
-    at (suc i) [] = refl
-    at zero (None ∷ ws) = refl
-    at zero (Some w ∷ ws) = refl
-    at (suc i) (w ∷ ws) = ap (λ l. option_map (λ (w : Watcher). w.watching.watched) w ∷ l) (at i ws)
 
 -- ---- one event after the other
 

@@ -1,5 +1,5 @@
 -- How lists and the numbers on them agree. No public clause cites this module.
-use Rattle.std.specs.Prelude.{◌≡◌, ◌≢◌, ◌⊎◌, ℕ, Bool, true, false, List, [], ◌∷◌, length, Option, Some, None, IsSome, option_map, map, ◌<◌, slice_index_or}
+use Rattle.std.specs.Prelude.{◌≡◌, ◌≢◌, ◌⊎◌, ℕ, Bool, true, false, List, [], ◌∷◌, length, Option, Some, None, option_map, map, ◌<◌, slice_index_or}
 use Rattle.std.specs.Vec.{vec_len, vec_capacity}
 use Rattle.stm_lists.specs.Lists.{Lists, entries_at, HasList}
 use Rattle.indexmap.specs.IndexMap.{get_by_text}

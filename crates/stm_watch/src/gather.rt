@@ -2,7 +2,7 @@
 ghost use Rattle.std.specs.Prelude.{◌≡◌, false, IfOk};
 ghost use Rattle.stm_watch.specs.Pending.{batch_of, after_poll, is_pending};
 
-use crate::told::next_told;
+use crate::told::{next_number, next_told};
 use crate::watched::Watching;
 use crate::watchers::Batch;
 use std::alloc::{AllocError, Global};
@@ -46,7 +46,7 @@ pub(crate) fn gather(
     let mut upto = watching.seen;
     let mut count = 0;
     while count < most {
-        match next_told(keys, &watching.watched, upto)? {
+        match next_told(alloc, keys, &watching.watched, upto)? {
             None => return Ok(Gathered::all(events, watching.seen.max(keys.revision()))),
             Some(told) => {
                 upto = told.number;
@@ -55,7 +55,7 @@ pub(crate) fn gather(
         }
         count += 1;
     }
-    if next_told(keys, &watching.watched, upto)?.is_none() {
+    if next_number(keys, &watching.watched, upto).is_none() {
         return Ok(Gathered::all(events, watching.seen.max(keys.revision())));
     }
     let events = Sequence::of(events);

@@ -1,6 +1,6 @@
 //! Which watchers are ready.
-ghost use Rattle.std.specs.Prelude.{◌≡◌, ◌++◌, [], ◌∷◌, Some, None, IfOk, OnOk, OnErr, IsSome, slice_set, slice_index_or};
-ghost use Rattle.stm_watch.specs.Kept.{list_of};
+ghost use Rattle.std.specs.Prelude.{◌≡◌, ◌<◌, ℕ, ◌++◌, [], ◌∷◌, Some, None, IfOk, OnOk, OnErr, IsSome, slice_set, slice_index_or};
+ghost use Rattle.stm_watch.specs.Kept.{AreMarked, list_of};
 ghost use Rattle.stm_watch.specs.Ready.{IsFirst};
 
 use std::alloc::{AllocError, Global};
@@ -19,6 +19,21 @@ fn list_of(ready: ListId, idle: ListId, is_ready: bool) -> ListId
     ensures { result ≡ list_of ready idle is_ready }
 {
     if is_ready { ready } else { idle }
+}
+
+/// Takes the mark of a watcher out, and its node off its list. The node's room is spare from then on.
+fn take_out(marks: &mut Vec<Option<Mark>>, lists: &mut Lists<usize>, index: usize)
+    requires there { IsSome (slice_index_or marks.old.items index None) }
+    requires marked { (ready : ℕ) × (idle : ℕ) × AreMarked marks.old.items lists.old ready idle }
+    ensures marks { marks.new.items ≡ slice_set marks.old.items index None }
+    ensures marked { (ready idle : ℕ) → AreMarked marks.old.items lists.old ready idle → AreMarked marks.new.items lists.new ready idle }
+    ensures room { 0 < lists.new.spare }
+{
+    let Some(mark) = marks[index] else {
+        unreachable!()
+    };
+    lists.unlink(mark.node);
+    marks[index] = None;
 }
 
 /// The readiness of each watcher, by its place. One that is ready is found in one step.
@@ -80,12 +95,9 @@ impl Readiness {
         requires { IsSome (slice_index_or self.old index None) }
         ensures { self.new ≡ slice_set self.old index (Some ready) }
     {
-        let Some(mark) = self.marks[index] else {
-            unreachable!()
-        };
         let list = list_of(self.ready, self.idle, ready);
         // The room of the node that leaves is that of the new one.
-        self.lists.unlink(mark.node);
+        take_out(&mut self.marks, &mut self.lists, index);
         let Ok(node) = self.lists.push_back(list, index) else {
             unreachable!()
         };
@@ -97,11 +109,7 @@ impl Readiness {
         requires { IsSome (slice_index_or self.old index None) }
         ensures { self.new ≡ slice_set self.old index None }
     {
-        let Some(mark) = self.marks[index] else {
-            unreachable!()
-        };
-        self.lists.unlink(mark.node);
-        self.marks[index] = None;
+        take_out(&mut self.marks, &mut self.lists, index);
     }
 
     /// A watcher that is ready.

@@ -71,7 +71,7 @@ impl Watchers {
         ensures err { OnErr result (self.new ≡ self.old) }
     {
         let watching = Watching::starting(watched, from, keys);
-        let ready = is_told(keys, &watching)?;
+        let ready = is_told(keys, &watching);
         let list = self.index.make_room(&watching.watched)?;
         self.slots.push(Watcher { watching, ready })?;
         self.index.push(list);

@@ -5,7 +5,7 @@ use Rattle.stm_watch.specs.declared.told.Told.{Told}
 use Rattle.stm_watch.specs.declared.watched.Watching.{Watching}
 use Rattle.stm_watch.specs.Walk.{IsNext}
 use Rattle.stm_watch.specs.Pending.{pending}
-use Rattle.stm_watch.proofs.Telling.{none_next}
+use Rattle.stm_watch.proofs.Telling.{no_number_next}
 use Rattle.stm_watch.proofs.Giving.{above_of, one_more, no_more}
 use Rattle.stm_watch.proofs.gather.gather.Goals as goal
 
@@ -37,7 +37,7 @@ returns-then-is_none-clause-more c =
     let h : History = c.args.keys.now.history in
     let w : Watching = c.args.watching.now in
     let none : above_of h w c.loop-count.upto ≡ [] =
-    none_next h w.watched c.loop-count.upto c.in_ok-next_told-2.field-0 c.in_ok-next_told-2.ensures c.if-is_none.ensures in
+    no_number_next h w.watched c.loop-count.upto c.next_number.result c.next_number.ensures c.if-is_none.ensures in
     c.all-then-is_none.ensures.more
     ∙ sym (no_more c.args.most h w c.loop-count.count c.loop-count.events.items c.loop-count.upto
     c.loop-count.invariant.given c.loop-count.invariant.within none)

@@ -8,4 +8,4 @@ pub returns : goal.returns
 returns c =
     let h : History = c.args.keys.now.history in
     let w : Watching = c.args.watching.now in
-    c.is_some.ensures ∙ next_is_pending h w.watched w.seen c.in_ok-next_told.field-0 c.in_ok-next_told.ensures
+    c.is_some.ensures ∙ next_is_pending h w.watched w.seen c.next_number.result c.next_number.ensures

@@ -1,6 +1,6 @@
-use Rattle.std.proofs.Common.{◌≡◌, ◌∙◌, ◌≤◌, ◌<◌, [], length, refl, sym, subst, arith}
+use Rattle.std.proofs.Common.{[], refl}
 use Rattle.stm_lists.specs.Lists.{entries_at}
-use Rattle.stm_watch.proofs.Touching.{walk_node, walk_within, walk_more, walk_lasts, walk_end}
+use Rattle.stm_watch.proofs.Touching.{walk_node, walk_within, walk_more}
 use Rattle.stm_watch.proofs.touch.touch_list.Goals as goal
 
 pub loop-count-init : goal.loop-count-init

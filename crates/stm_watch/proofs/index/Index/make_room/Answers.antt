@@ -1,4 +1,4 @@
-use Rattle.std.proofs.Common.{◌≡◌, refl}
+use Rattle.std.proofs.Common.{refl}
 use Rattle.stm_watch.specs.Kept.{list_for}
 use Rattle.stm_watch.proofs.Indexed.{listed_same}
 use Rattle.stm_watch.proofs.index.Index.make_room.Goals as goal

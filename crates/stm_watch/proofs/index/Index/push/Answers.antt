@@ -1,4 +1,4 @@
-use Rattle.std.proofs.Common.{◌≡◌, ◌∙◌, ◌++◌, ◌∷◌, [], ℕ, length, Some, sym, subst}
+use Rattle.std.proofs.Common.{◌∙◌, ◌++◌, ◌∷◌, [], ℕ, Some, sym, subst}
 use Rattle.stm_lists.specs.Lists.{Updates, entries_at}
 use Rattle.stm_watch.specs.Kept.{AreListed, list_for}
 use Rattle.stm_watch.proofs.Indexed.{listed_more}

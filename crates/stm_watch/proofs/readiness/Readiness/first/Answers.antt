@@ -1,4 +1,4 @@
-use Rattle.std.proofs.Common.{◌≡◌, ◌∙◌, true, sym, subst}
+use Rattle.std.proofs.Common.{◌∙◌, true, sym, subst}
 use Rattle.stm_watch.specs.Ready.{IsFirst}
 use Rattle.stm_watch.proofs.Marked.{none_first, first_node_of, first_is}
 use Rattle.stm_watch.proofs.readiness.Readiness.first.Goals as goal

@@ -1,5 +1,5 @@
-use Rattle.std.proofs.Common.{◌≡◌, ◌∙◌, ◌++◌, ◌∷◌, [], ℕ, List, Option, length, map, option_map, Some, sym, ap, subst, refl}
-use Rattle.stm_lists.specs.Lists.{HasList, entries_at, list_at, Updates}
+use Rattle.std.proofs.Common.{◌∙◌, ◌++◌, ◌∷◌, [], ℕ, List, Option, Some, sym, subst, refl}
+use Rattle.stm_lists.specs.Lists.{HasList, entries_at, Updates}
 use Rattle.stm_watch.specs.declared.readiness.Mark.{Mark}
 use Rattle.stm_watch.specs.Kept.{AreMarked, list_of}
 use Rattle.stm_watch.proofs.Marked.{marked_same, marked_more}

@@ -1,4 +1,4 @@
-use Rattle.std.proofs.Common.{◌≡◌, None, sym, subst}
+use Rattle.std.proofs.Common.{None, sym, subst}
 use Rattle.stm_watch.specs.Calls.{IsNextReady}
 use Rattle.stm_watch.specs.Ready.{IsFirst}
 use Rattle.stm_watch.proofs.Placed.{none_ready}

@@ -1,4 +1,4 @@
-use Rattle.std.proofs.Common.{◌≡◌, ◌∙◌, None, ap, sym, option_map, slice_set}
+use Rattle.std.proofs.Common.{◌∙◌, None, ap, sym, option_map, slice_set}
 use Rattle.std.proofs.lemmas.List.{map-set}
 use Rattle.stm_watch.specs.declared.watched.Watcher.{Watcher}
 use Rattle.stm_watch.proofs.slots.Slots.remove.Goals as goal

@@ -1,6 +1,5 @@
-use Rattle.std.proofs.Common.{◌≡◌, ◌∙◌, ◌<◌, Option, Some, true, ap, sym, subst, length, option_map, slice_set}
+use Rattle.std.proofs.Common.{◌≡◌, ◌∙◌, ◌<◌, Some, true, ap, sym, subst, length, option_map, slice_set}
 use Rattle.std.proofs.lemmas.List.{map-set}
-use Rattle.stm_watch.specs.Slots.{made_ready}
 use Rattle.stm_watch.specs.Touch.{wants}
 use Rattle.stm_watch.specs.declared.watched.Watcher.{Watcher}
 use Rattle.stm_watch.proofs.Marked.{read_at}

@@ -1,4 +1,4 @@
-use Rattle.std.proofs.Common.{◌∙◌, ap, subst, sym}
+use Rattle.std.proofs.Common.{subst, sym}
 use Rattle.stm_history.specs.History.{History}
 use Rattle.stm_watch.specs.Calls.{StandFor}
 use Rattle.stm_watch.specs.Kept.{watched_of}
@@ -9,7 +9,7 @@ pub returns-clause-stand : goal.returns-clause-stand
 returns-clause-stand c =
     let h : History = c.args.keys.now.history in
     subst (StandFor h) (sym c.in_ok-push.ensures.ok)
-    (stand_with h c.self.inside.slots _ (subst (StandFor h) (sym c.self.view_is) c.requires) c.in_ok-ready.ensures)
+    (stand_with h c.self.inside.slots _ (subst (StandFor h) (sym c.self.view_is) c.requires) c.is_told-ready.ensures)
 
 pub push-requires-2-clause-list : goal.push-requires-2-clause-list
 push-requires-2-clause-list c =

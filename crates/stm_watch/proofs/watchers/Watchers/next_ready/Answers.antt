@@ -1,4 +1,4 @@
-use Rattle.std.proofs.Common.{◌∙◌, subst}
+use Rattle.std.proofs.Common.{subst}
 use Rattle.stm_watch.specs.Calls.{IsNextReady}
 use Rattle.stm_watch.proofs.Standing.{next_pending}
 use Rattle.stm_watch.proofs.watchers.Watchers.next_ready.Goals as goal

@@ -1,7 +1,7 @@
-use Rattle.std.proofs.Common.{◌≡◌, ◌-◌, ◌<◌, length, refl, subst, sym, ap, arith, ne_eqb}
+use Rattle.std.proofs.Common.{◌-◌, ◌<◌, length, refl, subst, sym, arith, ne_eqb}
 use Rattle.stm_watch.specs.Calls.{poll, Polls, StandFor, watchings}
 use Rattle.stm_watch.specs.Kept.{Covers}
-use Rattle.stm_watch.proofs.Placed.{place_polled, place_stands, place_watched, place_refused}
+use Rattle.stm_watch.proofs.Placed.{place_polled, place_stands, place_watched}
 use Rattle.stm_watch.proofs.watchers.Watchers.poll.Goals as goal
 
 pub invariant_of-self : goal.invariant_of-self

@@ -1,6 +1,5 @@
 use Rattle.std.proofs.Common.{◌≡◌, ℕ, ◌+◌, ◌-◌, ◌≤◌, ◌∙◌, sym, ap, subst, arith, map, reverse, length, List}
 use Rattle.std.proofs.lemmas.List.{length-map, length-reverse}
-use Rattle.std.proofs.lemmas.Result.{IfOk-weaker}
 use Rattle.indexmap.specs.IndexMap.{get_by_text}
 use Rattle.stm_history.specs.History.{now}
 use Rattle.stm_keys.specs.declared.event.Event.{Event}
@@ -8,12 +7,11 @@ use Rattle.stm_keys.specs.Events.{events_of, change_of_event}
 use Rattle.stm_keys.specs.Keys.{Contents, changes_of}
 use Rattle.stm_keys.proofs.Recorded.{none_numbered}
 use Rattle.stm_keys.proofs.Fields.{events_at}
-use Rattle.stm_keys.proofs.keys.Keys.events_of.Goals as goal
+use Rattle.stm_keys.proofs.keys.Keys.events_at.Goals as goal
 
 pub returns-then-revision-self : goal.returns-then-revision-self
 returns-then-revision-self c =
-    c.new.ensures.items
-    ∙ sym (none_numbered c.self.inside.opening c.args.revision (changes_of (reverse c.self.inside.revisions.items)) c.if-revision-self.true)
+    sym (none_numbered c.self.inside.opening c.args.revision (changes_of (reverse c.self.inside.revisions.items)) c.if-revision-self.true)
     ∙ ap (λ (v : Contents). events_of v.history c.args.revision) c.self.view_is
 
 pub returns : goal.returns
@@ -27,4 +25,4 @@ returns c =
     sym (ap (λ (v : Contents). events_of v.history c.args.revision) c.self.view_is)
     ∙ events_at opening c.args.revision xs (get_by_text c.self.inside.chains) (c.args.revision - opening - 1) c.self.invariant.0
     (omega (arith, c.if-revision-self.false)) (omega (arith, c.if-revision-self.false)) c.index.result.now c.index.ensures in
-    IfOk-weaker c.copy_events.result _ _ (λ copy e. e ∙ c.as_slice.ensures ∙ sym numbered) c.copy_events.ensures
+    c.as_slice.ensures ∙ sym numbered

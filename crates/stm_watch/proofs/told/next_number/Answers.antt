@@ -1,11 +1,11 @@
-use Rattle.std.proofs.Common.{◌≡◌, ◌≤◌, ◌<◌, ◌+◌, ◌∙◌, max, sym, ap, length, arith, ℕ, List}
-use Rattle.std.proofs.lemmas.Bool.{eqb-false, eqb-true}
+use Rattle.std.proofs.Common.{◌≡◌, ◌≤◌, ◌<◌, ◌+◌, ◌∙◌, max, refl, sym, ap, subst, length, arith, ℕ, List}
 use Rattle.stm_history.specs.History.{History, now}
 use Rattle.stm_keys.specs.declared.event.Event.{Event}
 use Rattle.stm_keys.specs.Events.{events_of}
+use Rattle.stm_watch.specs.declared.watched.Watched.{Watched}
 use Rattle.stm_watch.specs.Pending.{told_above, matching}
-use Rattle.stm_watch.proofs.Telling.{from_the_later, found_is_next, none_is_passed, nothing_above}
-use Rattle.stm_watch.proofs.told.next_told.Goals as goal
+use Rattle.stm_watch.proofs.Telling.{from_the_later, found_is_next, none_is_passed, nothing_above, some_long, none_long}
+use Rattle.stm_watch.proofs.told.next_number.Goals as goal
 
 pub loop-passed-init : goal.loop-passed-init
 loop-passed-init c =
@@ -17,31 +17,30 @@ loop-passed-init c =
           ∙ ap (λ (n : ℕ). told_above h.opening n c.args.watched.now h.revisions) (sym start);
     }
 
-pub returns-then-not-is_empty : goal.returns-then-not-is_empty
-returns-then-not-is_empty c =
+pub returns-then-has_any : goal.returns-then-has_any
+returns-then-has_any c =
     let h : History = c.args.keys.now.history in
     let passed : ℕ = c.loop-passed.passed in
-    let kept : List Event = c.keep_matching.new.events.items in
+    let w : Watched = c.args.watched.now in
     let reached : passed < now h = omega (arith, c.loop-passed-test.true, c.revision.ensures.value) in
-    let is : c.of.result ≡ matching c.args.watched.now (events_of h (passed + 1)) =
-    c.of.ensures ∙ c.keep_matching.ensures ∙ ap (matching c.args.watched.now) c.in_ok-events.ensures in
-    let some = eqb-false _ 0 (sym c.if-not-is_empty.ensures) in
-    let long : 0 < length c.of.result = omega (arith, some, c.keep_matching.new.events.ok.0, ap (λ (es : List Event). length es) c.of.ensures) in
-    found_is_next h c.args.watched.now c.args.above passed c.of.result c.loop-passed.invariant.opened reached c.loop-passed.invariant.told is long
+    let some = some_long (matching w c.events_at.result.now) (sym c.has_any.ensures ∙ c.if-has_any.true) in
+    let long : 0 < length (matching w (events_of h (passed + 1))) = subst (λ (es : List Event). 0 < length (matching w es)) c.events_at.ensures some in (
+      omega arith,
+      found_is_next h w c.args.above passed (matching w (events_of h (passed + 1))) c.loop-passed.invariant.opened reached c.loop-passed.invariant.told refl long,
+    )
 
 pub loop-passed-preserved : goal.loop-passed-preserved
 loop-passed-preserved c =
     let h : History = c.args.keys.now.history in
     let passed : ℕ = c.loop-passed.passed in
-    let kept : List Event = c.keep_matching.new.events.items in
+    let w : Watched = c.args.watched.now in
     let reached : passed < now h = omega (arith, c.loop-passed-test.true, c.revision.ensures.value) in
-    let is : kept ≡ matching c.args.watched.now (events_of h (passed + 1)) =
-    c.keep_matching.ensures ∙ ap (matching c.args.watched.now) c.in_ok-events.ensures in
-    let none = eqb-true _ 0 (sym c.if-not-is_empty.ensures) in
-    let long : length kept ≡ 0 = omega (arith, none, c.keep_matching.new.events.ok.0) in
+    let none = none_long (matching w c.events_at.result.now) (sym c.has_any.ensures ∙ c.if-has_any.false) in
+    let long : length (matching w (events_of h (passed + 1))) ≡ 0 = subst (λ (es : List Event). length (matching w es) ≡ 0) c.events_at.ensures none in
     record {
       opened = omega (arith, c.loop-passed.invariant.opened);
-      told = none_is_passed h c.args.watched.now c.args.above passed kept c.loop-passed.invariant.opened reached c.loop-passed.invariant.told is long;
+      told = none_is_passed h w c.args.above passed (matching w (events_of h (passed + 1))) c.loop-passed.invariant.opened reached
+          c.loop-passed.invariant.told refl long;
     }
 
 pub returns : goal.returns

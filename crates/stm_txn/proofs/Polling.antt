@@ -1,0 +1,113 @@
+-- The numbers of the events of a batch fit.
+use Rattle.std.proofs.Common.{◌≡◌, ℕ, zero, suc, ◌+◌, ◌≤◌, true, false, cond, List, [], ◌∷◌, ◌++◌, map, take, Option, Some, None, ap, subst, arith}
+use Rattle.std.specs.Prelude.{nat_lt, Result, Ok, Err}
+use Rattle.stm_history.specs.declared.change.Change.{Change}
+use Rattle.stm_history.specs.declared.change.Change.TheVariants.{Put as PutChange, Del as DelChange}
+use Rattle.stm_history.specs.declared.key_state.KeyState.{KeyState}
+use Rattle.stm_history.specs.declared.revisions.TheConstants.{HIGHEST_REVISION, HIGHEST_NUMBER}
+use Rattle.stm_history.specs.History.{History, number_of_last, now, key_now, state_after_put}
+use Rattle.stm_history.proofs.HistoryLaws.{numbers_stay_small, last_revision_is_now}
+use Rattle.stm_keys.specs.declared.event.Event.{Event}
+use Rattle.stm_keys.specs.Events.{event_of, events_above, key_of_event}
+use Rattle.stm_watch.specs.declared.told.Told.{Told}
+use Rattle.stm_watch.specs.declared.watched.Watched.{Watched}
+use Rattle.stm_watch.specs.declared.watched.Watching.{Watching}
+use Rattle.stm_watch.specs.declared.watchers.Batch.{Batch}
+use Rattle.stm_watch.specs.Keys.{is_watched}
+use Rattle.stm_watch.specs.Pending.{matching, told_at, told_above, pending, events_told, batch_of}
+use Rattle.stm_watch.specs.Calls.{watcher_at, poll_found}
+use Rattle.stm_txn.specs.declared.refusal.Refusal.{Refusal}
+use Rattle.stm_txn.specs.Standing.{Standing, Step, polled, poll_step}
+use Rattle.stm_txn.specs.Numbers.{LeaseFits, ChangesFit, LeasesFit, EventsFit}
+use Rattle.stm_txn.proofs.Fitting.{IsSmallFor, changed_small}
+
+-- ---- the events of a revision
+
+lease_put : (number : ℕ) (value : List ℕ) (lease : ℕ) (s : Option KeyState) → lease ≤ HIGHEST_NUMBER → LeaseFits (state_after_put number value lease s)
+lease_put number value lease None fits = fits
+lease_put number value lease (Some s) fits = fits
+
+small_now : (h : History) (key : List ℕ) → IsSmallFor h (key_now h key)
+small_now h key = subst (IsSmallFor h) (last_revision_is_now h key (now h) (omega arith)) (numbers_stay_small h key (now h))
+
+shown_fit : (h : History) (cs : List Change) → now h ≤ HIGHEST_REVISION → ChangesFit cs → EventsFit (map (event_of (now h + 1) (key_now h)) cs)
+shown_fit h [] bounded fits = tt
+shown_fit h (PutChange key value lease ∷ cs) bounded fits = (
+  record {
+    numbers = changed_small h (Some (PutChange key value lease)) (key_now h key) bounded (small_now h key);
+    lease = lease_put (now h + 1) value lease (key_now h key) fits.0;
+  },
+  shown_fit h cs bounded fits.1,
+)
+shown_fit h (DelChange key ∷ cs) bounded fits = (omega arith, shown_fit h cs bounded fits.1)
+
+above_fit : (opening : ℕ) (changes : List Change) (older : List (List Change)) → number_of_last opening (changes ∷ older) ≤ HIGHEST_REVISION
+    → ChangesFit changes → EventsFit (events_above opening changes older)
+above_fit opening changes older bounded fits =
+    let h : History = record { opening = opening; revisions = older } in
+    let next : now h + 1 ≡ number_of_last opening (changes ∷ older) = omega arith in
+    subst (λ (n : ℕ). EventsFit (map (event_of n (key_now h)) changes)) next (shown_fit h changes (omega arith) fits)
+
+matching_fit : (watched : Watched) (es : List Event) → EventsFit es → EventsFit (matching watched es)
+matching_fit watched [] fits = tt
+matching_fit watched (e ∷ es) fits =
+    elim (is_watched watched (key_of_event e)) as (λ b. EventsFit (cond b (e ∷ matching watched es) (matching watched es))) [
+      | true ↦ (fits.0, matching_fit watched es fits.1)
+      | false ↦ matching_fit watched es fits.1
+    ]
+
+-- ---- what is told
+
+abbrev AllToldFit : List Told → Type 0
+AllToldFit [] = Unit {0}
+AllToldFit (t ∷ ts) = EventsFit t.events × AllToldFit ts
+
+told_at_fits : (number : ℕ) (es : List Event) → EventsFit es → AllToldFit (told_at number es)
+told_at_fits number [] fits = tt
+told_at_fits number (e ∷ es) fits = (fits, tt)
+
+told_append : (ts us : List Told) → AllToldFit ts → AllToldFit us → AllToldFit (ts ++ us)
+told_append [] us first second = second
+told_append (t ∷ ts) us first second = (first.0, told_append ts us first.1 second)
+
+told_fit : (opening seen : ℕ) (watched : Watched) (revisions : List (List Change)) → number_of_last opening revisions ≤ HIGHEST_REVISION
+    → LeasesFit revisions → AllToldFit (told_above opening seen watched revisions)
+told_fit opening seen watched [] bounded fits = tt
+told_fit opening seen watched (changes ∷ older) bounded fits =
+    let number = number_of_last opening (changes ∷ older) in
+    let here = told_at number (matching watched (events_above opening changes older)) in
+    told_append (told_above opening seen watched older) (cond (nat_lt seen number) here [])
+    (told_fit opening seen watched older (omega arith) fits.1)
+    (elim (nat_lt seen number) as (λ b. AllToldFit (cond b here [])) [
+      | true ↦ told_at_fits number (matching watched (events_above opening changes older))
+          (matching_fit watched (events_above opening changes older) (above_fit opening changes older bounded fits.0))
+      | false ↦ tt
+    ])
+
+taken_fit : (most : ℕ) (ts : List Told) → AllToldFit ts → AllToldFit (take most ts)
+taken_fit zero ts fits = tt
+taken_fit (suc most) [] fits = tt
+taken_fit (suc most) (t ∷ ts) fits = (fits.0, taken_fit most ts fits.1)
+
+events_append : (es fs : List Event) → EventsFit es → EventsFit fs → EventsFit (es ++ fs)
+events_append [] fs first second = second
+events_append (e ∷ es) fs first second = (first.0, events_append es fs first.1 second)
+
+all_events_fit : (ts : List Told) → AllToldFit ts → EventsFit (events_told ts)
+all_events_fit [] fits = tt
+all_events_fit (t ∷ ts) fits = events_append t.events (events_told ts) fits.0 (all_events_fit ts fits.1)
+
+-- ---- a batch
+
+found_fits : (s next : Standing) (id most : ℕ) (b : Batch) (o : Option Watching) → now s.history ≤ HIGHEST_REVISION → LeasesFit s.history.revisions
+    → poll_step s (poll_found s.history id most s.watchers o) ≡ Ok record { answer = b; next = next } → EventsFit b.events
+found_fits s next id most b None bounded fits is = absurd (cc)
+found_fits s next id most b (Some w) bounded fits is =
+    let same : batch_of most s.history w ≡ b = ap (λ (r : Result (Step Batch) Refusal). elim r [ Ok step ↦ step.answer | Err e ↦ b ]) is in
+    subst (λ (x : Batch). EventsFit x.events) same
+    (all_events_fit (take most (pending s.history w)) (taken_fit most (pending s.history w)
+    (told_fit s.history.opening w.seen w.watched s.history.revisions bounded fits)))
+
+pub batch_fits : (s next : Standing) (id most : ℕ) (b : Batch) → now s.history ≤ HIGHEST_REVISION → LeasesFit s.history.revisions
+    → polled s id most ≡ Ok record { answer = b; next = next } → EventsFit b.events
+batch_fits s next id most b bounded fits is = found_fits s next id most b (watcher_at id s.watchers) bounded fits is

@@ -8,7 +8,6 @@ ghost use Rattle.std.specs.Prelude.{◌<◌};
 
 use anyhow::Result;
 use std::alloc::{AllocError, Global};
-use std::io;
 use std::rt::Clock;
 use std::time::{Duration, Instant};
 use stm_txn::{Keys, Op, ShortList, Store, Text, Txn};
@@ -65,25 +64,25 @@ fn put_in_turn(alloc: Global, store: &mut Store, keys: u32, count: u32) -> Resul
     Ok(())
 }
 
-/// A store in which so many keys are present.
-fn store_of(alloc: Global, keys: u32) -> Result<Store>
+/// Times transactions over so many keys, in an empty store.
+fn puts_over(rt: &(impl Clock + Eprint), alloc: Global, store: &mut Store, keys: u32) -> Result<()>
     requires { 0 < keys }
 {
-    let mut store = Store::new(alloc)?;
-    put_in_turn(alloc, &mut store, keys, keys)?;
-    Ok(store)
+    put_in_turn(alloc, store, keys, keys)?;
+    let start = Instant::now(rt)?;
+    put_in_turn(alloc, store, keys, PUTS)?;
+    let elapsed = start.elapsed(rt)?;
+    report_rate(rt, keys, elapsed / PUTS)
 }
 
-/// Times transactions over so many keys.
+/// The same in a store of its own.
 fn time_puts(rt: &(impl Clock + Eprint), alloc: Global, keys: u32) -> Result<()>
     requires { 0 < keys }
 {
-    let mut store = store_of(alloc, keys)?;
-    let start = Instant::now(rt)?;
-    put_in_turn(alloc, &mut store, keys, PUTS)?;
-    let elapsed = start.elapsed(rt)?;
-    report_rate(rt, keys, elapsed / PUTS)?;
-    Ok(())
+    let mut store = Store::new(alloc)?;
+    let outcome = puts_over(rt, alloc, &mut store, keys);
+    drop(store);
+    outcome
 }
 
 /// Reads the first key at so many of the last revisions, and counts where it was present.
@@ -98,44 +97,66 @@ fn read_often(keys: &Keys, count: u32) -> Result<u32> {
     Ok(present)
 }
 
-/// A store whose first key was put once, and another one so many times.
-fn long_store(alloc: Global, count: u32) -> Result<Store> {
-    let mut store = Store::new(alloc)?;
-    put(alloc, &mut store, 0)?;
+/// Puts one key once, and then another one so many times.
+fn put_behind(alloc: Global, store: &mut Store, count: u32) -> Result<()> {
+    put(alloc, store, 0)?;
     for _ in 0..count {
-        put(alloc, &mut store, 1)?;
+        put(alloc, store, 1)?;
     }
-    Ok(store)
-}
-
-/// Times reads that walk back over so many revisions.
-fn time_reads(rt: &(impl Clock + Eprint), alloc: Global, revisions: u32) -> Result<()> {
-    let store = long_store(alloc, revisions)?;
-    let start = Instant::now(rt)?;
-    let present = read_often(store.keys(), READS)?;
-    let elapsed = start.elapsed(rt)?;
-    report_read(rt, revisions, elapsed / READS, present)?;
     Ok(())
 }
 
-/// Holds so many revisions of one short put while a line is printed. `bench/store` counts the bytes there, from outside.
-fn hold_revisions(rt: &impl Eprint, alloc: Global, revisions: u32) -> Result<()> {
-    let store = long_store(alloc, revisions)?;
+/// Times reads that walk back over so many revisions, in an empty store.
+fn reads_back(
+    rt: &(impl Clock + Eprint),
+    alloc: Global,
+    store: &mut Store,
+    revisions: u32,
+) -> Result<()> {
+    put_behind(alloc, store, revisions)?;
+    let start = Instant::now(rt)?;
+    let present = read_often(store.keys(), READS)?;
+    let elapsed = start.elapsed(rt)?;
+    report_read(rt, revisions, elapsed / READS, present)
+}
+
+/// The same in a store of its own.
+fn time_reads(rt: &(impl Clock + Eprint), alloc: Global, revisions: u32) -> Result<()> {
+    let mut store = Store::new(alloc)?;
+    let outcome = reads_back(rt, alloc, &mut store, revisions);
+    drop(store);
+    outcome
+}
+
+/// Adds so many revisions of one short put to an empty store, and prints a line. `bench/store` counts the bytes there, from
+/// outside.
+fn print_beside(rt: &impl Eprint, alloc: Global, store: &mut Store, revisions: u32) -> Result<()> {
+    put_behind(alloc, store, revisions)?;
     let counter = store.keys().revision();
     eprintln!(rt; "held at revision {counter}")?;
     Ok(())
 }
 
+/// The same in a store of its own, which is held while the line is printed.
+fn hold_revisions(rt: &impl Eprint, alloc: Global, revisions: u32) -> Result<()> {
+    let mut store = Store::new(alloc)?;
+    let outcome = print_beside(rt, alloc, &mut store, revisions);
+    drop(store);
+    outcome
+}
+
 /// Prints how many transactions a second takes.
-fn report_rate(rt: &impl Eprint, keys: u32, each: Duration) -> io::Result<()> {
+fn report_rate(rt: &impl Eprint, keys: u32, each: Duration) -> Result<()> {
     let rate = 1_000_000_000_u128.checked_div(each.as_nanos()).unwrap_or(0);
-    eprintln!(rt; "transactions of one put over {keys:>6} keys: {rate:>8} in a second")
+    eprintln!(rt; "transactions of one put over {keys:>6} keys: {rate:>8} in a second")?;
+    Ok(())
 }
 
 /// Prints how long a read takes, and how many found the key.
-fn report_read(rt: &impl Eprint, revisions: u32, each: Duration, present: u32) -> io::Result<()> {
+fn report_read(rt: &impl Eprint, revisions: u32, each: Duration, present: u32) -> Result<()> {
     let nanos = each.as_nanos();
     eprintln!(rt;
         "reads of the past over {revisions:>6} revisions: {nanos:>8} ns each, {present} found the key"
-    )
+    )?;
+    Ok(())
 }

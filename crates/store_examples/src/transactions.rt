@@ -101,16 +101,24 @@ fn commit(alloc: Global, player: &mut Player) -> Result<String, AllocError> {
     }
 }
 
-fn revoke(alloc: Global, store: &mut Store, id: u64) -> Result<String, AllocError> {
-    match store.revoke(id) {
+fn grant(alloc: Global, player: &mut Player, id: u64, ttl: u64) -> Result<String, AllocError> {
+    show_done(alloc, player.store.grant(id, ttl))
+}
+
+fn keep(alloc: Global, player: &mut Player, id: u64) -> Result<String, AllocError> {
+    show_done(alloc, player.store.keep_alive(id))
+}
+
+fn revoke(alloc: Global, player: &mut Player, id: u64) -> Result<String, AllocError> {
+    match player.store.revoke(id) {
         Ok(revision) => format!(in alloc; "at {revision}"),
         Err(refusal) => refusal.to_string(alloc),
     }
 }
 
 /// Tells the leases that an advance ended, after the refusal where it was refused.
-fn advance(alloc: Global, store: &mut Store, moment: u64) -> Result<String, AllocError> {
-    match store.advance(moment) {
+fn advance(alloc: Global, player: &mut Player, moment: u64) -> Result<String, AllocError> {
+    match player.store.advance(moment) {
         Ok(expired) => show_expired(alloc, expired.as_slice()),
         Err(refused) => {
             let expired = show_expired(alloc, refused.expired.as_slice())?;
@@ -139,94 +147,128 @@ fn events(alloc: Global, keys: &Keys, revision: u64) -> Result<String, AllocErro
     Ok(line)
 }
 
-fn look(alloc: Global, store: &Store, key: &str) -> Result<String, AllocError> {
-    let state = show_state(alloc, store.keys().get(key), "null")?;
-    format!(in alloc; "{key} {state} leases {}", store.lease_count())
+fn events_of(alloc: Global, player: &Player, revision: u64) -> Result<String, AllocError> {
+    events(alloc, player.store.keys(), revision)
 }
 
-/// Joins a compare to the next transaction.
-fn join(
-    alloc: Global,
-    next: &mut Txn,
-    key: &str,
-    target: Target,
-    order: Order,
-) -> Result<String, AllocError> {
+fn look(alloc: Global, player: &Player, key: &str) -> Result<String, AllocError> {
+    let state = show_state(alloc, player.store.keys().get(key), "null")?;
+    format!(in alloc; "{key} {state} leases {}", player.store.lease_count())
+}
+
+fn is_live(alloc: Global, player: &Player, id: u64) -> Result<String, AllocError> {
+    player.store.is_live(id).to_string(alloc)
+}
+
+/// Joins "the key's modification revision is 0" to the next transaction.
+fn if_absent(alloc: Global, player: &mut Player, key: &str) -> Result<String, AllocError> {
     let key = Text::copy_of(alloc, key)?;
-    next.compares.push(Compare { key, target, order })?;
+    let target = Target::Mod(0);
+    let order = Order::Equal;
+    player.next.compares.push(Compare { key, target, order })?;
     Ok(String::new(alloc))
 }
 
-fn add_get(
+/// Joins "the key's value is not this" to the next transaction.
+fn if_value_is_not(
     alloc: Global,
-    ops: &mut ShortList<Op>,
-    key: &str,
-    rev: u64,
-) -> Result<String, AllocError> {
-    let key = Text::copy_of(alloc, key)?;
-    ops.push(Op::Get { key, rev })?;
-    Ok(String::new(alloc))
-}
-
-fn add_put(
-    alloc: Global,
-    ops: &mut ShortList<Op>,
+    player: &mut Player,
     key: &str,
     value: &str,
-    lease: u64,
 ) -> Result<String, AllocError> {
     let key = Text::copy_of(alloc, key)?;
-    let value = Text::copy_of(alloc, value)?;
-    ops.push(Op::Put { key, value, lease })?;
+    let target = Target::Value(Text::copy_of(alloc, value)?);
+    let order = Order::NotEqual;
+    player.next.compares.push(Compare { key, target, order })?;
     Ok(String::new(alloc))
 }
 
-fn add_del(alloc: Global, ops: &mut ShortList<Op>, key: &str) -> Result<String, AllocError> {
+fn get_of(alloc: Global, key: &str, rev: u64) -> Result<Op, AllocError> {
+    Ok(Op::Get {
+        key: Text::copy_of(alloc, key)?,
+        rev,
+    })
+}
+
+fn put_of(alloc: Global, key: &str, value: &str, lease: u64) -> Result<Op, AllocError> {
     let key = Text::copy_of(alloc, key)?;
-    ops.push(Op::Del { key })?;
+    let value = Text::copy_of(alloc, value)?;
+    Ok(Op::Put { key, value, lease })
+}
+
+fn del_of(alloc: Global, key: &str) -> Result<Op, AllocError> {
+    Ok(Op::Del {
+        key: Text::copy_of(alloc, key)?,
+    })
+}
+
+/// Adds an operation to the success list of the next transaction.
+fn add(
+    alloc: Global,
+    player: &mut Player,
+    op: Result<Op, AllocError>,
+) -> Result<String, AllocError> {
+    player.next.success.push(op?)?;
+    Ok(String::new(alloc))
+}
+
+/// Adds a read of the key to the failure list of the next transaction.
+fn add_else(
+    alloc: Global,
+    player: &mut Player,
+    op: Result<Op, AllocError>,
+) -> Result<String, AllocError> {
+    player.next.failure.push(op?)?;
     Ok(String::new(alloc))
 }
 
 /// Takes one step, and tells what was answered.
 fn take(alloc: Global, player: &mut Player, step: Step) -> Result<String, AllocError> {
     match step {
-        Step::IfAbsent(key) => join(alloc, &mut player.next, key, Target::Mod(0), Order::Equal),
-        Step::IfValueIsNot(key, value) => {
-            let target = Target::Value(Text::copy_of(alloc, value)?);
-            join(alloc, &mut player.next, key, target, Order::NotEqual)
-        }
-        Step::Get(key, rev) => add_get(alloc, &mut player.next.success, key, rev),
-        Step::Put(key, value, lease) => {
-            add_put(alloc, &mut player.next.success, key, value, lease)
-        }
-        Step::Del(key) => add_del(alloc, &mut player.next.success, key),
-        Step::ElseGet(key) => add_get(alloc, &mut player.next.failure, key, 0),
+        Step::IfAbsent(key) => if_absent(alloc, player, key),
+        Step::IfValueIsNot(key, value) => if_value_is_not(alloc, player, key, value),
+        Step::Get(key, rev) => add(alloc, player, get_of(alloc, key, rev)),
+        Step::Put(key, value, lease) => add(alloc, player, put_of(alloc, key, value, lease)),
+        Step::Del(key) => add(alloc, player, del_of(alloc, key)),
+        Step::ElseGet(key) => add_else(alloc, player, get_of(alloc, key, 0)),
         Step::Commit => commit(alloc, player),
-        Step::Grant(id, ttl) => show_done(alloc, player.store.grant(id, ttl)),
-        Step::Keep(id) => show_done(alloc, player.store.keep_alive(id)),
-        Step::Revoke(id) => revoke(alloc, &mut player.store, id),
-        Step::Advance(moment) => advance(alloc, &mut player.store, moment),
-        Step::Events(revision) => events(alloc, player.store.keys(), revision),
-        Step::Look(key) => look(alloc, &player.store, key),
-        Step::IsLive(id) => player.store.is_live(id).to_string(alloc),
+        Step::Grant(id, ttl) => grant(alloc, player, id, ttl),
+        Step::Keep(id) => keep(alloc, player, id),
+        Step::Revoke(id) => revoke(alloc, player, id),
+        Step::Advance(moment) => advance(alloc, player, moment),
+        Step::Events(revision) => events_of(alloc, player, revision),
+        Step::Look(key) => look(alloc, player, key),
+        Step::IsLive(id) => is_live(alloc, player, id),
     }
 }
 
-/// Takes the steps on a store that opens at a revision, and tells the answers, `; ` after each.
+/// Takes the steps, and tells the answers, `; ` after each.
+fn take_all(alloc: Global, player: &mut Player, steps: &[Step]) -> Result<String, AllocError> {
+    let mut told = String::new(alloc);
+    for step in steps {
+        let answer = take(alloc, player, *step)?;
+        add_answer(&mut told, answer.as_str())?;
+    }
+    Ok(told)
+}
+
+/// A store that opens at a revision.
+fn open(alloc: Global, opening: u64) -> Result<Player, AllocError>
+    requires positive { 1 ≤ opening }
+    requires bounded { opening ≤ HIGHEST_REVISION }
+{
+    let store = Store::with_revision(alloc, opening)?;
+    let next = empty_txn(alloc);
+    Ok(Player { store, next })
+}
+
+/// Takes the steps on a store that opens at a revision, and tells the answers.
 fn play(alloc: Global, opening: u64, steps: &[Step]) -> Result<String, AllocError>
     requires positive { 1 ≤ opening }
     requires bounded { opening ≤ HIGHEST_REVISION }
 {
-    let mut player = Player {
-        store: Store::with_revision(alloc, opening)?,
-        next: empty_txn(alloc),
-    };
-    let mut told = String::new(alloc);
-    for step in steps {
-        let answer = take(alloc, &mut player, *step)?;
-        add_answer(&mut told, answer.as_str())?;
-    }
-    Ok(told)
+    let mut player = open(alloc, opening)?;
+    take_all(alloc, &mut player, steps)
 }
 
 #[test]
@@ -410,22 +452,36 @@ fn a_new_store_opens_at_one(rt: HostRuntime) -> Result<(), Fail> {
     Ok(())
 }
 
+/// A transaction that puts "a" and deletes "b".
+fn put_and_deletion(alloc: Global) -> Result<Txn, AllocError> {
+    let mut txn = empty_txn(alloc);
+    txn.success.push(put_of(alloc, "a", "1", 0)?)?;
+    txn.success.push(del_of(alloc, "b")?)?;
+    Ok(txn)
+}
+
 /// What a copy of a transaction comes to, and the moment at which it ran.
-fn told_copy(alloc: Global, moment: u64) -> Result<String, AllocError> {
-    let mut store = Store::new(alloc)?;
-    let told = advance(alloc, &mut store, moment)?;
-    let mut next = empty_txn(alloc);
-    add_put(alloc, &mut next.success, "a", "1", 0)?;
-    add_del(alloc, &mut next.success, "b")?;
-    let copy = next.clone()?;
-    let mut player = Player { store, next: copy };
-    let answer = commit(alloc, &mut player)?;
-    format!(in alloc; "{told}; {answer}; {}", player.store.moment())
+fn commit_copy(alloc: Global, player: &mut Player) -> Result<String, AllocError> {
+    let txn = put_and_deletion(alloc)?;
+    player.next = txn.clone()?;
+    let answer = commit(alloc, player)?;
+    format!(in alloc; "{answer}; {}", player.store.moment())
+}
+
+fn told_copy(alloc: Global, player: &mut Player, moment: u64) -> Result<String, AllocError> {
+    let told = advance(alloc, player, moment)?;
+    let answer = commit_copy(alloc, player)?;
+    format!(in alloc; "{told}; {answer}")
+}
+
+fn play_copy(alloc: Global, moment: u64) -> Result<String, AllocError> {
+    let mut player = open(alloc, 1)?;
+    told_copy(alloc, &mut player, moment)
 }
 
 #[test]
 fn a_copy_of_a_transaction_is_the_same(rt: HostRuntime) -> Result<(), Fail> {
-    let told = told_copy(rt.alloc(), 5)?;
+    let told = play_copy(rt.alloc(), 5)?;
     assert_eq!(rt; told.as_str(), "expired; true 2 put del 0; 5");
     Ok(())
 }

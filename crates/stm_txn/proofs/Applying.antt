@@ -41,7 +41,7 @@ use Rattle.std.specs.Prelude.{IfSome}
 use Rattle.stm_txn.specs.Commits.{is_on_dead_lease, write_answer, effective, Read, read_op, read_now, AreReached, AreNamed, shown}
 use Rattle.stm_txn.specs.Commits.{read_out, reads_now}
 use Rattle.stm_txn.specs.Laws.{WritesApply, FailedCompareReads, ReadsChangeNothing, NumberAloneIsWrong, ModCompares, NoneFailed, FailedHasItsPlace}
-use Rattle.stm_txn.specs.Laws.{HistoryGrows}
+use Rattle.stm_txn.specs.Laws.{HistoryGrows, BranchApplies}
 use Rattle.stm_txn.proofs.Folding.{changes_agree, by_look_up}
 use Rattle.stm_txn.specs.Branches.{begun, answers_after, changes_of_branch}
 use Rattle.stm_txn.specs.LookUps.{outcome_copied}
@@ -72,7 +72,7 @@ dead_case : (lives any : Bool) (rest : Option Refusal) → rest ≡ cond any (So
 dead_case true any rest is = is
 dead_case false any rest is = refl
 
-dead_refusal : (counter : ℕ) (is_live : ℕ → Bool) (ws : List Change) →
+pub dead_refusal : (counter : ℕ) (is_live : ℕ → Bool) (ws : List Change) →
     branch_refusal counter is_live (map op_of ws) ≡ cond (list_any (is_on_dead_lease is_live) ws) (Some LeaseNotFound) None
 dead_refusal counter is_live [] = refl
 dead_refusal counter is_live (PutChange key value lease ∷ ws) =
@@ -114,7 +114,7 @@ none_clash w (x ∷ xs) absent =
     apart_case (bytes_eq (key_of x) (key_of w)) x (change_of (key_of w) xs) absent in
     ap (λ b. b || list_any (clash (op_of w)) (map op_of xs)) (write_apart w x split.0) ∙ none_clash w xs split.1
 
-writes_apart : (ws : List Change) → HasDistinctKeys ws → has_clash (map op_of ws) ≡ false
+pub writes_apart : (ws : List Change) → HasDistinctKeys ws → has_clash (map op_of ws) ≡ false
 writes_apart [] distinct = refl
 writes_apart (w ∷ ws) distinct = ap (λ b. b || has_clash (map op_of ws)) (none_clash w ws distinct.0) ∙ writes_apart ws distinct.1
 
@@ -125,15 +125,17 @@ unless_dead false next = refl
 pub branch_is_effect : BranchIsEffect
 branch_is_effect h ws distinct = changes_agree h (map op_of ws) (writes_apart ws distinct) ∙ effect_copied h ws distinct
 
-pub writes_apply : WritesApply
-writes_apply h is_live txn ws is distinct whole first =
-    judged h is_live txn None whole first
-    ∙ ap (branch_outcome h is_live None) is
-    ∙ by_look_up h is_live None (map op_of ws) (writes_apart ws distinct)
+pub branch_applies : BranchApplies
+branch_applies h is_live ws distinct =
+    by_look_up h is_live None (map op_of ws) (writes_apart ws distinct)
     ∙ by_parts h is_live None (map op_of ws) (cond (list_any (is_on_dead_lease is_live) ws) (Some LeaseNotFound) None) (effective h ws)
     (map (write_answer (key_now h)) ws)
     (dead_refusal (now h) is_live ws) (effect_copied h ws distinct) (answers_on h [] ws distinct (nothing_done ws))
     ∙ unless_dead (list_any (is_on_dead_lease is_live) ws) (finished h None (effective h ws) (map (write_answer (key_now h)) ws))
+
+pub writes_apply : WritesApply
+writes_apply h is_live txn ws is distinct whole first =
+    judged h is_live txn None whole first ∙ ap (branch_outcome h is_live None) is ∙ branch_applies h is_live ws distinct
 
 -- Reads: none above the counter is refused, and none changes anything.
 no_refusal : (h : History) (is_live : ℕ → Bool) (reads : List Read) → AreReached h reads → branch_refusal (now h) is_live (map read_op reads) ≡ None

@@ -9,6 +9,7 @@ pub mod Coming
 pub mod Refusing
 pub mod Advancing
 pub mod Applying
+pub mod Writing
 pub mod Fitting
 pub mod Touching
 pub mod Polling

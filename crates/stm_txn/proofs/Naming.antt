@@ -13,8 +13,9 @@ use Rattle.stm_history.specs.History.{History, number_of_last, key_of, key_now, 
 use Rattle.stm_history.proofs.HistoryLaws.{one_more}
 use Rattle.stm_leases.specs.Leases.{Leases, lease_of}
 use Rattle.stm_leases.specs.AttachedKeys.{is_on, keys_on, IsAscending, AreKeysOf}
-use Rattle.stm_leases.proofs.KeyLaws.{keys_on_are_keys, one_list_of_keys}
+use Rattle.stm_leases.proofs.KeyLaws.{keys_on_are_keys, one_list_of_keys, ascending_is_unique}
 use Rattle.stm_txn.specs.Leasing.{hanging, HangAsStored, lease_now}
+use Rattle.stm_txn.specs.PresentKeys.{keys_present, PresentKeysAreListed}
 use Rattle.stm_txn.specs.LeaseKeys.{with_key, with_changed, keys_named, keys_of_lease}
 use Rattle.stm_txn.proofs.Branching.{same_text}
 
@@ -198,3 +199,16 @@ is_the_list s h id keys is kept =
       each = λ key. ((λ has. sym (kept key) ∙ (on.each key).0 has), (λ at. (on.each key).1 (kept key ∙ at)));
     })
     (are_keys h id)
+
+-- the keys that are present
+pub present_listed : PresentKeysAreListed
+present_listed h keys ascending each =
+    ascending_is_unique keys (keys_present h) ascending (filtered_ascend test (keys_named h.revisions) (named_ascend h.revisions))
+    (λ key. (
+      (λ has. let present : test key ≡ true = (each key).0 has in
+          place_of (keys_present h) key (passes test key (keys_named h.revisions) present (present_named h.opening key h.revisions present))),
+      (λ has. (each key).1 (passed test key (keys_named h.revisions) (at_place (keys_present h) key has.0 has.1 has.2)).1),
+    ))
+  where
+    test : List ℕ → Bool
+    test key = is_some (key_now h key)

@@ -13,7 +13,7 @@ use Rattle.stm_txn.specs.Checks.{has_too_many, has_clash, fault_of}
 use Rattle.stm_txn.specs.declared.txn.Op.{Op}
 use Rattle.stm_txn.specs.Branches.{begun, progress_after, changes_of_branch}
 use Rattle.stm_txn.specs.Effect.{op_of}
-use Rattle.stm_txn.specs.Outcome.{Done, outcome, with_changes}
+use Rattle.stm_txn.specs.Outcome.{Done, outcome, branch_outcome, with_changes}
 use Rattle.stm_txn.specs.Commits.{mod_is, mod_is_below, applied, Read, read_op, read_now, AreReached, AreNamed, read_out, turned_down}
 
 -- Writes of distinct keys come to these writes, where nothing of the whole transaction is wrong and every compare holds.
@@ -21,6 +21,12 @@ abbrev pub WritesApply : Type 0
 WritesApply =
     (h : History) (is_live : ℕ → Bool) (txn : Txn) (writes : List Change) → txn.success ≡ map op_of writes → HasDistinctKeys writes
     → fault_of txn ≡ None → first_failed (key_now h) 0 txn.compares ≡ None → outcome h is_live txn ≡ applied h is_live writes
+
+-- A branch of writes of distinct keys, with nothing compared, comes to these writes.
+abbrev pub BranchApplies : Type 0
+BranchApplies =
+    (h : History) (is_live : ℕ → Bool) (writes : List Change) → HasDistinctKeys writes
+    → branch_outcome h is_live None (map op_of writes) ≡ applied h is_live writes
 
 -- Where a compare fails and the failure list reads, the compare and the reads are told, and nothing changes.
 abbrev pub FailedCompareReads : Type 0

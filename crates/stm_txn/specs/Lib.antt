@@ -9,6 +9,7 @@ pub mod Commits
 pub mod Laws
 pub mod Leasing
 pub mod LeaseKeys
+pub mod PresentKeys
 pub mod Moves
 pub mod Grants
 pub mod Standing

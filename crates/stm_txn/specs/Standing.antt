@@ -4,8 +4,9 @@
 -- keep-alive renews it, and a revocation or its expiry ends it with its keys; a watcher is told of every change from its
 -- start on, whatever made it. This store's own choices are that the keys of a lease go in one revision, ascending by
 -- bytes, that due leases end by the moment when they were due, then by id, and that watchers are polled.
-use Rattle.std.specs.Prelude.{◌≡◌, ◌⊎◌, ℕ, zero, suc, nat_lt, if◌then◌else◌, List, [], ◌∷◌, ◌++◌, length, Option, Some, None, IsOk, Result, Ok, Err}
+use Rattle.std.specs.Prelude.{◌≡◌, ◌⊎◌, ℕ, zero, suc, nat_lt, if◌then◌else◌, List, [], ◌∷◌, ◌++◌, length, map, Option, Some, None, IsOk, Result, Ok, Err}
 use Rattle.std.specs.FinMap as finmap
+use Rattle.stm_history.specs.declared.change.Change.{Change}
 use Rattle.stm_history.specs.History.{History, now, opened_at}
 use Rattle.stm_leases.specs.LeaseLog.{LogItem, Expire}
 use Rattle.stm_leases.specs.Live.{Live, is_live_in, grant_refusal}
@@ -23,7 +24,9 @@ use Rattle.stm_txn.specs.declared.answer.TxnAnswer.{TxnAnswer}
 use Rattle.stm_txn.specs.declared.advance.Expired.{Expired}
 use Rattle.stm_txn.specs.declared.refusal.Refusal.{Refusal}
 use Rattle.stm_txn.specs.declared.refusal.Refusal.TheVariants.{OutOfMemory, EmptyKey, LeaseNotFound, NoWatcher, RevisionsUsedUp, TimeGoesBack}
-use Rattle.stm_txn.specs.Outcome.{Done, outcome, with_changes, is_used_up}
+use Rattle.stm_txn.specs.Commits.{applied}
+use Rattle.stm_txn.specs.Effect.{op_of}
+use Rattle.stm_txn.specs.Outcome.{Done, outcome, branch_outcome, with_changes, is_used_up}
 use Rattle.stm_txn.specs.Grants.{grant_refusal_of}
 use Rattle.stm_txn.specs.LeaseKeys.{deletions_of}
 
@@ -75,6 +78,19 @@ step_of s (Err refusal) = Err refusal
 
 abbrev pub transacted : Standing → Txn → Result (Step TxnAnswer) Refusal
 transacted s txn = step_of s (outcome s.history (is_live_in s.live) txn)
+
+-- Writes that are made with nothing compared, however many they are, which answer the revision after them: what a branch of
+-- them does.
+abbrev pub write_step : Standing → Result Done Refusal → Result (Step ℕ) Refusal
+write_step s (Ok done) = Ok record { answer = now done.history; next = with_history s done.history }
+write_step s (Err refusal) = Err refusal
+
+abbrev pub written : Standing → List Change → Result (Step ℕ) Refusal
+written s writes = write_step s (branch_outcome s.history (is_live_in s.live) None (map op_of writes))
+
+-- the same by the writes that change something, where they are of distinct keys
+abbrev pub made : Standing → List Change → Result (Step ℕ) Refusal
+made s writes = write_step s (applied s.history (is_live_in s.live) writes)
 
 -- a lease that is renewed at the store's moment
 abbrev pub with_lease : Standing → ℕ → ℕ → Standing

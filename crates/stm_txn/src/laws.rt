@@ -1,7 +1,8 @@
 //! The laws of transactions. Each function does nothing: its contract is the law.
 ghost use Rattle.stm_txn.specs.Advances.{KeysOfLeaseHang, AdvanceExpires};
 ghost use Rattle.stm_txn.specs.Effect.{BranchIsEffect};
-ghost use Rattle.stm_txn.specs.Laws.{WritesApply, FailedCompareReads, ReadsChangeNothing, NumberAloneIsWrong, ModCompares, NoneFailed, FailedHasItsPlace, HistoryGrows, LookUpIsTheState};
+ghost use Rattle.stm_txn.specs.PresentKeys.{PresentKeysAreListed};
+ghost use Rattle.stm_txn.specs.Laws.{WritesApply, BranchApplies, FailedCompareReads, ReadsChangeNothing, NumberAloneIsWrong, ModCompares, NoneFailed, FailedHasItsPlace, HistoryGrows, LookUpIsTheState};
 
 /// What a branch of puts and deletes of distinct keys changes is the effect of these writes.
 pub fn branch_is_effect()
@@ -13,6 +14,11 @@ pub fn branch_is_effect()
 /// something changes at the highest revision, else the writes without deletes of absent keys, as one revision.
 pub fn writes_apply()
     ensures { WritesApply }
+{}
+
+/// A branch of writes of distinct keys, with nothing compared, is refused and changes what such a transaction does.
+pub fn branch_applies()
+    ensures { BranchApplies }
 {}
 
 /// Where a compare fails and the failure list reads, the compare's place, its key's modification revision
@@ -66,4 +72,9 @@ pub fn advance_expires()
 /// far finds.
 pub fn look_up_is_the_state()
     ensures { LookUpIsTheState }
+{}
+
+/// The keys that are present, as they are computed from the history, are every ascending list of exactly these.
+pub fn present_keys_are_listed()
+    ensures { PresentKeysAreListed }
 {}

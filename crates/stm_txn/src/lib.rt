@@ -17,6 +17,7 @@ mod refused;
 pub mod short_list;
 pub mod store;
 pub mod txn;
+mod writes;
 
 pub use advance::{AdvanceRefused, Expired};
 pub use answer::{FailedCompare, OpAnswer, TxnAnswer};

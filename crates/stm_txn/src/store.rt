@@ -27,6 +27,7 @@ use crate::refusal::Refusal;
 use crate::refuse::find_refusal;
 use crate::refused::{find_grant_refusal, find_txn_refusal};
 use crate::txn::{Op, Txn};
+use crate::writes::{any_names_dead_lease, are_used_up, only_effective};
 use std::alloc::{AllocError, Global};
 use std::marker::Model;
 use stm_history::{Change, Sequence, Text};
@@ -156,7 +157,7 @@ impl Store {
     ghost use Rattle.stm_txn.specs.LeaseKeys.{deletions_of};
     ghost use Rattle.stm_txn.specs.Outcome.{with_changes, answer_of};
     ghost use Rattle.stm_txn.specs.Numbers.{AnswerFits, StatesFit, ExpiredFits, AllExpiredFit, EventsFit};
-    ghost use Rattle.stm_txn.specs.Standing.{opening, IsRefusalOf, ComesTo, refusal_of, transacted, granted, kept_alive, told, ended, revoked};
+    ghost use Rattle.stm_txn.specs.Standing.{opening, IsRefusalOf, ComesTo, refusal_of, transacted, made, written, granted, kept_alive, told, ended, revoked};
     ghost use Rattle.stm_txn.specs.Standing.{watched, polled, cancelled};
     ghost use Rattle.stm_watch.specs.declared.watched.Watched.TheVariants.{Key, Range};
     ghost use Rattle.stm_watch.specs.Calls.{IsNextPending};
@@ -360,6 +361,39 @@ impl Store {
         let _ids_are_in_range = self.leases.is_live(0);
         let answer = self.transact(txn)?;
         Ok(answer)
+    }
+
+    /// Makes writes of distinct keys, by those that change something.
+    fn make(&mut self, writes: Vec<Change>) -> Result<u64, Refusal>
+        requires { HasDistinctKeys writes.items }
+        ensures ok { IfOk result (λ revision. made self.old.standing writes.items ≡ Ok (record { answer = revision; next = self.new.standing })) }
+        ensures refused { IfErr result (IsRefusalOf (made self.old.standing writes.items)) }
+        ensures err { OnErr result (self.new ≡ self.old) }
+    {
+        if any_names_dead_lease(writes.as_slice(), &self.leases) {
+            return Err(Refusal::LeaseNotFound);
+        }
+        let changes = only_effective(writes, &self.keys);
+        if are_used_up(&self.keys, changes.as_slice()) {
+            return Err(Refusal::RevisionsUsedUp);
+        }
+        self.commit(changes)?;
+        let revision = self.keys.revision();
+        Ok(revision)
+    }
+
+    /// Makes writes of distinct keys as one step, with nothing compared and however many they are: the puts, and the
+    /// deletes of keys that are present, are one revision. Answers the revision after them.
+    ///
+    /// It is refused for the first of `LeaseNotFound` where one puts on a lease that is not live, `RevisionsUsedUp`
+    /// where something is to change at `HIGHEST_REVISION`, and `OutOfMemory` that holds, and then changes nothing.
+    /// (etcd's API reference, "Transaction"; that there is no bound of their number is this call's own.)
+    pub fn write(&mut self, writes: Vec<Change>) -> Result<u64, Refusal>
+        requires { HasDistinctKeys writes.items }
+        ensures step { ComesTo (written self.old.standing writes.items) result self.new.standing }
+        ensures err { OnErr result (self.new ≡ self.old) }
+    {
+        self.make(writes)
     }
 
     /// Grants a lease of the caller's id, for `ttl` seconds from the store's moment on.

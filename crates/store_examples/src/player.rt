@@ -7,6 +7,8 @@ ghost use Rattle.std.specs.Prelude.{◌≤◌};
 use crate::shown::{add_answer, show_state};
 use std::alloc::{AllocError, Global};
 use std::mem;
+use std::process::Abort;
+use std::test::Fail;
 use stm_txn::{
     Batch, Compare, Event, Expired, HIGHEST_REVISION, Keys, Op, OpAnswer, Order, Refusal,
     ShortList, Store, Target, Text, Txn, TxnAnswer,
@@ -57,7 +59,7 @@ pub struct Player {
     pub next: Txn,
 }
 
-pub fn empty_txn(alloc: Global) -> Txn {
+fn empty_txn(alloc: Global) -> Txn {
     Txn {
         compares: ShortList::new(alloc),
         success: ShortList::new(alloc),
@@ -213,7 +215,7 @@ pub fn del_of(alloc: Global, key: &str) -> Result<Op, AllocError> {
 }
 
 /// Adds an operation to the success list of the next transaction.
-fn add(
+pub fn add(
     alloc: Global,
     player: &mut Player,
     op: Result<Op, AllocError>,
@@ -349,10 +351,26 @@ pub fn open(alloc: Global, opening: u64) -> Result<Player, AllocError>
 }
 
 /// Takes the steps on a store that opens at a revision, and tells the answers.
-pub fn play(alloc: Global, opening: u64, steps: &[Step]) -> Result<String, AllocError>
+fn play(alloc: Global, opening: u64, steps: &[Step]) -> Result<String, AllocError>
     requires positive { 1 ≤ opening }
     requires bounded { opening ≤ HIGHEST_REVISION }
 {
     let mut player = open(alloc, opening)?;
     take_all(alloc, &mut player, steps)
+}
+
+/// Asserts what is told of the steps on a store that opens at a revision.
+pub fn is_told(
+    rt: &impl Abort,
+    alloc: Global,
+    opening: u64,
+    steps: &[Step],
+    expected: &str,
+) -> Result<(), Fail>
+    requires positive { 1 ≤ opening }
+    requires bounded { opening ≤ HIGHEST_REVISION }
+{
+    let told = play(alloc, opening, steps)?;
+    assert_eq!(rt; told.as_str(), expected);
+    Ok(())
 }

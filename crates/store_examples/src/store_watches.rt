@@ -1,7 +1,7 @@
 //! Worked examples of the watchers of a store, with ample memory. What is expected comes from the description of
 //! watches, and never from a run.
 
-use crate::player::{Step, play};
+use crate::player::{Step, is_told};
 use std::test::Fail;
 
 #[test]
@@ -25,12 +25,9 @@ fn three_watchers_of_one_store(rt: HostRuntime) -> Result<(), Fail> {
         Step::Watch("c", 9),
         Step::Poll(4, 5),
     ];
-    let told = play(rt.alloc(), 1, &steps)?;
-    assert_eq!(rt;
-        told.as_str(),
-        "1; 2; 3; none; true 2 put; true; done; 3; upto 0; 3; upto 2 PUT b 1/2/2/1/0; none; NoWatcher; NoWatcher; 4; upto 8; "
-    );
-    Ok(())
+    let expected =
+        "1; 2; 3; none; true 2 put; true; done; 3; upto 0; 3; upto 2 PUT b 1/2/2/1/0; none; NoWatcher; NoWatcher; 4; upto 8; ";
+    is_told(&rt, rt.alloc(), 1, &steps, expected)
 }
 
 #[test]
@@ -50,12 +47,9 @@ fn an_expiry_is_told_in_one_revision(rt: HostRuntime) -> Result<(), Fail> {
         Step::Poll(1, 10),
         Step::Next,
     ];
-    let told = play(rt.alloc(), 1, &steps)?;
-    assert_eq!(rt;
-        told.as_str(),
-        "done; done; true 2 put put; true 3 put; expired 1@3; 1; expired 2@4; 1; upto 4 DELETE a 4 DELETE b 4; none; "
-    );
-    Ok(())
+    let expected =
+        "done; done; true 2 put put; true 3 put; expired 1@3; 1; expired 2@4; 1; upto 4 DELETE a 4 DELETE b 4; none; ";
+    is_told(&rt, rt.alloc(), 1, &steps, expected)
 }
 
 #[test]
@@ -69,12 +63,9 @@ fn a_transaction_is_told_whole_and_in_its_order(rt: HostRuntime) -> Result<(), F
         Step::Poll(1, 1),
         Step::Poll(1, 1),
     ];
-    let told = play(rt.alloc(), 1, &steps)?;
-    assert_eq!(rt;
-        told.as_str(),
-        "1; true 2 put put put; upto 2 PUT c 1/2/2/1/0 PUT a 1/2/2/1/0 PUT b 1/2/2/1/0; upto 2; "
-    );
-    Ok(())
+    let expected =
+        "1; true 2 put put put; upto 2 PUT c 1/2/2/1/0 PUT a 1/2/2/1/0 PUT b 1/2/2/1/0; upto 2; ";
+    is_told(&rt, rt.alloc(), 1, &steps, expected)
 }
 
 // A transaction that changes nothing, and a lease that ends without keys, make no revision; a revocation with keys does.
@@ -101,11 +92,8 @@ fn what_changes_nothing_is_not_told(rt: HostRuntime) -> Result<(), Fail> {
         Step::WatchRange("", "b", 0),
         Step::Watch("a", 2),
     ];
-    let told = play(rt.alloc(), 1, &steps)?;
-    assert_eq!(rt;
-        told.as_str(),
+    let expected =
         "done; 1; 2; NoWatcher; true 1 get 1 null del 0; none; true 2 put; at 3; 1; upto 2 PUT a 1/2/2/1/1; \
-         upto 3 DELETE a 3; none; upto 3; EmptyKey; EmptyKey; 3; "
-    );
-    Ok(())
+         upto 3 DELETE a 3; none; upto 3; EmptyKey; EmptyKey; 3; ";
+    is_told(&rt, rt.alloc(), 1, &steps, expected)
 }

@@ -1,10 +1,10 @@
 //! Worked examples of the store, with ample memory. What is expected comes from the description of
 //! transactions and leases, and never from a run.
 
-use crate::player::{Player, Step, advance, commit, del_of, empty_txn, open, play, put_of};
+use crate::player::{Player, Step, add, advance, commit, del_of, is_told, open, put_of};
 use std::alloc::{AllocError, Global};
 use std::test::Fail;
-use stm_txn::{Store, Txn};
+use stm_txn::Store;
 
 #[test]
 fn compares_pick_the_branch(rt: HostRuntime) -> Result<(), Fail> {
@@ -22,12 +22,8 @@ fn compares_pick_the_branch(rt: HostRuntime) -> Result<(), Fail> {
         Step::IfValueIsNot("zz", "q"),
         Step::Commit,
     ];
-    let told = play(rt.alloc(), 1, &steps)?;
-    assert_eq!(rt;
-        told.as_str(),
-        "true 2 put get 2 1/2/2/1/0 del 0; false 2 get 2 1/2/2/1/0; false 2; "
-    );
-    Ok(())
+    let expected = "true 2 put get 2 1/2/2/1/0 del 0; false 2 get 2 1/2/2/1/0; false 2; ";
+    is_told(&rt, rt.alloc(), 1, &steps, expected)
 }
 
 #[test]
@@ -44,12 +40,8 @@ fn a_second_delete_deletes_nothing(rt: HostRuntime) -> Result<(), Fail> {
         Step::Del("a"),
         Step::Commit,
     ];
-    let told = play(rt.alloc(), 1, &steps)?;
-    assert_eq!(rt;
-        told.as_str(),
-        "true 2 put; DuplicateKey; true 3 del 1 del 0; true 3 del 0; "
-    );
-    Ok(())
+    let expected = "true 2 put; DuplicateKey; true 3 del 1 del 0; true 3 del 0; ";
+    is_told(&rt, rt.alloc(), 1, &steps, expected)
 }
 
 #[test]
@@ -68,12 +60,8 @@ fn the_past_is_read_and_the_future_refused(rt: HostRuntime) -> Result<(), Fail> 
         Step::Put("b", "1", 0),
         Step::Commit,
     ];
-    let told = play(rt.alloc(), 1, &steps)?;
-    assert_eq!(rt;
-        told.as_str(),
-        "true 2 put; true 3 del 1; FutureRevision; true 3 get 3 1/2/2/1/0; EmptyKey; "
-    );
-    Ok(())
+    let expected = "true 2 put; true 3 del 1; FutureRevision; true 3 get 3 1/2/2/1/0; EmptyKey; ";
+    is_told(&rt, rt.alloc(), 1, &steps, expected)
 }
 
 #[test]
@@ -90,12 +78,9 @@ fn a_moved_key_expires_with_its_new_lease(rt: HostRuntime) -> Result<(), Fail> {
         Step::Advance(10),
         Step::Events(4),
     ];
-    let told = play(rt.alloc(), 1, &steps)?;
-    assert_eq!(rt;
-        told.as_str(),
-        "done; done; true 2 put put; true 3 put; expired 1@3; expired 2@4; events DELETE a DELETE b; "
-    );
-    Ok(())
+    let expected =
+        "done; done; true 2 put put; true 3 put; expired 1@3; expired 2@4; events DELETE a DELETE b; ";
+    is_told(&rt, rt.alloc(), 1, &steps, expected)
 }
 
 #[test]
@@ -106,12 +91,8 @@ fn nothing_changes_at_the_highest_revision(rt: HostRuntime) -> Result<(), Fail> 
         Step::Get("a", 0),
         Step::Commit,
     ];
-    let told = play(rt.alloc(), 9223372036854775806, &steps)?;
-    assert_eq!(rt;
-        told.as_str(),
-        "RevisionsUsedUp; true 9223372036854775806 get 9223372036854775806 null; "
-    );
-    Ok(())
+    let expected = "RevisionsUsedUp; true 9223372036854775806 get 9223372036854775806 null; ";
+    is_told(&rt, rt.alloc(), 9223372036854775806, &steps, expected)
 }
 
 #[test]
@@ -127,13 +108,9 @@ fn grants_and_renewals_are_refused_in_order(rt: HostRuntime) -> Result<(), Fail>
         Step::Keep(3),
         Step::Revoke(3),
     ];
-    let told = play(rt.alloc(), 1, &steps)?;
-    assert_eq!(rt;
-        told.as_str(),
-        "LeaseIdOutOfRange; TtlOutOfRange; done; LeaseExists; LeaseNotFound; expired; \
-         TimeGoesBack expired; done; at 1; "
-    );
-    Ok(())
+    let expected = "LeaseIdOutOfRange; TtlOutOfRange; done; LeaseExists; LeaseNotFound; expired; \
+         TimeGoesBack expired; done; at 1; ";
+    is_told(&rt, rt.alloc(), 1, &steps, expected)
 }
 
 #[test]
@@ -150,13 +127,10 @@ fn an_advance_stops_where_the_revisions_end(rt: HostRuntime) -> Result<(), Fail>
         Step::Look("b"),
         Step::Advance(5),
     ];
-    let told = play(rt.alloc(), 9223372036854775804, &steps)?;
-    assert_eq!(rt;
-        told.as_str(),
+    let expected =
         "done; done; true 9223372036854775805 put put; RevisionsUsedUp expired 1@9223372036854775806; \
-         false; true; b 1/9223372036854775805/9223372036854775805/1/2 leases 1; RevisionsUsedUp expired; "
-    );
-    Ok(())
+         false; true; b 1/9223372036854775805/9223372036854775805/1/2 leases 1; RevisionsUsedUp expired; ";
+    is_told(&rt, rt.alloc(), 9223372036854775804, &steps, expected)
 }
 
 #[test]
@@ -171,34 +145,35 @@ fn due_leases_end_by_moment_and_then_by_id(rt: HostRuntime) -> Result<(), Fail> 
         Step::Commit,
         Step::Advance(20),
     ];
-    let told = play(rt.alloc(), 1, &steps)?;
-    assert_eq!(rt;
-        told.as_str(),
-        "done; done; done; true 2 put put put; expired 2@3 3@4 1@5; "
-    );
-    Ok(())
+    let expected = "done; done; done; true 2 put put put; expired 2@3 3@4 1@5; ";
+    is_told(&rt, rt.alloc(), 1, &steps, expected)
+}
+
+/// The counter of a new store, and the number of its live leases.
+fn told_new(alloc: Global) -> Result<String, AllocError> {
+    let store = Store::new(alloc)?;
+    format!(in alloc; "{} {}", store.keys().revision(), store.lease_count())
 }
 
 #[test]
 fn a_new_store_opens_at_one(rt: HostRuntime) -> Result<(), Fail> {
-    let store = Store::new(rt.alloc())?;
-    assert_eq!(rt; store.keys().revision(), 1);
-    assert_eq!(rt; store.lease_count(), 0);
+    let told = told_new(rt.alloc())?;
+    assert_eq!(rt; told.as_str(), "1 0");
     Ok(())
 }
 
-/// A transaction that puts "a" and deletes "b".
-fn put_and_deletion(alloc: Global) -> Result<Txn, AllocError> {
-    let mut txn = empty_txn(alloc);
-    txn.success.push(put_of(alloc, "a", "1", 0)?)?;
-    txn.success.push(del_of(alloc, "b")?)?;
-    Ok(txn)
+/// Puts a copy of the next transaction in its place.
+fn copy_next(player: &mut Player) -> Result<(), AllocError> {
+    let copy = player.next.clone()?;
+    player.next = copy;
+    Ok(())
 }
 
-/// What a copy of a transaction comes to, and the moment at which it ran.
+/// What a copy of a transaction comes to, which puts "a" and deletes "b", and the moment at which it ran.
 fn commit_copy(alloc: Global, player: &mut Player) -> Result<String, AllocError> {
-    let txn = put_and_deletion(alloc)?;
-    player.next = txn.clone()?;
+    add(alloc, player, put_of(alloc, "a", "1", 0))?;
+    add(alloc, player, del_of(alloc, "b"))?;
+    copy_next(player)?;
     let answer = commit(alloc, player)?;
     format!(in alloc; "{answer}; {}", player.store.moment())
 }

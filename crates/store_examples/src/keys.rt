@@ -14,9 +14,11 @@ use stm_keys::{ApplyRefusal, Change, HIGHEST_REVISION, Keys, Text};
 fn put_of(alloc: Global, key: &str, value: &str) -> Result<Change, AllocError>
     ensures { IfOk result (λ change. change ≡ Change.Put key.now value.now 0) }
 {
+    let key = Text::copy_of(alloc, key)?;
+    let value = Text::copy_of(alloc, value)?;
     Ok(Change::Put {
-        key: Text::copy_of(alloc, key)?,
-        value: Text::copy_of(alloc, value)?,
+        key,
+        value,
         lease: 0,
     })
 }

@@ -55,9 +55,11 @@ fn show_batch(alloc: Global, batch: &Batch) -> Result<String, AllocError> {
 fn put_of(alloc: Global, key: &str) -> Result<Change, AllocError>
     ensures { IfOk result (λ change. change ≡ Change.Put key.now (codes "1") 0) }
 {
+    let key = Text::copy_of(alloc, key)?;
+    let value = Text::copy_of(alloc, "1")?;
     Ok(Change::Put {
-        key: Text::copy_of(alloc, key)?,
-        value: Text::copy_of(alloc, "1")?,
+        key,
+        value,
         lease: 0,
     })
 }

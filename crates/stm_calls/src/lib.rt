@@ -7,7 +7,7 @@ mod sending;
 mod sent;
 
 pub use fetching::fetch;
-pub use sending::commit;
+pub use sending::{commit, conflict};
 pub use sent::Sent;
 pub use stm_attempt::Ready;
 pub use stm_history::{ReadAnswer, Sequence, Text};

@@ -58,8 +58,9 @@ fn revision_seen(reads: &ReadSet, writes: &WriteBuffer, place: usize) -> u64
     }
 }
 
-/// A failed compare, as it is told.
-fn conflict(
+/// What is told of a commit of which a compare failed: the key that it is about, what was seen of it, its modification
+/// revision now, and what was read again. Want of memory is its only refusal.
+pub fn conflict(
     alloc: Global,
     reads: &ReadSet,
     writes: &WriteBuffer,

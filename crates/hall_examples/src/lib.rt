@@ -1,0 +1,9 @@
+//! Worked examples of halls, by their public calls.
+//!
+//! This crate has no code but tests, as `stm_examples`.
+#![tactic(auto)]
+
+#[cfg(test)]
+mod expiries;
+#[cfg(test)]
+mod verdicts;

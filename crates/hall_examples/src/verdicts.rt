@@ -1,0 +1,258 @@
+//! What a hall says to a fetch of a caller that has seen more, and to attempts that read what it has or has not. What is
+//! expected comes from the rules of fetches and commits, and never from a run.
+//!
+//! In each example the store puts "a" as "1" at revision 2.
+ghost use Rattle.std.specs.Prelude.{◌≡◌, ◌≤◌, IfOk};
+ghost use Rattle.stm_history.specs.declared.revisions.TheConstants.{HIGHEST_NUMBER};
+ghost use Rattle.stm_txn.specs.Numbers.{ReadFits};
+ghost use Rattle.stm_hall.specs.Fetching.{OnlyReads};
+
+use serde_json::Value as Json;
+use std::alloc::{AllocError, Global};
+use std::test::Fail;
+use stm_attempt::{Attempt, Next};
+use stm_hall::{CommitRefusal, FetchRefusal, Hall, Ready, Verdict};
+use stm_history::{KeyState, ReadAnswer, Text};
+use stm_program::{Level, Program};
+use stm_program_json::read_program;
+use stm_txn::{Op, OpAnswer, Refusal, ShortList, Store, Txn, TxnAnswer};
+
+/// Puts "a" as "1".
+fn put_a(alloc: Global, store: &mut Store) -> Result<(), Refusal> {
+    let mut success = ShortList::new(alloc);
+    success.push(Op::Put {
+        key: Text::copy_of(alloc, "a")?,
+        value: Text::copy_of(alloc, "1")?,
+        lease: 0,
+    })?;
+    let put = Txn {
+        compares: ShortList::new(alloc),
+        success,
+        failure: ShortList::new(alloc),
+    };
+    let _answer = store.txn(&put)?;
+    Ok(())
+}
+
+/// A hall over a store in which "a" was put as "1".
+fn hall_with_a(alloc: Global) -> Result<Hall, Fail> {
+    let mut store = Store::new(alloc)?;
+    match put_a(alloc, &mut store) {
+        Ok(()) => Ok(Hall::new(alloc, store)),
+        Err(refusal) => Err(refusal.into()),
+    }
+}
+
+/// A read of "a" as it is now.
+fn read_of_a(alloc: Global) -> Result<Txn, AllocError>
+    ensures { IfOk result OnlyReads }
+{
+    let mut success = ShortList::new(alloc);
+    success.push(Op::Get {
+        key: Text::copy_of(alloc, "a")?,
+        rev: 0,
+    })?;
+    Ok(Txn {
+        compares: ShortList::new(alloc),
+        success,
+        failure: ShortList::new(alloc),
+    })
+}
+
+fn show_state(alloc: Global, kv: &Option<KeyState>) -> Result<String, AllocError> {
+    match kv {
+        None => String::from_str(alloc, "absent"),
+        Some(state) => format!(in alloc; "{}@{}", state.value.as_str(), state.mod_rev),
+    }
+}
+
+fn show_read(alloc: Global, answer: &ReadAnswer) -> Result<String, AllocError> {
+    let state = show_state(alloc, &answer.kv)?;
+    format!(in alloc;
+        " {} {} at {} of {}",
+        answer.key.as_str(),
+        state.as_str(),
+        answer.of_rev,
+        answer.revision
+    )
+}
+
+fn show_answer(alloc: Global, answer: &TxnAnswer) -> Result<String, AllocError> {
+    let mut line = format!(in alloc; "{}:", answer.revision)?;
+    for op in answer.answers.as_slice() {
+        if let OpAnswer::Get(read) = op {
+            let shown = show_read(alloc, read)?;
+            line.push_str(shown.as_str())?;
+        }
+    }
+    Ok(line)
+}
+
+fn show_fetch(
+    alloc: Global,
+    fetched: Result<TxnAnswer, FetchRefusal>,
+) -> Result<String, AllocError> {
+    match fetched {
+        Ok(answer) => show_answer(alloc, &answer),
+        Err(FetchRefusal::Behind { seen, now }) => { format!(in alloc; "Behind {seen} {now}") }
+        Err(FetchRefusal::Store(cause)) => cause.to_string(alloc),
+    }
+}
+
+/// What the hall answers to a read of "a" by a caller that has seen a revision.
+fn tell_fetch(alloc: Global, hall: &mut Hall, seen: u64) -> Result<String, AllocError> {
+    let txn = read_of_a(alloc)?;
+    show_fetch(alloc, hall.fetch(seen, &txn))
+}
+
+/// The same, in a hall of its own.
+fn fetched(alloc: Global, seen: u64) -> Result<String, Fail> {
+    let mut hall = hall_with_a(alloc)?;
+    let told = tell_fetch(alloc, &mut hall, seen);
+    drop(hall);
+    Ok(told?)
+}
+
+#[test]
+fn a_hall_is_behind_what_was_seen_elsewhere(rt: HostRuntime) -> Result<(), Fail> {
+    assert_eq!(rt; fetched(rt.alloc(), 3)?.as_str(), "Behind 3 2");
+    Ok(())
+}
+
+#[test]
+fn a_hall_answers_who_has_seen_its_counter(rt: HostRuntime) -> Result<(), Fail> {
+    assert_eq!(rt; fetched(rt.alloc(), 2)?.as_str(), "2: a 1@2 at 2 of 2");
+    Ok(())
+}
+
+fn emit_a(alloc: Global) -> Result<Program, Fail> {
+    let value = Json::from_str(alloc, r#"[["emit",["get","a"]]]"#)?;
+    Ok(read_program(alloc, &value)?)
+}
+
+/// An answer of a key at revision 2, with this value and modification revision.
+fn answer(alloc: Global, key: Text, value: &str, mod_rev: u64) -> Result<ReadAnswer, AllocError>
+    requires { mod_rev ≤ 2 }
+    ensures named { IfOk result (λ answer. answer.key ≡ key) }
+    ensures in_range { IfOk result ReadFits }
+{
+    let value = Text::copy_of(alloc, value)?;
+    Ok(ReadAnswer {
+        key,
+        kv: Some(KeyState {
+            value,
+            create_rev: mod_rev,
+            mod_rev,
+            version: 1,
+            lease: 0,
+        }),
+        of_rev: 2,
+        revision: 2,
+    })
+}
+
+fn show_failure(
+    alloc: Global,
+    key: &Text,
+    seen: u64,
+    now: u64,
+    answers: &[ReadAnswer],
+) -> Result<String, AllocError> {
+    let mut line = format!(in alloc; "Failed {} seen {seen} now {now}:", key.as_str())?;
+    for read in answers {
+        let shown = show_read(alloc, read)?;
+        line.push_str(shown.as_str())?;
+    }
+    Ok(line)
+}
+
+fn show_verdict(
+    alloc: Global,
+    verdict: Result<Verdict, CommitRefusal>,
+) -> Result<String, AllocError> {
+    match verdict {
+        Ok(Verdict::Committed { index, revision }) => {
+            format!(in alloc; "Committed {index} {revision}")
+        }
+        Ok(
+            Verdict::Failed {
+                key,
+                seen,
+                now,
+                answers,
+            },
+        ) => show_failure(alloc, &key, seen, now, answers.as_slice()),
+        Err(CommitRefusal::Unvouched { key }) => { format!(in alloc; "Unvouched {}", key.as_str()) }
+        Err(CommitRefusal::Store(cause)) => cause.to_string(alloc),
+    }
+}
+
+/// An attempt that emits "a", once it was told this value and modification revision of it.
+fn attempted(alloc: Global, value: &str, mod_rev: u64) -> Result<Next, Fail>
+    requires { mod_rev ≤ 2 }
+{
+    let program = emit_a(alloc)?;
+    let mut attempt = Attempt::new(alloc, Level::Serializable);
+    match attempt.advance(&program)? {
+        Next::Fetch { key, .. } => {
+            attempt.supply(answer(alloc, key, value, mod_rev)?)?;
+            let next = attempt.advance(&program)?;
+            Ok(next)
+        }
+        other => Ok(other),
+    }
+}
+
+/// The verdict on an attempt, and how many entries the hall has then.
+fn tell_verdict(alloc: Global, hall: &mut Hall, ready: &Ready) -> Result<String, AllocError> {
+    let line = show_verdict(alloc, hall.commit(ready))?;
+    format!(in alloc; "{}; {} entries", line.as_str(), hall.entries().len())
+}
+
+/// The same, in a hall of its own.
+fn judged(alloc: Global, ready: &Ready) -> Result<String, Fail> {
+    let mut hall = hall_with_a(alloc)?;
+    let told = tell_verdict(alloc, &mut hall, ready);
+    drop(hall);
+    Ok(told?)
+}
+
+/// The verdict on an attempt that emits "a", and was told this of it.
+fn verdict(alloc: Global, value: &str, mod_rev: u64) -> Result<String, Fail>
+    requires { mod_rev ≤ 2 }
+{
+    match attempted(alloc, value, mod_rev)? {
+        Next::Ready(ready) => judged(alloc, &ready),
+        _ => {
+            let none = String::from_str(alloc, "no commit")?;
+            Ok(none)
+        }
+    }
+}
+
+#[test]
+fn a_value_that_the_store_has_not_is_unvouched(rt: HostRuntime) -> Result<(), Fail> {
+    assert_eq!(rt;
+        verdict(rt.alloc(), "9", 2)?.as_str(),
+        "Unvouched a; 0 entries"
+    );
+    Ok(())
+}
+
+#[test]
+fn an_older_modification_revision_fails(rt: HostRuntime) -> Result<(), Fail> {
+    assert_eq!(rt;
+        verdict(rt.alloc(), "9", 1)?.as_str(),
+        "Failed a seen 1 now 2: a 1@2 at 2 of 2; 0 entries"
+    );
+    Ok(())
+}
+
+#[test]
+fn what_the_store_has_commits(rt: HostRuntime) -> Result<(), Fail> {
+    assert_eq!(rt;
+        verdict(rt.alloc(), "1", 2)?.as_str(),
+        "Committed 0 2; 1 entries"
+    );
+    Ok(())
+}

@@ -1,0 +1,90 @@
+-- What a fetch answers, and that it changes nothing.
+use Rattle.std.proofs.Common.{◌≡◌, ◌⊎◌, inl, inr, ℕ, ◌<◌, ◌≤◌, List, [], ◌∷◌, Bool, true, false, cond, Option, Some, None, Result, Ok, Err, refl, sym, ◌∙◌, ap}
+use Rattle.std.proofs.Common.{subst, arith}
+use Rattle.std.proofs.lemmas.Bool.{lt-ltb, le-ltb}
+use Rattle.std.specs.Prelude.{nat_lt, IsOk}
+use Rattle.std.specs.List.{list_all}
+use Rattle.stm_history.specs.History.{History, now, key_now}
+use Rattle.stm_leases.specs.Live.{is_live_in}
+use Rattle.stm_txn.specs.declared.txn.Txn.{Txn}
+use Rattle.stm_txn.specs.declared.txn.Op.{Op}
+use Rattle.stm_txn.specs.declared.txn.Op.TheVariants.{Get, Put, Del}
+use Rattle.stm_txn.specs.declared.answer.TxnAnswer.{TxnAnswer}
+use Rattle.stm_txn.specs.declared.answer.FailedCompare.{FailedCompare}
+use Rattle.stm_txn.specs.declared.refusal.Refusal.{Refusal}
+use Rattle.stm_txn.specs.declared.refusal.Refusal.TheVariants.{OutOfMemory}
+use Rattle.stm_txn.specs.Branches.{Progress, begun, progress_after, changes_of_branch}
+use Rattle.stm_txn.specs.Compares.{first_failed}
+use Rattle.stm_txn.specs.Outcome.{Done, outcome, with_changes, chosen}
+use Rattle.stm_txn.specs.Standing.{Standing, IsRefusalOf, with_history, step_of, transacted}
+use Rattle.stm_txn.proofs.Applying.{branch_run, is_done}
+use Rattle.stm_hall.specs.declared.refusal.FetchRefusal.{FetchRefusal}
+use Rattle.stm_hall.specs.declared.refusal.FetchRefusal.TheVariants.{Behind, Store}
+use Rattle.stm_hall.specs.Fetching.{is_read, OnlyReads, answered, fetched, IsFetched}
+use Rattle.stm_hall.proofs.Sending.{IsAnswered, is_answered, answer_revision}
+
+-- ---- reads change nothing
+
+reads_keep : (h : History) (p : Progress) (ops : List Op) → list_all is_read ops ≡ true → progress_after h p ops ≡ p
+reads_keep h p [] all = refl
+reads_keep h p (Get key rev ∷ ops) all = reads_keep h p ops all
+reads_keep h p (Put key value lease ∷ ops) all = absurd (cc)
+reads_keep h p (Del key ∷ ops) all = absurd (cc)
+
+chosen_reads : (txn : Txn) (failed : Option FailedCompare) → OnlyReads txn → list_all is_read (chosen failed txn) ≡ true
+chosen_reads txn None reads = reads.success
+chosen_reads txn (Some failed) reads = reads.failure
+
+no_change : (h : History) (txn : Txn) → OnlyReads txn → with_changes h (changes_of_branch h (branch_run h txn)) ≡ h
+no_change h txn reads =
+    ap (λ (p : Progress). with_changes h p.changes)
+    (reads_keep h (begun h) (branch_run h txn) (chosen_reads txn (first_failed (key_now h) 0 txn.compares) reads))
+
+done_unchanged : (s next : Standing) (txn : Txn) (answer : TxnAnswer) (a : IsAnswered s next txn answer) → OnlyReads txn → a.done.history ≡ s.history
+done_unchanged s next txn answer a reads =
+    ap (λ (d : Done). d.history) (sym (is_done s.history (is_live_in s.live) txn a.done a.came).made) ∙ no_change s.history txn reads
+
+pub store_unchanged : (s next : Standing) (txn : Txn) (answer : TxnAnswer) → OnlyReads txn →
+    transacted s txn ≡ Ok record { answer = answer; next = next } → next ≡ s
+store_unchanged s next txn answer reads step =
+    let a : IsAnswered s next txn answer = is_answered s next txn answer step in
+    sym a.left ∙ ap (λ (h : History). with_history s h) (done_unchanged s next txn answer a reads)
+
+pub revision_unchanged : (s next : Standing) (txn : Txn) (answer : TxnAnswer) → OnlyReads txn →
+    transacted s txn ≡ Ok record { answer = answer; next = next } → answer.revision ≡ now s.history
+revision_unchanged s next txn answer reads step =
+    let a : IsAnswered s next txn answer = is_answered s next txn answer step in
+    sym (answer_revision s next txn answer a) ∙ ap now (done_unchanged s next txn answer a reads)
+
+-- ---- what is told
+
+-- the fetch by a caller that has seen more, and by another
+fetched_by : Standing → ℕ → Txn → Bool → Result TxnAnswer FetchRefusal
+fetched_by s seen txn behind =
+    cond behind (Err (Behind seen (now s.history))) (answered (outcome s.history (is_live_in s.live) txn))
+
+pub tells_behind : (s : Standing) (seen : ℕ) (txn : Txn) → now s.history < seen →
+    IsFetched (fetched s seen txn) (Err (Behind seen (now s.history)))
+unfolding fetched_by
+tells_behind s seen txn below = inl (ap (fetched_by s seen txn) (lt-ltb (now s.history) seen below))
+
+not_behind : (s : Standing) (seen : ℕ) (txn : Txn) → seen ≤ now s.history →
+    fetched s seen txn ≡ answered (outcome s.history (is_live_in s.live) txn)
+unfolding fetched_by
+not_behind s seen txn reached = ap (fetched_by s seen txn) (le-ltb (now s.history) seen reached)
+
+pub tells_answer : (s : Standing) (next : Standing) (seen : ℕ) (txn : Txn) (answer : TxnAnswer) → seen ≤ now s.history →
+    transacted s txn ≡ Ok record { answer = answer; next = next } → fetched s seen txn ≡ Ok answer
+tells_answer s next seen txn answer reached step =
+    let a : IsAnswered s next txn answer = is_answered s next txn answer step in
+    not_behind s seen txn reached ∙ ap answered a.came ∙ ap (λ (x : TxnAnswer). Ok x) a.answered
+
+refused_by : (s : Standing) (o : Result Done Refusal) (cause : Refusal) → IsRefusalOf (step_of s o) cause → IsFetched (answered o) (Err (Store cause))
+refused_by s (Ok done) cause is = inr (ap (λ (c : Refusal). Store c) is, refl)
+refused_by s (Err first) cause is = inl (ap (λ (c : Refusal). Err (Store c)) (sym is))
+
+pub tells_refused : (s : Standing) (seen : ℕ) (txn : Txn) (cause : Refusal) → seen ≤ now s.history →
+    IsRefusalOf (transacted s txn) cause → IsFetched (fetched s seen txn) (Err (Store cause))
+tells_refused s seen txn cause reached refused =
+    subst (λ (o : Result TxnAnswer FetchRefusal). IsFetched o (Err (Store cause))) (sym (not_behind s seen txn reached))
+    (refused_by s (outcome s.history (is_live_in s.live) txn) cause refused)

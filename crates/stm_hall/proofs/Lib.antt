@@ -1,0 +1,10 @@
+pub mod Opening
+pub mod VouchLemmas
+pub mod CommitEntries
+pub mod CallLemmas
+pub mod Sending
+pub mod FetchLemmas
+pub mod TurningDown
+pub mod Keeping
+pub mod StateLemmas
+pub mod WorkedExamples

@@ -1,0 +1,9 @@
+pub mod Codes
+pub mod HallState
+pub mod Locked
+pub mod Fetching
+pub mod Verdicts
+pub mod Entering
+pub mod StateOf
+pub mod Laws
+pub mod Names

@@ -1,0 +1,107 @@
+//! What the entry of a commit has, but for the revision after it.
+ghost use Rattle.std.specs.Prelude.{◌≡◌, IfOk};
+ghost use Rattle.stm_entries.specs.declared.entry.Entry.TheVariants.{Program as ProgramEntry};
+ghost use Rattle.stm_hall.specs.Verdicts.{answers_kept};
+
+use crate::vouching::is_comparing;
+use std::alloc::{AllocError, Global};
+use stm_attempt::{ReadSet, Ready};
+use stm_entries::Entry;
+use stm_history::{ReadAnswer, Sequence};
+use stm_meaning::{TraceItem, Value};
+use stm_program::{Level, Program};
+
+/// The copies that an entry keeps of an attempt, made before the commit is sent.
+#[derive(Debug, Drop)]
+pub(crate) struct Draft {
+    pub(crate) program: Program,
+    pub(crate) level: Level,
+    pub(crate) answers: Sequence<ReadAnswer>,
+    pub(crate) output: Sequence<Value>,
+    pub(crate) trace: Sequence<TraceItem>,
+}
+
+/// A copy of a program.
+fn copy_program(program: &Program) -> Result<Program, AllocError>
+    ensures { IfOk result (λ copy. copy ≡ program.now) }
+{
+    program.clone()
+}
+
+/// A copy of a run's output.
+fn copy_output(output: &Sequence<Value>) -> Result<Sequence<Value>, AllocError>
+    ensures { IfOk result (λ copy. copy ≡ output.now) }
+{
+    output.clone()
+}
+
+/// A copy of a run's trace.
+fn copy_trace(trace: &Sequence<TraceItem>) -> Result<Sequence<TraceItem>, AllocError>
+    ensures { IfOk result (λ copy. copy ≡ trace.now) }
+{
+    trace.clone()
+}
+
+/// A copy of what was read.
+fn copy_answers(answers: &ReadSet) -> Result<ReadSet, AllocError>
+    ensures { IfOk result (λ copy. copy ≡ answers.now) }
+{
+    answers.clone()
+}
+
+/// The answers that an entry keeps, copied: at ReadCommitted those that were read, else none.
+fn copy_kept(
+    alloc: Global,
+    level: Level,
+    answers: &ReadSet,
+) -> Result<Sequence<ReadAnswer>, AllocError>
+    ensures { IfOk result (λ copy. copy ≡ answers_kept level answers.now) }
+{
+    if is_comparing(level) {
+        return Ok(Sequence::new(alloc));
+    }
+    let copy = copy_answers(answers)?;
+    Ok(copy.into_answers())
+}
+
+/// Copies of what the entry of an attempt keeps.
+pub(crate) fn draft_of(alloc: Global, ready: &Ready) -> Result<Draft, AllocError>
+    ensures program { IfOk result (λ draft. draft.program ≡ ready.now.program) }
+    ensures level { IfOk result (λ draft. draft.level ≡ ready.now.level) }
+    ensures answers { IfOk result (λ draft. draft.answers ≡ answers_kept ready.now.level ready.now.answers) }
+    ensures output { IfOk result (λ draft. draft.output ≡ ready.now.output) }
+    ensures trace { IfOk result (λ draft. draft.trace ≡ ready.now.trace) }
+{
+    let program = copy_program(&ready.program)?;
+    let answers = copy_kept(alloc, ready.level, &ready.answers)?;
+    let output = copy_output(&ready.output)?;
+    let trace = copy_trace(&ready.trace)?;
+    Ok(Draft {
+        program,
+        level: ready.level,
+        answers,
+        output,
+        trace,
+    })
+}
+
+/// The entry of a commit, after which the store's revision is this. It takes no memory.
+pub(crate) fn entry_from(draft: Draft, revision: u64) -> Entry
+    ensures { result ≡ ProgramEntry draft.program draft.level draft.answers draft.output draft.trace revision }
+{
+    let Draft {
+        program,
+        level,
+        answers,
+        output,
+        trace,
+    } = draft;
+    Entry::Program {
+        program,
+        level,
+        answers,
+        output,
+        trace,
+        revision,
+    }
+}

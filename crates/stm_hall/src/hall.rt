@@ -1,0 +1,145 @@
+//! The hall.
+ghost use Rattle.std.specs.Prelude.{◌≡◌, ◌≤◌, None, IfOk, IfErr};
+ghost use Rattle.stm_history.specs.History.{now};
+ghost use Rattle.stm_txn.specs.Numbers.{AnswerFits};
+ghost use Rattle.stm_hall.specs.HallState.{made_over};
+ghost use Rattle.stm_hall.specs.Locked.{IsLocked};
+ghost use Rattle.stm_hall.specs.Laws.{GoesOn};
+ghost use Rattle.stm_hall.specs.Fetching.{OnlyReads, fetched, IsFetched};
+ghost use Rattle.stm_hall.specs.Verdicts.{verdict_of, IsVerdict, CanGoOn};
+ghost use Rattle.stm_hall.specs.Entering.{made, IsMade, IsAdvanced, HasStopped};
+ghost use Rattle.stm_hall.specs.StateOf.{IsStateOf};
+
+use crate::log::Log;
+use crate::refusal::{CommitRefusal, FetchRefusal};
+use crate::state::state_of;
+use crate::verdict::Verdict;
+use std::alloc::{AllocError, Global};
+use std::marker::Model;
+use stm_attempt::Ready;
+use stm_entries::Entry;
+use stm_meaning::State;
+use stm_txn::{AdvanceRefused, Expired, Refusal, Store, Txn, TxnAnswer};
+
+/// A store that many callers commit to, one call after another, and what they changed of it.
+///
+/// Contracts see the store, the entries, and the counter that the store had when the hall was made. In every hall the
+/// entries replay from the opening state to the history and the live leases of now. The output and the trace of a
+/// committed program are those of its run alone on the store at its point, at `ReadCommitted` those of its run on the
+/// answers that it read.
+#[derive(Drop)]
+pub struct Hall {
+    alloc: Global,
+    log: Log,
+}
+
+impl Model for Hall {
+    ghost use Rattle.std.specs.Coded.{codes};
+    ghost use Rattle.stm_program.specs.Coding.{coded_program};
+    ghost use Rattle.stm_hall.specs.Codes.{coded_live};
+    ghost use Rattle.stm_hall.specs.HallState.{HallState};
+    ghost use Rattle.stm_hall.specs.Locked.{IsLocked};
+
+    ghost Value = { HallState };
+
+    ghost coded = { Prim.hlevel (codes, coded_program, coded_live) };
+
+    ghost view = { λ h. h.log };
+
+    ghost invariant = { λ h. IsLocked h.log };
+}
+
+impl Hall {
+    /// A hall over a store, which is its opening state. Nothing is entered yet. It takes no memory.
+    pub fn new(alloc: Global, store: Store) -> Hall
+        ensures { result ≡ made_over store.standing }
+    {
+        let start = store.keys().revision();
+        let log = Log {
+            store,
+            entries: Vec::new(alloc),
+            start,
+        };
+        Hall { alloc, log }
+    }
+
+    /// Answers a transaction of reads, for a caller that has seen this revision in an answer, 0 for none.
+    ///
+    /// `Behind` is answered exactly where the store's counter is below it, so no answer carries a revision below what
+    /// the caller has seen; a read that names a revision may show an older one. Otherwise it is refused as the
+    /// store's `txn` refuses it. It changes nothing, refused or not. (etcd's API reference, "Range".)
+    pub fn fetch(&mut self, seen: u64, txn: &Txn) -> Result<TxnAnswer, FetchRefusal>
+        requires { OnlyReads txn.now }
+        ensures answer { IsFetched (fetched self.old.standing seen txn.now) result }
+        ensures seen { IfOk result (λ answer. seen ≤ answer.revision) }
+        ensures numbers { IfOk result AnswerFits }
+        ensures same { self.new ≡ self.old }
+    {
+        self.log.fetch(seen, txn)
+    }
+
+    /// Commits an attempt that is ready, by one transaction.
+    ///
+    /// `Committed` says that no compare failed and the writes are applied; the attempt is an entry, whose place is told.
+    /// `Failed` says that a compare failed, and the hall is as it was. Its answers may be prefetched for the next
+    /// attempt.
+    ///
+    /// A refusal leaves the hall as it was too. `TooManyOps` and `EmptyKey`: the transaction is wrong as a whole. Where no
+    /// compare fails, at a level that compares: `Unvouched`, for the first read whose value is not the store's, an absent
+    /// key having "". Then `LeaseNotFound`: a put names a lease that is not live; then `RevisionsUsedUp`: something would
+    /// change at the highest revision. `OutOfMemory` may come before each of these. (The Go package
+    /// `clientv3/concurrency`, "STM"; `Unvouched` and the order of the refusals are this hall's own.)
+    pub fn commit(&mut self, ready: &Ready) -> Result<Verdict, CommitRefusal>
+        ensures verdict { IsVerdict (verdict_of self.old ready.now) self.old result self.new }
+        ensures answers { IfOk result CanGoOn }
+        ensures goes_on { GoesOn self.old self.new }
+    {
+        self.log.commit(self.alloc, ready)
+    }
+
+    /// Makes a transaction of another client, which is an entry where it changed something.
+    ///
+    /// It is refused as the store's `txn` refuses it, and then the hall is as it was. Want of memory is told only of a
+    /// transaction that the store takes.
+    pub fn foreign(&mut self, txn: &Txn) -> Result<TxnAnswer, Refusal>
+        ensures made { IsMade (made self.old txn.now) self.old result self.new }
+        ensures goes_on { GoesOn self.old self.new }
+    {
+        self.log.make_txn(txn)
+    }
+
+    /// Sets the moment, and ends the leases that are due, each with its keys, as the store's `advance` does. Each is an
+    /// entry.
+    ///
+    /// `TimeGoesBack` changes nothing. On `RevisionsUsedUp` the leases that expired stay expired, are told and are
+    /// entries, the rest stays due, and the moment is set. `OutOfMemory` leaves the hall so, or as it was.
+    pub fn advance(&mut self, moment: u64) -> Result<Vec<Expired>, AdvanceRefused>
+        ensures ok { IfOk result (λ expired. IsAdvanced self.old moment expired.items None self.new) }
+        ensures refused { IfErr result (λ stopped. HasStopped self.old moment stopped.expired stopped.cause self.new) }
+        ensures goes_on { GoesOn self.old self.new }
+    {
+        self.log.advance(self.alloc, moment)
+    }
+
+    /// The store's counter. It takes no memory.
+    pub fn revision(&self) -> u64
+        ensures { result ≡ now self.now.standing.history }
+    {
+        self.log.store.keys().revision()
+    }
+
+    /// What changed the store since the hall was made, the first first. It takes no memory.
+    pub fn entries(&self) -> &[Entry]
+        ensures entries { result.now ≡ self.now.entries }
+        ensures locked { IsLocked self.now }
+    {
+        self.log.entries.as_slice()
+    }
+
+    /// The state of the store's keys, as programs run on it. Want of memory is the only refusal.
+    pub fn state(&self) -> Result<State, AllocError>
+        ensures { IfOk result (λ state. IsStateOf self.now.standing.history state) }
+    {
+        state_of(self.alloc, self.log.store.keys())
+    }
+}

@@ -1,0 +1,27 @@
+//! The hall: a store that many callers commit to, one call after another, and what they changed of it.
+//!
+//! A hall is what stands behind the one lock of a run on several threads. A caller evaluates its program by itself; it
+//! comes to the hall for the answer to a fetch, and with an attempt that is ready to commit. The hall keeps what
+//! changed its store as entries, which replay to the store as it is now.
+#![tactic(auto)]
+
+mod calls;
+mod committing;
+mod drafts;
+pub mod hall;
+pub mod laws;
+mod log;
+pub mod refusal;
+mod state;
+pub mod verdict;
+mod vouching;
+
+pub use hall::Hall;
+pub use refusal::{CommitRefusal, FetchRefusal};
+pub use stm_attempt::Ready;
+pub use stm_entries::Entry;
+pub use stm_history::{ReadAnswer, Sequence, Text};
+pub use stm_meaning::{State, TraceItem, Value};
+pub use stm_program::{Level, Program};
+pub use stm_txn::{AdvanceRefused, Expired, Refusal, Store, Txn, TxnAnswer};
+pub use verdict::Verdict;

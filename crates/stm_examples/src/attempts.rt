@@ -6,23 +6,24 @@ ghost use Rattle.stm_txn.specs.Numbers.{ReadFits};
 ghost use Rattle.stm_attempt.specs.Known.{HaveDistinctKeys};
 ghost use Rattle.stm_attempt.specs.Fetches.{ShowOneRevision};
 
-use serde_json::Value as Json;
+use crate::programs::program_of;
 use std::alloc::{AllocError, Global};
 use std::test::Fail;
 use stm_attempt::{Attempt, Next, Ready};
 use stm_history::{KeyState, ReadAnswer, Sequence, Text};
 use stm_meaning::Value;
-use stm_program::{Level, Program};
-use stm_program_json::read_program;
+use stm_program::Level;
 
 /// "a" has the value "1" since revision 2, and was read at revision 5.
 fn read_of_a(alloc: Global) -> Result<ReadAnswer, AllocError>
     ensures { IfOk result ReadFits }
 {
+    let key = Text::copy_of(alloc, "a")?;
+    let value = Text::copy_of(alloc, "1")?;
     Ok(ReadAnswer {
-        key: Text::copy_of(alloc, "a")?,
+        key,
         kv: Some(KeyState {
-            value: Text::copy_of(alloc, "1")?,
+            value,
             create_rev: 2,
             mod_rev: 2,
             version: 1,
@@ -70,11 +71,6 @@ fn show_next(alloc: Global, next: Next) -> Result<String, AllocError> {
     }
 }
 
-fn emit_b_and_a(alloc: Global) -> Result<Program, Fail> {
-    let value = Json::from_str(alloc, r#"[["emit",["get","b"]],["emit",["get","a"]]]"#)?;
-    Ok(read_program(alloc, &value)?)
-}
-
 fn absent(key: Text, revision: u64) -> ReadAnswer
     requires { revision ≤ HIGHEST_NUMBER }
     ensures named { result.key ≡ key }
@@ -88,11 +84,13 @@ fn absent(key: Text, revision: u64) -> ReadAnswer
     }
 }
 
+const EMIT_B_AND_A: &str = r#"[["emit",["get","b"]],["emit",["get","a"]]]"#;
+
 /// What the attempt answers at first, and then once it has taken that the wanted key is absent at a revision.
 fn told(alloc: Global, revision: u64) -> Result<String, Fail>
     requires { revision ≤ HIGHEST_NUMBER }
 {
-    let program = emit_b_and_a(alloc)?;
+    let program = program_of(alloc, EMIT_B_AND_A)?;
     let mut attempt = Attempt::from_prefetch(alloc, Level::Serializable, prefetched(alloc)?)?;
     match attempt.advance(&program)? {
         Next::Fetch { key, at } => {

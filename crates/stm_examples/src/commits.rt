@@ -1,5 +1,8 @@
 //! The transaction that commits one attempt, at each level. What is expected comes from the rules of compares and of the
 //! lists at each level, and never from a run.
+ghost use Rattle.std.specs.Prelude.{IfOk};
+ghost use Rattle.stm_txn.specs.Numbers.{ReadFits};
+
 use std::alloc::{AllocError, Global};
 use std::test::Fail;
 use stm_compile::{ReadSet, WriteBuffer, compile};
@@ -7,17 +10,16 @@ use stm_history::{KeyState, ReadAnswer, Text};
 use stm_program::{Level, Write};
 use stm_txn::{Compare, Op, Order, Target, Txn};
 
-fn key(alloc: Global, name: &str) -> Result<Text, AllocError> {
-    Text::copy_of(alloc, name)
-}
-
-/// One answer: "a" was put at revision 2, and read then.
-fn read_of_a(alloc: Global) -> Result<ReadSet, AllocError> {
-    let mut reads = ReadSet::new(alloc);
-    reads.add(ReadAnswer {
-        key: key(alloc, "a")?,
+/// "a" was put at revision 2, and read then.
+fn answer_of_a(alloc: Global) -> Result<ReadAnswer, AllocError>
+    ensures { IfOk result ReadFits }
+{
+    let key = Text::copy_of(alloc, "a")?;
+    let value = Text::copy_of(alloc, "1")?;
+    Ok(ReadAnswer {
+        key,
         kv: Some(KeyState {
-            value: key(alloc, "1")?,
+            value,
             create_rev: 2,
             mod_rev: 2,
             version: 1,
@@ -25,21 +27,39 @@ fn read_of_a(alloc: Global) -> Result<ReadSet, AllocError> {
         }),
         of_rev: 2,
         revision: 2,
-    })?;
+    })
+}
+
+/// The one answer.
+fn read_of_a(alloc: Global) -> Result<ReadSet, AllocError> {
+    let answer = answer_of_a(alloc)?;
+    let mut reads = ReadSet::new(alloc);
+    reads.add(answer)?;
     Ok(reads)
+}
+
+fn put_of(alloc: Global, key: &str, value: &str) -> Result<Write, AllocError> {
+    let key = Text::copy_of(alloc, key)?;
+    let value = Text::copy_of(alloc, value)?;
+    Ok(Write::Put {
+        key,
+        value,
+        lease: 0,
+    })
+}
+
+fn deletion_of(alloc: Global, key: &str) -> Result<Write, AllocError> {
+    let key = Text::copy_of(alloc, key)?;
+    Ok(Write::Del { key })
 }
 
 /// "b" is put, and then "a" is deleted.
 fn two_writes(alloc: Global) -> Result<WriteBuffer, AllocError> {
+    let put = put_of(alloc, "b", "9")?;
+    let deletion = deletion_of(alloc, "a")?;
     let mut writes = WriteBuffer::new(alloc);
-    writes.write(Write::Put {
-        key: key(alloc, "b")?,
-        value: key(alloc, "9")?,
-        lease: 0,
-    })?;
-    writes.write(Write::Del {
-        key: key(alloc, "a")?,
-    })?;
+    writes.write(put)?;
+    writes.write(deletion)?;
     Ok(writes)
 }
 

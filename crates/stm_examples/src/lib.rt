@@ -13,4 +13,6 @@ mod meaning;
 #[cfg(test)]
 mod program;
 #[cfg(test)]
+mod programs;
+#[cfg(test)]
 mod worlds;

@@ -1,5 +1,6 @@
 //! Worked programs, by their ends, outputs and effects. What is expected comes from the description of the
 //! language, and never from a run.
+use crate::programs::program_of;
 use std::alloc::{AllocError, Global};
 use std::test::Fail;
 use stm_history::Text;
@@ -8,12 +9,6 @@ use stm_meaning::{
     run_answered,
 };
 use stm_program::{Program, Write};
-use stm_program_json::read_program;
-
-fn program(alloc: Global, text: &str) -> Result<Program, Fail> {
-    let value = serde_json::Value::from_str(alloc, text)?;
-    Ok(read_program(alloc, &value)?)
-}
 
 /// The end of a run in words, and then each value that it emitted.
 fn described(alloc: Global, run: &Run) -> Result<String, AllocError> {
@@ -90,7 +85,7 @@ fn told_run(alloc: Global, program: &Program, state: &State) -> Result<String, A
 
 /// What is told of a program's run on the empty state.
 fn told_program(alloc: Global, text: &str) -> Result<String, Fail> {
-    let program = program(alloc, text)?;
+    let program = program_of(alloc, text)?;
     let state = State::new(alloc);
     Ok(told_run(alloc, &program, &state)?)
 }
@@ -148,7 +143,7 @@ fn told_effect(alloc: Global, program: &Program, state: &State) -> Result<String
 }
 
 fn told_transfer(alloc: Global, text: &str) -> Result<String, Fail> {
-    let program = program(alloc, text)?;
+    let program = program_of(alloc, text)?;
     let state = accounts(alloc)?;
     Ok(told_effect(alloc, &program, &state)?)
 }
@@ -215,7 +210,7 @@ fn told_want(alloc: Global, program: &Program) -> Result<String, AllocError> {
 }
 
 fn told_program_wants(alloc: Global, text: &str) -> Result<String, Fail> {
-    let program = program(alloc, text)?;
+    let program = program_of(alloc, text)?;
     Ok(told_want(alloc, &program)?)
 }
 

@@ -1,4 +1,5 @@
 //! Worked examples, and each public call once.
+use crate::programs::program_of;
 use serde_json::Value;
 use std::alloc::{AllocError, Global};
 use std::process::Abort;
@@ -132,11 +133,6 @@ fn is_fault(
     Ok(())
 }
 
-fn read(alloc: Global, text: &str) -> Result<Program, Fail> {
-    let value = Value::from_str(alloc, text)?;
-    Ok(read_program(alloc, &value)?)
-}
-
 fn written(alloc: Global, program: &Program) -> Result<String, Fail> {
     let value = write_program(alloc, program)?;
     Ok(value.to_string(alloc)?)
@@ -161,7 +157,7 @@ fn is_same_again(alloc: Global, program: &Program) -> Result<bool, Fail> {
 }
 
 fn is_read_again(rt: &impl Abort, alloc: Global, text: &str) -> Result<(), Fail> {
-    let program = read(alloc, text)?;
+    let program = program_of(alloc, text)?;
     assert_eq!(rt; written(alloc, &program)?.as_str(), text);
     assert_eq!(rt; written_again(alloc, &program)?.as_str(), text);
     assert!(rt; is_same_again(alloc, &program)?, "{text}");
@@ -222,7 +218,7 @@ fn emits(alloc: Global, times: usize, last: &str) -> Result<String, AllocError> 
 fn nodes_are_counted(rt: HostRuntime) -> Result<(), Fail> {
     let alloc = rt.alloc();
     let most = emits(alloc, 2047, "[\"emit\",1]")?;
-    let program = read(alloc, most.as_str())?;
+    let program = program_of(alloc, most.as_str())?;
     assert_eq!(rt; program.statements().len(), 2048);
     Ok(())
 }
@@ -282,16 +278,18 @@ fn programs_are_made_of_statements(rt: HostRuntime) -> Result<(), Fail> {
 #[test]
 fn puts_on_other_leases_are_other_programs(rt: HostRuntime) -> Result<(), Fail> {
     let alloc = rt.alloc();
-    let on_none = read(alloc, r#"[["put","k","v",0]]"#)?;
-    let on_one = read(alloc, r#"[["put","k","v",1]]"#)?;
+    let on_none = program_of(alloc, r#"[["put","k","v",0]]"#)?;
+    let on_one = program_of(alloc, r#"[["put","k","v",1]]"#)?;
     assert!(rt; on_none != on_one);
     Ok(())
 }
 
 fn key_put(alloc: Global, key: &str, value: &str) -> Result<Write, AllocError> {
+    let key = Text::copy_of(alloc, key)?;
+    let value = Text::copy_of(alloc, value)?;
     Ok(Write::Put {
-        key: Text::copy_of(alloc, key)?,
-        value: Text::copy_of(alloc, value)?,
+        key,
+        value,
         lease: 7,
     })
 }

@@ -1,25 +1,18 @@
 //! A worked example of a world, with ample memory. What is expected comes from the rules of runners, and never from a run.
 
-use serde_json::Value;
+use crate::programs::program_of;
 use std::alloc::{AllocError, Global};
 use std::test::Fail;
-use stm_program::{Level, Program};
-use stm_program_json::read_program;
+use stm_program::Level;
 use stm_retry::{World, WorldEvent};
 use stm_txn::Keys;
 
-/// A program that puts "a".
-fn put_program(alloc: Global) -> Result<Program, Fail> {
-    let value = Value::from_str(alloc, r#"[["put","a","1",0]]"#)?;
-    Ok(read_program(alloc, &value)?)
-}
-
-/// A world in which a program of one put ran.
-fn world_after_put(alloc: Global) -> Result<World, Fail> {
-    let mut world = World::new(alloc)?;
-    let runner = world.start(put_program(alloc)?, Level::ReadCommitted, 1)?;
+/// Runs a program of one put to its end.
+fn run_put(alloc: Global, world: &mut World) -> Result<(), Fail> {
+    let program = program_of(alloc, r#"[["put","a","1",0]]"#)?;
+    let runner = world.start(program, Level::ReadCommitted, 1)?;
     let _reply = world.step(&WorldEvent::Step { runner })?;
-    Ok(world)
+    Ok(())
 }
 
 /// The modification revision of a key, 0 where it is absent.
@@ -44,10 +37,20 @@ fn told_world(alloc: Global, world: &World) -> Result<String, AllocError> {
     )
 }
 
+fn told_after_put(alloc: Global, world: &mut World) -> Result<String, Fail> {
+    run_put(alloc, world)?;
+    Ok(told_world(alloc, world)?)
+}
+
+/// What a new world tells once a program of one put ran in it.
+fn told_put(alloc: Global) -> Result<String, Fail> {
+    let mut world = World::new(alloc)?;
+    told_after_put(alloc, &mut world)
+}
+
 #[test]
 fn a_world_tells_its_store(rt: HostRuntime) -> Result<(), Fail> {
-    let alloc = rt.alloc();
-    let world = world_after_put(alloc)?;
-    assert_eq!(rt; told_world(alloc, &world)?.as_str(), "2 1 2 0 1");
+    let told = told_put(rt.alloc())?;
+    assert_eq!(rt; told.as_str(), "2 1 2 0 1");
     Ok(())
 }

@@ -104,6 +104,19 @@ fn told_reads(
     Ok(told)
 }
 
+/// What is told of these changes, and then what a key was at these revisions.
+fn told_changes_and_reads(
+    alloc: Global,
+    keys: &mut Keys,
+    changes: &[(&str, &str)],
+    key: &str,
+    revisions: &[u64],
+) -> Result<String, AllocError> {
+    let changes = told_changes(alloc, keys, changes)?;
+    let reads = told_reads(alloc, keys, key, revisions)?;
+    format!(in alloc; "{changes}: {reads}")
+}
+
 /// What a key was at these revisions, after these changes of a store that opens at a revision.
 fn read_after(
     alloc: Global,
@@ -116,10 +129,7 @@ fn read_after(
     requires bounded { opening ≤ HIGHEST_REVISION }
 {
     let mut keys = Keys::with_revision(alloc, opening);
-    let mut told = told_changes(alloc, &mut keys, changes)?;
-    told.push_str(": ")?;
-    told.push_str(told_reads(alloc, &keys, key, revisions)?.as_str())?;
-    Ok(told)
+    told_changes_and_reads(alloc, &mut keys, changes, key, revisions)
 }
 
 #[test]
@@ -225,11 +235,21 @@ fn a_deletion_is_an_event(rt: HostRuntime) -> Result<(), Fail> {
     Ok(())
 }
 
+/// Two revisions of several changes each.
+fn add_larger_revisions(alloc: Global, keys: &mut Keys) -> Result<(), ApplyRefusal> {
+    put_three(alloc, keys)?;
+    replace(alloc, keys)?;
+    Ok(())
+}
+
+fn history_after_larger(alloc: Global, keys: &mut Keys) -> Result<String, ApplyRefusal> {
+    add_larger_revisions(alloc, keys)?;
+    Ok(told_history(alloc, keys)?)
+}
+
 fn told_larger_revisions(alloc: Global) -> Result<String, ApplyRefusal> {
     let mut keys = Keys::new(alloc);
-    put_three(alloc, &mut keys)?;
-    replace(alloc, &mut keys)?;
-    Ok(told_history(alloc, &keys)?)
+    history_after_larger(alloc, &mut keys)
 }
 
 #[test]
@@ -299,12 +319,21 @@ fn a_store_tells_its_present_keys(rt: HostRuntime) -> Result<(), Fail> {
     Ok(())
 }
 
+/// The number of present keys and what they are, after these changes.
+fn told_present_after(
+    alloc: Global,
+    keys: &mut Keys,
+    changes: &[(&str, &str)],
+) -> Result<String, AllocError> {
+    let _told = told_changes(alloc, keys, changes)?;
+    let present = told_present(alloc, keys)?;
+    format!(in alloc; "{}: {present}", keys.len())
+}
+
 /// The present keys after keys came, went and came again.
 fn told_after_changes(alloc: Global, changes: &[(&str, &str)]) -> Result<String, AllocError> {
     let mut keys = Keys::new(alloc);
-    told_changes(alloc, &mut keys, changes)?;
-    let present = told_present(alloc, &keys)?;
-    format!(in alloc; "{}: {present}", keys.len())
+    told_present_after(alloc, &mut keys, changes)
 }
 
 #[test]
@@ -327,19 +356,26 @@ fn keys_that_come_and_go_are_told_once(rt: HostRuntime) -> Result<(), Fail> {
     Ok(())
 }
 
-fn told_last_events(alloc: Global) -> Result<String, ApplyRefusal> {
-    let mut keys = Keys::new(alloc);
+/// The events of the last revision, in their order.
+fn told_last(alloc: Global, keys: &Keys) -> Result<String, AllocError> {
     let mut told = String::new(alloc);
     for event in keys.last_events() {
         told.push_str(show_event(alloc, event)?.as_str())?;
     }
-    told.push_str("| ")?;
-    put_three(alloc, &mut keys)?;
-    replace(alloc, &mut keys)?;
-    for event in keys.last_events() {
-        told.push_str(show_event(alloc, event)?.as_str())?;
-    }
     Ok(told)
+}
+
+/// The events of the last revision, of an empty store and then after two revisions.
+fn told_last_twice(alloc: Global, keys: &mut Keys) -> Result<String, ApplyRefusal> {
+    let before = told_last(alloc, keys)?;
+    add_larger_revisions(alloc, keys)?;
+    let after = told_last(alloc, keys)?;
+    Ok(format!(in alloc; "{before}| {after}")?)
+}
+
+fn told_last_events(alloc: Global) -> Result<String, ApplyRefusal> {
+    let mut keys = Keys::new(alloc);
+    told_last_twice(alloc, &mut keys)
 }
 
 #[test]

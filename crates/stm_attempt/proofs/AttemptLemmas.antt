@@ -1,5 +1,5 @@
 -- What the calls of an attempt leave, by what the code has at hand: the reads, how many of them are told, and how far the program has come.
-use Rattle.std.proofs.Common.{◌≡◌, refl, sym, ◌∙◌, ap, subst, ℕ, zero, suc, Bool, true, false, List, [], ◌∷◌, ◌++◌, ◌≤◌, length, take}
+use Rattle.std.proofs.Common.{◌≡◌, refl, sym, ◌∙◌, ap, subst, ℕ, zero, suc, true, false, List, [], ◌∷◌, ◌++◌, length, take}
 use Rattle.std.specs.Prelude.{Option, None, Some, is_none, IfSome}
 use Rattle.std.proofs.Math.Seq.{take-length}
 use Rattle.stm_history.specs.declared.key_state.ReadAnswer.{ReadAnswer}
@@ -13,9 +13,9 @@ use Rattle.stm_attempt.specs.Known.{known_of, serving}
 use Rattle.stm_attempt.specs.Settled.{run_on, wanted, settled}
 use Rattle.stm_attempt.specs.AttemptState.{AttemptState, advanced, supplied, awaited}
 use Rattle.stm_attempt.specs.Next.{next_after, next_of, key_asked}
-use Rattle.stm_attempt.specs.Progress.{HasCome, HasNotBegun, IsUnderWay, IsAttempt, Extends}
+use Rattle.stm_attempt.specs.Progress.{HasNotBegun, IsUnderWay, IsAttempt, Extends}
 use Rattle.stm_attempt.proofs.NextLemmas.{seen_as, wanted_by, asked_is_awaited, awaited_is_new}
-use Rattle.stm_attempt.proofs.ProgressLemmas.{nothing_ahead, front_stays, under_way, still_under_way, come_with_more}
+use Rattle.stm_attempt.proofs.ProgressLemmas.{nothing_ahead, front_stays, under_way, come_with_more}
 
 -- ---- whether there is a program
 

@@ -13,10 +13,10 @@ use Rattle.stm_meaning.specs.declared.run.Answered.TheVariants.{Ended, Wants}
 use Rattle.stm_meaning.specs.Answer.{Answer}
 use Rattle.stm_meaning.specs.Meaning.{answered}
 use Rattle.stm_meaning.specs.Laws.{AgreesWith}
-use Rattle.stm_machine.specs.State.{MachineState, started, key_asked, run_at}
+use Rattle.stm_machine.specs.State.{MachineState, key_asked, run_at}
 use Rattle.stm_machine.specs.Steps.{Stands}
 use Rattle.stm_machine.specs.Laws.{FinishAlike}
-use Rattle.stm_machine.proofs.StepLemmas.{starts, standing_at_a_key_wants_it, standing_at_no_key_has_run, ended_machines_have_run, wanted_key_is_unknown}
+use Rattle.stm_machine.proofs.StepLemmas.{standing_at_a_key_wants_it, standing_at_no_key_has_run, ended_machines_have_run, wanted_key_is_unknown}
 use Rattle.stm_compile.specs.Answers.{answer_in, said, look_up}
 use Rattle.stm_attempt.specs.Known.{known_of, serving}
 use Rattle.stm_attempt.specs.Settled.{run_on, wanted, answer_for, served, settled}
@@ -29,7 +29,7 @@ use Rattle.stm_attempt.specs.declared.progress.Progress.{Progress}
 use Rattle.stm_attempt.specs.declared.progress.Progress.TheVariants.{Fresh, Started, Ended as EndedProgress}
 use Rattle.stm_attempt.specs.Fetches.{at_of}
 use Rattle.stm_attempt.specs.Next.{next_at_end, next_after, next_of}
-use Rattle.stm_attempt.specs.Progress.{FinishesAs, HasCome, HasEnded, Extends, IsUnderWay, has_begun, has_ended, run_of_progress}
+use Rattle.stm_attempt.specs.Progress.{FinishesAs, HasCome, HasEnded, Extends, IsUnderWay, has_ended}
 use Rattle.stm_attempt.proofs.Unread.{unread, fewer, found_key}
 use Rattle.stm_attempt.proofs.SettleLemmas.{no_answer, for_new, settle_stays, what_serves_is_taken, settling_adds_prefetched}
 
@@ -52,9 +52,6 @@ pub knows_more : (reads : List ReadAnswer) (a : ReadAnswer) → AgreesWith (look
 knows_more reads a key c is = kept_said (answer_in key reads) (answer_in key (reads ++ a ∷ [])) c (λ b. kept_answer key reads a b) is
 
 -- ---- a machine that finishes as the run
-
-pub starts_as : (program : ProgramTree) (reads : List ReadAnswer) → FinishesAs program reads (started program.statements)
-starts_as program reads whole agree = starts whole program.statements
 
 pub still_finishes : (program : ProgramTree) (reads : List ReadAnswer) (m n : MachineState) → FinishesAs program reads m → FinishAlike (look_up reads) m n →
     FinishesAs program reads n
@@ -176,19 +173,6 @@ front_stays told before after within more =
     ap (λ (l : List ReadAnswer). take told l) more.follow ∙ take-append-le told before more.added within
 
 -- ---- where a program has come
-
-pub has_come_to_its_run : (program : ProgramTree) (reads : List ReadAnswer) (p : Progress) (run : Run) → HasCome program reads p →
-    run_of_progress p ≡ Some run → run_on program reads ≡ Ended run
-has_come_to_its_run program reads Fresh run come is = absurd (cc)
-has_come_to_its_run program reads (Started m) run come is = has_the_run program reads m run come is
-has_come_to_its_run program reads (EndedProgress r) run come is =
-    let same : r ≡ run = cc in
-    come ∙ ap (λ (x : Run). Ended x) same
-
-ended_run : (p : Progress) → HasEnded p → (run : Run) × (p ≡ EndedProgress run)
-ended_run Fresh ended = absurd ended
-ended_run (Started m) ended = absurd ended
-ended_run (EndedProgress run) ended = (run, refl)
 
 wants_none : (program : ProgramTree) (reads : List ReadAnswer) (p : Progress) → HasEnded p → HasCome program reads p → wanted (run_on program reads) ≡ None
 wants_none program reads Fresh ended come = absurd ended

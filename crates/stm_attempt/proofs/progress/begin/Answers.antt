@@ -1,4 +1,4 @@
-use Rattle.std.proofs.Common.{◌≡◌, ◌∙◌, ap}
+use Rattle.std.proofs.Common.{◌∙◌, ap}
 use Rattle.stm_meaning.specs.Meaning.{answered}
 use Rattle.stm_machine.specs.State.{MachineState}
 use Rattle.stm_machine.specs.Finish.{finish}

@@ -1,5 +1,5 @@
 use Rattle.std.proofs.Common.{rules, ◌≡◌, ◌∙◌, refl, sym, ap, subst, List}
-use Rattle.std.specs.Prelude.{ℕ, Option, Some}
+use Rattle.std.specs.Prelude.{ℕ, Some}
 use Rattle.stm_machine.specs.State.{key_asked}
 use Rattle.stm_attempt.specs.declared.progress.Progress.{Progress}
 use Rattle.stm_attempt.specs.Progress.{HasCome, HasEnded}

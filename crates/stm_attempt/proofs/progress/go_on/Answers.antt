@@ -1,4 +1,4 @@
-use Rattle.std.proofs.Common.{◌≡◌, ◌∙◌, sym, ap, subst}
+use Rattle.std.proofs.Common.{◌∙◌, sym, ap, subst}
 use Rattle.std.specs.Prelude.{ℕ}
 use Rattle.stm_attempt.specs.declared.progress.Progress.{Progress}
 use Rattle.stm_attempt.specs.declared.next.Next.TheVariants.{Fetch}
@@ -36,29 +36,25 @@ returns-in-Some-clause-next c =
     ∙ fetch_is c.args.program.now c.args.level c.come_to_fetch.new.reads (run_on c.args.program.now c.come_to_fetch.new.reads) c.in-Some.key
     (sym c.in-Some.is ∙ c.in_ok-wanted.ensures.key c.args.program.now (c.begin.ensures.come c.args.reads.now c.requires.come)))
 
-pub returns-in_err-next-clause-come : goal.returns-in_err-next-clause-come
-returns-in_err-next-clause-come c =
-    subst (λ (p : Progress). HasCome c.args.program.now c.come_to_fetch.new.reads p) (sym c.in_err-next.ensures.err)
+pub returns-in_err-next-in-None-clause-come : goal.returns-in_err-next-in-None-clause-come
+returns-in_err-next-in-None-clause-come c =
+    subst (λ (p : Progress). HasCome c.args.program.now c.come_to_fetch.new.reads p) (sym c.in_err-next-in-None.ensures.err)
     (c.come_to_fetch.ensures.come c.args.program.now (c.begin.ensures.come c.args.reads.now c.requires.come))
 
-pub returns-in_err-next-clause-settles : goal.returns-in_err-next-clause-settles
-returns-in_err-next-clause-settles c = c.come_to_fetch.ensures.settles c.args.program.now (c.begin.ensures.come c.args.reads.now c.requires.come)
+pub returns-in_err-next-in-None-clause-settles : goal.returns-in_err-next-in-None-clause-settles
+returns-in_err-next-in-None-clause-settles c = c.come_to_fetch.ensures.settles c.args.program.now (c.begin.ensures.come c.args.reads.now c.requires.come)
 
-pub returns-in-None-clause-come : goal.returns-in-None-clause-come
-returns-in-None-clause-come c =
-    subst (λ (p : Progress). HasCome c.args.program.now c.come_to_fetch.new.reads p) (sym c.in_ok-next.ensures.left) tt
+pub returns-in_ok-next-in-None-clause-settles : goal.returns-in_ok-next-in-None-clause-settles
+returns-in_ok-next-in-None-clause-settles c = c.come_to_fetch.ensures.settles c.args.program.now (c.begin.ensures.come c.args.reads.now c.requires.come)
 
-pub returns-in-None-clause-settles : goal.returns-in-None-clause-settles
-returns-in-None-clause-settles c = c.come_to_fetch.ensures.settles c.args.program.now (c.begin.ensures.come c.args.reads.now c.requires.come)
+pub returns-in_ok-next-in-None-clause-reads : goal.returns-in_ok-next-in-None-clause-reads
+returns-in_ok-next-in-None-clause-reads c = c.in_ok-wanted.ensures.reads c.args.program.now (c.begin.ensures.come c.args.reads.now c.requires.come)
 
-pub returns-in-None-clause-reads : goal.returns-in-None-clause-reads
-returns-in-None-clause-reads c = c.in_ok-wanted.ensures.reads c.args.program.now (c.begin.ensures.come c.args.reads.now c.requires.come)
-
-pub returns-in-None-clause-next : goal.returns-in-None-clause-next
-returns-in-None-clause-next c =
-    next_of_settled c.args.program.now c.args.level c.args.reads.now c.args.prefetched.now c.come_to_fetch.new.reads c.in_ok-next.next
+pub returns-in_ok-next-in-None-clause-next : goal.returns-in_ok-next-in-None-clause-next
+returns-in_ok-next-in-None-clause-next c =
+    next_of_settled c.args.program.now c.args.level c.args.reads.now c.args.prefetched.now c.come_to_fetch.new.reads c.in_ok-next-in-None.next
     (c.in_ok-wanted.ensures.reads c.args.program.now (c.begin.ensures.come c.args.reads.now c.requires.come))
-    (end_is c.args.program.now c.args.level c.come_to_fetch.new.reads c.come_to_fetch.new.progress c.in_ok-next.next
+    (end_is c.args.program.now c.args.level c.come_to_fetch.new.reads c.come_to_fetch.new.progress c.in_ok-next-in-None.next
     (c.in_ok-wanted.ensures.ended c.in-None.is)
     (c.come_to_fetch.ensures.come c.args.program.now (c.begin.ensures.come c.args.reads.now c.requires.come))
-    c.in_ok-next.ensures.next)
+    c.in_ok-next-in-None.ensures.next)

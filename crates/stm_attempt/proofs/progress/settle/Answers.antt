@@ -1,6 +1,5 @@
 use Rattle.std.proofs.Common.{◌≡◌, ◌∙◌, refl, sym, ap, List}
 use Rattle.std.specs.Prelude.{ℕ, Option, Some}
-use Rattle.stm_history.specs.declared.key_state.ReadAnswer.{ReadAnswer}
 use Rattle.stm_machine.specs.State.{key_asked}
 use Rattle.stm_attempt.specs.Known.{serving}
 use Rattle.stm_attempt.specs.Settled.{answer_for}

@@ -75,7 +75,8 @@ all_told told reads whole = ap (λ (n : ℕ). take n reads) whole ∙ take-lengt
 
 -- ---- what is answered, and what is left
 
-pub next_from : (program : ProgramTree) (old : AttemptState) (before : Option ProgramTree) (level : Level) (reads front prefetched : List ReadAnswer) (next : Next) →
+pub next_from : (program : ProgramTree) (old : AttemptState) (before : Option ProgramTree) (level : Level) (reads front prefetched : List ReadAnswer)
+    (next : Next) →
     seen_as before level front prefetched ≡ old → settled program (known_of reads prefetched) ≡ settled program (known_of front prefetched) →
     next ≡ next_of program level (known_of reads prefetched) → next ≡ next_of program old.level old.known
 next_from program old before level reads front prefetched next view ahead told =

@@ -3,8 +3,8 @@ use Rattle.stm_attempt.proofs.attempt.Attempt.supply.Goals as goal
 
 pub add-requires-clause-new_key : goal.add-requires-clause-new_key
 add-requires-clause-new_key c =
-    new_key c.args.self.now c.self.inside.program c.self.inside.level c.self.inside.reads c.self.inside.prefetched c.self.inside.told c.self.inside.progress c.args.answer.key
-    c.self.view_is c.requires.asked c.self.invariant.1
+    new_key c.args.self.now c.self.inside.program c.self.inside.level c.self.inside.reads c.self.inside.prefetched c.self.inside.told
+    c.self.inside.progress c.args.answer.key c.self.view_is c.requires.asked c.self.invariant.1
 
 pub invariant_of-self-2 : goal.invariant_of-self-2
 invariant_of-self-2 c = (

@@ -18,7 +18,7 @@ use stm_program::{Level, Program};
 /// Contracts see its program (`None` before the first `advance` that was not refused), its level, what it has
 /// read, and what was prefetched for it.
 ///
-/// It evaluates nothing twice: between two calls its program stands where it wants a key.
+/// Between two calls its program stands where it wants a key, and goes on from there.
 #[derive(Debug, Drop)]
 pub struct Attempt {
     program: Option<Program>,

@@ -8,10 +8,6 @@ use Rattle.stm_program.proofs.WriteLemmas.{bytes_eq-flip}
 use Rattle.stm_history.specs.declared.key_state.ReadAnswer.{ReadAnswer}
 use Rattle.stm_txn.specs.Numbers.{ReadFits}
 use Rattle.stm_compile.specs.Answers.{answer_in}
-use Rattle.stm_meaning.specs.declared.trace_item.TraceItem.{TraceItem}
-use Rattle.stm_meaning.specs.declared.run.Answered.{Answered}
-use Rattle.stm_meaning.specs.declared.run.Answered.TheVariants.{Wants}
-use Rattle.stm_attempt.specs.Settled.{wanted, answer_for}
 use Rattle.stm_attempt.specs.Known.{is_of_base, serving, HaveDistinctKeys}
 
 -- an answer that passes a test
@@ -63,22 +59,16 @@ unfolding passing
 serving_some key reads prefetched a b distinct some is =
     answer_in-filter (is_of_base reads) key prefetched distinct ∙ ap (passing (is_of_base reads)) some ∙ ap (λ (c : Bool). cond c (Some a) None) is
 
--- what serves the key that a run wants
-pub serves_none : (reads prefetched : List ReadAnswer) (key other : List ℕ) (x : Answered) (trace : List TraceItem) (o : Option ReadAnswer) →
-    x ≡ Wants key trace →
-    other ≡ key → HaveDistinctKeys prefetched → None ≡ answer_in other prefetched → o ≡ None → o ≡ answer_for (wanted x) (serving reads prefetched)
-serves_none reads prefetched key other x trace o wants same distinct none is =
-    is
-    ∙ sym (serving_none key reads prefetched distinct (ap (λ (k : List ℕ). answer_in k prefetched) (sym same) ∙ sym none))
-    ∙ ap (λ (y : Answered). answer_for (wanted y) (serving reads prefetched)) (sym wants)
+-- what serves a key, by what the code has at hand
+pub serves_none : (reads prefetched : List ReadAnswer) (key other : List ℕ) (o : Option ReadAnswer) → other ≡ key → HaveDistinctKeys prefetched →
+    None ≡ answer_in other prefetched → o ≡ None → o ≡ answer_in key (serving reads prefetched)
+serves_none reads prefetched key other o same distinct none is =
+    is ∙ sym (serving_none key reads prefetched distinct (ap (λ (k : List ℕ). answer_in k prefetched) (sym same) ∙ sym none))
 
-pub serves_some : (reads prefetched : List ReadAnswer) (key other : List ℕ) (x : Answered) (trace : List TraceItem) (a : ReadAnswer) (b : Bool) →
-    x ≡ Wants key trace →
-    other ≡ key → HaveDistinctKeys prefetched → Some a ≡ answer_in other prefetched → is_of_base reads a ≡ b →
-    cond b (Some a) None ≡ answer_for (wanted x) (serving reads prefetched)
-serves_some reads prefetched key other x trace a b wants same distinct some is =
+pub serves_some : (reads prefetched : List ReadAnswer) (key other : List ℕ) (a : ReadAnswer) (b : Bool) → other ≡ key → HaveDistinctKeys prefetched →
+    Some a ≡ answer_in other prefetched → is_of_base reads a ≡ b → cond b (Some a) None ≡ answer_in key (serving reads prefetched)
+serves_some reads prefetched key other a b same distinct some is =
     sym (serving_some key reads prefetched a b distinct (ap (λ (k : List ℕ). answer_in k prefetched) (sym same) ∙ sym some) is)
-    ∙ ap (λ (y : Answered). answer_for (wanted y) (serving reads prefetched)) (sym wants)
 
 -- ---- one after another
 

@@ -1,7 +1,8 @@
 pub mod Unread
 pub mod SettleLemmas
-pub mod SettleSteps
 pub mod BaseLemmas
 pub mod DistinctLemmas
 pub mod NextLemmas
+pub mod ProgressLemmas
+pub mod AttemptLemmas
 pub mod WorkedExamples

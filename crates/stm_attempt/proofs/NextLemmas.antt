@@ -76,7 +76,7 @@ chosen : (b : Bool) (k key : List ℕ) → cond b None (Some k) ≡ Some key →
 chosen true k key is = absurd (cc)
 chosen false k key is = is
 
-wanted_by : (answers : List ReadAnswer) (o : Option (List ℕ)) (key : List ℕ) → unserved answers o ≡ Some key → o ≡ Some key
+pub wanted_by : (answers : List ReadAnswer) (o : Option (List ℕ)) (key : List ℕ) → unserved answers o ≡ Some key → o ≡ Some key
 wanted_by answers None key is = absurd (cc)
 wanted_by answers (Some k) key is = chosen (is_some (answer_in k answers)) k key is
 
@@ -92,7 +92,7 @@ awaited_is_new attempt key is = awaited_by_new attempt.program attempt.level att
 
 -- ---- an advance, by what the code has at hand
 
-abbrev seen_as : Option ProgramTree → Level → List ReadAnswer → List ReadAnswer → AttemptState
+abbrev pub seen_as : Option ProgramTree → Level → List ReadAnswer → List ReadAnswer → AttemptState
 seen_as program level reads prefetched = record { program = program; level = level; known = known_of reads prefetched }
 
 pub next_is : (program : ProgramTree) (old : AttemptState) (before : Option ProgramTree) (level : Level) (reads prefetched : List ReadAnswer) (next : Next) →

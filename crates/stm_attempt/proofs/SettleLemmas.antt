@@ -18,7 +18,7 @@ use Rattle.stm_attempt.proofs.Unread.{unread, unread_small, fewer, found_key}
 
 -- ---- a wanted key has no answer
 
-no_answer : (o : Option ReadAnswer) → option_map said o ≡ None → o ≡ None
+pub no_answer : (o : Option ReadAnswer) → option_map said o ≡ None → o ≡ None
 no_answer None e = refl
 no_answer (Some a) e = absurd (cc)
 
@@ -36,7 +36,7 @@ wanted_is_new program reads key is = new_by program reads key (run_on program re
 
 -- ---- what is taken
 
-for_new : (o : Option (List ℕ)) (answers : List ReadAnswer) (a : ReadAnswer) → answer_for o answers ≡ Some a →
+pub for_new : (o : Option (List ℕ)) (answers : List ReadAnswer) (a : ReadAnswer) → answer_for o answers ≡ Some a →
     (key : List ℕ) × (o ≡ Some key) × (answer_in key answers ≡ Some a)
 for_new None answers a found = absurd (cc)
 for_new (Some key) answers a found = (key, refl, found)

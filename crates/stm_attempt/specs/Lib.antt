@@ -4,6 +4,7 @@ pub mod Fetches
 pub mod ReadyRun
 pub mod AttemptState
 pub mod Next
+pub mod Progress
 pub mod Laws
 pub use Rattle.stm_compile.specs.Levels
 pub use Rattle.stm_compile.specs.Answers

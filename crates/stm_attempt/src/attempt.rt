@@ -1,12 +1,12 @@
 //! Attempts.
-ghost use Rattle.std.specs.Prelude.{◌≡◌, true, Some, [], All, IfOk, OnOk, OnErr};
+ghost use Rattle.std.specs.Prelude.{◌≡◌, true, None, Some, [], All, IfOk, OnOk, OnErr};
 ghost use Rattle.stm_txn.specs.Numbers.{ReadFits};
 ghost use Rattle.stm_compile.specs.Levels.{is_serializable};
 ghost use Rattle.stm_attempt.specs.Known.{HaveDistinctKeys};
 ghost use Rattle.stm_attempt.specs.Fetches.{ShowOneRevision};
 
-use crate::after_run::go_on;
 use crate::next::Next;
+use crate::progress::{Progress, go_on};
 use std::alloc::{AllocError, Global};
 use std::marker::Model;
 use stm_compile::ReadSet;
@@ -17,17 +17,23 @@ use stm_program::{Level, Program};
 ///
 /// Contracts see its program (`None` before the first `advance` that was not refused), its level, what it has
 /// read, and what was prefetched for it.
+///
+/// Between two calls its program stands where it wants a key, and goes on from there.
 #[derive(Debug, Drop)]
 pub struct Attempt {
     program: Option<Program>,
     level: Level,
+    // what was read, and behind the first `told` of it the prefetched answers that a refused call took
     reads: ReadSet,
+    told: usize,
     prefetched: ReadSet,
+    progress: Progress,
     alloc: Global,
 }
 
 impl Model for Attempt {
     ghost use Rattle.std.specs.Coded.{codes};
+    ghost use Rattle.std.specs.Prelude.{take};
     ghost use Rattle.stm_program.specs.Coding.{coded_program};
     ghost use Rattle.stm_attempt.specs.Known.{HaveDistinctKeys};
     ghost use Rattle.stm_attempt.specs.AttemptState.{AttemptState};
@@ -36,9 +42,11 @@ impl Model for Attempt {
 
     ghost coded = { Prim.hlevel (codes, coded_program) };
 
-    ghost view = { λ a. record { program = a.program; level = a.level; known = record { reads = a.reads; prefetched = a.prefetched } } };
+    ghost view = { λ a. record { program = a.program; level = a.level; known = record { reads = take a.told a.reads; prefetched = a.prefetched } } };
 
-    ghost invariant = { λ a. HaveDistinctKeys a.prefetched };
+    ghost use Rattle.stm_attempt.specs.Progress.{IsAttempt};
+
+    ghost invariant = { λ a. HaveDistinctKeys a.prefetched × IsAttempt a.program a.reads a.prefetched a.told a.progress };
 }
 
 impl Attempt {
@@ -54,7 +62,9 @@ impl Attempt {
             program: None,
             level,
             reads: ReadSet::new(alloc),
+            told: 0,
             prefetched,
+            progress: Progress::Fresh,
             alloc,
         }
     }
@@ -88,6 +98,50 @@ impl Attempt {
         Ok(Attempt::begin(alloc, level, prefetched))
     }
 
+    /// The first `advance`. It works beside the attempt, so that a refused growth leaves that as it was.
+    fn first_advance(&mut self, program: &Program) -> Result<Next, AllocError>
+        requires { self.old.program ≡ None }
+        ensures next { IfOk result (λ next. next ≡ next_of program.now self.old.level self.old.known) }
+        ensures ok { OnOk result (self.new ≡ advanced program.now self.old) }
+        ensures err { OnErr result (self.new ≡ self.old) }
+    {
+        let kept = program.clone()?;
+        let mut reads = ReadSet::new(self.alloc);
+        let mut progress = Progress::Fresh;
+        let next = go_on(
+            self.alloc,
+            program,
+            self.level,
+            &self.prefetched,
+            &mut reads,
+            &mut progress,
+        )?;
+        self.program = Some(kept);
+        self.told = reads.len();
+        self.reads = reads;
+        self.progress = progress;
+        Ok(next)
+    }
+
+    /// Each later `advance`. Where a growth is refused, the prefetched answers that were taken stay behind those told.
+    fn next_advance(&mut self, program: &Program) -> Result<Next, AllocError>
+        requires { self.old.program ≡ Some program.now }
+        ensures next { IfOk result (λ next. next ≡ next_of program.now self.old.level self.old.known) }
+        ensures ok { OnOk result (self.new ≡ advanced program.now self.old) }
+        ensures err { OnErr result (self.new ≡ self.old) }
+    {
+        let next = go_on(
+            self.alloc,
+            program,
+            self.level,
+            &self.prefetched,
+            &mut self.reads,
+            &mut self.progress,
+        )?;
+        self.told = self.reads.len();
+        Ok(next)
+    }
+
     /// Goes on with the program as far as the answers take it: to the first key that it wants and that neither an
     /// answer nor a prefetched one has, or to its end.
     ///
@@ -101,17 +155,12 @@ impl Attempt {
         ensures asked { IfOk result (λ next. awaited self.new ≡ key_asked next) }
         ensures err { OnErr result (self.new ≡ self.old) }
     {
-        let kept = program.clone()?;
-        let done = go_on(
-            self.alloc,
-            program,
-            self.level,
-            &self.prefetched,
-            &self.reads,
-        )?;
-        self.program = Some(kept);
-        self.reads = done.reads;
-        Ok(done.next)
+        if self.program.is_none() {
+            let first = self.first_advance(program)?;
+            return Ok(first);
+        }
+        let next = self.next_advance(program)?;
+        Ok(next)
     }
 
     /// Takes the answer for the key that `advance` just asked for. Its numbers are at most `HIGHEST_NUMBER`.
@@ -124,6 +173,7 @@ impl Attempt {
         ensures err { OnErr result (self.new ≡ self.old) }
     {
         self.reads.add(answer)?;
+        self.told = self.reads.len();
         Ok(())
     }
 }

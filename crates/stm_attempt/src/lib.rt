@@ -4,10 +4,10 @@
 //! and goes on; answers that were prefetched for it are taken without a call.
 #![tactic(auto)]
 
-mod after_run;
 mod attempt;
 pub mod laws;
 mod next;
+mod progress;
 mod ready;
 mod settle;
 

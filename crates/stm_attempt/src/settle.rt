@@ -1,15 +1,15 @@
 //! What an attempt takes of the answers that were prefetched for it.
 ghost use Rattle.std.specs.Prelude.{◌≡◌, IfOk, IfSome, option_copied};
 ghost use Rattle.stm_txn.specs.Numbers.{ReadFits};
-ghost use Rattle.stm_attempt.specs.Known.{known_of, is_of_base, serving, HaveDistinctKeys};
-ghost use Rattle.stm_attempt.specs.Settled.{run_on, wanted, answer_for, settled};
+ghost use Rattle.stm_compile.specs.Answers.{answer_in};
+ghost use Rattle.stm_attempt.specs.Known.{is_of_base, serving, HaveDistinctKeys};
+ghost use Rattle.stm_attempt.specs.Settled.{answer_for};
 ghost use Rattle.stm_attempt.specs.Fetches.{base_of, at_of};
 
-use std::alloc::{AllocError, Global};
+use std::alloc::AllocError;
 use stm_compile::ReadSet;
-use stm_history::ReadAnswer;
-use stm_meaning::{Answered, run_answered};
-use stm_program::{Level, Program};
+use stm_history::{ReadAnswer, Text};
+use stm_program::Level;
 
 /// The base revision of these reads: the one that the first of them shows, 0 where there is none.
 fn base_revision(reads: &ReadSet) -> u64
@@ -38,19 +38,12 @@ fn is_of_base(reads: &ReadSet, answer: &ReadAnswer) -> bool
     reads.len() == 0 || answer.of_rev == base_revision(reads)
 }
 
-/// The prefetched answer that serves the key which a run on these reads wants.
-fn find_serving<'a>(
-    prefetched: &'a ReadSet,
-    reads: &ReadSet,
-    answered: &Answered,
-) -> Option<&'a ReadAnswer>
+/// The prefetched answer that serves a key.
+fn find_serving<'a>(prefetched: &'a ReadSet, reads: &ReadSet, key: &Text) -> Option<&'a ReadAnswer>
     requires { HaveDistinctKeys prefetched.now }
-    ensures answer { option_copied result ≡ answer_for (wanted answered.now) (serving reads.now prefetched.now) }
+    ensures answer { option_copied result ≡ answer_in key.now (serving reads.now prefetched.now) }
     ensures in_range { IfSome (option_copied result) ReadFits }
 {
-    let Answered::Wants { key, .. } = answered else {
-        return None;
-    };
     let answer = prefetched.get(key.as_str())?;
     if is_of_base(reads, answer) {
         Some(answer)
@@ -66,17 +59,17 @@ fn copy_of(answer: &ReadAnswer) -> Result<ReadAnswer, AllocError>
     answer.clone()
 }
 
-/// A copy of the prefetched answer that serves the key which a run on these reads wants.
-fn take_serving(
+/// A copy of the prefetched answer that serves a key.
+fn copy_serving(
     prefetched: &ReadSet,
     reads: &ReadSet,
-    answered: &Answered,
+    key: &Text,
 ) -> Result<Option<ReadAnswer>, AllocError>
     requires { HaveDistinctKeys prefetched.now }
-    ensures answer { IfOk result (λ taken. taken ≡ answer_for (wanted answered.now) (serving reads.now prefetched.now)) }
+    ensures answer { IfOk result (λ taken. taken ≡ answer_in key.now (serving reads.now prefetched.now)) }
     ensures in_range { IfOk result (λ taken. IfSome taken ReadFits) }
 {
-    match find_serving(prefetched, reads, answered) {
+    match find_serving(prefetched, reads, key) {
         None => Ok(None),
         Some(answer) => {
             let copy = copy_of(answer)?;
@@ -85,31 +78,18 @@ fn take_serving(
     }
 }
 
-/// What an attempt has read once no prefetched answer serves it any more, and the run on that.
-#[derive(Debug, Drop)]
-pub(crate) struct Settled {
-    pub(crate) reads: ReadSet,
-    pub(crate) answered: Answered,
-}
-
-/// Takes every prefetched answer that the program wants and that serves, one after another.
-pub(crate) fn settle(
-    alloc: Global,
-    program: &Program,
+/// A copy of the prefetched answer that serves a wanted key, where one is wanted.
+pub(crate) fn take_serving(
     prefetched: &ReadSet,
-    reads: ReadSet,
-) -> Result<Settled, AllocError>
+    reads: &ReadSet,
+    wanted: Option<&Text>,
+) -> Result<Option<ReadAnswer>, AllocError>
     requires { HaveDistinctKeys prefetched.now }
-    ensures reads { IfOk result (λ s. s.reads ≡ settled program.now (known_of reads prefetched.now)) }
-    ensures run { IfOk result (λ s. s.answered ≡ run_on program.now s.reads) }
+    ensures answer { IfOk result (λ taken. taken ≡ answer_for (option_copied wanted.entry) (serving reads.now prefetched.now)) }
+    ensures in_range { IfOk result (λ taken. IfSome taken ReadFits) }
 {
-    let mut reads = reads;
-    loop {
-        let answered = run_answered(alloc, program, &reads)?;
-        let taken = take_serving(prefetched, &reads, &answered)?;
-        match taken {
-            None => return Ok(Settled { reads, answered }),
-            Some(answer) => reads.add(answer)?,
-        }
+    match wanted {
+        None => Ok(None),
+        Some(key) => copy_serving(prefetched, reads, key),
     }
 }

@@ -1,20 +1,10 @@
-use Rattle.std.proofs.Common.{rules, ◌≡◌}
-use Rattle.stm_attempt.proofs.NextLemmas.{next_is, advanced_is, awaited_is}
+use Rattle.stm_attempt.proofs.AttemptLemmas.{asked_from}
 use Rattle.stm_attempt.proofs.attempt.Attempt.advance.Goals as goal
 
-pub returns-clause-next : goal.returns-clause-next
-returns-clause-next c =
-    next_is c.args.program.now c.args.self.now c.self.inside.program c.self.inside.level c.self.inside.reads c.self.inside.prefetched c.in_ok-done.done.next
-    c.self.view_is c.in_ok-done.ensures.next
-
-pub returns-clause-ok : goal.returns-clause-ok
-returns-clause-ok c =
-    let copied : c.in_ok-kept.kept ≡ c.args.program.now = search rules in
-    advanced_is c.args.program.now c.in_ok-kept.kept c.args.self.now c.self.inside.program c.self.inside.level c.self.inside.reads c.self.inside.prefetched
-    c.in_ok-done.done.reads c.self.view_is copied c.in_ok-done.ensures.reads
+pub returns-then-is_none-clause-asked : goal.returns-then-is_none-clause-asked
+returns-then-is_none-clause-asked c =
+    asked_from c.args.program.now c.args.self.now c.first_advance.new.self c.in_ok-first.first c.in_ok-first.ensures.ok c.in_ok-first.ensures.next
 
 pub returns-clause-asked : goal.returns-clause-asked
 returns-clause-asked c =
-    let copied : c.in_ok-kept.kept ≡ c.args.program.now = search rules in
-    awaited_is c.args.program.now c.in_ok-kept.kept c.args.self.now c.self.inside.program c.self.inside.level c.self.inside.reads c.self.inside.prefetched
-    c.in_ok-done.done.reads c.in_ok-done.done.next c.self.view_is copied c.in_ok-done.ensures.reads c.in_ok-done.ensures.next
+    asked_from c.args.program.now c.args.self.now c.next_advance.new.self c.in_ok-next.next c.in_ok-next.ensures.ok c.in_ok-next.ensures.next

@@ -1,10 +1,21 @@
-use Rattle.std.proofs.Common.{◌∙◌, ap}
-use Rattle.stm_compile.specs.Answers.{answer_in}
-use Rattle.stm_attempt.specs.AttemptState.{AttemptState}
-use Rattle.stm_attempt.proofs.NextLemmas.{awaited_is_new}
+use Rattle.stm_attempt.proofs.AttemptLemmas.{new_key, supplied_is, supplied_attempt}
 use Rattle.stm_attempt.proofs.attempt.Attempt.supply.Goals as goal
 
 pub add-requires-clause-new_key : goal.add-requires-clause-new_key
 add-requires-clause-new_key c =
-    ap (λ (v : AttemptState). answer_in c.args.answer.key v.known.reads) c.self.view_is
-    ∙ awaited_is_new c.args.self.now c.args.answer.key c.requires.asked
+    new_key c.args.self.now c.self.inside.program c.self.inside.level c.self.inside.reads c.self.inside.prefetched c.self.inside.told
+    c.self.inside.progress c.args.answer.key c.self.view_is c.requires.asked c.self.invariant.1
+
+pub invariant_of-self-2 : goal.invariant_of-self-2
+invariant_of-self-2 c = (
+  c.self.invariant.0,
+  supplied_attempt c.args.self.now c.self.inside.program c.self.inside.level c.self.inside.reads c.self.inside.prefetched c.add.new.self c.self.inside.told
+      c.len-self-inside.result c.self.inside.progress c.args.answer c.self.view_is c.requires.asked c.self.invariant.1 c.in_ok-add.ensures.ok
+      c.len-self-inside.ensures,
+)
+
+pub returns-clause-ok : goal.returns-clause-ok
+returns-clause-ok c =
+    supplied_is c.args.self.now c.self.inside.program c.self.inside.level c.self.inside.reads c.self.inside.prefetched c.add.new.self c.self.inside.told
+    c.len-self-inside.result c.self.inside.progress c.args.answer c.self.view_is c.requires.asked c.self.invariant.1 c.in_ok-add.ensures.ok
+    c.len-self-inside.ensures

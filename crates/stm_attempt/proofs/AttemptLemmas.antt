@@ -1,0 +1,165 @@
+-- What the calls of an attempt leave, by what the code has at hand: the reads, how many of them are told, and how far the program has come.
+use Rattle.std.proofs.Common.{◌≡◌, refl, sym, ◌∙◌, ap, subst, ℕ, zero, suc, true, false, List, [], ◌∷◌, ◌++◌, length, take}
+use Rattle.std.specs.Prelude.{Option, None, Some, is_none, IfSome}
+use Rattle.std.proofs.Math.Seq.{take-length}
+use Rattle.stm_history.specs.declared.key_state.ReadAnswer.{ReadAnswer}
+use Rattle.stm_program.specs.Syntax.{ProgramTree}
+use Rattle.stm_program.specs.declared.level.Level.{Level}
+use Rattle.stm_compile.specs.Answers.{answer_in}
+use Rattle.stm_attempt.specs.declared.next.Next.{Next}
+use Rattle.stm_attempt.specs.declared.progress.Progress.{Progress}
+use Rattle.stm_attempt.specs.declared.progress.Progress.TheVariants.{Fresh, Started, Ended}
+use Rattle.stm_attempt.specs.Known.{known_of, serving}
+use Rattle.stm_attempt.specs.Settled.{run_on, wanted, settled}
+use Rattle.stm_attempt.specs.AttemptState.{AttemptState, advanced, supplied, awaited}
+use Rattle.stm_attempt.specs.Next.{next_after, next_of, key_asked}
+use Rattle.stm_attempt.specs.Progress.{HasNotBegun, IsUnderWay, IsAttempt, Extends}
+use Rattle.stm_attempt.proofs.NextLemmas.{seen_as, wanted_by, asked_is_awaited, awaited_is_new}
+use Rattle.stm_attempt.proofs.ProgressLemmas.{nothing_ahead, front_stays, under_way, come_with_more}
+
+-- ---- whether there is a program
+
+pub is_first : (o : Option ProgramTree) → is_none o ≡ true → o ≡ None
+is_first None none = refl
+is_first (Some p) none = absurd (cc)
+
+pub is_next : (o : Option ProgramTree) (program : ProgramTree) → is_none o ≡ false → IfSome o (λ kept. kept ≡ program) → o ≡ Some program
+is_next None program some same = absurd (cc)
+is_next (Some p) program some same = ap (λ (q : ProgramTree). Some q) same
+
+read_nothing : (reads : List ReadAnswer) (progress : Progress) → HasNotBegun reads progress → reads ≡ []
+read_nothing reads Fresh begun = begun
+read_nothing reads (Started m) begun = absurd begun
+read_nothing reads (Ended run) begun = absurd begun
+
+at_first : (before : Option ProgramTree) (reads prefetched : List ReadAnswer) (told : ℕ) (progress : Progress) → before ≡ None →
+    IsAttempt before reads prefetched told progress → reads ≡ []
+at_first None reads prefetched told progress none is = read_nothing reads progress is
+at_first (Some p) reads prefetched told progress none is = absurd (cc)
+
+pub at_next : (program : ProgramTree) (before : Option ProgramTree) (reads prefetched : List ReadAnswer) (told : ℕ) (progress : Progress) →
+    before ≡ Some program → IsAttempt before reads prefetched told progress → IsUnderWay program reads prefetched told progress
+at_next program None reads prefetched told progress some is = absurd (cc)
+at_next program (Some p) reads prefetched told progress some is =
+    let same : p ≡ program = cc in
+    subst (λ (q : ProgramTree). IsUnderWay q reads prefetched told progress) same is
+
+pub attempt_of : (program : ProgramTree) (before : Option ProgramTree) (reads prefetched : List ReadAnswer) (told : ℕ) (progress : Progress) →
+    before ≡ Some program → IsUnderWay program reads prefetched told progress → IsAttempt before reads prefetched told progress
+attempt_of program before reads prefetched told progress some way =
+    subst (λ (o : Option ProgramTree). IsAttempt o reads prefetched told progress) (sym some) way
+
+abbrev no_reads : List ReadAnswer
+no_reads = []
+
+take_of_nothing : (n : ℕ) → take n no_reads ≡ []
+take_of_nothing zero = refl
+take_of_nothing (suc n) = refl
+
+-- an attempt without a program has read nothing
+pub seen_at_first : (old : AttemptState) (before : Option ProgramTree) (level : Level) (reads prefetched : List ReadAnswer) (told : ℕ) (progress : Progress) →
+    seen_as before level (take told reads) prefetched ≡ old → old.program ≡ None → IsAttempt before reads prefetched told progress →
+    seen_as None level [] prefetched ≡ old
+seen_at_first old before level reads prefetched told progress view none is =
+    let first : before ≡ None = ap (λ (v : AttemptState). v.program) view ∙ none in
+    let empty : reads ≡ [] = at_first before reads prefetched told progress first is in
+    let front : take told reads ≡ [] = ap (λ (l : List ReadAnswer). take told l) empty ∙ take_of_nothing told in
+    sym (ap (λ (o : Option ProgramTree). seen_as o level (take told reads) prefetched) first
+    ∙ ap (λ (l : List ReadAnswer). seen_as None level l prefetched) front)
+    ∙ view
+
+-- ---- all reads are told
+
+pub all_told : (told : ℕ) (reads : List ReadAnswer) → told ≡ length reads → take told reads ≡ reads
+all_told told reads whole = ap (λ (n : ℕ). take n reads) whole ∙ take-length reads
+
+-- ---- what is answered, and what is left
+
+pub next_from : (program : ProgramTree) (old : AttemptState) (before : Option ProgramTree) (level : Level) (reads front prefetched : List ReadAnswer)
+    (next : Next) →
+    seen_as before level front prefetched ≡ old → settled program (known_of reads prefetched) ≡ settled program (known_of front prefetched) →
+    next ≡ next_of program level (known_of reads prefetched) → next ≡ next_of program old.level old.known
+next_from program old before level reads front prefetched next view ahead told =
+    told ∙ ap (λ (l : List ReadAnswer). next_after program level l (run_on program l)) ahead ∙ ap (λ (v : AttemptState). next_of program v.level v.known) view
+
+pub left_from : (program : ProgramTree) (old : AttemptState) (before after_program : Option ProgramTree) (level : Level)
+    (reads front prefetched after : List ReadAnswer) (told : ℕ) →
+    seen_as before level front prefetched ≡ old → settled program (known_of reads prefetched) ≡ settled program (known_of front prefetched) →
+    after_program ≡ Some program → told ≡ length after → after ≡ settled program (known_of reads prefetched) →
+    seen_as after_program level (take told after) prefetched ≡ advanced program old
+left_from program old before after_program level reads front prefetched after told view ahead kept whole settles =
+    ap (λ (o : Option ProgramTree). seen_as o level (take told after) prefetched) kept
+    ∙ ap (λ (l : List ReadAnswer). seen_as (Some program) level l prefetched) (all_told told after whole ∙ settles ∙ ahead)
+    ∙ ap (advanced program) view
+
+-- a refused call is not seen
+pub unseen : (program : ProgramTree) (old : AttemptState) (before : Option ProgramTree) (level : Level) (reads prefetched after : List ReadAnswer) (told : ℕ)
+    (progress : Progress) →
+    seen_as before level (take told reads) prefetched ≡ old → IsUnderWay program reads prefetched told progress → Extends reads after →
+    seen_as before level (take told after) prefetched ≡ old
+unseen program old before level reads prefetched after told progress view way more =
+    ap (λ (l : List ReadAnswer). seen_as before level l prefetched) (front_stays told reads after way.within more) ∙ view
+
+pub asked_from : (program : ProgramTree) (old new : AttemptState) (next : Next) → new ≡ advanced program old →
+    next ≡ next_of program old.level old.known → awaited new ≡ key_asked next
+asked_from program old new next left told = ap awaited left ∙ asked_is_awaited program old ∙ ap key_asked (sym told)
+
+-- ---- an attempt that waits for a key
+
+pub record Waits (before : Option ProgramTree) (reads prefetched : List ReadAnswer) (told : ℕ) (progress : Progress) (key : List ℕ) : Type 0 where
+  pub program : ProgramTree
+  pub is : before ≡ Some program
+  pub way : IsUnderWay program reads prefetched told progress
+  pub whole : told ≡ length reads
+  pub wants : wanted (run_on program reads) ≡ Some key
+
+waits_at : (before : Option ProgramTree) (level : Level) (reads prefetched : List ReadAnswer) (told : ℕ) (progress : Progress) (key : List ℕ) →
+    awaited (seen_as before level (take told reads) prefetched) ≡ Some key → IsAttempt before reads prefetched told progress →
+    Waits before reads prefetched told progress key
+waits_at None level reads prefetched told progress key asked is = absurd (cc)
+waits_at (Some program) level reads prefetched told progress key asked way =
+    let whole : told ≡ length reads = nothing_ahead program reads prefetched told key way.within way.ahead asked in
+    let front : wanted (run_on program (take told reads)) ≡ Some key =
+    wanted_by (serving (take told reads) prefetched) (wanted (run_on program (take told reads))) key asked in
+    record {
+      program = program;
+      is = refl;
+      way = way;
+      whole = whole;
+      wants = ap (λ (l : List ReadAnswer). wanted (run_on program l)) (sym (all_told told reads whole)) ∙ front;
+    }
+
+pub waits : (old : AttemptState) (before : Option ProgramTree) (level : Level) (reads prefetched : List ReadAnswer) (told : ℕ) (progress : Progress)
+    (key : List ℕ) → seen_as before level (take told reads) prefetched ≡ old → awaited old ≡ Some key → IsAttempt before reads prefetched told progress →
+    Waits before reads prefetched told progress key
+waits old before level reads prefetched told progress key view asked is =
+    waits_at before level reads prefetched told progress key (ap awaited view ∙ asked) is
+
+pub new_key : (old : AttemptState) (before : Option ProgramTree) (level : Level) (reads prefetched : List ReadAnswer) (told : ℕ) (progress : Progress)
+    (key : List ℕ) → seen_as before level (take told reads) prefetched ≡ old → awaited old ≡ Some key → IsAttempt before reads prefetched told progress →
+    answer_in key reads ≡ None
+new_key old before level reads prefetched told progress key view asked is =
+    let w = waits old before level reads prefetched told progress key view asked is in
+    ap (λ (l : List ReadAnswer). answer_in key l) (sym (all_told told reads w.whole))
+    ∙ ap (λ (v : AttemptState). answer_in key v.known.reads) view
+    ∙ awaited_is_new old key asked
+
+pub supplied_is : (old : AttemptState) (before : Option ProgramTree) (level : Level) (reads prefetched more : List ReadAnswer) (told count : ℕ)
+    (progress : Progress) (a : ReadAnswer) → seen_as before level (take told reads) prefetched ≡ old → awaited old ≡ Some a.key →
+    IsAttempt before reads prefetched told progress → more ≡ reads ++ a ∷ [] → count ≡ length more →
+    seen_as before level (take count more) prefetched ≡ supplied a old
+supplied_is old before level reads prefetched more told count progress a view asked is pushed whole =
+    let w = waits old before level reads prefetched told progress a.key view asked is in
+    ap (λ (l : List ReadAnswer). seen_as before level l prefetched)
+    (all_told count more whole ∙ pushed ∙ ap (λ (l : List ReadAnswer). l ++ a ∷ []) (sym (all_told told reads w.whole)))
+    ∙ ap (supplied a) view
+
+pub supplied_attempt : (old : AttemptState) (before : Option ProgramTree) (level : Level) (reads prefetched more : List ReadAnswer) (told count : ℕ)
+    (progress : Progress) (a : ReadAnswer) → seen_as before level (take told reads) prefetched ≡ old → awaited old ≡ Some a.key →
+    IsAttempt before reads prefetched told progress → more ≡ reads ++ a ∷ [] → count ≡ length more →
+    IsAttempt before more prefetched count progress
+supplied_attempt old before level reads prefetched more told count progress a view asked is pushed whole =
+    let w = waits old before level reads prefetched told progress a.key view asked is in
+    attempt_of w.program before more prefetched count progress w.is
+    (under_way w.program more prefetched count progress whole
+    (come_with_more w.program reads more a a.key progress pushed w.wants w.way.come))

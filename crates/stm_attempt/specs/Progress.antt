@@ -1,0 +1,68 @@
+-- How far an attempt has run its program: not at all, to where its machine stands, or to its end.
+use Rattle.std.specs.Prelude.{◌≡◌, ℕ, ◌≤◌, Bool, true, false, List, [], ◌++◌, length, take, Option, None, Some}
+use Rattle.stm_history.specs.declared.key_state.ReadAnswer.{ReadAnswer}
+use Rattle.stm_program.specs.Syntax.{ProgramTree}
+use Rattle.stm_meaning.specs.declared.run.Run.{Run}
+use Rattle.stm_meaning.specs.declared.run.Answered.TheVariants.{Ended as EndedRun}
+use Rattle.stm_meaning.specs.Answer.{Lookup}
+use Rattle.stm_meaning.specs.Meaning.{answered, run_over}
+use Rattle.stm_meaning.specs.Laws.{AgreesWith}
+use Rattle.stm_machine.specs.State.{MachineState, run_at}
+use Rattle.stm_machine.specs.Finish.{finish}
+use Rattle.stm_compile.specs.Answers.{look_up}
+use Rattle.stm_attempt.specs.declared.progress.Progress.{Progress}
+use Rattle.stm_attempt.specs.declared.progress.Progress.TheVariants.{Fresh, Started, Ended}
+use Rattle.stm_attempt.specs.Known.{known_of}
+use Rattle.stm_attempt.specs.Settled.{run_on, settled}
+
+-- Finishing the machine is the program's run, over each look-up that knows what was read.
+abbrev pub FinishesAs : ProgramTree → List ReadAnswer → MachineState → Type 0
+FinishesAs program reads m = (whole : Lookup) → AgreesWith (look_up reads) whole → answered (finish whole m) ≡ run_over whole program.statements
+
+abbrev pub HasCome : ProgramTree → List ReadAnswer → Progress → Type 0
+HasCome program reads Fresh = Unit {0}
+HasCome program reads (Started m) = FinishesAs program reads m
+HasCome program reads (Ended run) = run_on program reads ≡ EndedRun run
+
+abbrev pub has_begun : Progress → Bool
+has_begun Fresh = false
+has_begun (Started m) = true
+has_begun (Ended run) = true
+
+abbrev pub has_ended : Progress → Bool
+has_ended Fresh = false
+has_ended (Started m) = false
+has_ended (Ended run) = true
+
+abbrev pub HasEnded : Progress → Type 0
+HasEnded Fresh = ⊥
+HasEnded (Started m) = ⊥
+HasEnded (Ended run) = Unit {0}
+
+-- the run that has come to its end
+abbrev pub run_of_progress : Progress → Option Run
+run_of_progress Fresh = None
+run_of_progress (Started m) = run_at m
+run_of_progress (Ended run) = Some run
+
+-- The reads stay, and what comes behind them was added.
+pub record Extends (before after : List ReadAnswer) : Type 0 where
+  pub added : List ReadAnswer
+  pub follow : after ≡ before ++ added
+
+-- An attempt without a program has read nothing, and runs nothing.
+abbrev pub HasNotBegun : List ReadAnswer → Progress → Type 0
+HasNotBegun reads Fresh = reads ≡ []
+HasNotBegun reads (Started m) = ⊥
+HasNotBegun reads (Ended run) = ⊥
+
+-- The first `told` of the reads are those that the attempt is seen to have. Those behind them were prefetched, and taken by a call that was refused
+-- then: settling takes them again.
+pub record IsUnderWay (program : ProgramTree) (reads prefetched : List ReadAnswer) (told : ℕ) (progress : Progress) : Type 0 where
+  pub within : told ≤ length reads
+  pub ahead : settled program (known_of reads prefetched) ≡ settled program (known_of (take told reads) prefetched)
+  pub come : HasCome program reads progress
+
+abbrev pub IsAttempt : Option ProgramTree → List ReadAnswer → List ReadAnswer → ℕ → Progress → Type 0
+IsAttempt None reads prefetched told progress = HasNotBegun reads progress
+IsAttempt (Some program) reads prefetched told progress = IsUnderWay program reads prefetched told progress

@@ -1,0 +1,250 @@
+//! How far an attempt has run its program.
+ghost use Rattle.std.specs.Prelude.{◌≡◌, true, List, None, Some, IfOk, OnOk, OnErr, IsSome};
+ghost use Rattle.stm_history.specs.declared.key_state.ReadAnswer.{ReadAnswer};
+ghost use Rattle.stm_program.specs.Syntax.{ProgramTree};
+ghost use Rattle.stm_meaning.specs.declared.run.End.TheVariants.{Done};
+ghost use Rattle.stm_meaning.specs.declared.run.Run.{Run as FinishedRun};
+ghost use Rattle.stm_machine.specs.State.{key_asked};
+ghost use Rattle.stm_machine.specs.Steps.{Stands};
+ghost use Rattle.stm_compile.specs.Answers.{look_up};
+ghost use Rattle.stm_attempt.specs.Known.{known_of, serving, HaveDistinctKeys};
+ghost use Rattle.stm_attempt.specs.Settled.{run_on, wanted, answer_for, settled};
+ghost use Rattle.stm_attempt.specs.ReadyRun.{ready_run};
+ghost use Rattle.stm_attempt.specs.Next.{next_at_end, next_of};
+ghost use Rattle.stm_attempt.specs.Progress.{FinishesAs, HasCome, HasEnded, Extends, has_begun, has_ended, run_of_progress};
+
+use crate::next::Next;
+use crate::ready::Ready;
+use crate::settle::{fetch_revision, take_serving};
+use std::alloc::{AllocError, Global};
+use std::mem;
+use stm_compile::{ReadSet, WriteBuffer};
+use stm_history::Text;
+use stm_machine::Machine;
+use stm_meaning::{End, Run};
+use stm_program::{Level, Program};
+
+/// How far an attempt has run its program.
+#[derive(Debug, Drop)]
+pub(crate) enum Progress {
+    /// Not at all: it begins at the start.
+    Fresh,
+    /// To where this machine stands.
+    Started(Machine),
+    /// To its end.
+    Ended(Run),
+}
+
+/// Goes on with a machine to its run's end, or to a key that no prefetched answer serves. Each prefetched answer that
+/// serves is put behind the reads.
+///
+/// Where a growth is refused, the machine and the reads stand where they came to, from where the call can be repeated.
+pub(crate) fn settle(
+    machine: &mut Machine,
+    prefetched: &ReadSet,
+    reads: &mut ReadSet,
+) -> Result<(), AllocError>
+    requires { HaveDistinctKeys prefetched.now }
+    ensures finishes { (program : ProgramTree) → FinishesAs program reads.old machine.old → FinishesAs program reads.new machine.new }
+    ensures settles { (program : ProgramTree) → FinishesAs program reads.old machine.old
+        → settled program (known_of reads.new prefetched.now) ≡ settled program (known_of reads.old prefetched.now) }
+    ensures extends { Extends reads.old reads.new }
+    ensures stands { OnOk result (Stands (look_up reads.new) machine.new) }
+    ensures settled { OnOk result (answer_for (key_asked machine.new.focus) (serving reads.new prefetched.now) ≡ None) }
+{
+    'answers: loop {
+        machine.run(&*reads)?;
+        let taken = take_serving(prefetched, reads, machine.wanted())?;
+        match taken {
+            None => return Ok(()),
+            Some(answer) => reads.add(answer)?,
+        }
+    }
+}
+
+/// The run of a machine that stands at its end is kept in the machine's place. It takes no memory.
+fn end_run(progress: &mut Progress)
+    requires { IsSome (run_of_progress progress.old) }
+    ensures { (run : FinishedRun) → run_of_progress progress.old ≡ Some run → progress.new ≡ Progress.Ended run }
+{
+    match mem::replace(progress, Progress::Fresh) {
+        Progress::Started(machine) => {
+            let run = machine.into_run();
+            *progress = Progress::Ended(run);
+        }
+        Progress::Ended(run) => *progress = Progress::Ended(run),
+        Progress::Fresh => {}
+    }
+}
+
+/// Takes out the run that stands there. It takes no memory.
+fn take_run(progress: &mut Progress) -> Run
+    requires { HasEnded progress.old }
+    ensures run { progress.old ≡ Progress.Ended result }
+    ensures left { progress.new ≡ Progress.Fresh }
+{
+    match mem::replace(progress, Progress::Fresh) {
+        Progress::Ended(run) => run,
+        _ => unreachable!(),
+    }
+}
+
+/// A run that is done is made ready to commit. Want of memory leaves it in its place.
+fn made_ready(
+    alloc: Global,
+    program: &Program,
+    level: Level,
+    reads: &ReadSet,
+    progress: &mut Progress,
+) -> Result<Ready, AllocError>
+    requires ended { HasEnded progress.old }
+    requires come { HasCome program.now reads.now progress.old }
+    requires done { (run : FinishedRun) → progress.old ≡ Progress.Ended run → run.end ≡ Done }
+    ensures ready { IfOk result (λ ready. (run : FinishedRun) → progress.old ≡ Progress.Ended run → ready ≡ ready_run program.now level reads.now run) }
+    ensures left { OnOk result (progress.new ≡ Progress.Fresh) }
+    ensures err { OnErr result (progress.new ≡ progress.old) }
+{
+    let Progress::Ended(run) = &*progress else {
+        unreachable!();
+    };
+    let writes = WriteBuffer::of(alloc, run.writes.as_slice())?;
+    let program = program.clone()?;
+    let answers = reads.clone()?;
+    let run = take_run(progress);
+    Ok(Ready {
+        program,
+        level,
+        answers,
+        output: run.output,
+        trace: run.trace,
+        writes,
+    })
+}
+
+/// What an attempt answers at the end of its run. The run goes into the answer: where the program is run once more, it
+/// begins at the start. Want of memory leaves the run in its place.
+fn tell_end(
+    alloc: Global,
+    program: &Program,
+    level: Level,
+    reads: &ReadSet,
+    progress: &mut Progress,
+) -> Result<Next, AllocError>
+    requires ended { HasEnded progress.old }
+    requires come { HasCome program.now reads.now progress.old }
+    ensures next { IfOk result (λ next. (run : FinishedRun) → progress.old ≡ Progress.Ended run
+        → next ≡ next_at_end program.now level reads.now run run.end) }
+    ensures left { OnOk result (progress.new ≡ Progress.Fresh) }
+    ensures err { OnErr result (progress.new ≡ progress.old) }
+{
+    let Progress::Ended(run) = &*progress else {
+        unreachable!();
+    };
+    match &run.end {
+        End::Done => Ok(Next::Ready(made_ready(alloc, program, level, reads, progress)?)),
+        End::Aborted(_) => Ok(Next::Aborted(take_run(progress))),
+        End::Faulted(_) => Ok(Next::Faulted(take_run(progress))),
+    }
+}
+
+/// Whether the program stands behind its start.
+fn has_begun(progress: &Progress) -> bool
+    ensures { result ≡ has_begun progress.now }
+{
+    match progress {
+        Progress::Fresh => false,
+        Progress::Started(_) => true,
+        Progress::Ended(_) => true,
+    }
+}
+
+/// Whether the program's run has come to its end.
+fn has_ended(progress: &Progress) -> bool
+    ensures { result ≡ has_ended progress.now }
+{
+    match progress {
+        Progress::Fresh => false,
+        Progress::Started(_) => false,
+        Progress::Ended(_) => true,
+    }
+}
+
+/// Makes a machine for a program that has none. The one refusal is want of memory, and leaves all as it was.
+fn begin(alloc: Global, program: &Program, progress: &mut Progress) -> Result<(), AllocError>
+    ensures come { (reads : List ReadAnswer) → HasCome program.now reads progress.old → HasCome program.now reads progress.new }
+    ensures begun { OnOk result (has_begun progress.new ≡ true) }
+{
+    if has_begun(progress) {
+        return Ok(());
+    }
+    let machine = Machine::new(alloc, program)?;
+    *progress = Progress::Started(machine);
+    Ok(())
+}
+
+/// Goes on to the key that is to be fetched. `None` where the run has come to its end, which is kept.
+///
+/// Where a growth is refused, the program stands where it came to, from where the call can be repeated.
+fn come_to_fetch(
+    prefetched: &ReadSet,
+    reads: &mut ReadSet,
+    progress: &mut Progress,
+) -> Result<Option<Text>, AllocError>
+    requires distinct { HaveDistinctKeys prefetched.now }
+    requires begun { has_begun progress.old ≡ true }
+    ensures come { (program : ProgramTree) → HasCome program reads.old progress.old → HasCome program reads.new progress.new }
+    ensures settles { (program : ProgramTree) → HasCome program reads.old progress.old
+        → settled program (known_of reads.new prefetched.now) ≡ settled program (known_of reads.old prefetched.now) }
+    ensures extends { Extends reads.old reads.new }
+    ensures reads { OnOk result ((program : ProgramTree) → HasCome program reads.old progress.old
+        → reads.new ≡ settled program (known_of reads.old prefetched.now)) }
+    ensures key { IfOk result (λ key. (program : ProgramTree) → HasCome program reads.old progress.old → key ≡ wanted (run_on program reads.new)) }
+    ensures ended { IfOk result (λ key. key ≡ None → HasEnded progress.new) }
+{
+    if has_ended(progress) {
+        return Ok(None);
+    }
+    let Progress::Started(machine) = progress else {
+        unreachable!();
+    };
+    settle(machine, prefetched, reads)?;
+    if let Some(key) = machine.wanted() {
+        return Ok(Some(key.clone()?));
+    }
+    end_run(progress);
+    Ok(None)
+}
+
+/// Goes on with a program from where it stands.
+///
+/// Where a growth is refused, the program stands where it came to, from where the call can be repeated: it answers then
+/// what it would have answered.
+pub(crate) fn go_on(
+    alloc: Global,
+    program: &Program,
+    level: Level,
+    prefetched: &ReadSet,
+    reads: &mut ReadSet,
+    progress: &mut Progress,
+) -> Result<Next, AllocError>
+    requires distinct { HaveDistinctKeys prefetched.now }
+    requires come { HasCome program.now reads.old progress.old }
+    ensures come { HasCome program.now reads.new progress.new }
+    ensures settles { settled program.now (known_of reads.new prefetched.now) ≡ settled program.now (known_of reads.old prefetched.now) }
+    ensures extends { Extends reads.old reads.new }
+    ensures reads { OnOk result (reads.new ≡ settled program.now (known_of reads.old prefetched.now)) }
+    ensures next { IfOk result (λ next. next ≡ next_of program.now level (known_of reads.old prefetched.now)) }
+{
+    begin(alloc, program, progress)?;
+    let wanted = come_to_fetch(prefetched, reads, progress)?;
+    match wanted {
+        Some(key) => {
+            let at = fetch_revision(level, reads);
+            Ok(Next::Fetch { key, at })
+        }
+        None => {
+            let next = tell_end(alloc, program, level, reads, progress)?;
+            Ok(next)
+        }
+    }
+}

@@ -1,0 +1,7 @@
+pub mod Parts
+pub mod Frames
+pub mod State
+pub mod Finish
+pub mod Moves
+pub mod Steps
+pub mod Laws

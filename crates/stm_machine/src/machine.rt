@@ -1,0 +1,126 @@
+//! Machines.
+ghost use Rattle.std.specs.Prelude.{◌≡◌, None, Some, IfOk, OnOk, OnErr, IsFalse, IsSome, if◌then◌else◌};
+ghost use Rattle.std.specs.Option.{option_copied};
+ghost use Rattle.stm_machine.specs.Steps.{step_of, Stands};
+ghost use Rattle.stm_machine.specs.Laws.{FinishAlike};
+
+use crate::focus::Focus;
+use crate::frame::{Frame, NextFrame};
+use crate::moves::{leave_waiting, nothing};
+use crate::parts::Remaining;
+use crate::stack::Stack;
+use crate::steps::next_move;
+use std::alloc::{AllocError, Global};
+use std::marker::Model;
+use std::sync::Arc;
+use stm_history::Text;
+use stm_program::{Block, Program};
+use stm_steps::{Lookup, Run, Session};
+
+/// A run of a program on its way, which can stand still at a key that its look-up does not know.
+///
+/// Contracts see where it stands, the parts of the program that wait, innermost first, and what the run has come
+/// to. What finishing the run comes to is `finish` of that.
+#[derive(Debug, Drop)]
+pub struct Machine {
+    focus: Focus,
+    stack: Stack,
+    session: Session,
+    alloc: Global,
+}
+
+impl Model for Machine {
+    ghost use Rattle.std.specs.Coded.{codes};
+    ghost use Rattle.stm_program.specs.Coding.{coded_expression, coded_condition, coded_block};
+    ghost use Rattle.stm_machine.specs.State.{MachineState, state_of};
+
+    ghost Value = { MachineState };
+
+    ghost coded = { Prim.hlevel (codes, coded_expression, coded_condition, coded_block) };
+
+    ghost view = { λ m. state_of m.focus m.stack.frames m.session };
+}
+
+impl Machine {
+    ghost use Rattle.stm_machine.specs.State.{started, key_asked, run_at};
+
+    /// A machine at the start of a program. The one refusal is want of memory.
+    pub fn new(alloc: Global, program: &Program) -> Result<Machine, AllocError>
+        ensures { IfOk result (λ m. m ≡ started program.now.statements) }
+    {
+        let statements = program.statements().to_vec(alloc)?;
+        let block = Block {
+            statements: Arc::new(alloc, statements)?,
+        };
+        let block = Remaining::of(&block)?;
+        let mut stack = Stack::new(alloc);
+        stack.make_room()?;
+        stack.push(Frame::Next(NextFrame::Rest(block)));
+        let session = Session::new(alloc)?;
+        Ok(Machine {
+            focus: nothing(),
+            stack,
+            session,
+            alloc,
+        })
+    }
+
+    /// Makes one step, and answers whether there was one to make.
+    ///
+    /// There is none where the run has ended, and at a key that the look-up does not know. Want of memory leaves the
+    /// machine as it was.
+    fn step<L: Lookup>(&mut self, lookup: &L) -> Result<bool, AllocError>
+        ensures ok { IfOk result (λ made. step_of (L.answers lookup.now) self.old ≡ (if made then Some self.new else None)) }
+        ensures stands { IfOk result (λ made. IsFalse made → self.new ≡ self.old) }
+        ensures err { OnErr result (self.new ≡ self.old) }
+    {
+        self.stack.make_room()?;
+        let made = next_move(
+            self.alloc,
+            lookup,
+            &self.focus,
+            &mut self.stack,
+            &mut self.session,
+        )?;
+        let Some(made) = made else {
+            return Ok(false);
+        };
+        self.focus = leave_waiting(&mut self.stack, made);
+        Ok(true)
+    }
+
+    /// Goes on until the run ends or wants a key that the look-up does not know.
+    ///
+    /// Whatever is looked up later, finishing the run comes to the same as before, where the later look-up knows what
+    /// this one knows: so also where a growth was refused, and the call can then be repeated. The one refusal is want
+    /// of memory.
+    pub fn run<L: Lookup>(&mut self, lookup: &L) -> Result<(), AllocError>
+        ensures finish { FinishAlike (L.answers lookup.now) self.old self.new }
+        ensures stands { OnOk result (Stands (L.answers lookup.now) self.new) }
+    {
+        'steps: while self.step(lookup)? {}
+        Ok(())
+    }
+
+    /// The key at which the machine stands, `None` where it stands at no key.
+    pub fn wanted(&self) -> Option<&Text>
+        ensures { option_copied result ≡ key_asked self.now.focus }
+    {
+        match &self.focus {
+            Focus::Get(key) | Focus::Rev(key) => Some(key),
+            _ => None,
+        }
+    }
+
+    /// The run, where the machine stands at its end. It takes no memory.
+    pub fn into_run(self) -> Run
+        requires { IsSome (run_at self) }
+        ensures { run_at self ≡ Some result }
+    {
+        let Machine { focus, session, .. } = self;
+        match focus {
+            Focus::Ended(end) => session.into_run(end),
+            _ => unreachable!(),
+        }
+    }
+}

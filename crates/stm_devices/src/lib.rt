@@ -1,8 +1,8 @@
 //! Devices: where bytes are read from and written to, and whole transfers.
 #![tactic(auto)]
 
-pub mod devices;
-pub mod transfer;
+mod devices;
+mod transfer;
 
 pub use devices::{DeviceFault, Sink, Source, Std};
 pub use transfer::{MOST_READ, ReadFault, read_all, write_all};

@@ -5,7 +5,7 @@
 //! give its history and its live leases again.
 #![tactic(auto)]
 
-pub mod entry;
+mod entry;
 pub mod laws;
 
 pub use entry::Entry;

@@ -8,12 +8,12 @@
 mod calls;
 mod committing;
 mod drafts;
-pub mod hall;
+mod hall;
 pub mod laws;
 mod log;
-pub mod refusal;
+mod refusal;
 mod state;
-pub mod verdict;
+mod verdict;
 mod vouching;
 
 pub use hall::Hall;

@@ -4,15 +4,15 @@
 //! the state at a revision, and the laws about them.
 #![tactic(auto)]
 
-pub mod change;
-pub mod key_state;
+mod change;
+mod key_state;
 pub mod laws;
-pub mod revision;
-pub mod revisions;
-pub mod sequence;
-pub mod text;
+mod revision;
+mod revisions;
+mod sequence;
+mod text;
 
-pub use change::Change;
+pub use change::{Change, find_change};
 pub use key_state::{KeyState, ReadAnswer};
 pub use revision::Revision;
 pub use revisions::{HIGHEST_NUMBER, HIGHEST_REVISION, Revisions};

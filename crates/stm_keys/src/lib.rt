@@ -5,11 +5,11 @@
 #![tactic(auto)]
 
 mod chains;
-pub mod event;
-pub mod keys;
+mod event;
+mod keys;
 pub mod laws;
 mod places;
-pub mod refusal;
+mod refusal;
 
 pub use event::Event;
 pub use keys::Keys;

@@ -3,7 +3,7 @@
 
 mod read;
 mod spell;
-pub mod words;
+mod words;
 
 pub use read::read_program;
 pub use spell::write_program;

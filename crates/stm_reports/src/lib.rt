@@ -11,7 +11,7 @@ mod lines;
 mod parts;
 mod reading;
 mod report;
-pub mod words;
+mod words;
 
 pub use causes::RefusalName;
 pub use line::{ReportLine, ToldAnswer, ToldEvent, ToldOp};

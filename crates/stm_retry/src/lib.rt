@@ -14,7 +14,7 @@ mod state;
 mod store_calls;
 mod told;
 mod watch_calls;
-pub mod world;
+mod world;
 
 pub use stm_history::{ReadAnswer, Sequence, Text};
 pub use stm_meaning::{Fault, State, TraceItem, Value};

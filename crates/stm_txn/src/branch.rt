@@ -8,8 +8,7 @@ use crate::answer::OpAnswer;
 use crate::short_list::ShortList;
 use crate::txn::Op;
 use std::alloc::{AllocError, Global};
-use stm_history::change::find_change;
-use stm_history::{Change, KeyState, ReadAnswer, Text};
+use stm_history::{Change, KeyState, ReadAnswer, Text, find_change};
 use stm_keys::{Keys, ReadRefusal};
 
 /// What a branch answers, and what it changes.

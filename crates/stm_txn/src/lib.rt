@@ -4,19 +4,19 @@
 //! nothing but where it says so.
 #![tactic(auto)]
 
-pub mod advance;
-pub mod answer;
+mod advance;
+mod answer;
 mod branch;
 mod check;
 mod compare;
 mod hang;
 pub mod laws;
-pub mod refusal;
+mod refusal;
 mod refuse;
 mod refused;
-pub mod short_list;
-pub mod store;
-pub mod txn;
+mod short_list;
+mod store;
+mod txn;
 mod writes;
 
 pub use advance::{AdvanceRefused, Expired};

@@ -5,7 +5,7 @@ mod compares;
 mod operations;
 mod parts;
 mod read;
-pub mod words;
+mod words;
 
 pub use parts::{number_part, text_part};
 pub use read::read_txn;

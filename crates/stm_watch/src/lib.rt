@@ -8,12 +8,12 @@
 mod gather;
 mod index;
 mod readiness;
-pub mod refusal;
+mod refusal;
 mod slots;
-pub mod told;
+mod told;
 mod touch;
-pub mod watched;
-pub mod watchers;
+mod watched;
+mod watchers;
 
 pub use refusal::{NoWatcher, PollRefusal, WatchRefusal};
 pub use stm_keys::{Event, Keys, Sequence, Text};

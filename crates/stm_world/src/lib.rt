@@ -5,10 +5,10 @@
 //! event, and what a log of events and replies has to say for itself to be right.
 #![tactic(auto)]
 
-pub mod event;
+mod event;
 pub mod laws;
-pub mod refusal;
-pub mod reply;
+mod refusal;
+mod reply;
 
 pub use event::WorldEvent;
 pub use refusal::{Denied, Refusal};

@@ -8,7 +8,7 @@ use Rattle.stm_compile.specs.Levels.{is_serializable}
 use Rattle.stm_txn.specs.Commits.{revision_read}
 use Rattle.stm_attempt.specs.declared.next.Next.TheVariants.{Ready}
 use Rattle.stm_attempt.specs.Known.{Known}
-use Rattle.stm_attempt.specs.Settled.{wanted, served, settled}
+use Rattle.stm_attempt.specs.Settled.{served, settled}
 use Rattle.stm_attempt.specs.Fetches.{at_of, HaveOneBase}
 use Rattle.stm_attempt.specs.ReadyRun.{ReadyRun, IsRunOnItsAnswers}
 use Rattle.stm_attempt.specs.AttemptState.{with_reads}

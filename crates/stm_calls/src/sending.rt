@@ -94,7 +94,8 @@ pub fn conflict(
 /// these. (The Go package `clientv3/concurrency`, "STM"; the order of the refusals is this store's own.)
 pub fn commit(alloc: Global, store: &mut Store, ready: &Ready) -> Result<Sent, Refusal>
     requires named { All (λ (a : Answer). 0 < length a.key) ready.now.answers }
-    ensures step { (run : Run) → run_on ready.now.program ready.now.answers ≡ Ended run → IsSent (sent store.old.standing ready.now.level ready.now.answers run) store.old.standing result store.new.standing }
+    ensures step { (run : Run) → run_on ready.now.program ready.now.answers ≡ Ended run →
+        IsSent (sent store.old.standing ready.now.level ready.now.answers run) store.old.standing result store.new.standing }
     ensures answers { IfOk result CanGoOn }
     ensures numbers { IfOk result SentFits }
 {

@@ -16,8 +16,8 @@ use Rattle.stm_txn.specs.declared.refusal.Refusal.{Refusal}
 use Rattle.stm_txn.specs.declared.refusal.Refusal.TheVariants.{OutOfMemory, RevisionsUsedUp, TimeGoesBack}
 use Rattle.stm_txn.specs.Outcome.{Done, outcome, with_changes, is_used_up}
 use Rattle.stm_txn.specs.LeaseKeys.{deletions_of}
-use Rattle.stm_txn.specs.Standing.{Standing, Step, Advance, IsRefusalOf, refusal_of, with_history, step_of, transacted, without_lease, ended}
-use Rattle.stm_txn.specs.Standing.{at_moment, after, expired_in, expire_up_to, expire_all, advanced, HasCome, IsStopped, IsCutShort as StoreCutShort}
+use Rattle.stm_txn.specs.Standing.{Standing, Step, Advance, IsRefusalOf, refusal_of, with_history, transacted, without_lease, ended}
+use Rattle.stm_txn.specs.Standing.{at_moment, after, expired_in, expire_up_to, expire_all, advanced, HasCome, IsCutShort as StoreCutShort}
 use Rattle.stm_txn.proofs.Applying.{history_grows}
 use Rattle.stm_txn.proofs.Ending.{ended_is, due_lives}
 use Rattle.stm_entries.specs.declared.entry.Entry.{Entry}
@@ -27,7 +27,7 @@ use Rattle.stm_entries.specs.Alone.{history_left}
 use Rattle.stm_entries.specs.Replay.{replay}
 use Rattle.stm_hall.specs.HallState.{HallState, HallStep, hall_of, gone_on}
 use Rattle.stm_hall.specs.Locked.{AreEntriesThere}
-use Rattle.stm_hall.specs.Entering.{if_changed, entered, made, IsMade, or_want, expiries, after_expiries, IsAdvanced, IsCutShort, IsWant, HasStopped}
+use Rattle.stm_hall.specs.Entering.{if_changed, entered, made, IsMade, or_want, expiries, after_expiries, HasStopped}
 use Rattle.stm_hall.proofs.Opening.{Follows, nothing_follows}
 
 -- ---- a transaction is followed by its entry

@@ -1,7 +1,7 @@
 -- The entry of a commit that the store took leads to what the commit left.
 use Rattle.std.proofs.Common.{◌≡◌, ℕ, List, [], ◌∷◌, map, None, Ok, Bool, true, false, cond, refl, sym, ◌∙◌, ap, subst}
 use Rattle.stm_history.specs.declared.key_state.ReadAnswer.{ReadAnswer}
-use Rattle.stm_history.specs.History.{History, now, key_now}
+use Rattle.stm_history.specs.History.{History, now}
 use Rattle.stm_leases.specs.Live.{is_live_in}
 use Rattle.stm_program.specs.Syntax.{Block}
 use Rattle.stm_program.specs.declared.level.Level.{Level}
@@ -14,7 +14,6 @@ use Rattle.stm_meaning.specs.declared.run.End.TheVariants.{Done as DoneEnd}
 use Rattle.stm_meaning.specs.declared.run.Run.{Run}
 use Rattle.stm_meaning.specs.declared.run.Answered.TheVariants.{Ended}
 use Rattle.stm_meaning.specs.Meaning.{run_over}
-use Rattle.stm_txn.specs.declared.txn.Txn.{Txn}
 use Rattle.stm_txn.specs.Checks.{fault_of}
 use Rattle.stm_txn.specs.Effect.{op_of}
 use Rattle.stm_txn.specs.Outcome.{Done, outcome}
@@ -27,7 +26,6 @@ use Rattle.stm_compile.specs.Now.{as_change}
 use Rattle.stm_compile.specs.CommitTxn.{write_op, commit_of}
 use Rattle.stm_compile.specs.Committed.{conflict_now}
 use Rattle.stm_compile.proofs.OutcomeLemmas.{changes_are_distinct}
-use Rattle.stm_attempt.specs.Settled.{run_on}
 use Rattle.stm_attempt.specs.ReadyRun.{ReadyRun, IsRunOnItsAnswers}
 use Rattle.stm_entries.specs.Replayed.{Replayed, without_moment}
 use Rattle.stm_entries.specs.Alone.{seen_at, history_left, left_by, left_by_run}

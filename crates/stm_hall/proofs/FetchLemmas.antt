@@ -1,8 +1,7 @@
 -- What a fetch answers, and that it changes nothing.
-use Rattle.std.proofs.Common.{◌≡◌, ◌⊎◌, inl, inr, ℕ, ◌<◌, ◌≤◌, List, [], ◌∷◌, Bool, true, false, cond, Option, Some, None, Result, Ok, Err, refl, sym, ◌∙◌, ap}
-use Rattle.std.proofs.Common.{subst, arith}
+use Rattle.std.proofs.Common.{◌≡◌, inl, inr, ℕ, ◌<◌, ◌≤◌, List, [], ◌∷◌, Bool, true, cond, Option, Some, None, Result, Ok, Err, refl, sym, ◌∙◌, ap}
+use Rattle.std.proofs.Common.{subst}
 use Rattle.std.proofs.lemmas.Bool.{lt-ltb, le-ltb}
-use Rattle.std.specs.Prelude.{nat_lt, IsOk}
 use Rattle.std.specs.List.{list_all}
 use Rattle.stm_history.specs.History.{History, now, key_now}
 use Rattle.stm_leases.specs.Live.{is_live_in}
@@ -12,7 +11,6 @@ use Rattle.stm_txn.specs.declared.txn.Op.TheVariants.{Get, Put, Del}
 use Rattle.stm_txn.specs.declared.answer.TxnAnswer.{TxnAnswer}
 use Rattle.stm_txn.specs.declared.answer.FailedCompare.{FailedCompare}
 use Rattle.stm_txn.specs.declared.refusal.Refusal.{Refusal}
-use Rattle.stm_txn.specs.declared.refusal.Refusal.TheVariants.{OutOfMemory}
 use Rattle.stm_txn.specs.Branches.{Progress, begun, progress_after, changes_of_branch}
 use Rattle.stm_txn.specs.Compares.{first_failed}
 use Rattle.stm_txn.specs.Outcome.{Done, outcome, with_changes, chosen}

@@ -1,5 +1,5 @@
 -- A hall is locked after each call, and goes on from what it was.
-use Rattle.std.proofs.Common.{◌≡◌, ◌⊎◌, inl, inr, ℕ, List, [], ◌∷◌, Option, Some, None, Result, Ok, Err, IfOk, IfErr, refl, sym, ap, subst}
+use Rattle.std.proofs.Common.{◌≡◌, ◌⊎◌, inl, inr, ℕ, List, [], ◌∷◌, Option, Some, None, Result, Ok, Err, IfOk, IfErr, refl, sym, subst}
 use Rattle.stm_history.specs.declared.key_state.ReadAnswer.{ReadAnswer}
 use Rattle.stm_history.specs.History.{now, key_now}
 use Rattle.stm_leases.specs.Live.{is_live_in}
@@ -21,7 +21,7 @@ use Rattle.stm_hall.specs.HallState.{HallState, HallStep, gone_on}
 use Rattle.stm_hall.specs.Locked.{IsLocked}
 use Rattle.stm_hall.specs.Laws.{GoesOn}
 use Rattle.stm_hall.specs.Verdicts.{txn_of, entry_of, first_unvouched, taken, unless_unvouched, by_compares, unless_at_fault, verdict_of, IsVerdict}
-use Rattle.stm_hall.specs.Entering.{if_changed, entered, made, IsMade, expiries, IsAdvanced, IsCutShort, IsWant, HasStopped}
+use Rattle.stm_hall.specs.Entering.{if_changed, entered, made, IsMade, expiries, IsAdvanced, IsCutShort, HasStopped}
 use Rattle.stm_hall.proofs.Opening.{Follows, stays_locked, goes_on, goes_nowhere}
 use Rattle.stm_hall.proofs.CommitEntries.{commit_follows}
 use Rattle.stm_hall.proofs.CallLemmas.{txn_follows, come_follows, advance_follows}

@@ -1,5 +1,5 @@
 -- Where a hall began, and that it stays so as the hall goes on.
-use Rattle.std.proofs.Common.{◌≡◌, ℕ, ◌+◌, ◌<◌, ◌≤◌, ◌||◌, List, [], ◌∷◌, ◌++◌, length, Option, Some, None, Bool, true, false, cond, is_some, refl, sym}
+use Rattle.std.proofs.Common.{◌≡◌, ℕ, ◌+◌, ◌||◌, List, [], ◌∷◌, ◌++◌, length, Option, None, Bool, true, false, cond, is_some, refl, sym}
 use Rattle.std.proofs.Common.{◌∙◌, ap, subst, arith, length-append, append_assoc, take, drop}
 use Rattle.std.proofs.lemmas.Bool.{eqb-true}
 use Rattle.std.proofs.lemmas.List.{append-nil, take-append-drop}
@@ -30,7 +30,7 @@ use Rattle.stm_entries.proofs.Adding.{replay_only_adds}
 use Rattle.stm_entries.proofs.Replaying.{replay_goes_on}
 use Rattle.stm_hall.specs.HallState.{HallState, made_over, gone_on}
 use Rattle.stm_hall.specs.Locked.{cut_at, is_expiry_of, has_expired, Opening, opening_of, StandsIn, IsEntryThere, AreEntriesThere, IsLocked}
-use Rattle.stm_hall.specs.Laws.{GoesOn, OpensAsItsStore, HallsOpenAsTheirStore}
+use Rattle.stm_hall.specs.Laws.{GoesOn, HallsOpenAsTheirStore}
 
 -- ---- the history that it began with
 

@@ -1,5 +1,5 @@
 -- What the transaction of a commit comes to is told as the verdict.
-use Rattle.std.proofs.Common.{◌≡◌, ◌⊎◌, inl, inr, ℕ, ◌<◌, List, [], ◌∷◌, ◌++◌, map, length, Option, Some, None, Result, Ok, Err, refl, sym, ◌∙◌, ap, subst}
+use Rattle.std.proofs.Common.{◌≡◌, ◌⊎◌, inl, inr, ℕ, ◌<◌, List, [], ◌∷◌, map, length, Option, Some, None, Result, Ok, Err, refl, sym, ◌∙◌, ap, subst}
 use Rattle.std.proofs.Common.{arith}
 use Rattle.std.specs.Prelude.{slice_get, bytes_eq}
 use Rattle.std.specs.List.{IsDistinct}
@@ -19,7 +19,7 @@ use Rattle.stm_txn.specs.Numbers.{OpsFit}
 use Rattle.stm_txn.specs.Outcome.{Done, outcome, unless, branch_outcome, chosen}
 use Rattle.stm_txn.specs.Commits.{read_now, turned_down}
 use Rattle.stm_txn.specs.Standing.{Standing, Step, IsRefusalOf, with_history, step_of, transacted}
-use Rattle.stm_txn.proofs.Applying.{failed_compare_reads, IsDone, is_done}
+use Rattle.stm_txn.proofs.Applying.{failed_compare_reads, is_done}
 use Rattle.stm_compile.specs.Answers.{answer_now}
 use Rattle.stm_compile.specs.CommitTxn.{reread_keys, compares_of}
 use Rattle.stm_compile.specs.Conflicts.{seen_by}

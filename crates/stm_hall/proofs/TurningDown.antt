@@ -1,7 +1,6 @@
 -- The transaction of a commit without its writes tells what the whole one would be turned down for.
 use Rattle.std.proofs.Common.{◌≡◌, ◌⊎◌, inl, inr, ℕ, ◌<◌, ◌≤◌, ◌||◌, List, [], ◌∷◌, map, length, Bool, true, false, cond, Option, Some, None, Result, Ok, Err}
-use Rattle.std.proofs.Common.{refl, sym, ◌∙◌, ap, subst, arith, All}
-use Rattle.std.proofs.lemmas.List.{length-map}
+use Rattle.std.proofs.Common.{refl, sym, ◌∙◌, ap, subst, arith}
 use Rattle.std.proofs.lemmas.Bool.{lt-ltb, le-ltb, ne_eqb}
 use Rattle.std.proofs.lemmas.List.Elements.{recursion_from_All}
 use Rattle.std.specs.Prelude.{nat_lt, bytes_eq}
@@ -37,9 +36,8 @@ use Rattle.stm_compile.specs.Now.{as_change}
 use Rattle.stm_compile.specs.CommitTxn.{write_op, reread_keys}
 use Rattle.stm_compile.proofs.OutcomeLemmas.{changes_are_distinct}
 use Rattle.stm_attempt.specs.ReadyRun.{ReadyRun, IsRunOnItsAnswers}
-use Rattle.stm_hall.specs.declared.refusal.CommitRefusal.{CommitRefusal}
 use Rattle.stm_hall.specs.declared.refusal.CommitRefusal.TheVariants.{Store, Unvouched}
-use Rattle.stm_hall.specs.HallState.{HallState, HallStep}
+use Rattle.stm_hall.specs.HallState.{HallState}
 use Rattle.stm_hall.specs.Verdicts.{txn_of, asking, first_unvouched, taken, unless_unvouched, verdict_of, IsVerdict}
 use Rattle.stm_hall.proofs.CommitEntries.{ops_of_writes}
 use Rattle.stm_hall.proofs.Sending.{IsCompared, verdict_compared, verdict_at_fault, IsAnswered, is_answered, answer_compared, IsReread, is_reread}

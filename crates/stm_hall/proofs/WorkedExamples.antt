@@ -19,7 +19,7 @@ use Rattle.stm_hall.specs.declared.verdict.Verdict.TheVariants.{Committed, Faile
 use Rattle.stm_hall.specs.declared.refusal.FetchRefusal.TheVariants.{Behind}
 use Rattle.stm_hall.specs.declared.refusal.CommitRefusal.TheVariants.{Unvouched, Store}
 use Rattle.stm_hall.specs.HallState.{HallState, made_over, hall_of}
-use Rattle.stm_hall.specs.Locked.{opening_of, cut_at}
+use Rattle.stm_hall.specs.Locked.{opening_of}
 use Rattle.stm_hall.specs.Fetching.{fetched}
 use Rattle.stm_hall.specs.Verdicts.{verdict_of}
 

@@ -9,7 +9,7 @@ use Rattle.stm_txn.specs.declared.answer.TxnAnswer.{TxnAnswer}
 use Rattle.stm_txn.specs.declared.advance.Expired.{Expired}
 use Rattle.stm_txn.specs.declared.refusal.Refusal.{Refusal}
 use Rattle.stm_txn.specs.declared.refusal.Refusal.TheVariants.{OutOfMemory}
-use Rattle.stm_txn.specs.Standing.{Standing, Step, ComesTo, transacted, at_moment, advanced, HasCome, IsStopped}
+use Rattle.stm_txn.specs.Standing.{Standing, Step, transacted, at_moment, advanced, HasCome, IsStopped}
 use Rattle.stm_entries.specs.declared.entry.Entry.{Entry}
 use Rattle.stm_entries.specs.declared.entry.Entry.TheVariants.{Foreign, Expire}
 use Rattle.stm_hall.specs.HallState.{HallState, HallStep, hall_of, gone_on}

@@ -1,5 +1,5 @@
 -- What stays of a hall as it goes on, and its laws, each carried by a function of `src/laws.rt`.
-use Rattle.std.specs.Prelude.{◌≡◌, ℕ, List, ◌++◌}
+use Rattle.std.specs.Prelude.{◌≡◌, List, ◌++◌}
 use Rattle.stm_leases.specs.Live.{is_live_in}
 use Rattle.stm_txn.specs.Standing.{Standing}
 use Rattle.stm_entries.specs.declared.entry.Entry.{Entry}

@@ -1,5 +1,5 @@
 -- The move at the start of an expression, a condition, a statement and a block: finishing from there comes to the same.
-use Rattle.std.proofs.Common.{◌≡◌, refl, List, ◌∷◌, not}
+use Rattle.std.proofs.Common.{◌≡◌, refl, List, not}
 use Rattle.std.specs.Prelude.{Bool}
 use Rattle.stm_program.specs.Syntax.{Expression, Condition, Statement, Block, Text, Number, Variable, Get, Rev, Arithmetic, Cat, TextOf, NumOf, Equal}
 use Rattle.stm_program.specs.Syntax.{Less, Not, And, Or, Set, Put, Del, If, For, Emit, Abort, End, Then}

@@ -89,7 +89,9 @@ read_keeps whole frames n (Gives x t) p agree e =
     ap (finish whole) (same_state _ n e) ∙ sym (ap (on_value (onward_of whole frames)) (agree x t refl))
 read_keeps whole frames n (Stops stop t) p agree e = absurd (cc)
 
-give_keeps : (whole : Lookup) (frames : List Frame) (item : Item) (s : Session) → finish whole (give_step frames item s) ≡ finish_from whole (Give item) frames s
+give_keeps :
+    (whole : Lookup) (frames : List Frame) (item : Item) (s : Session) →
+    finish whole (give_step frames item s) ≡ finish_from whole (Give item) frames s
 give_keeps whole [] item s = refl
 give_keeps whole (f ∷ frames) item s = sym (item_taken whole frames f item s)
 

@@ -24,8 +24,8 @@ use Rattle.stm_machine.specs.declared.focus.Focus.TheVariants.{Evaluate, Test, G
 use Rattle.stm_machine.specs.declared.frame.Frame.{Frame}
 use Rattle.stm_machine.specs.declared.frame.Frame.TheVariants.{Operand, Comparison, Argument, Truth, Next}
 use Rattle.stm_machine.specs.declared.frame.OperandFrame.{OperandFrame}
-use Rattle.stm_machine.specs.declared.frame.OperandFrame.TheVariants.{Get as GetFrame, Rev as RevFrame, ArithmeticLeft, ArithmeticRight, CatLeft, CatRight, TextOf}
-use Rattle.stm_machine.specs.declared.frame.OperandFrame.TheVariants.{NumOf}
+use Rattle.stm_machine.specs.declared.frame.OperandFrame.TheVariants.{Get as GetFrame, Rev as RevFrame, ArithmeticLeft, ArithmeticRight}
+use Rattle.stm_machine.specs.declared.frame.OperandFrame.TheVariants.{CatLeft, CatRight, TextOf, NumOf}
 use Rattle.stm_machine.specs.declared.frame.ComparisonFrame.{ComparisonFrame}
 use Rattle.stm_machine.specs.declared.frame.ComparisonFrame.TheVariants.{EqualLeft, EqualRight, LessLeft, LessRight}
 use Rattle.stm_machine.specs.declared.frame.ArgumentFrame.{ArgumentFrame}

@@ -1,5 +1,5 @@
 -- The moves of a machine, each a value: the parts that it leaves waiting, and where the machine stands then.
-use Rattle.std.specs.Prelude.{ℕ, suc, zero, Bool, true, false, not, List, [], ◌∷◌, Option, None, Some, Result, Ok, Err}
+use Rattle.std.specs.Prelude.{ℕ, suc, zero, Bool, true, false, not, List, ◌∷◌, Option, None, Some, Result, Ok, Err}
 use Rattle.stm_program.specs.Syntax as tree
 use Rattle.stm_program.specs.Syntax.{Expression, Condition, Statement, Block, End, Then}
 use Rattle.stm_steps.specs.declared.value.Value.{Value}
@@ -20,8 +20,8 @@ use Rattle.stm_machine.specs.declared.focus.Focus.TheVariants.{Evaluate, Test, G
 use Rattle.stm_machine.specs.declared.frame.Frame.{Frame}
 use Rattle.stm_machine.specs.declared.frame.Frame.TheVariants.{Operand, Comparison, Argument, Truth, Next}
 use Rattle.stm_machine.specs.declared.frame.OperandFrame.{OperandFrame}
-use Rattle.stm_machine.specs.declared.frame.OperandFrame.TheVariants.{Get as GetFrame, Rev as RevFrame, ArithmeticLeft, ArithmeticRight, CatLeft, CatRight, TextOf}
-use Rattle.stm_machine.specs.declared.frame.OperandFrame.TheVariants.{NumOf}
+use Rattle.stm_machine.specs.declared.frame.OperandFrame.TheVariants.{Get as GetFrame, Rev as RevFrame, ArithmeticLeft, ArithmeticRight}
+use Rattle.stm_machine.specs.declared.frame.OperandFrame.TheVariants.{CatLeft, CatRight, TextOf, NumOf}
 use Rattle.stm_machine.specs.declared.frame.ComparisonFrame.{ComparisonFrame}
 use Rattle.stm_machine.specs.declared.frame.ComparisonFrame.TheVariants.{EqualLeft, EqualRight, LessLeft, LessRight}
 use Rattle.stm_machine.specs.declared.frame.ArgumentFrame.{ArgumentFrame}

@@ -1,7 +1,7 @@
 -- Worked examples of the grammar and of the first fault.
 use Rattle.std.proofs.Common.{◌≡◌, [], ◌∷◌, suc, None, refl, codes}
 use Rattle.std.specs.Fmt.{digits}
-use Rattle.serde_json.specs.Data.{Data, number, unsigned, string, array, Items, no_items, item}
+use Rattle.serde_json.specs.Data.{Data, number, unsigned, string, array, no_items, item}
 use Rattle.stm_json.specs.declared.cause.Cause.TheVariants.{Shape, Range}
 use Rattle.stm_program.specs.Syntax.{ProgramTree, of_statements, Get, Text, Emit, End, Then}
 use Rattle.stm_program_json.specs.Grammar.{spelled, SpellsProgram}

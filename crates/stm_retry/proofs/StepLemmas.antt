@@ -41,7 +41,6 @@ use Rattle.stm_calls.specs.Sent.{sent, seen_in as seen_told}
 use Rattle.stm_calls.proofs.Cases.{HasCommitted, HasFailed, is_refused}
 use Rattle.stm_world.specs.declared.reply.Reply.{Reply}
 use Rattle.stm_world.specs.declared.reply.Reply.TheVariants.{Started, Fetched, Committed, Conflict, GaveUp, Ended}
-use Rattle.stm_world.specs.declared.refusal.Denied.{Denied}
 use Rattle.stm_world.specs.declared.refusal.Refusal.TheVariants.{BadLimit}
 use Rattle.stm_world.specs.Task.{Task, answer_at, answers_told}
 use Rattle.stm_world.specs.World.{World, Stepped, Runner, Slot, Over, Live, begin, runner_at, with_slot, start_runner, step_runner, step_live}

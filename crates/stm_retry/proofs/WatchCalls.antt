@@ -1,5 +1,5 @@
 -- What the events about watchers tell and leave.
-use Rattle.std.proofs.Common.{◌≡◌, ◌≢◌, ◌∙◌, ℕ, List, [], Option, Some, None, Result, Ok, Err, Bool, true, false, cond, refl, sym, ap, subst, length}
+use Rattle.std.proofs.Common.{◌≡◌, ◌∙◌, ℕ, List, [], Option, Some, None, Result, Ok, Err, Bool, true, false, cond, refl, sym, ap, subst, length}
 use Rattle.std.specs.Prelude.{IsOk, nat_eq}
 use Rattle.stm_watch.specs.declared.watched.Watched.{Watched}
 use Rattle.stm_watch.specs.declared.watched.Watching.{Watching}
@@ -7,7 +7,6 @@ use Rattle.stm_watch.specs.declared.refusal.WatchRefusal.TheVariants.{EmptyKey a
 use Rattle.stm_watch.specs.Keys.{first_key}
 use Rattle.stm_watch.specs.Calls.{Step as WatchStep, watcher_at, poll_found}
 use Rattle.stm_txn.specs.declared.refusal.Refusal.{Refusal as StoreRefusal}
-use Rattle.stm_txn.specs.declared.refusal.Refusal.TheVariants.{OutOfMemory}
 use Rattle.stm_txn.specs.Standing.{Standing, Step as StoreStep, IsRefusalOf, watch_step, poll_step, cancel_step, watched, polled, cancelled}
 use Rattle.stm_entries.specs.declared.entry.Entry.{Entry}
 use Rattle.stm_world.specs.declared.event.WorldEvent.{WorldEvent}
@@ -15,8 +14,8 @@ use Rattle.stm_world.specs.declared.reply.Reply.{Reply}
 use Rattle.stm_world.specs.declared.refusal.Refusal.TheVariants.{Store}
 use Rattle.stm_world.specs.declared.refusal.Denied.{Denied}
 use Rattle.stm_world.specs.Told.{denied, reply_to, store_after_call}
-use Rattle.stm_world.specs.World.{World, Slot, Stepped, step, watch_called}
-use Rattle.stm_retry.specs.Tells.{IsStep, WantTells, Tells}
+use Rattle.stm_world.specs.World.{Slot, Stepped, step, watch_called}
+use Rattle.stm_retry.specs.Tells.{WantTells, Tells}
 use Rattle.stm_retry.specs.CallTells.{world_of, WatchTells}
 use Rattle.stm_retry.proofs.Wants.{NeverWants}
 use Rattle.stm_retry.proofs.CallLemmas.{refusal_tells}

@@ -1,6 +1,7 @@
 //! The world.
 ghost use Rattle.std.specs.Prelude.{◌≡◌, ◌≢◌, ◌≤◌, ℕ, Ok, Err, IfOk, IfErr, OnOk, OnErr, []};
 ghost use Rattle.stm_history.specs.declared.revisions.TheConstants.{HIGHEST_REVISION};
+ghost use Rattle.stm_history.specs.History.{AreRevisions};
 ghost use Rattle.stm_txn.specs.declared.refusal.Refusal.TheVariants.{OutOfMemory};
 ghost use Rattle.stm_entries.specs.Replayed.{opening, without_moment};
 ghost use Rattle.stm_entries.specs.Replay.{replay};
@@ -184,12 +185,15 @@ impl World {
 
     /// What changed the store, in the order of the steps.
     ///
-    /// The entries replay to the store's history and live leases, and each is legal at its point.
+    /// The entries replay to the store's history and live leases, and each is legal at its point. Each revision of
+    /// that history changes something, and no key twice.
     pub fn history(&self) -> &[Entry]
         ensures entries { result.now ≡ self.now.entries }
         ensures replays { replay self.now.entries (opening self.now.standing.history.opening) ≡ without_moment self.now.standing }
         ensures legal { AreLegal self.now.entries (opening self.now.standing.history.opening) }
+        ensures revisions { AreRevisions self.now.standing.history.revisions }
     {
+        let _counter = self.machine.store.keys().revision();
         self.machine.entries.as_slice()
     }
 

@@ -6,7 +6,7 @@ use Rattle.std.proofs.lemmas.Slice.Eq.{bytes_eq-Decides}
 use Rattle.serde_json.specs.Data.{Data, string, array, Items, no_items, item}
 use Rattle.serde_json.specs.Find.{as_array}
 use Rattle.serde_json.specs.View.{items_of}
-use Rattle.stm_json.specs.declared.cause.Cause.TheVariants.{Shape, TooMany, TooLong}
+use Rattle.stm_json.specs.declared.cause.Cause.TheVariants.{TooMany, TooLong}
 use Rattle.stm_json.specs.declared.read_error.ReadError.{ReadError}
 use Rattle.stm_json.specs.Outcome.{bad, ◌>>=◌, within}
 use Rattle.stm_json.specs.Tells.{Tells}

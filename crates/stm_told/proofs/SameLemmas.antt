@@ -1,5 +1,5 @@
 -- What `==` says of what stands in lines.
-use Rattle.std.proofs.Common.{◌≡◌, ℕ, Bool, ◌&&◌, ap, Decides}
+use Rattle.std.proofs.Common.{◌≡◌, ◌&&◌, ap, Decides}
 use Rattle.std.specs.Prelude.{nat_eq}
 use Rattle.std.proofs.lemmas.Bool.Decides.{Decides-like, Decides-and, Decides-eqb, Decides-int_eq}
 use Rattle.std.proofs.lemmas.Slice.Eq.{bytes_eq-Decides}

@@ -1,8 +1,7 @@
 -- The lines that the calls of a store come to.
 --
 -- etcd's API reference, "Transaction" and "Lease".
-use Rattle.std.specs.Prelude.{ℕ, List, [], ◌∷◌, map, Option, Some, None, Result, Ok, Err, option_map}
-use Rattle.stm_history.specs.declared.key_state.KeyState.{KeyState}
+use Rattle.std.specs.Prelude.{ℕ, List, map, Option, Some, None}
 use Rattle.stm_meaning.specs.declared.fault.Fault.TheVariants as fault
 use Rattle.stm_txn.specs.declared.advance.Expired.{Expired}
 use Rattle.stm_txn.specs.declared.answer.OpAnswer.{OpAnswer}

@@ -1,21 +1,19 @@
 -- Worked examples of watchers, computed by the definition of the world's step.
-use Rattle.std.proofs.Common.{◌≡◌, refl, ℕ, List, [], ◌∷◌, Ok, Err}
+use Rattle.std.proofs.Common.{◌≡◌, refl, ℕ, List, [], ◌∷◌, Ok}
 use Rattle.std.specs.Prelude.{codes, Result}
 use Rattle.stm_history.specs.declared.key_state.KeyState.{KeyState}
-use Rattle.stm_keys.specs.declared.event.Event.{Event}
 use Rattle.stm_keys.specs.declared.event.Event.TheVariants.{Put as PutEvent}
-use Rattle.stm_txn.specs.declared.txn.Txn.{Txn as StoreTxn}
 use Rattle.stm_txn.specs.declared.txn.Op.{Op}
 use Rattle.stm_txn.specs.declared.txn.Op.TheVariants.{Put}
 use Rattle.stm_txn.specs.declared.refusal.Refusal.TheVariants.{NoWatcher, EmptyKey}
 use Rattle.stm_world.specs.declared.event.WorldEvent.{WorldEvent}
 use Rattle.stm_world.specs.declared.event.WorldEvent.TheVariants.{Txn, WatchKey, WatchRange, Poll, Cancel}
 use Rattle.stm_world.specs.declared.reply.Reply.{Reply}
-use Rattle.stm_world.specs.declared.reply.Reply.TheVariants.{Watching, Batch, Cancelled}
+use Rattle.stm_world.specs.declared.reply.Reply.TheVariants.{Watching, Batch}
 use Rattle.stm_world.specs.declared.refusal.Denied.{Denied}
 use Rattle.stm_world.specs.declared.refusal.Refusal.TheVariants.{Store}
 use Rattle.stm_world.specs.Told.{denied}
-use Rattle.stm_world.specs.World.{World, opened, step, world_after, replies_to}
+use Rattle.stm_world.specs.World.{opened, step, world_after}
 
 -- a put that needs nothing
 abbrev put : List ℕ → Op

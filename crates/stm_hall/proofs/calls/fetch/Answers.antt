@@ -1,5 +1,5 @@
 use Rattle.std.proofs.Common.{◌≡◌, ◌∙◌, ℕ, ◌<◌, ◌≤◌, Err, sym, ap, subst, arith}
-use Rattle.stm_history.specs.History.{History, now}
+use Rattle.stm_history.specs.History.{now}
 use Rattle.stm_txn.specs.Standing.{Standing}
 use Rattle.stm_txn.specs.Store.{StoreView}
 use Rattle.stm_hall.specs.declared.refusal.FetchRefusal.TheVariants.{Behind}

@@ -1,4 +1,4 @@
-use Rattle.std.proofs.Common.{◌≡◌, ◌≤◌, ◌<◌, ◌∙◌, List, length, map, None, Some, Err, inl, inr, refl, sym, ap, subst, arith}
+use Rattle.std.proofs.Common.{◌≡◌, ◌≤◌, ◌<◌, ◌∙◌, length, map, None, Some, Err, inl, inr, refl, sym, ap, subst, arith}
 use Rattle.std.specs.Prelude.{bytes_eq}
 use Rattle.std.specs.List.{IsDistinct}
 use Rattle.std.proofs.lemmas.Result.{err_from_is_err_and}
@@ -9,8 +9,6 @@ use Rattle.stm_txn.specs.Checks.{most_operations}
 use Rattle.stm_txn.specs.Standing.{Standing}
 use Rattle.stm_txn.specs.Store.{StoreView}
 use Rattle.stm_attempt.specs.ReadyRun.{ReadyRun, IsRunOnItsAnswers}
-use Rattle.stm_entries.specs.declared.entry.Entry.{Entry}
-use Rattle.stm_hall.specs.declared.refusal.CommitRefusal.{CommitRefusal}
 use Rattle.stm_hall.specs.declared.refusal.CommitRefusal.TheVariants.{Store, Unvouched}
 use Rattle.stm_hall.specs.HallState.{HallState, hall_of}
 use Rattle.stm_hall.specs.Verdicts.{txn_of, asking, verdict_of}

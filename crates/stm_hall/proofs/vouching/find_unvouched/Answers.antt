@@ -1,4 +1,4 @@
-use Rattle.std.proofs.Common.{◌≡◌, ◌∙◌, true, false, cond, None, ap, sym}
+use Rattle.std.proofs.Common.{◌∙◌, true, false, cond, None, ap, sym}
 use Rattle.std.specs.List.{find}
 use Rattle.stm_compile.specs.Levels.{is_comparing}
 use Rattle.stm_attempt.specs.ReadyRun.{ReadyRun}

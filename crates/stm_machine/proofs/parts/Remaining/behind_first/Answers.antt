@@ -1,4 +1,4 @@
-use Rattle.std.proofs.Common.{◌≡◌, ◌≤◌, ◌+◌, ◌∙◌, ap, arith, rules, ℕ, List, length, drop}
+use Rattle.std.proofs.Common.{◌≡◌, ◌≤◌, ◌+◌, ◌∙◌, ap, arith, rules, List, length, drop}
 use Rattle.stm_program.specs.Syntax.{Statement, Block}
 use Rattle.stm_program.specs.BlockView.{block_of}
 use Rattle.stm_machine.specs.Parts.{behind_first}

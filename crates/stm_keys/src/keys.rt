@@ -89,7 +89,8 @@ fn add_recorded(
     requires apart { AreApart events.items }
     requires bound { present.old ≤ length chains.old.entries }
     ensures recorded { OnOk result (revisions.new.items ≡ revisions.old.items ++ events.items ∷ []) }
-    ensures told { OnOk result ((k : _) → places_in (get_by_text chains.new k) ≡ with_place (is_some (event_about k events.items)) (length revisions.old.items) (places_in (get_by_text chains.old k))) }
+    ensures told { OnOk result ((k : _) → places_in (get_by_text chains.new k) ≡
+        with_place (is_some (event_about k events.items)) (length revisions.old.items) (places_in (get_by_text chains.old k))) }
     ensures first { OnOk result ((is_present : List ℕ → Bool) → ((k : _) → places_in (get_by_text chains.old k) ≡ [] → is_present k ≡ false) →
         StandFirst is_present present.old (names_of chains.old) → StandFirst (λ k. is_left (event_about k events.items) (is_present k)) present.new (names_of chains.new)) }
     ensures err { OnErr result (revisions.new.items ≡ revisions.old.items) }

@@ -2,7 +2,8 @@
 ghost use Rattle.stm_txn.specs.Advances.{KeysOfLeaseHang, AdvanceExpires};
 ghost use Rattle.stm_txn.specs.Effect.{BranchIsEffect};
 ghost use Rattle.stm_txn.specs.PresentKeys.{PresentKeysAreListed};
-ghost use Rattle.stm_txn.specs.Laws.{WritesApply, BranchApplies, FailedCompareReads, ReadsChangeNothing, NumberAloneIsWrong, ModCompares, NoneFailed, FailedHasItsPlace, HistoryGrows, LookUpIsTheState};
+ghost use Rattle.stm_txn.specs.Laws.{WritesApply, BranchApplies, FailedCompareReads, ReadsChangeNothing};
+ghost use Rattle.stm_txn.specs.Laws.{NumberAloneIsWrong, ModCompares, NoneFailed, FailedHasItsPlace, HistoryGrows, LookUpIsTheState};
 
 /// What a branch of puts and deletes of distinct keys changes is the effect of these writes.
 pub fn branch_is_effect()

@@ -1,5 +1,6 @@
 -- The places of watchers and the marks of which are ready.
-use Rattle.std.proofs.Common.{◌≡◌, ◌≢◌, ℕ, ◌<◌, ◌-◌, Bool, true, false, cond, List, length, Option, Some, None, IsSome, option_map, slice_index_or, slice_set, Result, Ok, Err, OnErr}
+use Rattle.std.proofs.Common.{◌≡◌, ◌≢◌, ℕ, ◌<◌, ◌-◌, Bool, true, false, cond}
+use Rattle.std.proofs.Common.{List, length, Option, Some, None, IsSome, option_map, slice_index_or, slice_set, Result, Ok, Err}
 use Rattle.std.proofs.Common.{refl, sym, ap, subst, ◌∙◌, nat_eq}
 use Rattle.std.proofs.lemmas.List.{map-set, set-get_or}
 use Rattle.std.proofs.Math.ListN.{get_or-map}

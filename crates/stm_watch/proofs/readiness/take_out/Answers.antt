@@ -1,4 +1,3 @@
-use Rattle.std.proofs.Common.{◌≡◌, Some, None, slice_index_or}
 use Rattle.stm_watch.proofs.Marked.{found_at, mark_place, mark_node, marked_less}
 use Rattle.stm_watch.proofs.readiness.take_out.Goals as goal
 

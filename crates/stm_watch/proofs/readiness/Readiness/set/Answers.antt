@@ -1,4 +1,5 @@
-use Rattle.std.proofs.Common.{◌≡◌, ◌<◌, ◌++◌, ◌∷◌, [], ℕ, List, Option, length, sym, ap, subst, ◌∙◌, Some, None, IsSome, map, option_map, slice_set, slice_index_or}
+use Rattle.std.proofs.Common.{◌≡◌, ◌<◌, ◌++◌, ◌∷◌, [], ℕ, List, Option, length, sym, ap, subst, ◌∙◌}
+use Rattle.std.proofs.Common.{Some, None, IsSome, map, option_map, slice_set, slice_index_or}
 use Rattle.std.proofs.lemmas.List.{map-set, get_or-set_same, length-set}
 use Rattle.stm_lists.specs.Lists.{HasList, Updates, entries_at}
 use Rattle.stm_watch.specs.declared.readiness.Mark.{Mark}

@@ -1,0 +1,12 @@
+//! How the examples come by their programs.
+use serde_json::Value;
+use std::alloc::Global;
+use std::test::Fail;
+use stm_program::Program;
+use stm_program_json::read_program;
+
+/// The program of a text.
+pub fn program_of(alloc: Global, text: &str) -> Result<Program, Fail> {
+    let value = Value::from_str(alloc, text)?;
+    Ok(read_program(alloc, &value)?)
+}

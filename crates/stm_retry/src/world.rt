@@ -193,6 +193,7 @@ impl World {
         ensures legal { AreLegal self.now.entries (opening self.now.standing.history.opening) }
         ensures revisions { AreRevisions self.now.standing.history.revisions }
     {
+        // (a clause of this call tells that the revisions are a history)
         let _counter = self.machine.store.keys().revision();
         self.machine.entries.as_slice()
     }

@@ -1,0 +1,3 @@
+pub mod Draw
+pub mod Seats
+pub mod Laws

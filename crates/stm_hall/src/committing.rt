@@ -17,10 +17,7 @@ use stm_attempt::{Ready, compile};
 use stm_calls::{Sent, conflict};
 use stm_entries::Entry;
 use stm_history::ReadAnswer;
-use stm_txn::{FailedCompare, OpAnswer, Refusal, ShortList, Store, Txn};
-
-/// The most operations that a list of a transaction may have.
-const MOST_OPERATIONS: usize = 128;
+use stm_txn::{FailedCompare, MOST_OPERATIONS, OpAnswer, Refusal, ShortList, Store, Txn};
 
 /// The verdict on an attempt of which a compare failed, and whose keys were read again with these answers.
 fn tell_failure(

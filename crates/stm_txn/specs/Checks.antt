@@ -5,6 +5,7 @@
 -- this store's own choice, and so is that two deletions of one key may stand in one branch.
 use Rattle.std.specs.Prelude.{ℕ, Bool, false, ◌||◌, nat_lt, nat_eq, if◌then◌else◌, List, [], ◌∷◌, length, Option, Some, None}
 use Rattle.std.specs.List.{list_any}
+use Rattle.stm_txn.specs.declared.check.TheConstants.{MOST_OPERATIONS}
 use Rattle.stm_txn.specs.declared.txn.Txn.{Txn}
 use Rattle.stm_txn.specs.declared.txn.Op.{Op}
 use Rattle.stm_txn.specs.declared.refusal.Refusal.{Refusal}
@@ -13,7 +14,7 @@ use Rattle.stm_txn.specs.Operations.{key_of_op, clash}
 
 -- the most elements of each of the three lists
 abbrev pub most_operations : ℕ
-most_operations = 128
+most_operations = MOST_OPERATIONS
 
 abbrev pub has_too_many : Txn → Bool
 has_too_many t = nat_lt most_operations (length t.compares) || nat_lt most_operations (length t.success) || nat_lt most_operations (length t.failure)

@@ -8,7 +8,7 @@ use crate::refusal::Refusal;
 use crate::txn::{Compare, Op, Txn};
 
 /// The most elements of each of a transaction's three lists.
-const MOST_OPERATIONS: usize = 128;
+pub const MOST_OPERATIONS: usize = 128;
 
 fn are_too_many(txn: &Txn) -> bool
     ensures { result ≡ has_too_many txn.now }

@@ -21,6 +21,7 @@ mod writes;
 
 pub use advance::{AdvanceRefused, Expired};
 pub use answer::{FailedCompare, OpAnswer, TxnAnswer};
+pub use check::MOST_OPERATIONS;
 pub use refusal::Refusal;
 pub use short_list::ShortList;
 pub use stm_history::ReadAnswer;

@@ -1,5 +1,6 @@
 -- The run that the line of a commit stands for, and the store that it leads to.
-use Rattle.std.proofs.Common.{◌≡◌, ◌≢◌, ◌↔◌, ℕ, ◌+◌, ◌<◌, ◌≤◌, length, drop, get_or, Bool, true, false, List, [], ◌∷◌, map, Option, Some, None, Ok, Err, refl, sym, ◌∙◌, ap, subst}
+use Rattle.std.proofs.Common.{◌≡◌, ◌≢◌, ◌↔◌, ℕ, ◌+◌, ◌<◌, ◌≤◌, length, drop, get_or, Bool, true, false, List, [], ◌∷◌, map, Option, Some, None, Ok, Err}
+use Rattle.std.proofs.Common.{refl, sym, ◌∙◌, ap, subst}
 use Rattle.std.proofs.lemmas.List.{drop_all}
 use Rattle.std.proofs.lemmas.Option.{same_Some}
 use Rattle.std.specs.Prelude.{Result, IsTrue, IfOk, OnOk}
@@ -349,9 +350,9 @@ pub step_right : (r : Result Bool AllocError) (s : Standing) (o : Option Runner)
     (output told_output : List Value) (trace told_trace : List TraceItem) (answers told_answers : List ToldAnswer) → o ≡ Some runner →
     l ≡ Committed n id revision attempts output trace answers → told_output ≡ output → told_trace ≡ trace → told_answers ≡ answers →
     IfOk r (λ b. IsTrue b ↔ IsRightCommit s runner revision attempts told_output told_trace told_answers) → IfOk r (λ b. IsTrue b ↔ StepReplays s o l)
-step_right r s o l runner n id revision attempts output told_output trace told_trace answers told_answers runs line_is same_output same_trace same_answers right =
+step_right r s o l runner n id revision attempts output told_output trace told_trace answers told_answers runs line_is outputs traces all_answers right =
     subst (λ (x : ReportLine). IfOk r (λ b. IsTrue b ↔ StepReplays s o x)) (sym line_is)
     (subst (λ (x : Option Runner). IfOk r (λ b. IsTrue b ↔ StepReplays s x (Committed n id revision attempts output trace answers))) (sym runs)
-    (subst (λ (x : List Value). IfOk r (λ b. IsTrue b ↔ IsRightCommit s runner revision attempts x trace answers)) same_output
-    (subst (λ (x : List TraceItem). IfOk r (λ b. IsTrue b ↔ IsRightCommit s runner revision attempts told_output x answers)) same_trace
-    (subst (λ (x : List ToldAnswer). IfOk r (λ b. IsTrue b ↔ IsRightCommit s runner revision attempts told_output told_trace x)) same_answers right))))
+    (subst (λ (x : List Value). IfOk r (λ b. IsTrue b ↔ IsRightCommit s runner revision attempts x trace answers)) outputs
+    (subst (λ (x : List TraceItem). IfOk r (λ b. IsTrue b ↔ IsRightCommit s runner revision attempts told_output x answers)) traces
+    (subst (λ (x : List ToldAnswer). IfOk r (λ b. IsTrue b ↔ IsRightCommit s runner revision attempts told_output told_trace x)) all_answers right))))

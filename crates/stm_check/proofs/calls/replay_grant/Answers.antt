@@ -24,7 +24,8 @@ returns-in-Ok-clause-next c =
     let next : Standing = c.grant.new.self.standing in
     let n = c.args.number in
     let l = c.args.line.now in
-    led_where c.is_granted.result (Granted n c.args.id) l (grant_entries c.args.id c.args.ttl s.moment) s next s.moment c.is_granted.ensures (grant_led s next c.args.id c.args.ttl c.in-Ok.ensures.step)
+    led_where c.is_granted.result (Granted n c.args.id) l (grant_entries c.args.id c.args.ttl s.moment) s next s.moment c.is_granted.ensures
+    (grant_led s next c.args.id c.args.ttl c.in-Ok.ensures.step)
 
 pub returns-in-Err-clause-right : goal.returns-in-Err-clause-right
 returns-in-Err-clause-right c =
@@ -42,5 +43,6 @@ returns-in-Err-clause-next c =
     let next : Standing = c.grant.new.self.standing in
     let n = c.args.number in
     let l = c.args.line.now in
-    refused_next c.tells_refusal.result (Refused n (cause_told c.in-Err.cause) []) l (grant_entries c.args.id c.args.ttl s.moment) s next c.tells_refusal.ensures.told refl
+    refused_next c.tells_refusal.result (Refused n (cause_told c.in-Err.cause) []) l (grant_entries c.args.id c.args.ttl s.moment) s next
+    c.tells_refusal.ensures.told refl
     (ap (λ (v : StoreView). v.standing) c.in-Err.ensures.err)

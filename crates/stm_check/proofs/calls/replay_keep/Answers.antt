@@ -25,7 +25,8 @@ returns-in-Ok-clause-next c =
     let next : Standing = c.keep_alive.new.self.standing in
     let n = c.args.number in
     let l = c.args.line.now in
-    led_where c.is_kept.result (Kept n c.args.id) l (keep_entries c.args.id s.moment) s next s.moment c.is_kept.ensures (keep_led s next c.args.id c.in-Ok.ensures.step)
+    led_where c.is_kept.result (Kept n c.args.id) l (keep_entries c.args.id s.moment) s next s.moment c.is_kept.ensures
+    (keep_led s next c.args.id c.in-Ok.ensures.step)
 
 pub returns-in-Err-clause-right : goal.returns-in-Err-clause-right
 returns-in-Err-clause-right c =
@@ -35,7 +36,8 @@ returns-in-Err-clause-right c =
     let l = c.args.line.now in
     refused_right c.tells_refusal.result c.in-Err.cause (keep_line n s c.args.id) (Refused n (cause_told c.in-Err.cause) []) l
     c.tells_refusal.ensures.told c.tells_refusal.ensures.memory
-    (λ other. refused_line n (λ _. Kept n c.args.id) (kept_alive s c.args.id) c.in-Err.cause (subst (λ (o : Result (Step (Unit {0})) Cause). IsRefusalOf o c.in-Err.cause) (sym c.in-Err.ensures.step) refl) other)
+    (λ other. refused_line n (λ _. Kept n c.args.id) (kept_alive s c.args.id) c.in-Err.cause
+        (subst (λ (o : Result (Step (Unit {0})) Cause). IsRefusalOf o c.in-Err.cause) (sym c.in-Err.ensures.step) refl) other)
 
 pub returns-in-Err-clause-next : goal.returns-in-Err-clause-next
 returns-in-Err-clause-next c =

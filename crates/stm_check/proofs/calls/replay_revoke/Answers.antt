@@ -24,7 +24,8 @@ returns-in-Ok-clause-next c =
     let next : Standing = c.revoke.new.self.standing in
     let n = c.args.number in
     let l = c.args.line.now in
-    led_where c.is_revoked.result (Revoked n c.args.id c.in-Ok.revision) l (revoke_entries c.args.id) s next s.moment c.is_revoked.ensures (revoke_led s next c.args.id c.in-Ok.revision c.in-Ok.ensures.step)
+    led_where c.is_revoked.result (Revoked n c.args.id c.in-Ok.revision) l (revoke_entries c.args.id) s next s.moment c.is_revoked.ensures
+    (revoke_led s next c.args.id c.in-Ok.revision c.in-Ok.ensures.step)
 
 pub returns-in-Err-clause-right : goal.returns-in-Err-clause-right
 returns-in-Err-clause-right c =

@@ -25,7 +25,8 @@ returns-in-Ok-clause-next c =
     let next : Standing = c.txn.new.self.standing in
     let n = c.args.number in
     let l = c.args.line.now in
-    led_where c.is_txn.result (txn_line n c.in-Ok.answer) l (txn_entries (now s.history) c.args.txn.now) s next s.moment c.is_txn.ensures (txn_led n s next c.args.txn.now c.in-Ok.answer c.in-Ok.ensures.step)
+    led_where c.is_txn.result (txn_line n c.in-Ok.answer) l (txn_entries (now s.history) c.args.txn.now) s next s.moment c.is_txn.ensures
+    (txn_led n s next c.args.txn.now c.in-Ok.answer c.in-Ok.ensures.step)
 
 pub returns-in-Err-clause-right : goal.returns-in-Err-clause-right
 returns-in-Err-clause-right c =
@@ -43,5 +44,6 @@ returns-in-Err-clause-next c =
     let next : Standing = c.txn.new.self.standing in
     let n = c.args.number in
     let l = c.args.line.now in
-    refused_next c.tells_refusal.result (Refused n (cause_told c.in-Err.cause) []) l (txn_entries (now s.history) c.args.txn.now) s next c.tells_refusal.ensures.told refl
+    refused_next c.tells_refusal.result (Refused n (cause_told c.in-Err.cause) []) l (txn_entries (now s.history) c.args.txn.now) s next
+    c.tells_refusal.ensures.told refl
     (ap (λ (v : StoreView). v.standing) c.in-Err.ensures.err)

@@ -1,0 +1,316 @@
+-- The line that a call comes to, and the store that its line leads to.
+use Rattle.std.proofs.Common.{◌≡◌, ◌≢◌, ◌↔◌, inl, inr, ℕ, zero, suc, List, [], ◌∷◌, Option, Some, None, Bool, true, false, cond}
+use Rattle.std.proofs.Common.{Ok, Err, refl, sym, ◌∙◌, ap, subst}
+use Rattle.std.specs.Prelude.{Result, IsTrue, IfOk, OnOk, nat_lt}
+use Rattle.std.specs.declared.alloc.AllocError.{AllocError}
+use Rattle.std.specs.FinMap as finmap
+use Rattle.stm_history.specs.declared.change.Change.{Change}
+use Rattle.stm_history.specs.History.{History, now, key_now}
+use Rattle.stm_leases.specs.Live.{grant_refusal, is_live_in}
+use Rattle.stm_leases.specs.LeaseLog.{Term}
+use Rattle.stm_leases.specs.DueFirst.{first_due}
+use Rattle.stm_leases.specs.declared.errors.GrantError.{GrantError}
+use Rattle.stm_txn.specs.declared.advance.Expired.{Expired}
+use Rattle.stm_txn.specs.declared.answer.FailedCompare.{FailedCompare}
+use Rattle.stm_txn.specs.declared.answer.OpAnswer.{OpAnswer}
+use Rattle.stm_txn.specs.declared.answer.TxnAnswer.{TxnAnswer}
+use Rattle.stm_txn.specs.declared.refusal.Refusal.{Refusal}
+use Rattle.stm_txn.specs.declared.refusal.Refusal.TheVariants.{OutOfMemory, LeaseNotFound, RevisionsUsedUp, TimeGoesBack}
+use Rattle.stm_txn.specs.declared.txn.Txn.{Txn}
+use Rattle.stm_txn.specs.Checks.{fault_of}
+use Rattle.stm_txn.specs.Compares.{first_failed}
+use Rattle.stm_txn.specs.Branches.{begun, changes_of_branch, answers_after, branch_refusal}
+use Rattle.stm_txn.specs.Grants.{grant_refusal_of}
+use Rattle.stm_txn.specs.LeaseKeys.{deletions_of}
+use Rattle.stm_txn.specs.Outcome.{Done, outcome, chosen, unless, finished, is_used_up, with_changes, answer_of}
+use Rattle.stm_txn.specs.Standing.{Standing, Step, Advance, IsRefusalOf, IsCutShort, step_of, transacted, granted, kept_alive, ended, revoked}
+use Rattle.stm_txn.specs.Standing.{with_lease, without_lease, with_revision, after, expired_in, expire_up_to, expire_all, at_moment, advanced}
+use Rattle.stm_reports.specs.declared.line.ReportLine.{ReportLine}
+use Rattle.stm_reports.specs.declared.line.ReportLine.TheVariants.{Refused}
+use Rattle.stm_entries.specs.declared.entry.Entry.{Entry}
+use Rattle.stm_entries.specs.declared.entry.Entry.TheVariants.{Foreign, Grant as GrantEntry, Renew, Revoke as RevokeEntry}
+use Rattle.stm_told.specs.Told.{cause_told, txn_line, advance_line}
+use Rattle.stm_world.specs.declared.event.WorldEvent.TheVariants.{Advance as AdvanceEvent}
+use Rattle.stm_world.specs.Told.{store_after_call}
+use Rattle.stm_world.specs.World.{if_taken, if_changed}
+use Rattle.stm_world.proofs.Entered.{EntriesFollow}
+use Rattle.stm_world.proofs.Calls.{txn_follows, grant_follows, keep_follows, revoke_follows, advance_follows}
+use Rattle.stm_check.specs.Point.{led_by, moment_after, txn_entries, advance_entries, expiries}
+use Rattle.stm_check.specs.StoreLines.{call_line, advance_call_line}
+
+-- ---- lines
+
+-- the line of a call that was taken
+pub taken_line : {A : Type 0} (n : ℕ) (tell : A → ReportLine) (r : Result (Step A) Refusal) (answer : A) (next : Standing) →
+    r ≡ Ok record { answer = answer; next = next } → call_line n tell r ≡ tell answer
+taken_line n tell r answer next is = ap (call_line n tell) is
+
+-- why a call was refused, where it was not for want of memory
+pub refused_for : {T : Type 0} (r : Result T Refusal) (cause : Refusal) → IsRefusalOf r cause → cause ≢ OutOfMemory → r ≡ Err cause
+refused_for (Ok done) cause is other = absurd (other is)
+refused_for (Err c) cause is other = ap Err (sym is)
+
+pub refused_line : {A : Type 0} (n : ℕ) (tell : A → ReportLine) (r : Result (Step A) Refusal) (cause : Refusal) → IsRefusalOf r cause →
+    cause ≢ OutOfMemory → call_line n tell r ≡ Refused n (cause_told cause) []
+refused_line n tell r cause is other = ap (call_line n tell) (refused_for r cause is other)
+
+-- a test of one line is a test of the same line
+pub tests_same : (b : Bool) (x y l : ReportLine) → x ≡ y → (IsTrue b ↔ y ≡ l) → (IsTrue b ↔ x ≡ l)
+tests_same b x y l same test = ((λ t. same ∙ test.0 t), (λ e. test.1 (sym same ∙ e)))
+
+-- a refused call, by what its line was compared with
+pub refused_right : (r : Result Bool AllocError) (cause : Refusal) (x y l : ReportLine) → IfOk r (λ b. IsTrue b ↔ y ≡ l) → OnOk r (cause ≢ OutOfMemory) →
+    (cause ≢ OutOfMemory → x ≡ y) → IfOk r (λ b. IsTrue b ↔ x ≡ l)
+refused_right (Ok b) cause x y l test other same = tests_same b x y l (same other) test
+refused_right (Err e) cause x y l test other same = tt
+
+-- and the store behind it, where its line tells nothing that is entered
+pub refused_next : (r : Result Bool AllocError) (y l : ReportLine) (entries : ReportLine → List Entry) (s next : Standing) →
+    IfOk r (λ b. IsTrue b ↔ y ≡ l) → entries y ≡ [] → next ≡ s → IfOk r (λ b. IsTrue b → next ≡ led_by (entries l) s s.moment)
+refused_next (Ok b) y l entries s next test none same =
+    λ t. same ∙ ap (λ (es : List Entry). led_by es s s.moment) (sym none ∙ ap entries (test.0 t))
+refused_next (Err e) y l entries s next test none same = tt
+
+-- the line of an advance that was cut short, though not for want of memory
+pub cut_line : (n : ℕ) (s left : Standing) (moment : ℕ) (expired : List Expired) (cause : Refusal) → IsCutShort (advanced s moment) expired cause left →
+    cause ≢ OutOfMemory → advanced s moment ≡ record { expired = expired; leaves = left; cause = Some cause }
+cut_line n s left moment expired cause (inl whole) other = whole
+cut_line n s left moment expired cause (inr stopped) other = absurd (other stopped.0)
+
+-- ---- what no call but an advance changes: the moment and the watchers
+
+pub record KeepsRest (s next : Standing) : Type 0 where
+  pub moment : next.moment ≡ s.moment
+  pub watchers : next.watchers ≡ s.watchers
+
+keeps_itself : (s : Standing) → KeepsRest s s
+keeps_itself s = record { moment = refl; watchers = refl }
+
+abbrev pub StepKeepsRest : {A : Type 0} → Standing → Result (Step A) Refusal → Type 0
+StepKeepsRest s (Ok done) = KeepsRest s done.next
+StepKeepsRest s (Err cause) = Unit {0}
+
+-- ---- the store that a line leads to
+
+-- a line that was compared with one, which leads there
+pub led_where : (b : Bool) (y l : ReportLine) (entries : ReportLine → List Entry) (s next : Standing) (moment : ℕ) →
+    (IsTrue b ↔ y ≡ l) → next ≡ led_by (entries y) s moment → IsTrue b → next ≡ led_by (entries l) s moment
+led_where b y l entries s next moment test led t = led ∙ ap (λ (x : ReportLine). led_by (entries x) s moment) (test.0 t)
+
+-- a store that entries lead to
+pub led : (s next : Standing) (entries : List Entry) → EntriesFollow s next entries → KeepsRest s next → next ≡ led_by entries s s.moment
+led s next entries follow rest =
+    λ k. record {
+      history = (sym follow.replays k).history;
+      live = (sym follow.replays k).live;
+      moment = rest.moment k;
+      watchers = rest.watchers k;
+    }
+
+-- the store behind a call that was taken, whose one entry is this
+pub taken_led : {A : Type 0} (s : Standing) (r : Result (Step A) Refusal) (answer : A) (next : Standing) (entry : Entry) →
+    EntriesFollow s (store_after_call s r) (if_taken r entry) → StepKeepsRest s r → r ≡ Ok record { answer = answer; next = next } →
+    next ≡ led_by (entry ∷ []) s s.moment
+taken_led s r answer next entry follow rest is =
+    led s next (entry ∷ []) (subst (λ (x : Result (Step _) Refusal). EntriesFollow s (store_after_call s x) (if_taken x entry)) is follow)
+    (subst (λ (x : Result (Step _) Refusal). StepKeepsRest s x) is rest)
+
+-- no entry leads nowhere else
+pub still : (s : Standing) → s ≡ led_by [] s s.moment
+still s = refl
+
+-- ---- a grant
+
+abbrev granted_by : Standing → ℕ → ℕ → Option GrantError → Result (Step (Unit {0})) Refusal
+granted_by s id ttl o =
+    elim o [
+      | Some cause ↦ Err (grant_refusal_of cause)
+      | None ↦ Ok record { answer = tt; next = with_lease s id ttl }
+    ]
+
+granted_rest : (s : Standing) (id ttl : ℕ) (o : Option GrantError) → StepKeepsRest s (granted_by s id ttl o)
+granted_rest s id ttl None = record { moment = refl; watchers = refl }
+granted_rest s id ttl (Some cause) = tt
+
+pub grant_led : (s next : Standing) (id ttl : ℕ) → granted s id ttl ≡ Ok record { answer = tt; next = next } →
+    next ≡ led_by (GrantEntry id ttl s.moment ∷ []) s s.moment
+grant_led s next id ttl is =
+    taken_led s (granted s id ttl) tt next (GrantEntry id ttl s.moment) (grant_follows s id ttl) (granted_rest s id ttl (grant_refusal s.live id ttl)) is
+
+-- ---- a renewal
+
+abbrev kept_by : Standing → ℕ → Option Term → Result (Step (Unit {0})) Refusal
+kept_by s id o =
+    elim o [
+      | None ↦ Err LeaseNotFound
+      | Some term ↦ Ok record { answer = tt; next = with_lease s id term.ttl }
+    ]
+
+kept_rest : (s : Standing) (id : ℕ) (o : Option Term) → StepKeepsRest s (kept_by s id o)
+kept_rest s id None = tt
+kept_rest s id (Some term) = record { moment = refl; watchers = refl }
+
+pub keep_led : (s next : Standing) (id : ℕ) → kept_alive s id ≡ Ok record { answer = tt; next = next } →
+    next ≡ led_by (Renew id s.moment ∷ []) s s.moment
+keep_led s next id is = taken_led s (kept_alive s id) tt next (Renew id s.moment) (keep_follows s id) (kept_rest s id (finmap.get s.live id)) is
+
+-- ---- a revocation
+
+revoked_rest : (s : Standing) (id : ℕ) (live used : Bool) →
+    StepKeepsRest s (cond live (with_revision (cond used (Err RevisionsUsedUp) (Ok (without_lease s id)))) (Err LeaseNotFound))
+revoked_rest s id false used = tt
+revoked_rest s id true true = tt
+revoked_rest s id true false = record { moment = refl; watchers = refl }
+
+pub revoke_led : (s next : Standing) (id revision : ℕ) → revoked s id ≡ Ok record { answer = revision; next = next } →
+    next ≡ led_by (RevokeEntry id ∷ []) s s.moment
+revoke_led s next id revision is =
+    taken_led s (revoked s id) revision next (RevokeEntry id) (revoke_follows s id)
+    (revoked_rest s id (is_live_in s.live id) (is_used_up s.history (deletions_of s.history id))) is
+
+-- ---- a transaction
+
+-- the answer tells the counter of the history that it leaves
+abbrev TellsCounter : Result Done Refusal → Type 0
+TellsCounter (Ok done) = done.answer.revision ≡ now done.history
+TellsCounter (Err cause) = Unit {0}
+
+counter_unless : (o : Option Refusal) (next : Result Done Refusal) → TellsCounter next → TellsCounter (unless o next)
+counter_unless None next tells = tells
+counter_unless (Some cause) next tells = tt
+
+counter_by : (used : Bool) (h : History) (failed : Option FailedCompare) (changes : List Change) (answers : List OpAnswer) →
+    TellsCounter (cond used (Err RevisionsUsedUp) (Ok record { answer = answer_of h failed changes answers; history = with_changes h changes }))
+counter_by true h failed changes answers = tt
+counter_by false h failed changes answers = refl
+
+counter_told : (h : History) (is_live : ℕ → Bool) (txn : Txn) (failed : Option FailedCompare) →
+    TellsCounter (unless (fault_of txn) (unless (branch_refusal (now h) is_live (chosen failed txn))
+    (finished h failed (changes_of_branch h (chosen failed txn)) (answers_after h (begun h) (chosen failed txn)))))
+counter_told h is_live txn failed =
+    let ops = chosen failed txn in
+    counter_unless (fault_of txn) _ (counter_unless (branch_refusal (now h) is_live ops) _
+    (counter_by (is_used_up h (changes_of_branch h ops)) h failed (changes_of_branch h ops) (answers_after h (begun h) ops)))
+
+-- what a transaction leaves beside the history, and the counter that it tells
+pub record IsTransacted (s : Standing) (answer : TxnAnswer) (next : Standing) : Type 0 where
+  pub rest : KeepsRest s next
+  pub counter : answer.revision ≡ now next.history
+
+abbrev pub StepIsTransacted : Standing → Result (Step TxnAnswer) Refusal → Type 0
+StepIsTransacted s (Ok step) = IsTransacted s step.answer step.next
+StepIsTransacted s (Err cause) = Unit {0}
+
+transacted_by : (s : Standing) (o : Result Done Refusal) → TellsCounter o → StepIsTransacted s (step_of s o)
+transacted_by s (Ok done) tells = record { rest = record { moment = refl; watchers = refl }; counter = tells }
+transacted_by s (Err cause) tells = tt
+
+pub is_transacted : (s : Standing) (txn : Txn) → StepIsTransacted s (transacted s txn)
+is_transacted s txn =
+    transacted_by s (outcome s.history (is_live_in s.live) txn)
+    (counter_told s.history (is_live_in s.live) txn (first_failed (key_now s.history) 0 txn.compares))
+
+-- the store that a transaction's line leads to
+pub txn_led : (n : ℕ) (s next : Standing) (txn : Txn) (answer : TxnAnswer) → transacted s txn ≡ Ok record { answer = answer; next = next } →
+    next ≡ led_by (txn_entries (now s.history) txn (txn_line n answer)) s s.moment
+txn_led n s next txn answer is =
+    let came : IsTransacted s answer next = subst (λ (x : Result (Step TxnAnswer) Refusal). StepIsTransacted s x) is (is_transacted s txn) in
+    let follow : EntriesFollow s next (if_changed s next txn) =
+    subst (λ (x : Result (Step TxnAnswer) Refusal). EntriesFollow s (store_after_call s x) (if_changed s (store_after_call s x) txn)) is (txn_follows s txn) in
+    led s next (cond (nat_lt (now s.history) answer.revision) (Foreign txn ∷ []) [])
+    (subst (λ (revision : ℕ). EntriesFollow s next (cond (nat_lt (now s.history) revision) (Foreign txn ∷ []) [])) (sym came.counter) follow) came.rest
+
+-- ---- an advance
+
+-- what an advance leaves: the watchers as they were, at this moment
+pub record IsAdvanced (s next : Standing) (moment : ℕ) : Type 0 where
+  pub moment_is : next.moment ≡ moment
+  pub watchers : next.watchers ≡ s.watchers
+
+abbrev EndedKeepsRest : Standing → Result Standing Refusal → Type 0
+EndedKeepsRest s (Ok next) = KeepsRest s next
+EndedKeepsRest s (Err cause) = Unit {0}
+
+ended_rest : (s : Standing) (id : ℕ) (used : Bool) (next : Standing) → cond used (Err RevisionsUsedUp) (Ok (without_lease s id)) ≡ Ok next →
+    KeepsRest s next
+ended_rest s id true next is = absurd (cc)
+ended_rest s id false next is = subst (EndedKeepsRest s) is (record { moment = refl; watchers = refl })
+
+keeps_then : (s next last : Standing) → KeepsRest s next → KeepsRest next last → KeepsRest s last
+keeps_then s next last first second =
+    record { moment = second.moment ∙ first.moment; watchers = second.watchers ∙ first.watchers }
+
+abbrev expired_by : ℕ → Standing → ℕ → Result Standing Refusal → Advance
+expired_by many s id o =
+    elim o [
+      | Err cause ↦ record { expired = []; leaves = s; cause = Some cause }
+      | Ok next ↦ after (expired_in id next ∷ []) (expire_up_to many next)
+    ]
+
+abbrev due_by : ℕ → Standing → Option ℕ → Advance
+due_by many s o =
+    elim o [
+      | None ↦ record { expired = []; leaves = s; cause = None }
+      | Some id ↦ expired_by many s id (ended s id)
+    ]
+
+expired_rest : (many : ℕ) (s : Standing) (id : ℕ) (o : Result Standing Refusal) → ended s id ≡ o →
+    ((next : Standing) → KeepsRest next (expire_up_to many next).leaves) → KeepsRest s (expired_by many s id o).leaves
+expired_rest many s id (Err cause) is goes = keeps_itself s
+expired_rest many s id (Ok next) is goes =
+    keeps_then s next (expire_up_to many next).leaves (ended_rest s id (is_used_up s.history (deletions_of s.history id)) next is) (goes next)
+
+due_rest : (many : ℕ) (s : Standing) (o : Option ℕ) → ((next : Standing) → KeepsRest next (expire_up_to many next).leaves) →
+    KeepsRest s (due_by many s o).leaves
+due_rest many s None goes = keeps_itself s
+due_rest many s (Some id) goes = expired_rest many s id (ended s id) refl goes
+
+expiries_rest : (many : ℕ) (s : Standing) → KeepsRest s (expire_up_to many s).leaves
+expiries_rest zero s = keeps_itself s
+expiries_rest (suc many) s = due_rest many s (first_due s.live s.moment) (λ next. expiries_rest many next)
+
+advanced_by : (s : Standing) (moment : ℕ) (back : Bool) →
+    IsAdvanced s (cond back (record { expired = []; leaves = s; cause = Some TimeGoesBack }) (expire_all (at_moment s moment))).leaves
+    (cond back s.moment moment)
+advanced_by s moment true = record { moment_is = refl; watchers = refl }
+advanced_by s moment false =
+    let rest = expiries_rest (finmap.len s.live) (at_moment s moment) in
+    record { moment_is = rest.moment; watchers = rest.watchers }
+
+-- the store behind an advance, whose entries are its expiries
+pub advance_led : (s next : Standing) (moment : ℕ) (expired : List Expired) (cause : Option Refusal) →
+    advanced s moment ≡ record { expired = expired; leaves = next; cause = cause } →
+    next ≡ led_by (expiries expired) s (moment_after s (AdvanceEvent moment))
+advance_led s next moment expired cause is =
+    let follow : EntriesFollow s next (expiries expired) =
+    subst (λ (a : Advance). EntriesFollow s a.leaves (expiries a.expired)) is (advance_follows s moment) in
+    let came : IsAdvanced s next (moment_after s (AdvanceEvent moment)) =
+    subst (λ (a : Advance). IsAdvanced s a.leaves (moment_after s (AdvanceEvent moment))) is (advanced_by s moment (nat_lt moment s.moment)) in
+    λ k. record {
+      history = (sym follow.replays k).history;
+      live = (sym follow.replays k).live;
+      moment = came.moment_is k;
+      watchers = came.watchers k;
+    }
+
+-- the line of an advance
+pub advance_line_is : (n : ℕ) (s next : Standing) (moment : ℕ) (expired : List Expired) (cause : Option Refusal) →
+    advanced s moment ≡ record { expired = expired; leaves = next; cause = cause } →
+    advance_call_line n s moment ≡ advance_line n moment expired cause
+advance_line_is n s next moment expired cause is = ap (λ (a : Advance). advance_line n moment a.expired a.cause) is
+
+-- an advance that was cut short
+pub cut_right : (r : Result Bool AllocError) (n : ℕ) (s next : Standing) (moment : ℕ) (expired : List Expired) (cause : Refusal) (l : ReportLine) →
+    IfOk r (λ b. IsTrue b ↔ Refused n (cause_told cause) expired ≡ l) → OnOk r (cause ≢ OutOfMemory) → IsCutShort (advanced s moment) expired cause next →
+    IfOk r (λ b. IsTrue b ↔ advance_call_line n s moment ≡ l)
+cut_right r n s next moment expired cause l test other cut =
+    refused_right r cause (advance_call_line n s moment) (Refused n (cause_told cause) expired) l test other
+    (λ known. advance_line_is n s next moment expired (Some cause) (cut_line n s next moment expired cause cut known))
+
+pub cut_next : (r : Result Bool AllocError) (n : ℕ) (s next : Standing) (moment : ℕ) (expired : List Expired) (cause : Refusal) (l : ReportLine) →
+    IfOk r (λ b. IsTrue b ↔ Refused n (cause_told cause) expired ≡ l) → OnOk r (cause ≢ OutOfMemory) → IsCutShort (advanced s moment) expired cause next →
+    IfOk r (λ b. IsTrue b → next ≡ led_by (advance_entries l) s (moment_after s (AdvanceEvent moment)))
+cut_next (Ok b) n s next moment expired cause l test other cut =
+    led_where b (Refused n (cause_told cause) expired) l advance_entries s next (moment_after s (AdvanceEvent moment)) test
+    (advance_led s next moment expired (Some cause) (cut_line n s next moment expired cause cut other))
+cut_next (Err e) n s next moment expired cause l test other cut = tt

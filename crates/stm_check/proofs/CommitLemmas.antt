@@ -1,0 +1,358 @@
+-- The run that the line of a commit stands for, and the store that it leads to.
+use Rattle.std.proofs.Common.{◌≡◌, ◌≢◌, ◌↔◌, ℕ, ◌+◌, ◌<◌, ◌≤◌, length, drop, get_or, Bool, true, false, List, [], ◌∷◌, map, Option, Some, None, Ok, Err}
+use Rattle.std.proofs.Common.{refl, sym, ◌∙◌, ap, subst}
+use Rattle.std.proofs.lemmas.List.{drop_all}
+use Rattle.std.proofs.lemmas.Option.{same_Some}
+use Rattle.std.specs.Prelude.{Result, IsTrue, IfOk, OnOk}
+use Rattle.std.specs.declared.alloc.AllocError.{AllocError}
+use Rattle.stm_history.specs.declared.change.Change.{Change}
+use Rattle.stm_leases.specs.Live.{is_live_in}
+use Rattle.stm_program.specs.Writes.{latest_writes}
+use Rattle.stm_program.proofs.LatestLemmas.{latest_writes-distinct}
+use Rattle.stm_txn.specs.declared.refusal.Refusal.TheVariants.{OutOfMemory}
+use Rattle.stm_txn.proofs.Applying.{branch_applies}
+use Rattle.stm_compile.specs.Now.{as_change}
+use Rattle.stm_compile.proofs.OutcomeLemmas.{changes_are_distinct}
+use Rattle.stm_check.proofs.Fronts.{left_at}
+use Rattle.stm_check.proofs.CallLemmas.{refused_for}
+use Rattle.stm_history.specs.History.{History, now, HasDistinctKeys}
+use Rattle.stm_program.specs.Syntax.{ProgramTree}
+use Rattle.stm_program.specs.declared.level.Level.{Level}
+use Rattle.stm_program.specs.declared.level.Level.TheVariants.{SerializableSnapshot, Serializable, RepeatableReads, ReadCommitted}
+use Rattle.stm_meaning.specs.declared.value.Value.{Value}
+use Rattle.stm_meaning.specs.declared.trace_item.TraceItem.{TraceItem}
+use Rattle.stm_meaning.specs.declared.run.End.{End}
+use Rattle.stm_meaning.specs.declared.run.End.TheVariants.{Done as DoneEnd}
+use Rattle.stm_meaning.specs.declared.run.Run.{Run}
+use Rattle.stm_meaning.specs.declared.run.Answered.{Answered}
+use Rattle.stm_meaning.specs.declared.run.Answered.TheVariants.{Ended, Wants}
+use Rattle.stm_meaning.specs.Meaning.{run_over}
+use Rattle.stm_txn.specs.declared.refusal.Refusal.{Refusal}
+use Rattle.stm_txn.specs.Outcome.{Done}
+use Rattle.stm_txn.specs.Standing.{Standing, Step, IsRefusalOf, write_step, written, with_history as with_standing_history}
+use Rattle.stm_compile.specs.Answers.{AreTrue, look_up, state_now}
+use Rattle.stm_compile.specs.Levels.{is_comparing}
+use Rattle.stm_entries.specs.declared.entry.Entry.TheVariants.{Program}
+use Rattle.stm_entries.specs.Replayed.{without_moment, with_history}
+use Rattle.stm_entries.specs.Alone.{seen_at, applied_run, history_left, left_by, left_by_run}
+use Rattle.stm_entries.specs.Legal.{AnswersAreTrue}
+use Rattle.stm_reports.specs.declared.line.ReportLine.{ReportLine}
+use Rattle.stm_reports.specs.declared.line.ReportLine.TheVariants.{Committed}
+use Rattle.stm_reports.specs.declared.line.ToldAnswer.{ToldAnswer}
+use Rattle.stm_check.specs.declared.runner.Runner.{Runner}
+use Rattle.stm_check.specs.Point.{reads_in, led_by}
+use Rattle.stm_check.specs.Replays.{AreTrulyTold, AnswersFit, keys_told, IsRightCommit, StepReplays}
+use Rattle.stm_check.specs.Runs.{run_in, IsRunTold, IsFound, revision_reached, with_writes}
+
+-- ---- runs
+
+-- the run of an answer that came to its end is its only one
+pub only_run : (a : Answered) (run : Run) → a ≡ Ended run → run_in a ≡ Some run
+only_run a run is = ap run_in is
+
+never_wants : (key : List ℕ) (trace : List TraceItem) (run : Run) → Wants key trace ≡ Ended run → ⊥
+never_wants key trace run is = let no : None ≡ Some run = ap run_in is in absurd (cc)
+
+pub ended_is : (a : Answered) (run : Run) → run_in a ≡ Some run → a ≡ Ended run
+ended_is (Ended other) run is = ap Ended (same_Some other run is)
+ended_is (Wants key trace) run is = absurd (cc)
+
+pub never : {A : Type 0} → IsTrue false → A
+never t = absurd (cc)
+
+-- at a comparing level answers that are told leave no run
+pub told_in_vain : (level : Level) (h : History) (program : ProgramTree) (a : ToldAnswer) (answers : List ToldAnswer) → is_comparing level ≡ true →
+    IsFound level h program (a ∷ answers) None
+told_in_vain SerializableSnapshot h program a answers is = λ run told. let no : a ∷ answers ≡ [] = told.answers_fit in absurd (cc)
+told_in_vain Serializable h program a answers is = λ run told. let no : a ∷ answers ≡ [] = told.answers_fit in absurd (cc)
+told_in_vain RepeatableReads h program a answers is = λ run told. let no : a ∷ answers ≡ [] = told.answers_fit in absurd (cc)
+told_in_vain ReadCommitted h program a answers is = absurd (cc)
+
+-- the direct run, where none are told
+pub found_now : (level : Level) (h : History) (program : ProgramTree) (answered : Answered) → is_comparing level ≡ true →
+    run_over (state_now h) program.statements ≡ answered → IsFound level h program [] (run_in answered)
+found_now SerializableSnapshot h program (Ended run) level is = record { is_run = is; answers_fit = refl }
+found_now SerializableSnapshot h program (Wants key trace) level is = λ run told. never_wants key trace run (sym is ∙ told.is_run)
+found_now Serializable h program (Ended run) level is = record { is_run = is; answers_fit = refl }
+found_now Serializable h program (Wants key trace) level is = λ run told. never_wants key trace run (sym is ∙ told.is_run)
+found_now RepeatableReads h program (Ended run) level is = record { is_run = is; answers_fit = refl }
+found_now RepeatableReads h program (Wants key trace) level is = λ run told. never_wants key trace run (sym is ∙ told.is_run)
+found_now ReadCommitted h program answered level is = absurd (cc)
+
+-- at ReadCommitted an answer that is not true leaves no run, nor do answers that the run did not look up
+pub not_true : (level : Level) (h : History) (program : ProgramTree) (answers : List ToldAnswer) → is_comparing level ≡ false →
+    (AreTrulyTold h answers → ⊥) → IsFound level h program answers None
+not_true SerializableSnapshot h program answers level untrue = absurd (cc)
+not_true Serializable h program answers level untrue = absurd (cc)
+not_true RepeatableReads h program answers level untrue = absurd (cc)
+not_true ReadCommitted h program answers level untrue = λ run told. untrue told.answers_fit.1
+
+pub found_on : (level : Level) (h : History) (program : ProgramTree) (answers : List ToldAnswer) (run : Run) → is_comparing level ≡ false →
+    AreTrulyTold h answers → run_over (look_up (reads_in h answers)) program.statements ≡ Ended run → keys_told answers ≡ run.reads →
+    IsFound level h program answers (Some run)
+found_on SerializableSnapshot h program answers run level truth is keys = absurd (cc)
+found_on Serializable h program answers run level truth is keys = absurd (cc)
+found_on RepeatableReads h program answers run level truth is keys = absurd (cc)
+found_on ReadCommitted h program answers run level truth is keys = record { is_run = is; answers_fit = (keys, truth) }
+
+pub wants_more : (level : Level) (h : History) (program : ProgramTree) (answers : List ToldAnswer) (key : List ℕ) (trace : List TraceItem) →
+    is_comparing level ≡ false → run_over (look_up (reads_in h answers)) program.statements ≡ Wants key trace → IsFound level h program answers None
+wants_more SerializableSnapshot h program answers key trace level is = absurd (cc)
+wants_more Serializable h program answers key trace level is = absurd (cc)
+wants_more RepeatableReads h program answers key trace level is = absurd (cc)
+wants_more ReadCommitted h program answers key trace level is = λ run told. never_wants key trace run (sym is ∙ told.is_run)
+
+pub other_keys : (level : Level) (h : History) (program : ProgramTree) (answers : List ToldAnswer) (run : Run) → is_comparing level ≡ false →
+    run_over (look_up (reads_in h answers)) program.statements ≡ Ended run → (keys_told answers ≡ run.reads → ⊥) → IsFound level h program answers None
+other_keys SerializableSnapshot h program answers run level is differ = absurd (cc)
+other_keys Serializable h program answers run level is differ = absurd (cc)
+other_keys RepeatableReads h program answers run level is differ = absurd (cc)
+other_keys ReadCommitted h program answers run level is differ = λ other told.
+    let same : Some run ≡ Some other = ap run_in (sym is ∙ told.is_run) in
+    let one : run ≡ other = cc in
+    differ (told.answers_fit.0 ∙ ap (λ (r : Run). r.reads) (sym one))
+
+-- ---- the commit
+
+reads_true : (h : History) (answers : List ToldAnswer) → AreTrulyTold h answers → AreTrue h (reads_in h answers)
+reads_true h [] truth = tt
+reads_true h (a ∷ answers) truth = (record { reached = truth.0.reached; shown = refl }, reads_true h answers truth.1)
+
+-- the answers that fit a level are true, as reads
+pub answers_true : (level : Level) (h : History) (reads : List (List ℕ)) (answers : List ToldAnswer) → AnswersFit level h reads answers →
+    AnswersAreTrue level (reads_in h answers) h
+answers_true SerializableSnapshot h reads answers fit = ap (reads_in h) fit
+answers_true Serializable h reads answers fit = ap (reads_in h) fit
+answers_true RepeatableReads h reads answers fit = ap (reads_in h) fit
+answers_true ReadCommitted h reads answers fit = reads_true h answers fit.1
+
+-- what a right commit wants beside its run
+pub record IsTakenAs (s : Standing) (r : Runner) (run : Run) (revision attempts : ℕ) (output : List Value) (trace : List TraceItem) : Type 0 where
+  pub is_done : run.end ≡ DoneEnd
+  pub emits : run.output ≡ output
+  pub sees : run.trace ≡ trace
+  pub reached : revision_reached (applied_run (without_moment s) run) ≡ Some revision
+  pub attempt : attempts ≡ r.conflicts + 1
+  pub may_be_sent : attempts ≤ r.limit
+
+done_of : (o : Result Done Refusal) (revision : ℕ) → revision_reached o ≡ Some revision → (done : Done) × (o ≡ Ok done) × (now done.history ≡ revision)
+done_of (Ok done) revision is = (done, refl, cc)
+done_of (Err cause) revision is = absurd (cc)
+
+pub right_commit : (s : Standing) (r : Runner) (run : Run) (revision attempts : ℕ) (output : List Value) (trace : List TraceItem) (answers : List ToldAnswer) →
+    IsRunTold r.level s.history r.program answers run → IsTakenAs s r run revision attempts output trace →
+    IsRightCommit s r revision attempts output trace answers
+right_commit s r run revision attempts output trace answers told taken =
+    let came = done_of (applied_run (without_moment s) run) revision taken.reached in
+    record {
+      commit = record {
+        run = run;
+        is_run = told.is_run;
+        is_done = taken.is_done;
+        emits = taken.emits;
+        sees = taken.sees;
+        reads_truth = answers_true r.level s.history run.reads answers told.answers_fit;
+        done = came.0;
+        applies = came.1;
+        reached = came.2;
+      };
+      answers_fit = told.answers_fit;
+      attempt = taken.attempt;
+      may_be_sent = taken.may_be_sent;
+    }
+
+-- and what it has
+pub commit_run : (s : Standing) (r : Runner) (revision attempts : ℕ) (output : List Value) (trace : List TraceItem) (answers : List ToldAnswer) →
+    IsRightCommit s r revision attempts output trace answers →
+    (run : Run) × IsRunTold r.level s.history r.program answers run × IsTakenAs s r run revision attempts output trace
+commit_run s r revision attempts output trace answers right =
+    let c = right.commit in (
+      c.run,
+      record { is_run = c.is_run; answers_fit = right.answers_fit },
+      record {
+        is_done = c.is_done;
+        emits = c.emits;
+        sees = c.sees;
+        reached = ap revision_reached c.applies ∙ ap Some c.reached;
+        attempt = right.attempt;
+        may_be_sent = right.may_be_sent;
+      },
+    )
+
+-- one run is told
+pub told_once : (level : Level) (h : History) (program : ProgramTree) (answers : List ToldAnswer) (one other : Run) →
+    IsRunTold level h program answers one → IsRunTold level h program answers other → one ≡ other
+told_once level h program answers one other a b =
+    let same : Some one ≡ Some other = ap run_in (sym a.is_run ∙ b.is_run) in cc
+
+-- ---- the store behind it
+
+pub commit_led : (s : Standing) (r : Runner) (run : Run) (revision : ℕ) (output : List Value) (trace : List TraceItem) (answers : List ToldAnswer) →
+    IsRunTold r.level s.history r.program answers run → run.end ≡ DoneEnd →
+    with_writes s run ≡ led_by (Program r.program r.level (reads_in s.history answers) output trace revision ∷ []) s s.moment
+commit_led s r run revision output trace answers told done =
+    let left : left_by_run (run_over (seen_at r.level (reads_in s.history answers) s.history) r.program.statements) (without_moment s)
+    ≡ with_history (without_moment s) (history_left s.history (applied_run (without_moment s) run)) =
+    ap (λ (a : Answered). left_by_run a (without_moment s)) told.is_run ∙ ap (λ (e : End). left_by run e (without_moment s)) done in
+    λ k. record s { history = (sym left k).history; live = (sym left k).live }
+
+-- ---- the verdicts
+
+-- a commit that is not the next of its run, or that the run may not send
+pub not_next : (b : Bool) (s : Standing) (r : Runner) (revision attempts : ℕ) (output : List Value) (trace : List TraceItem) (answers : List ToldAnswer) →
+    (IsTrue b ↔ (attempts ≡ r.conflicts + 1) × (attempts ≤ r.limit)) → b ≡ false →
+    (IsTrue false ↔ IsRightCommit s r revision attempts output trace answers)
+not_next b s r revision attempts output trace answers test is =
+    ((λ t. absurd (cc)), (λ right. sym is ∙ test.1 (right.attempt, right.may_be_sent)))
+
+-- a commit of no run
+pub no_run : (s : Standing) (r : Runner) (revision attempts : ℕ) (output : List Value) (trace : List TraceItem) (answers : List ToldAnswer) →
+    IsFound r.level s.history r.program answers None → (IsTrue false ↔ IsRightCommit s r revision attempts output trace answers)
+no_run s r revision attempts output trace answers none =
+    ((λ t. absurd (cc)), (λ right. let has = commit_run s r revision attempts output trace answers right in absurd (none has.0 has.1)))
+
+-- a commit of a run with another end, output or trace
+pub other_run : (b : Bool) (s : Standing) (r : Runner) (run : Run) (revision attempts : ℕ) (output : List Value) (trace : List TraceItem)
+    (answers : List ToldAnswer) → IsRunTold r.level s.history r.program answers run →
+    (IsTrue b ↔ (run.end ≡ DoneEnd) × (run.output ≡ output) × (run.trace ≡ trace)) → b ≡ false →
+    (IsTrue false ↔ IsRightCommit s r revision attempts output trace answers)
+other_run b s r run revision attempts output trace answers told test is = (
+  (λ t. absurd (cc)),
+  (λ right.
+      let has = commit_run s r revision attempts output trace answers right in
+      let same : has.0 ≡ run = told_once r.level s.history r.program answers has.0 run has.1 told in
+      let taken : IsTakenAs s r run revision attempts output trace =
+      subst (λ (x : Run). IsTakenAs s r x revision attempts output trace) same has.2 in
+      sym is ∙ test.1 (taken.is_done, taken.emits, taken.sees)),
+)
+
+-- the commit of the run
+pub run_taken : (b : Bool) (s : Standing) (r : Runner) (run : Run) (reached : Option ℕ) (revision attempts : ℕ) (output : List Value)
+    (trace : List TraceItem) (answers : List ToldAnswer) → IsRunTold r.level s.history r.program answers run →
+    (attempts ≡ r.conflicts + 1) × (attempts ≤ r.limit) → (run.end ≡ DoneEnd) × (run.output ≡ output) × (run.trace ≡ trace) →
+    reached ≡ revision_reached (applied_run (without_moment s) run) → (IsTrue b ↔ reached ≡ Some revision) →
+    (IsTrue b ↔ IsRightCommit s r revision attempts output trace answers)
+run_taken b s r run reached revision attempts output trace answers told next done is test = (
+  (λ t. right_commit s r run revision attempts output trace answers told (record {
+    is_done = done.0;
+    emits = done.1;
+    sees = done.2;
+    reached = sym is ∙ test.0 t;
+    attempt = next.0;
+    may_be_sent = next.1;
+  })),
+  (λ right.
+      let has = commit_run s r revision attempts output trace answers right in
+      let same : has.0 ≡ run = told_once r.level s.history r.program answers has.0 run has.1 told in
+      let taken : IsTakenAs s r run revision attempts output trace =
+      subst (λ (x : Run). IsTakenAs s r x revision attempts output trace) same has.2 in
+      test.1 (is ∙ taken.reached)),
+)
+
+-- ---- the writes
+
+-- what making the writes of a run comes to
+written_is : (s : Standing) (run : Run) (changes : List Change) → changes ≡ map as_change (latest_writes run.writes) →
+    written s changes ≡ write_step s (applied_run (without_moment s) run)
+written_is s run changes are =
+    ap (written s) are
+    ∙ ap (write_step s) (branch_applies s.history (is_live_in s.live) (map as_change (latest_writes run.writes))
+    (changes_are_distinct (latest_writes run.writes) (latest_writes-distinct run.writes)))
+
+pub writes_distinct : (run : Run) (changes : List Change) → changes ≡ map as_change (latest_writes run.writes) → HasDistinctKeys changes
+writes_distinct run changes are =
+    subst HasDistinctKeys (sym are) (changes_are_distinct (latest_writes run.writes) (latest_writes-distinct run.writes))
+
+-- the revision and the store that writes lead to
+abbrev WritesReach : Standing → Result Done Refusal → Result (Step ℕ) Refusal → Type 0
+WritesReach s o (Ok step) = (Some step.answer ≡ revision_reached o) × (step.next ≡ with_standing_history s (history_left s.history o))
+WritesReach s o (Err cause) = (None ≡ revision_reached o) × (s ≡ with_standing_history s (history_left s.history o))
+
+writes_reach : (s : Standing) (o : Result Done Refusal) → WritesReach s o (write_step s o)
+writes_reach s (Ok done) = (refl, refl)
+writes_reach s (Err cause) = (refl, refl)
+
+reached_as : (s : Standing) (run : Run) (changes : List Change) (came : Result (Step ℕ) Refusal) → changes ≡ map as_change (latest_writes run.writes) →
+    written s changes ≡ came → WritesReach s (applied_run (without_moment s) run) came
+reached_as s run changes came are is =
+    subst (WritesReach s (applied_run (without_moment s) run)) (sym (written_is s run changes are) ∙ is)
+    (writes_reach s (applied_run (without_moment s) run))
+
+pub taken_revision : (s next : Standing) (run : Run) (changes : List Change) (revision : ℕ) → changes ≡ map as_change (latest_writes run.writes) →
+    written s changes ≡ Ok record { answer = revision; next = next } → Some revision ≡ revision_reached (applied_run (without_moment s) run)
+taken_revision s next run changes revision are is = (reached_as s run changes (Ok record { answer = revision; next = next }) are is).0
+
+pub taken_store : (s next : Standing) (run : Run) (changes : List Change) (revision : ℕ) → changes ≡ map as_change (latest_writes run.writes) →
+    written s changes ≡ Ok record { answer = revision; next = next } → next ≡ with_writes s run
+taken_store s next run changes revision are is = (reached_as s run changes (Ok record { answer = revision; next = next }) are is).1
+
+pub refused_revision : (r : Result (Option ℕ) AllocError) (s : Standing) (run : Run) (changes : List Change) (cause : Refusal) →
+    changes ≡ map as_change (latest_writes run.writes) → IsRefusalOf (written s changes) cause → IfOk r (λ revision. revision ≡ None) →
+    OnOk r (cause ≢ OutOfMemory) → IfOk r (λ revision. revision ≡ revision_reached (applied_run (without_moment s) run))
+refused_revision (Ok revision) s run changes cause are is none other =
+    none ∙ (reached_as s run changes (Err cause) are (refused_for (written s changes) cause is other)).0
+refused_revision (Err e) s run changes cause are is none other = tt
+
+pub refused_store : (r : Result (Option ℕ) AllocError) (s next : Standing) (run : Run) (changes : List Change) (cause : Refusal) →
+    changes ≡ map as_change (latest_writes run.writes) → IsRefusalOf (written s changes) cause → next ≡ s →
+    OnOk r (cause ≢ OutOfMemory) → OnOk r (next ≡ with_writes s run)
+refused_store (Ok revision) s next run changes cause are is same other =
+    same ∙ (reached_as s run changes (Err cause) are (refused_for (written s changes) cause is other)).1
+refused_store (Err e) s next run changes cause are is same other = tt
+
+-- ---- the keys of answers, one after another
+
+key_heads : (k j : List ℕ) (ks js : List (List ℕ)) → k ∷ ks ≡ j ∷ js → k ≡ j
+key_heads k j ks js same = cc
+
+key_tails : (k j : List ℕ) (ks js : List (List ℕ)) → k ∷ ks ≡ j ∷ js → ks ≡ js
+key_tails k j ks js same = cc
+
+-- where the keys that are left are the same, all are
+pub record LeavesKeys (answers : List ToldAnswer) (keys : List (List ℕ)) (i : ℕ) : Type 0 where
+  pub whole : keys_told (drop i answers) ≡ drop i keys → keys_told answers ≡ keys
+  pub part : keys_told answers ≡ keys → keys_told (drop i answers) ≡ drop i keys
+
+pub leaves_all_keys : (answers : List ToldAnswer) (keys : List (List ℕ)) → LeavesKeys answers keys 0
+leaves_all_keys answers keys = record { whole = λ same. same; part = λ same. same }
+
+both_left : (answers : List ToldAnswer) (keys : List (List ℕ)) (i : ℕ) (a : ToldAnswer) (k : List ℕ) → i < length answers → a ≡ get_or answers i a →
+    i < length keys → k ≡ get_or keys i k → keys_told (drop i answers) ≡ drop i keys →
+    a.key ∷ keys_told (drop (i + 1) answers) ≡ k ∷ drop (i + 1) keys
+both_left answers keys i a k within is within_keys key_is same =
+    sym (ap keys_told (left_at answers i a within is)) ∙ same ∙ left_at keys i k within_keys key_is
+
+pub leaves_fewer_keys : (answers : List ToldAnswer) (keys : List (List ℕ)) (i : ℕ) (a : ToldAnswer) (k : List ℕ) → i < length answers →
+    a ≡ get_or answers i a → i < length keys → k ≡ get_or keys i k → LeavesKeys answers keys i → a.key ≡ k → LeavesKeys answers keys (i + 1)
+leaves_fewer_keys answers keys i a k within is within_keys key_is so_far same = record {
+  whole = λ rest. so_far.whole (ap keys_told (left_at answers i a within is)
+      ∙ ap (λ (j : List ℕ). j ∷ keys_told (drop (i + 1) answers)) same ∙ ap (λ (ks : List (List ℕ)). k ∷ ks) rest
+      ∙ sym (left_at keys i k within_keys key_is));
+  part = λ all. key_tails a.key k (keys_told (drop (i + 1) answers)) (drop (i + 1) keys)
+      (both_left answers keys i a k within is within_keys key_is (so_far.part all));
+}
+
+-- the keys at a place are the same where all are
+pub same_key_at : (answers : List ToldAnswer) (keys : List (List ℕ)) (i : ℕ) (a : ToldAnswer) (k : List ℕ) → i < length answers →
+    a ≡ get_or answers i a → i < length keys → k ≡ get_or keys i k → LeavesKeys answers keys i → keys_told answers ≡ keys → a.key ≡ k
+same_key_at answers keys i a k within is within_keys key_is so_far all =
+    key_heads a.key k (keys_told (drop (i + 1) answers)) (drop (i + 1) keys)
+    (both_left answers keys i a k within is within_keys key_is (so_far.part all))
+
+pub leaves_no_key : (answers : List ToldAnswer) (keys : List (List ℕ)) (i : ℕ) → length answers ≤ i → length keys ≤ i → LeavesKeys answers keys i →
+    keys_told answers ≡ keys
+leaves_no_key answers keys i end end_keys so_far =
+    so_far.whole (ap keys_told (drop_all i answers end) ∙ sym (drop_all i keys end_keys))
+
+-- ---- the line of a step
+
+pub step_right : (r : Result Bool AllocError) (s : Standing) (o : Option Runner) (l : ReportLine) (runner : Runner) (n id revision attempts : ℕ)
+    (output told_output : List Value) (trace told_trace : List TraceItem) (answers told_answers : List ToldAnswer) → o ≡ Some runner →
+    l ≡ Committed n id revision attempts output trace answers → told_output ≡ output → told_trace ≡ trace → told_answers ≡ answers →
+    IfOk r (λ b. IsTrue b ↔ IsRightCommit s runner revision attempts told_output told_trace told_answers) → IfOk r (λ b. IsTrue b ↔ StepReplays s o l)
+step_right r s o l runner n id revision attempts output told_output trace told_trace answers told_answers runs line_is outputs traces all_answers right =
+    subst (λ (x : ReportLine). IfOk r (λ b. IsTrue b ↔ StepReplays s o x)) (sym line_is)
+    (subst (λ (x : Option Runner). IfOk r (λ b. IsTrue b ↔ StepReplays s x (Committed n id revision attempts output trace answers))) (sym runs)
+    (subst (λ (x : List Value). IfOk r (λ b. IsTrue b ↔ IsRightCommit s runner revision attempts x trace answers)) outputs
+    (subst (λ (x : List TraceItem). IfOk r (λ b. IsTrue b ↔ IsRightCommit s runner revision attempts told_output x answers)) traces
+    (subst (λ (x : List ToldAnswer). IfOk r (λ b. IsTrue b ↔ IsRightCommit s runner revision attempts told_output told_trace x)) all_answers right))))

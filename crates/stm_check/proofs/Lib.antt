@@ -1,0 +1,14 @@
+pub mod Fronts
+pub mod LineAgreement
+pub mod CallLemmas
+pub mod LookupLemmas
+pub mod CommitLemmas
+pub mod LeaseLemmas
+pub mod LiveLeases
+pub mod FinalLemmas
+pub mod Replaying
+pub mod Walking
+pub mod Once
+pub mod LegalTold
+pub mod JudgingLemmas
+pub mod WorkedExamples

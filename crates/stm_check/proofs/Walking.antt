@@ -1,0 +1,120 @@
+-- A walk along the events' lines, and along those of the end.
+use Rattle.std.proofs.Common.{◌≡◌, inr, ℕ, ◌+◌, ◌<◌, ◌≤◌, suc, List, [], ◌∷◌, length, drop, Ok, Err, refl, ◌∙◌, ap, subst, arith}
+use Rattle.std.specs.Prelude.{Result, IfOk}
+use Rattle.std.specs.declared.alloc.AllocError.{AllocError}
+use Rattle.std.proofs.lemmas.List.{drop_all, length-drop}
+use Rattle.stm_world.specs.declared.event.WorldEvent.{WorldEvent}
+use Rattle.stm_reports.specs.declared.line.ReportLine.{ReportLine}
+use Rattle.stm_check.specs.declared.cause.WrongCause.{WrongCause}
+use Rattle.stm_check.specs.declared.cause.WrongCause.TheVariants.{Count}
+use Rattle.stm_check.specs.declared.checking.Checked.{Checked}
+use Rattle.stm_check.specs.declared.checking.Checked.TheVariants.{Yes, No}
+use Rattle.stm_check.specs.Point.{Point, after}
+use Rattle.stm_check.specs.StoreLines.{final_lines}
+use Rattle.stm_check.specs.Wrong.{IsRight, AreRight, IsOff, IsFirstWrong, point_after}
+use Rattle.stm_check.specs.Judged.{IsJudgedFrom, IsJudgedEnd, AreRightEvents}
+
+-- ---- events
+
+-- What is judged from where a walk has come to is judged of the whole.
+pub record HasWalked (n : ℕ) (p : Point) (events : List WorldEvent) (lines : List ReportLine)
+    (m : ℕ) (q : Point) (events_left : List WorldEvent) (lines_left : List ReportLine) : Type 0 where
+  pub right : AreRightEvents m q events_left lines_left → AreRightEvents n p events lines
+  pub wrong : (line : ℕ) (cause : WrongCause) → IsFirstWrong m q events_left lines_left line cause → IsFirstWrong n p events lines line cause
+  pub point : point_after q events_left lines_left ≡ point_after p events lines
+
+pub walked_none : (n : ℕ) (p : Point) (events : List WorldEvent) (lines : List ReportLine) → HasWalked n p events lines n p events lines
+walked_none n p events lines = record { right = λ r. r; wrong = λ line cause w. w; point = refl }
+
+pub walked_one : (n : ℕ) (p : Point) (events : List WorldEvent) (lines : List ReportLine) (m : ℕ) (q : Point) (event : WorldEvent)
+    (events_left : List WorldEvent) (l : ReportLine) (lines_left : List ReportLine) →
+    HasWalked n p events lines m q (event ∷ events_left) (l ∷ lines_left) → IsRight m q event l →
+    HasWalked n p events lines (suc m) (after q event l) events_left lines_left
+walked_one n p events lines m q event events_left l lines_left so_far right = record {
+  right = λ rest. so_far.right (right, rest);
+  wrong = λ line cause rest. so_far.wrong line cause (inr (right, rest));
+  point = so_far.point;
+}
+
+-- ---- both parts
+
+pub joined_yes : (n : ℕ) (p : Point) (events : List WorldEvent) (lines : List ReportLine) → AreRightEvents n p events lines →
+    drop (length events) lines ≡ final_lines (point_after p events lines) → AreRight n p events lines
+joined_yes n p [] lines right same = same
+joined_yes n p (event ∷ events) [] right same = absurd right
+joined_yes n p (event ∷ events) (l ∷ lines) right same = (right.0, joined_yes (suc n) (after p event l) events lines right.1 same)
+
+pub joined_no : (n : ℕ) (p : Point) (events : List WorldEvent) (lines : List ReportLine) (wrong : ℕ) (cause : WrongCause) →
+    AreRightEvents n p events lines → IsOff (n + length events) (final_lines (point_after p events lines)) (drop (length events) lines) wrong cause →
+    IsFirstWrong n p events lines wrong cause
+joined_no n p [] lines wrong cause right off =
+    let same : n + 0 ≡ n = omega arith in
+    subst (λ (m : ℕ). IsOff m (final_lines p) lines wrong cause) same off
+joined_no n p (event ∷ events) [] wrong cause right off = absurd right
+joined_no n p (event ∷ events) (l ∷ lines) wrong cause right off =
+    let q : Point = after p event l in
+    let same : n + suc (length events) ≡ suc n + length events = omega arith in
+    inr (
+      right.0,
+      joined_no (suc n) q events lines wrong cause right.1
+          (subst (λ (m : ℕ). IsOff m (final_lines (point_after q events lines)) (drop (length events) lines) wrong cause) same off),
+    )
+
+-- a report whose events' lines are right is judged by the lines of the end
+pub joined : (n : ℕ) (p : Point) (events : List WorldEvent) (lines : List ReportLine) (checked : Checked) → AreRightEvents n p events lines →
+    IsJudgedEnd (n + length events) (final_lines (point_after p events lines)) (drop (length events) lines) checked →
+    IsJudgedFrom n p events lines checked
+joined n p events lines Yes right same = joined_yes n p events lines right same
+joined n p events lines (No wrong cause) right off = joined_no n p events lines wrong cause right off
+
+-- ---- the end
+
+-- What is off from where the lines agree so far is off in the whole.
+pub record HasAgreed (finals lines : List ReportLine) (count : ℕ) (finals_left lines_left : List ReportLine) : Type 0 where
+  pub same : lines_left ≡ finals_left → lines ≡ finals
+  pub off : (n wrong : ℕ) (cause : WrongCause) → IsOff (n + count) finals_left lines_left wrong cause → IsOff n finals lines wrong cause
+
+pub agreed_none : (finals lines : List ReportLine) → HasAgreed finals lines 0 finals lines
+agreed_none finals lines = record {
+  same = λ e. e;
+  off = λ n wrong cause o. let same : n + 0 ≡ n = omega arith in subst (λ (m : ℕ). IsOff m finals lines wrong cause) same o;
+}
+
+pub agreed_one : (finals lines : List ReportLine) (count : ℕ) (final l : ReportLine) (finals_left lines_left : List ReportLine) →
+    HasAgreed finals lines count (final ∷ finals_left) (l ∷ lines_left) → l ≡ final → HasAgreed finals lines (suc count) finals_left lines_left
+agreed_one finals lines count final l finals_left lines_left so_far is = record {
+  same = λ rest. so_far.same (ap (λ (x : ReportLine). x ∷ lines_left) is ∙ ap (λ (ls : List ReportLine). final ∷ ls) rest);
+  off = λ n wrong cause o.
+      let same : n + suc count ≡ suc (n + count) = omega arith in
+      so_far.off n wrong cause (inr (is, subst (λ (m : ℕ). IsOff m finals_left lines_left wrong cause) same o));
+}
+
+-- a line that is missing behind those that agree
+head_missing : (finals_left lines_left : List ReportLine) (m wrong : ℕ) → 0 < length finals_left → lines_left ≡ [] → wrong ≡ m →
+    IsOff m finals_left lines_left wrong Count
+head_missing [] lines_left m wrong some none is = absurd (omega (arith, some))
+head_missing (final ∷ finals_left) [] m wrong some none is = (is, refl)
+head_missing (final ∷ finals_left) (l ∷ lines_left) m wrong some none is = absurd (cc)
+
+pub agreed_short : (finals lines : List ReportLine) (count : ℕ) → HasAgreed finals lines count (drop count finals) (drop count lines) →
+    length lines ≤ count → count ≤ length lines → length lines < length finals → (n : ℕ) → IsOff n finals lines (n + length lines) Count
+agreed_short finals lines count so_far end within short n =
+    so_far.off n (n + length lines) Count
+    (head_missing (drop count finals) (drop count lines) (n + count) (n + length lines) (omega (arith, length-drop count finals))
+    (drop_all count lines end) (omega arith))
+
+-- events whose lines are right have lines
+pub fewer : (n : ℕ) (p : Point) (events : List WorldEvent) (lines : List ReportLine) → AreRightEvents n p events lines → length events ≤ length lines
+fewer n p [] lines right = omega arith
+fewer n p (event ∷ events) [] right = absurd right
+fewer n p (event ∷ events) (l ∷ lines) right = omega (arith, fewer (suc n) (after p event l) events lines right.1)
+
+pub joined_result : (r : Result Checked AllocError) (n : ℕ) (p : Point) (events : List WorldEvent) (lines left : List ReportLine) (q : Point) (m : ℕ) →
+    AreRightEvents n p events lines → q ≡ point_after p events lines → left ≡ drop (length events) lines → m ≡ n + length events →
+    IfOk r (IsJudgedEnd m (final_lines q) left) → IfOk r (IsJudgedFrom n p events lines)
+joined_result (Ok checked) n p events lines left q m right point rest next judged =
+    joined n p events lines checked right
+    (subst (λ (k : ℕ). IsJudgedEnd k (final_lines (point_after p events lines)) (drop (length events) lines) checked) next
+    (subst (λ (x : Point). IsJudgedEnd m (final_lines x) (drop (length events) lines) checked) point
+    (subst (λ (ls : List ReportLine). IsJudgedEnd m (final_lines q) ls checked) rest judged)))
+joined_result (Err e) n p events lines left q m right point rest next judged = tt

@@ -1,0 +1,139 @@
+-- Worked examples of the check: the report of two programs that each set a key to 0 where the sum of both is above 1.
+use Rattle.std.proofs.Common.{◌≡◌, refl, inl, inr, ℕ, pos, true, false, List, [], ◌∷◌}
+use Rattle.std.specs.Prelude.{codes}
+use Rattle.stm_program.specs.Syntax.{ProgramTree, End as EndBlock, Then, Expression}
+use Rattle.stm_program.specs.Syntax.{Put as PutStatement, If, Less, Number, Text, Get, NumOf, Arithmetic}
+use Rattle.stm_program.specs.declared.operator.Operator.TheVariants.{Add}
+use Rattle.stm_program.specs.declared.level.Level.TheVariants.{Serializable}
+use Rattle.stm_meaning.specs.declared.trace_item.TraceItem.{TraceItem}
+use Rattle.stm_meaning.specs.declared.trace_item.TraceItem.TheVariants as seen
+use Rattle.stm_txn.specs.declared.txn.Op.TheVariants.{Put}
+use Rattle.stm_world.specs.declared.event.WorldEvent.{WorldEvent}
+use Rattle.stm_world.specs.declared.event.WorldEvent.TheVariants.{Start, Step, Txn, Poll, Cancel, WatchKey}
+use Rattle.stm_reports.specs.declared.causes.RefusalName.TheVariants.{NoWatcher, LeaseIdOutOfRange}
+use Rattle.stm_reports.specs.declared.line.ReportLine.{ReportLine}
+use Rattle.stm_reports.specs.declared.line.ReportLine.TheVariants as line
+use Rattle.stm_reports.specs.declared.line.ToldOp.TheVariants as told
+use Rattle.stm_check.specs.declared.cause.WrongCause.TheVariants.{Count, Final}
+use Rattle.stm_check.specs.Point.{Point, beginning}
+use Rattle.stm_check.specs.Fits.{fits}
+use Rattle.stm_check.specs.StoreLines.{txn_call_line, grant_line}
+use Rattle.stm_check.specs.Wrong.{IsOff, IsFirstWrong, point_after}
+
+-- ---- the scenario
+
+abbrev put_one : List ℕ → WorldEvent
+put_one key = Txn (record { compares = []; success = Put key (codes "1") 0 ∷ []; failure = [] })
+
+abbrev number_in : List ℕ → Expression
+number_in key = NumOf (Get (Text key))
+
+-- sets a key to 0 where x and y are more than 1
+abbrev setting : List ℕ → ProgramTree
+setting key = record {
+  statements = Then (If (Less (Number (pos 1)) (Arithmetic Add (number_in (codes "x")) (number_in (codes "y"))))
+      (Then (PutStatement (Text key) (Text (codes "0")) 0) EndBlock) EndBlock) EndBlock;
+}
+
+abbrev skew : List WorldEvent
+skew =
+    put_one (codes "x") ∷ put_one (codes "y") ∷ Start (setting (codes "x")) Serializable 3 ∷ Start (setting (codes "y")) Serializable 3
+    ∷ Step 1 ∷ Step 2 ∷ Step 1 ∷ Step 2 ∷ Step 1 ∷ Step 2 ∷ Step 2 ∷ []
+
+-- ---- its report
+
+abbrev both : List ℕ → List ℕ → List TraceItem
+both x y = seen.Get (codes "x") x ∷ seen.Get (codes "y") y ∷ []
+
+abbrev first_lines : List ReportLine
+first_lines =
+    line.Txn 1 true 2 (told.Put ∷ []) ∷ line.Txn 2 true 3 (told.Put ∷ []) ∷ line.Started 3 1 ∷ line.Started 4 2 ∷ []
+
+abbrev skew_lines : List ReportLine
+skew_lines =
+    line.Txn 1 true 2 (told.Put ∷ []) ∷ line.Txn 2 true 3 (told.Put ∷ []) ∷ line.Started 3 1 ∷ line.Started 4 2
+    ∷ line.Fetched 5 1 (codes "x") 2 3 3 ∷ line.Fetched 6 2 (codes "x") 2 3 3
+    ∷ line.Fetched 7 1 (codes "y") 3 3 3 ∷ line.Fetched 8 2 (codes "y") 3 3 3
+    ∷ line.Committed 9 1 4 1 [] (both (codes "1") (codes "1")) [] ∷ line.Conflict 10 2 (codes "x") 2 4
+    ∷ line.Committed 11 2 4 2 [] (both (codes "0") (codes "1")) [] ∷ []
+
+abbrev last_lines : List ReportLine
+last_lines =
+    line.Key (codes "x") (record { value = codes "0"; create_rev = 2; mod_rev = 4; version = 2; lease = 0 })
+    ∷ line.Key (codes "y") (record { value = codes "1"; create_rev = 3; mod_rev = 3; version = 1; lease = 0 })
+    ∷ line.End 4 4 ∷ []
+
+-- behind the four first lines
+abbrev started : Point
+started = point_after (beginning 1) skew first_lines
+
+-- behind all lines of events
+abbrev ended : Point
+ended = point_after (beginning 1) skew skew_lines
+
+-- ---- what a line can stand in
+
+own_runner : fits 5 started.runners (Step 1) (line.Fetched 5 1 (codes "x") 2 3 3) ≡ true
+own_runner = refl
+
+-- runner 2 at a step of runner 1 is Event
+other_runner : fits 5 started.runners (Step 1) (line.Fetched 5 2 (codes "x") 2 3 3) ≡ false
+other_runner = refl
+
+other_number : fits 5 started.runners (Step 1) (line.Fetched 6 1 (codes "x") 2 3 3) ≡ false
+other_number = refl
+
+unknown_runner : fits 5 started.runners (Step 3) (line.Fetched 5 3 (codes "x") 2 3 3) ≡ false
+unknown_runner = refl
+
+-- both runners committed
+ended_runner : fits 12 ended.runners (Step 1) (line.Aborted 12 1 (codes "no")) ≡ false
+ended_runner = refl
+
+next_runner_starts : fits 12 ended.runners (Start (setting (codes "x")) Serializable 1) (line.Started 12 3) ≡ true
+next_runner_starts = refl
+
+another_starts : fits 12 ended.runners (Start (setting (codes "x")) Serializable 1) (line.Started 12 4) ≡ false
+another_starts = refl
+
+no_commit_may_be_sent : fits 12 ended.runners (Start (setting (codes "x")) Serializable 0) (line.Started 12 3) ≡ false
+no_commit_may_be_sent = refl
+
+refused_is_of_any_event : fits 1 [] (Poll 1 0) (line.Refused 1 NoWatcher []) ≡ true
+refused_is_of_any_event = refl
+
+own_watcher : fits 1 [] (Poll 7 0) (line.Batch 1 7 1 []) ≡ true
+own_watcher = refl
+
+other_watcher : fits 1 [] (Cancel 7) (line.Cancelled 1 8) ≡ false
+other_watcher = refl
+
+any_watcher : fits 1 [] (WatchKey (codes "a") 0) (line.Watching 1 9) ≡ true
+any_watcher = refl
+
+key_line_is_of_no_event : fits 1 [] (Step 1) (line.End 1 0) ≡ false
+key_line_is_of_no_event = refl
+
+-- ---- the replay
+
+first_txn : txn_call_line 1 (beginning 1).standing (record { compares = []; success = Put (codes "x") (codes "1") 0 ∷ []; failure = [] })
+    ≡ line.Txn 1 true 2 (told.Put ∷ [])
+first_txn = refl
+
+bad_grant : grant_line 1 (beginning 1).standing 0 5 ≡ line.Refused 1 LeaseIdOutOfRange []
+bad_grant = refl
+
+-- ---- the end
+
+-- the end line is missing
+missing : IsOff 12 last_lines (line.Key (codes "x") (record { value = codes "0"; create_rev = 2; mod_rev = 4; version = 2; lease = 0 })
+    ∷ line.Key (codes "y") (record { value = codes "1"; create_rev = 3; mod_rev = 3; version = 1; lease = 0 }) ∷ []) 14 Count
+missing = inr (refl, inr (refl, (refl, refl)))
+
+-- an empty report lacks its first line
+nothing_there : IsFirstWrong 1 (beginning 1) skew [] 1 Count
+nothing_there = (refl, refl)
+
+-- the line of an event behind those of the events
+surplus : IsOff 12 last_lines (line.Started 12 3 ∷ last_lines) 12 Final
+surplus = inl (refl, refl, λ same. cc)

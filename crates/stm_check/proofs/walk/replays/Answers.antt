@@ -1,0 +1,14 @@
+use Rattle.std.proofs.Common.{Option, sym, subst}
+use Rattle.std.specs.Prelude.{IfOk, IsTrue, ◌↔◌}
+use Rattle.stm_world.specs.declared.event.WorldEvent.{WorldEvent}
+use Rattle.stm_txn.specs.Standing.{Standing}
+use Rattle.stm_check.specs.declared.runner.Runner.{Runner}
+use Rattle.stm_check.specs.Replays.{StepReplays, Replays}
+use Rattle.stm_check.proofs.walk.replays.Goals as goal
+
+pub returns-in-Step-clause-right : goal.returns-in-Step-clause-right
+returns-in-Step-clause-right c =
+    let s : Standing = c.args.store.now.standing in
+    let l = c.args.line.now in
+    subst (λ (event : WorldEvent). IfOk c.step_replays.result (λ b. IsTrue b ↔ Replays c.args.number s c.args.runners.now event l)) (sym c.in-Step.is)
+    (subst (λ (o : Option Runner). IfOk c.step_replays.result (λ b. IsTrue b ↔ StepReplays s o l)) c.find_running.ensures c.step_replays.ensures.right)

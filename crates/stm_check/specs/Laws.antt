@@ -1,0 +1,43 @@
+-- The laws of checks, each carried by a function of `src/laws.rt`.
+use Rattle.std.specs.Prelude.{◌≡◌, ◌+◌, List, length, drop, unwrap_or}
+use Rattle.stm_entries.specs.declared.entry.Entry.{Entry}
+use Rattle.stm_entries.specs.Replayed.{without_moment, opening}
+use Rattle.stm_entries.specs.Replay.{replay}
+use Rattle.stm_entries.specs.Legal.{AreLegal}
+use Rattle.stm_world.specs.declared.event.WorldEvent.{WorldEvent}
+use Rattle.stm_texts.specs.declared.scenario.Scenario.{Scenario}
+use Rattle.stm_reports.specs.declared.line.ReportLine.{ReportLine}
+use Rattle.stm_reports.specs.declared.report.Report.{Report}
+use Rattle.stm_check.specs.declared.checking.Checked.{Checked}
+use Rattle.stm_check.specs.Point.{Point}
+use Rattle.stm_check.specs.StoreLines.{final_lines}
+use Rattle.stm_check.specs.Judged.{IsJudged, AreRightEvents}
+use Rattle.stm_check.specs.Wrong.{opens_at, point_after, entries_along, IsReportOf}
+
+-- A check has one answer.
+abbrev pub JudgedOnce : Type 0
+JudgedOnce = (s : Scenario) (r : Report) (one other : Checked) → IsJudged s r one → IsJudged s r other → one ≡ other
+
+-- The store behind lines is the replay of all the entries that they tell, and these are counted.
+pub record IsReplayOf (p : Point) (entries : List Entry) (behind : Point) : Type 0 where
+  pub store : without_moment behind.standing ≡ replay entries (without_moment p.standing)
+  pub count : behind.entries ≡ p.entries + length entries
+
+abbrev pub StoreIsTheReplay : Type 0
+StoreIsTheReplay =
+    (p : Point) (events : List WorldEvent) (lines : List ReportLine) → IsReplayOf p (entries_along p events lines) (point_after p events lines)
+
+-- What a report of a scenario tells: entries, each legal at its point, of which a committed line is one by its program run
+-- alone, over an empty store; the store that they lead to is the one that its last lines show, and they are counted there.
+pub record TellsTheReplay (s : Scenario) (r : Report) : Type 0 where
+  pub last : Point
+  pub entries : List Entry
+  pub are_told : entries ≡ entries_along (opens_at s) s.events r.lines
+  pub are_legal : AreLegal entries (opening (unwrap_or s.opening 1))
+  pub store : without_moment last.standing ≡ replay entries (opening (unwrap_or s.opening 1))
+  pub count : last.entries ≡ length entries
+  pub events_are_right : AreRightEvents 1 (opens_at s) s.events r.lines
+  pub ends : drop (length s.events) r.lines ≡ final_lines last
+
+abbrev pub YesIsTheReplay : Type 0
+YesIsTheReplay = (s : Scenario) (r : Report) → IsReportOf s r → TellsTheReplay s r

@@ -1,0 +1,15 @@
+pub mod CauseNames
+pub mod Runners
+pub mod Point
+pub mod StoreLines
+pub mod Fits
+pub mod Replays
+pub mod Runs
+pub mod Wrong
+pub mod Leases
+pub mod Finals
+pub mod Walks
+pub mod Judged
+pub mod Judging
+pub mod Laws
+pub mod Told

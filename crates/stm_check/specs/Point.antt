@@ -1,0 +1,107 @@
+-- What a check knows at a point of a report: the store that the lines before it told, the moment, how many entries there were, and
+-- the runners.
+--
+-- The store is the replay of the entries that the lines told. A moment is no part of a replay, and is kept beside it, in seconds.
+-- Watchers change no store, and a check has none.
+use Rattle.std.specs.Prelude.{ℕ, ◌+◌, nat_lt, if◌then◌else◌, List, [], ◌∷◌, map, length, Option, Some, None}
+use Rattle.stm_history.specs.declared.key_state.ReadAnswer.{ReadAnswer}
+use Rattle.stm_history.specs.History.{History, now, key_at}
+use Rattle.stm_txn.specs.declared.advance.Expired.{Expired}
+use Rattle.stm_txn.specs.declared.txn.Txn.{Txn as StoreTxn}
+use Rattle.stm_txn.specs.Standing.{Standing, opening}
+use Rattle.stm_entries.specs.declared.entry.Entry.{Entry}
+use Rattle.stm_entries.specs.declared.entry.Entry.TheVariants.{Program, Foreign, Grant as GrantEntry, Renew, Revoke as RevokeEntry, Expire}
+use Rattle.stm_entries.specs.Replayed.{Replayed, without_moment}
+use Rattle.stm_entries.specs.Replay.{replay}
+use Rattle.stm_world.specs.declared.event.WorldEvent.{WorldEvent}
+use Rattle.stm_world.specs.declared.event.WorldEvent.TheVariants.{Step, Txn, Grant, Keep, Revoke, Advance}
+use Rattle.stm_reports.specs.declared.line.ReportLine.{ReportLine}
+use Rattle.stm_reports.specs.declared.line.ReportLine.TheVariants as line
+use Rattle.stm_reports.specs.declared.line.ToldAnswer.{ToldAnswer}
+use Rattle.stm_check.specs.declared.runner.Runner.{Runner}
+use Rattle.stm_check.specs.Runners.{running, runners_after}
+
+-- the store with its moment, the number of entries so far, and the runners, the first one first
+pub record Point : Type 0 where
+  pub standing : Standing
+  pub entries : ℕ
+  pub runners : List Runner
+
+-- before the first line
+abbrev pub beginning : ℕ → Point
+beginning start = record { standing = opening start; entries = 0; runners = [] }
+
+-- ---- what a right line adds
+
+-- an answer that a line tells, as a read of the history gives it
+abbrev pub read_in : History → ToldAnswer → ReadAnswer
+read_in h a = record { key = a.key; kv = key_at h a.key a.of_rev; of_rev = a.of_rev; revision = a.of_rev }
+
+abbrev pub reads_in : History → List ToldAnswer → List ReadAnswer
+reads_in h answers = map (read_in h) answers
+
+abbrev pub expiries : List Expired → List Entry
+expiries expired = map (λ (e : Expired). Expire e.id) expired
+
+abbrev pub committed_entry : History → ReportLine → Runner → List Entry
+committed_entry h (line.Committed n runner revision attempts output trace answers) r =
+    Program r.program r.level (reads_in h answers) output trace revision ∷ []
+committed_entry h other r = []
+
+abbrev pub commit_entries : History → ReportLine → Option Runner → List Entry
+commit_entries h l None = []
+commit_entries h l (Some r) = committed_entry h l r
+
+-- another client's transaction is entered where the revision went up
+abbrev pub txn_entries : ℕ → StoreTxn → ReportLine → List Entry
+txn_entries before txn (line.Txn n succeeded revision answers) = if nat_lt before revision then Foreign txn ∷ [] else []
+txn_entries before txn other = []
+
+abbrev pub grant_entries : ℕ → ℕ → ℕ → ReportLine → List Entry
+grant_entries id ttl moment (line.Granted n told) = GrantEntry id ttl moment ∷ []
+grant_entries id ttl moment other = []
+
+abbrev pub keep_entries : ℕ → ℕ → ReportLine → List Entry
+keep_entries id moment (line.Kept n told) = Renew id moment ∷ []
+keep_entries id moment other = []
+
+abbrev pub revoke_entries : ℕ → ReportLine → List Entry
+revoke_entries id (line.Revoked n told revision) = RevokeEntry id ∷ []
+revoke_entries id other = []
+
+-- each expiry is entered, also of an advance that was refused then
+abbrev pub advance_entries : ReportLine → List Entry
+advance_entries (line.Advanced n told expired) = expiries expired
+advance_entries (line.Refused n cause expired) = expiries expired
+advance_entries other = []
+
+-- what the line of an event tells as entries: a start and what is about watchers are none
+abbrev pub entries_told : Standing → List Runner → WorldEvent → ReportLine → List Entry
+entries_told s runners (Step id) l = commit_entries s.history l (running id runners)
+entries_told s runners (Txn txn) l = txn_entries (now s.history) txn l
+entries_told s runners (Grant id ttl) l = grant_entries id ttl s.moment l
+entries_told s runners (Keep id) l = keep_entries id s.moment l
+entries_told s runners (Revoke id) l = revoke_entries id l
+entries_told s runners (Advance moment) l = advance_entries l
+entries_told s runners other l = []
+
+-- only an advance moves the moment, unless it would go back
+abbrev pub moment_after : Standing → WorldEvent → ℕ
+moment_after s (Advance moment) = if nat_lt moment s.moment then s.moment else moment
+moment_after s other = s.moment
+
+-- a store with the history and the leases of a replay, at a moment
+abbrev pub with_replayed : Replayed → ℕ → Standing → Standing
+with_replayed r moment s = record s { history = r.history; live = r.live; moment = moment }
+
+-- the store that these entries lead to
+abbrev pub led_by : List Entry → Standing → ℕ → Standing
+led_by entries s moment = with_replayed (replay entries (without_moment s)) moment s
+
+-- the point behind the line of an event
+abbrev pub after : Point → WorldEvent → ReportLine → Point
+after p event l = record {
+  standing = led_by (entries_told p.standing p.runners event l) p.standing (moment_after p.standing event);
+  entries = p.entries + length (entries_told p.standing p.runners event l);
+  runners = runners_after event l p.runners;
+}

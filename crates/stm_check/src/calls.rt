@@ -1,0 +1,111 @@
+//! Whether a line tells what a call of the store comes to. The call is made.
+ghost use Rattle.std.specs.Prelude.{◌≡◌, ◌≢◌, ◌↔◌, IsTrue, IfOk, OnOk};
+ghost use Rattle.stm_check.specs.Point.{led_by, moment_after, txn_entries, grant_entries, keep_entries, revoke_entries, advance_entries};
+ghost use Rattle.stm_check.specs.StoreLines.{txn_call_line, grant_line, keep_line, revoke_line, advance_call_line};
+ghost use Rattle.stm_history.specs.History.{now};
+ghost use Rattle.stm_told.specs.Told.{cause_told};
+ghost use Rattle.stm_reports.specs.declared.line.ReportLine.TheVariants.{Refused};
+ghost use Rattle.stm_txn.specs.declared.refusal.Refusal.TheVariants.{OutOfMemory};
+ghost use Rattle.stm_world.specs.declared.event.WorldEvent.TheVariants.{Advance as AdvanceEvent};
+
+use std::alloc::AllocError;
+use stm_reports::ReportLine;
+use stm_told::{is_advanced, is_granted, is_kept, is_refused, is_revoked, is_txn, told_cause};
+use stm_txn::{Expired, Refusal, Store, Txn};
+
+/// Whether a line tells that the store refused a call, where it was not for want of memory.
+fn tells_refusal(
+    line: &ReportLine,
+    number: u64,
+    cause: Refusal,
+    expired: &[Expired],
+) -> Result<bool, AllocError>
+    ensures told { IfOk result (λ b. IsTrue b ↔ Refused number (cause_told cause) expired.now ≡ line.now) }
+    ensures memory { OnOk result (cause ≢ OutOfMemory) }
+{
+    if cause == Refusal::OutOfMemory {
+        return Err(AllocError);
+    }
+    Ok(is_refused(line, number, told_cause(cause), expired))
+}
+
+/// Makes a transaction, and tells whether a line tells it.
+pub(crate) fn replay_txn(
+    store: &mut Store,
+    number: u64,
+    txn: &Txn,
+    line: &ReportLine,
+) -> Result<bool, AllocError>
+    ensures right { IfOk result (λ b. IsTrue b ↔ txn_call_line number store.old.standing txn.now ≡ line.now) }
+    ensures next { IfOk result (λ b. IsTrue b → store.new.standing ≡ led_by (txn_entries (now store.old.standing.history) txn.now line.now) store.old.standing store.old.standing.moment) }
+{
+    match store.txn(txn) {
+        Ok(answer) => Ok(is_txn(line, number, &answer)),
+        Err(cause) => tells_refusal(line, number, cause, &[]),
+    }
+}
+
+/// Grants a lease, and tells whether a line tells it.
+pub(crate) fn replay_grant(
+    store: &mut Store,
+    number: u64,
+    id: u64,
+    ttl: u64,
+    line: &ReportLine,
+) -> Result<bool, AllocError>
+    ensures right { IfOk result (λ b. IsTrue b ↔ grant_line number store.old.standing id ttl ≡ line.now) }
+    ensures next { IfOk result (λ b. IsTrue b → store.new.standing ≡ led_by (grant_entries id ttl store.old.standing.moment line.now) store.old.standing store.old.standing.moment) }
+{
+    match store.grant(id, ttl) {
+        Ok(()) => Ok(is_granted(line, number, id)),
+        Err(cause) => tells_refusal(line, number, cause, &[]),
+    }
+}
+
+/// Renews a lease, and tells whether a line tells it.
+pub(crate) fn replay_keep(
+    store: &mut Store,
+    number: u64,
+    id: u64,
+    line: &ReportLine,
+) -> Result<bool, AllocError>
+    ensures right { IfOk result (λ b. IsTrue b ↔ keep_line number store.old.standing id ≡ line.now) }
+    ensures next { IfOk result (λ b. IsTrue b → store.new.standing ≡ led_by (keep_entries id store.old.standing.moment line.now) store.old.standing store.old.standing.moment) }
+{
+    match store.keep_alive(id) {
+        Ok(()) => Ok(is_kept(line, number, id)),
+        Err(cause) => tells_refusal(line, number, cause, &[]),
+    }
+}
+
+/// Revokes a lease, and tells whether a line tells it.
+pub(crate) fn replay_revoke(
+    store: &mut Store,
+    number: u64,
+    id: u64,
+    line: &ReportLine,
+) -> Result<bool, AllocError>
+    ensures right { IfOk result (λ b. IsTrue b ↔ revoke_line number store.old.standing id ≡ line.now) }
+    ensures next { IfOk result (λ b. IsTrue b → store.new.standing ≡ led_by (revoke_entries id line.now) store.old.standing store.old.standing.moment) }
+{
+    match store.revoke(id) {
+        Ok(revision) => Ok(is_revoked(line, number, id, revision)),
+        Err(cause) => tells_refusal(line, number, cause, &[]),
+    }
+}
+
+/// Advances the moment, and tells whether a line tells it.
+pub(crate) fn replay_advance(
+    store: &mut Store,
+    number: u64,
+    moment: u64,
+    line: &ReportLine,
+) -> Result<bool, AllocError>
+    ensures right { IfOk result (λ b. IsTrue b ↔ advance_call_line number store.old.standing moment ≡ line.now) }
+    ensures next { IfOk result (λ b. IsTrue b → store.new.standing ≡ led_by (advance_entries line.now) store.old.standing (moment_after store.old.standing (AdvanceEvent moment))) }
+{
+    match store.advance(moment) {
+        Ok(expired) => Ok(is_advanced(line, number, moment, expired.as_slice())),
+        Err(refused) => { tells_refusal(line, number, refused.cause, refused.expired.as_slice()) }
+    }
+}

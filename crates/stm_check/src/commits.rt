@@ -1,0 +1,246 @@
+//! Whether a line tells the commit that the replay of a runner's program is.
+ghost use Rattle.std.specs.Prelude.{◌≡◌, ◌≢◌, ◌↔◌, ◌+◌, ◌≤◌, [], ◌∷◌, true, false, map, None, Some, IsTrue, IfOk, OnOk};
+ghost use Rattle.stm_txn.specs.declared.refusal.Refusal.TheVariants.{OutOfMemory};
+ghost use Rattle.stm_compile.specs.Now.{as_change};
+ghost use Rattle.stm_meaning.specs.declared.run.End.TheVariants.{Done as DoneEnd};
+ghost use Rattle.stm_txn.specs.Numbers.{StatesFit};
+ghost use Rattle.stm_compile.specs.Levels.{is_comparing};
+ghost use Rattle.stm_entries.specs.Alone.{applied_run};
+ghost use Rattle.stm_entries.specs.Replayed.{without_moment};
+ghost use Rattle.stm_entries.specs.declared.entry.Entry.TheVariants.{Program};
+ghost use Rattle.stm_check.specs.Point.{reads_in, led_by};
+ghost use Rattle.stm_check.specs.Replays.{keys_told, IsRightCommit};
+ghost use Rattle.stm_check.specs.Runs.{run_in, IsFound, revision_reached, with_writes};
+
+use crate::lookups::{KeysNow, are_truly_told, reads_told};
+use crate::runner::Runner;
+use std::alloc::{AllocError, Global};
+use stm_compile::WriteBuffer;
+use stm_history::Text;
+use stm_keys::Keys;
+use stm_meaning::{Answered, End, Run, TraceItem, Value, run_answered};
+use stm_program::{Level, Write};
+use stm_reports::ToldAnswer;
+use stm_told::{are_same_traces, are_same_values};
+use stm_txn::{Change, Refusal, Store};
+
+/// What the line of a commit tells.
+#[derive(Clone, Copy)]
+pub(crate) struct Told<'a> {
+    pub(crate) revision: u64,
+    pub(crate) attempts: u64,
+    pub(crate) output: &'a [Value],
+    pub(crate) trace: &'a [TraceItem],
+    pub(crate) answers: &'a [ToldAnswer],
+}
+
+/// Whether commits of a level compare what was read.
+fn compares(level: Level) -> bool
+    ensures { result ≡ is_comparing level }
+{
+    match level {
+        Level::SerializableSnapshot => true,
+        Level::Serializable => true,
+        Level::RepeatableReads => true,
+        Level::ReadCommitted => false,
+    }
+}
+
+/// Whether a commit is the next of its run, and one that the run may send.
+fn is_next_attempt(runner: &Runner, attempts: u64) -> bool
+    ensures { IsTrue result ↔ (attempts ≡ runner.now.conflicts + 1) × (attempts ≤ runner.now.limit) }
+{
+    attempts != 0 && attempts - 1 == runner.conflicts && attempts <= runner.limit as u64
+}
+
+/// Whether an answer is of a key.
+fn is_of_key(answer: &ToldAnswer, key: &Text) -> bool
+    ensures { IsTrue result ↔ answer.now.key ≡ key.now }
+{
+    answer.key == *key
+}
+
+/// Whether answers are of these keys, in this order.
+fn are_of_keys(answers: &[ToldAnswer], keys: &[Text]) -> bool
+    ensures { IsTrue result ↔ keys_told answers.now ≡ keys.now }
+{
+    if answers.len() != keys.len() {
+        return false;
+    }
+    for i in 0..keys.len() {
+        if !is_of_key(&answers[i], &keys[i]) {
+            return false;
+        }
+    }
+    true
+}
+
+/// The run that came to its end, if it did.
+fn ended_run(answered: Answered) -> Option<Run>
+    ensures { result ≡ run_in answered }
+{
+    match answered {
+        Answered::Ended(run) => Some(run),
+        Answered::Wants { .. } => None,
+    }
+}
+
+/// The run on the store as it is now, where no answers are told.
+fn run_now(
+    alloc: Global,
+    keys: &Keys,
+    runner: &Runner,
+    answers: &[ToldAnswer],
+) -> Result<Option<Run>, AllocError>
+    requires { is_comparing runner.now.level ≡ true }
+    ensures { IfOk result (IsFound runner.now.level keys.now.history runner.now.program answers.now) }
+{
+    if !answers.is_empty() {
+        return Ok(None);
+    }
+    let answered = run_answered(alloc, &runner.program, &KeysNow { keys })?;
+    Ok(ended_run(answered))
+}
+
+/// The run on the answers that are told, where they are true and are those that the run looked up.
+fn run_on_told(
+    alloc: Global,
+    keys: &Keys,
+    runner: &Runner,
+    answers: &[ToldAnswer],
+) -> Result<Option<Run>, AllocError>
+    requires numbers { StatesFit keys.now.history }
+    requires level { is_comparing runner.now.level ≡ false }
+    ensures { IfOk result (IsFound runner.now.level keys.now.history runner.now.program answers.now) }
+{
+    if !are_truly_told(keys, answers) {
+        return Ok(None);
+    }
+    let reads = reads_told(alloc, keys, answers)?;
+    let Some(run) = ended_run(run_answered(alloc, &runner.program, &reads)?) else {
+        return Ok(None);
+    };
+    if !are_of_keys(answers, run.reads.as_slice()) {
+        return Ok(None);
+    }
+    Ok(Some(run))
+}
+
+/// The run of a runner's program at this point, where the answers that are told are those of its level.
+fn run_told(
+    alloc: Global,
+    keys: &Keys,
+    runner: &Runner,
+    answers: &[ToldAnswer],
+) -> Result<Option<Run>, AllocError>
+    requires { StatesFit keys.now.history }
+    ensures { IfOk result (IsFound runner.now.level keys.now.history runner.now.program answers.now) }
+{
+    if compares(runner.level) {
+        run_now(alloc, keys, runner, answers)
+    } else {
+        run_on_told(alloc, keys, runner, answers)
+    }
+}
+
+/// Whether a run is done, with this output and trace.
+fn is_told_run(run: &Run, told: Told<'_>) -> bool
+    ensures { IsTrue result ↔ (run.now.end ≡ DoneEnd) × (run.now.output ≡ told.entry.output.now) × (run.now.trace ≡ told.entry.trace.now) }
+{
+    run.end == End::Done
+        && are_same_values(run.output.as_slice(), told.output)
+        && are_same_traces(run.trace.as_slice(), told.trace)
+}
+
+/// A write, as a change.
+fn change_of(write: &Write) -> Result<Change, AllocError>
+    ensures { IfOk result (λ change. change ≡ as_change write.now) }
+{
+    match write {
+        Write::Put { key, value, lease } => {
+            let key = key.clone()?;
+            let value = value.clone()?;
+            Ok(Change::Put {
+                key,
+                value,
+                lease: *lease,
+            })
+        }
+        Write::Del { key } => {
+            let key = key.clone()?;
+            Ok(Change::Del { key })
+        }
+    }
+}
+
+/// The writes, as changes.
+fn changes_of(alloc: Global, writes: &WriteBuffer) -> Result<Vec<Change>, AllocError>
+    ensures { IfOk result (λ changes. changes.items ≡ map as_change writes.now) }
+{
+    let mut changes = Vec::with_capacity(alloc, writes.len())?;
+    for place in 0..writes.len() {
+        changes.push(change_of(writes.at(place))?)?;
+    }
+    Ok(changes)
+}
+
+/// No revision, where the store refused writes, though not for want of memory.
+fn refused_writes(cause: Refusal) -> Result<Option<u64>, AllocError>
+    ensures none { IfOk result (λ revision. revision ≡ None) }
+    ensures memory { OnOk result (cause ≢ OutOfMemory) }
+{
+    if cause == Refusal::OutOfMemory {
+        return Err(AllocError);
+    }
+    Ok(None)
+}
+
+/// Applies the last write of each key of a run, with nothing compared, and gives the revision that the store has come to;
+/// none where it refuses them.
+fn apply_writes(alloc: Global, store: &mut Store, run: &Run) -> Result<Option<u64>, AllocError>
+    ensures revision { IfOk result (λ revision. revision ≡ revision_reached (applied_run (without_moment store.old.standing) run.now)) }
+    ensures store { OnOk result (store.new.standing ≡ with_writes store.old.standing run.now) }
+{
+    let latest = WriteBuffer::of(alloc, run.writes.as_slice())?;
+    let changes = changes_of(alloc, &latest)?;
+    match store.write(changes) {
+        Ok(revision) => Ok(Some(revision)),
+        Err(cause) => refused_writes(cause),
+    }
+}
+
+/// Whether the revision that a store has come to is this one.
+fn is_reached(reached: Option<u64>, revision: u64) -> bool
+    ensures { IsTrue result ↔ reached ≡ Some revision }
+{
+    match reached {
+        None => false,
+        Some(other) => other == revision,
+    }
+}
+
+/// Applies the commit of a runner, and tells whether a line tells it.
+pub(crate) fn replay_commit(
+    alloc: Global,
+    store: &mut Store,
+    runner: &Runner,
+    told: Told<'_>,
+) -> Result<bool, AllocError>
+    ensures right { IfOk result (λ b. IsTrue b ↔ IsRightCommit store.old.standing runner.now told.entry.revision told.entry.attempts
+        told.entry.output.now told.entry.trace.now told.entry.answers.now) }
+    ensures next { IfOk result (λ b. IsTrue b → store.new.standing
+        ≡ led_by (Program runner.now.program runner.now.level (reads_in store.old.standing.history told.entry.answers.now)
+        told.entry.output.now told.entry.trace.now told.entry.revision ∷ []) store.old.standing store.old.standing.moment) }
+{
+    if !is_next_attempt(runner, told.attempts) {
+        return Ok(false);
+    }
+    let Some(run) = run_told(alloc, store.keys(), runner, told.answers)? else {
+        return Ok(false);
+    };
+    if !is_told_run(&run, told) {
+        return Ok(false);
+    }
+    let reached = apply_writes(alloc, store, &run)?;
+    Ok(is_reached(reached, told.revision))
+}

@@ -1,0 +1,82 @@
+//! How many entries a line tells.
+ghost use Rattle.std.specs.Prelude.{◌≡◌, ◌+◌, length, IfOk};
+ghost use Rattle.stm_history.specs.History.{History};
+ghost use Rattle.stm_txn.specs.declared.txn.Txn.{Txn as StoreTxn};
+ghost use Rattle.stm_check.specs.Point.{commit_entries, txn_entries, advance_entries, entries_told};
+ghost use Rattle.stm_check.specs.Runners.{running};
+
+use crate::runner::{Runner, is_running};
+use std::alloc::AllocError;
+use stm_reports::ReportLine;
+use stm_txn::Store;
+use stm_world::WorldEvent;
+
+/// How many entries the line of a transaction tells, made at this revision.
+fn count_txn(before: u64, line: &ReportLine) -> u64
+    ensures { (txn : StoreTxn) → result ≡ length (txn_entries before txn line.now) }
+{
+    match line {
+        ReportLine::Txn { revision, .. } => { if before < *revision { 1 } else { 0 } }
+        _ => 0,
+    }
+}
+
+/// How many entries the line of an advance tells.
+fn count_advance(line: &ReportLine) -> u64
+    ensures { result ≡ length (advance_entries line.now) }
+{
+    match line {
+        ReportLine::Advanced { expired, .. } => expired.len() as u64,
+        ReportLine::Refused { expired, .. } => expired.len() as u64,
+        _ => 0,
+    }
+}
+
+/// How many entries the line of a step tells.
+fn count_step(runners: &[Runner], id: u64, line: &ReportLine) -> u64
+    ensures { (h : History) → result ≡ length (commit_entries h line.now (running id runners.now)) }
+{
+    match line {
+        ReportLine::Committed { .. } => { if is_running(runners, id) { 1 } else { 0 } }
+        _ => 0,
+    }
+}
+
+/// How many entries the line of an event tells, before the store has made the event's call.
+pub(crate) fn count_told(
+    store: &Store,
+    runners: &[Runner],
+    event: &WorldEvent,
+    line: &ReportLine,
+) -> u64
+    ensures { result ≡ length (entries_told store.now.standing runners.now event.now line.now) }
+{
+    match event {
+        WorldEvent::Step { runner } => count_step(runners, *runner, line),
+        WorldEvent::Txn { .. } => count_txn(store.keys().revision(), line),
+        WorldEvent::Grant { .. } => match line {
+            ReportLine::Granted { .. } => 1,
+            _ => 0,
+        },
+        WorldEvent::Keep { .. } => match line {
+            ReportLine::Kept { .. } => 1,
+            _ => 0,
+        },
+        WorldEvent::Revoke { .. } => match line {
+            ReportLine::Revoked { .. } => 1,
+            _ => 0,
+        },
+        WorldEvent::Advance { .. } => count_advance(line),
+        _ => 0,
+    }
+}
+
+/// The number of entries with those that a line tells. A number beyond 64 bits is told as want of memory.
+pub(crate) fn add_count(entries: u64, more: u64) -> Result<u64, AllocError>
+    ensures { IfOk result (λ count. count ≡ entries + more) }
+{
+    match entries.checked_add(more) {
+        Some(count) => Ok(count),
+        None => Err(AllocError),
+    }
+}

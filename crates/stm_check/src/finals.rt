@@ -1,0 +1,140 @@
+//! The lines of the end.
+ghost use Rattle.std.specs.Prelude.{◌≡◌, ◌++◌, ◌+◌, ℕ, ◌↔◌, map, string_bytes, IsTrue, IfOk, IfSome, OnOk, None};
+ghost use Rattle.std.specs.Map.{keys_of};
+ghost use Rattle.stm_keys.specs.Keys.{ListsPresent};
+ghost use Rattle.stm_txn.specs.PresentKeys.{keys_present};
+ghost use Rattle.stm_leases.specs.Live.{Live};
+ghost use Rattle.stm_history.specs.History.{key_now};
+ghost use Rattle.stm_check.specs.Finals.{AreFinal, IsFinalKind};
+ghost use Rattle.stm_check.specs.Leases.{HasLeases};
+ghost use Rattle.stm_check.specs.StoreLines.{key_lines_of, key_lines, lease_lines, final_lines as lines_of_end};
+ghost use Rattle.stm_check.specs.Walks.{point_of};
+ghost use Rattle.stm_check.specs.Wrong.{IsOff};
+ghost use Rattle.stm_txn.specs.LeaseKeys.{keys_named};
+
+use crate::cause::WrongCause;
+use crate::leases::Lease;
+use crate::walk::Walk;
+use std::alloc::{AllocError, Global};
+use std::collections::BTreeMap;
+use stm_history::Text;
+use stm_keys::Keys;
+use stm_reports::ReportLine;
+use stm_told::{is_end, is_key, is_lease};
+
+/// Copies of the keys that are present, in the order of the store.
+fn listed_keys(alloc: Global, keys: &Keys) -> Result<Vec<String>, AllocError>
+    ensures copies { IfOk result (λ listed. map string_bytes listed.items ≡ keys_of keys.now.present) }
+    ensures present { ListsPresent keys.now.history keys.now.present }
+{
+    let mut listed = Vec::with_capacity(alloc, keys.len())?;
+    for index in 0..keys.len() {
+        let (key, _) = keys.at(index);
+        listed.push(String::from_str(alloc, key)?)?;
+    }
+    Ok(listed)
+}
+
+/// The keys that are present, ascending by bytes.
+fn present_keys(alloc: Global, keys: &Keys) -> Result<Vec<String>, AllocError>
+    ensures { IfOk result (λ present. map string_bytes present.items ≡ keys_present keys.now.history) }
+{
+    let mut present = listed_keys(alloc, keys)?;
+    present.sort()?;
+    Ok(present)
+}
+
+/// Adds the line of a key, if it is present.
+fn add_key(
+    alloc: Global,
+    lines: &mut Vec<ReportLine>,
+    keys: &Keys,
+    key: &str,
+) -> Result<(), AllocError>
+    ensures { OnOk result (lines.new.items ≡ lines.old.items ++ key_lines_of key.now (key_now keys.now.history key.now)) }
+{
+    match keys.get(key) {
+        None => Ok(()),
+        Some(found) => {
+            let key = Text::copy_of(alloc, key)?;
+            let state = found.clone()?;
+            lines.push(ReportLine::Key { key, state })?;
+            Ok(())
+        }
+    }
+}
+
+/// Adds the lines of the keys.
+fn add_keys(alloc: Global, lines: &mut Vec<ReportLine>, keys: &Keys) -> Result<(), AllocError>
+    ensures { OnOk result (lines.new.items ≡ lines.old.items ++ key_lines keys.now.history (keys_named keys.now.history.revisions)) }
+{
+    let present = present_keys(alloc, keys)?;
+    for key in present.as_slice() {
+        add_key(alloc, lines, keys, key.as_str())?;
+    }
+    Ok(())
+}
+
+/// Adds the lines of the leases, ascending by id.
+fn add_leases(lines: &mut Vec<ReportLine>, leases: &BTreeMap<u64, Lease>) -> Result<(), AllocError>
+    ensures { OnOk result ((live : Live) → HasLeases leases.now live → lines.new.items ≡ lines.old.items ++ lease_lines live) }
+{
+    for (id, lease) in leases {
+        lines.push(ReportLine::Lease {
+            id: *id,
+            ttl: lease.ttl,
+            renewed: lease.renewed,
+        })?;
+    }
+    Ok(())
+}
+
+/// The lines of the end: the keys that are present, ascending by bytes, the live leases, ascending by id, and the end
+/// line with the revision and the number of entries.
+pub(crate) fn final_lines(walk: &Walk) -> Result<Vec<ReportLine>, AllocError>
+    requires { HasLeases walk.now.leases walk.now.store.standing.live }
+    ensures { IfOk result (λ lines. lines.items ≡ lines_of_end (point_of walk.now)) }
+{
+    let mut lines = Vec::new(walk.alloc);
+    add_keys(walk.alloc, &mut lines, walk.store.keys())?;
+    add_leases(&mut lines, &walk.leases)?;
+    lines.push(ReportLine::End {
+        revision: walk.store.keys().revision(),
+        entries: walk.entries,
+    })?;
+    Ok(lines)
+}
+
+/// Whether a line is this line of the end.
+fn is_final(wanted: &ReportLine, line: &ReportLine) -> bool
+    requires { IsFinalKind wanted.now }
+    ensures { IsTrue result ↔ wanted.now ≡ line.now }
+{
+    match wanted {
+        ReportLine::Key { key, state } => is_key(line, key, state),
+        ReportLine::Lease { id, ttl, renewed } => is_lease(line, *id, *ttl, *renewed),
+        ReportLine::End { revision, entries } => is_end(line, *revision, *entries),
+        _ => false,
+    }
+}
+
+/// The place of the first line that is not the one wanted there, and why it is wrong.
+pub(crate) fn first_off(wanted: &[ReportLine], lines: &[ReportLine]) -> Option<(usize, WrongCause)>
+    requires { AreFinal wanted.now }
+    ensures same { result ≡ None → lines.now ≡ wanted.now }
+    ensures off { IfSome result (λ off. (n : ℕ) → IsOff n wanted.now lines.now (n + off.0) off.1) }
+{
+    for (index, line) in lines.iter().enumerate() {
+        if index >= wanted.len() {
+            return Some((index, WrongCause::Count));
+        }
+        if !is_final(&wanted[index], line) {
+            return Some((index, WrongCause::Final));
+        }
+    }
+    if lines.len() < wanted.len() {
+        Some((lines.len(), WrongCause::Count))
+    } else {
+        None
+    }
+}

@@ -1,0 +1,25 @@
+//! When a report is wrong: the definition that reports are checked by, and the check.
+//!
+//! `specs/Wrong.antt` says which line is the first wrong one, and why. It knows the events of the scenario, the lines,
+//! and the replay of entries; it does not know how a world makes its replies.
+#![tactic(auto)]
+
+mod calls;
+pub mod cause;
+pub mod checking;
+mod commits;
+mod count;
+mod finals;
+mod fits;
+pub mod judging;
+pub mod laws;
+mod leases;
+mod lookups;
+pub mod runner;
+mod walk;
+
+pub use cause::WrongCause;
+pub use checking::{Checked, check};
+pub use judging::{CheckFault, check_sources};
+pub use stm_reports::{Report, ReportLine};
+pub use stm_texts::Scenario;

@@ -1,0 +1,172 @@
+//! Where a replayed run looks its keys up.
+ghost use Rattle.std.specs.Prelude.{◌≡◌, ◌↔◌, ◌≤◌, ◌++◌, ◌∷◌, [], ℕ, List, IsTrue, IfOk, OnOk, is_some, option_copied, option_map};
+ghost use Rattle.stm_history.specs.declared.key_state.ReadAnswer.{ReadAnswer as Read};
+ghost use Rattle.stm_history.specs.declared.key_state.KeyState.{KeyState as State};
+ghost use Rattle.stm_history.specs.History.{now, key_at, mod_of};
+ghost use Rattle.stm_txn.specs.Numbers.{StatesFit, ReadFits};
+ghost use Rattle.stm_compile.specs.Answers.{answer_in};
+ghost use Rattle.stm_check.specs.Point.{read_in, reads_in};
+ghost use Rattle.stm_check.specs.Replays.{IsTrulyTold, AreTrulyTold};
+
+use std::alloc::{AllocError, Global};
+use stm_compile::ReadSet;
+use stm_history::{KeyState, ReadAnswer, Text};
+use stm_keys::Keys;
+use stm_meaning::Lookup;
+use stm_reports::ToldAnswer;
+
+/// The keys of a store as they are now.
+#[derive(Clone, Copy)]
+pub(crate) struct KeysNow<'a> {
+    pub(crate) keys: &'a Keys,
+}
+
+impl Lookup for KeysNow<'_> {
+    ghost use Rattle.stm_compile.specs.Answers.{state_now};
+
+    ghost answers = { λ look. state_now look.keys.now.history };
+
+    fn value(&self, key: &str) -> Option<&str> {
+        match self.keys.get(key) {
+            None => Some(""),
+            Some(state) => Some(state.value.as_str()),
+        }
+    }
+
+    fn mod_rev(&self, key: &str) -> Option<u64> {
+        match self.keys.get(key) {
+            None => Some(0),
+            Some(state) => Some(state.mod_rev),
+        }
+    }
+}
+
+/// What a key was at a revision that the store has reached. At revision 0 no key was there.
+fn state_at<'a>(keys: &'a Keys, key: &str, revision: u64) -> Option<&'a KeyState>
+    requires { revision ≤ now keys.now.history }
+    ensures { option_copied result ≡ key_at keys.now.history key.now revision }
+{
+    if revision == 0 {
+        return None;
+    }
+    match keys.get_at(key, revision) {
+        Ok(state) => state,
+        Err(_) => None,
+    }
+}
+
+/// Whether a value is told as a key had it, and as none where the key was absent.
+fn has_value(told: &Option<Text>, state: Option<&KeyState>) -> bool
+    ensures { IsTrue result ↔ told.now ≡ option_map (λ (s : State). s.value) (option_copied state.entry) }
+{
+    match state {
+        None => told.is_none(),
+        Some(state) => match told {
+            None => false,
+            Some(value) => *value == state.value,
+        },
+    }
+}
+
+/// The modification revision of a key, 0 where it was absent.
+fn mod_rev_of(state: Option<&KeyState>) -> u64
+    ensures { result ≡ mod_of (option_copied state.entry) }
+{
+    match state {
+        None => 0,
+        Some(state) => state.mod_rev,
+    }
+}
+
+/// Whether an answer tells what a key was at a revision that the store has reached.
+fn is_truly_told(keys: &Keys, answer: &ToldAnswer) -> bool
+    ensures { IsTrue result ↔ IsTrulyTold keys.now.history answer.now }
+{
+    if answer.of_rev > keys.revision() {
+        return false;
+    }
+    let state = state_at(keys, answer.key.as_str(), answer.of_rev);
+    has_value(&answer.value, state) && answer.mod_rev == mod_rev_of(state)
+}
+
+/// Whether answers tell what their keys were.
+pub(crate) fn are_truly_told(keys: &Keys, answers: &[ToldAnswer]) -> bool
+    ensures { IsTrue result ↔ AreTrulyTold keys.now.history answers.now }
+{
+    for answer in answers {
+        if !is_truly_told(keys, answer) {
+            return false;
+        }
+    }
+    true
+}
+
+/// A copy of what a key was.
+fn copy_of(state: Option<&KeyState>) -> Result<Option<KeyState>, AllocError>
+    ensures { IfOk result (λ copy. copy ≡ option_copied state.entry) }
+{
+    match state {
+        None => Ok(None),
+        Some(state) => {
+            let copy = state.clone()?;
+            Ok(Some(copy))
+        }
+    }
+}
+
+/// An answer, as a read of the store's history gives it.
+fn read_told(keys: &Keys, answer: &ToldAnswer) -> Result<ReadAnswer, AllocError>
+    requires numbers { StatesFit keys.now.history }
+    requires reached { answer.now.of_rev ≤ now keys.now.history }
+    ensures read { IfOk result (λ read. read ≡ read_in keys.now.history answer.now) }
+    ensures in_range { IfOk result ReadFits }
+{
+    let _counter = keys.revision();
+    let key = answer.key.clone()?;
+    let kv = copy_of(state_at(keys, answer.key.as_str(), answer.of_rev))?;
+    Ok(ReadAnswer {
+        key,
+        kv,
+        of_rev: answer.of_rev,
+        revision: answer.of_rev,
+    })
+}
+
+/// Whether there is an answer of a key.
+fn is_known(reads: &ReadSet, key: &Text) -> bool
+    ensures { result ≡ is_some (answer_in key.now reads.now) }
+{
+    reads.get(key.as_str()).is_some()
+}
+
+/// Adds an answer as it was read, if there is none of its key.
+fn add_told(reads: &mut ReadSet, keys: &Keys, answer: &ToldAnswer) -> Result<(), AllocError>
+    requires numbers { StatesFit keys.now.history }
+    requires reached { answer.now.of_rev ≤ now keys.now.history }
+    ensures { OnOk result ((so_far : List Read) → ((key : List ℕ) → answer_in key reads.old ≡ answer_in key so_far)
+        → (key : List ℕ) → answer_in key reads.new ≡ answer_in key (so_far ++ read_in keys.now.history answer.now ∷ [])) }
+{
+    if is_known(reads, &answer.key) {
+        return Ok(());
+    }
+    let read = read_told(keys, answer)?;
+    reads.add(read)?;
+    Ok(())
+}
+
+/// The answers as an attempt has read them: the first of each key.
+pub(crate) fn reads_told(
+    alloc: Global,
+    keys: &Keys,
+    answers: &[ToldAnswer],
+) -> Result<ReadSet, AllocError>
+    requires numbers { StatesFit keys.now.history }
+    requires truth { AreTrulyTold keys.now.history answers.now }
+    ensures { IfOk result (λ reads. (key : List ℕ) → answer_in key reads ≡ answer_in key (reads_in keys.now.history answers.now)) }
+{
+    let mut reads = ReadSet::new(alloc);
+    for answer in answers {
+        add_told(&mut reads, keys, answer)?;
+    }
+    Ok(reads)
+}

@@ -1,0 +1,161 @@
+//! What a check knows at a point of a report, and what the line of an event makes of it.
+ghost use Rattle.std.specs.Prelude.{◌≡◌, ◌≤◌, ◌↔◌, IsTrue, IfOk, IfSome, None, option_copied};
+ghost use Rattle.stm_history.specs.declared.revisions.TheConstants.{HIGHEST_REVISION};
+ghost use Rattle.stm_check.specs.Point.{commit_entries, entries_told, led_by, moment_after, beginning, after};
+ghost use Rattle.stm_check.specs.Replays.{StartReplays, StepReplays, Replays};
+ghost use Rattle.stm_check.specs.Wrong.{IsRight, IsWrong};
+ghost use Rattle.stm_check.specs.Leases.{HasLeases};
+ghost use Rattle.stm_check.specs.Walks.{point_of};
+
+use crate::calls::{replay_advance, replay_grant, replay_keep, replay_revoke, replay_txn};
+use crate::cause::WrongCause;
+use crate::commits::{Told, replay_commit};
+use crate::count::{add_count, count_told};
+use crate::fits::fits;
+use crate::leases::{Lease, no_leases, note_leases};
+use crate::runner::{Runner, find_running, note};
+use std::alloc::{AllocError, Global};
+use std::collections::BTreeMap;
+use stm_reports::{RefusalName, ReportLine};
+use stm_txn::Store;
+use stm_world::WorldEvent;
+
+/// The store that the lines so far told, the number of entries, the runners, and the live leases with their terms.
+#[derive(Drop)]
+pub(crate) struct Walk {
+    pub(crate) alloc: Global,
+    pub(crate) store: Store,
+    pub(crate) entries: u64,
+    pub(crate) runners: Vec<Runner>,
+    pub(crate) leases: BTreeMap<u64, Lease>,
+}
+
+/// Whether the line of a start is right, once it can stand there: one that may send no commit is refused as `BadLimit`.
+fn start_replays(limit: u32, line: &ReportLine) -> bool
+    ensures { IsTrue result ↔ StartReplays limit line.now }
+{
+    match line {
+        ReportLine::Refused { cause, expired, .. } => {
+            limit == 0 && *cause == RefusalName::BadLimit && expired.len() == 0
+        }
+        _ => true,
+    }
+}
+
+/// Whether the line of a step is right, once it can stand there. A commit is made.
+fn step_replays(
+    alloc: Global,
+    store: &mut Store,
+    runner: Option<&Runner>,
+    line: &ReportLine,
+) -> Result<bool, AllocError>
+    ensures right { IfOk result (λ b. IsTrue b ↔ StepReplays store.old.standing (option_copied runner.entry) line.now) }
+    ensures next { IfOk result (λ b. IsTrue b → store.new.standing
+        ≡ led_by (commit_entries store.old.standing.history line.now (option_copied runner.entry)) store.old.standing store.old.standing.moment) }
+{
+    match line {
+        ReportLine::Refused { cause, expired, .. } => {
+            Ok(runner.is_none() && *cause == RefusalName::NoRunner && expired.len() == 0)
+        }
+        ReportLine::Committed {
+            revision,
+            attempts,
+            output,
+            trace,
+            answers,
+            ..
+        } => match runner {
+            None => Ok(false),
+            Some(runner) => {
+                let told = Told {
+                    revision: *revision,
+                    attempts: *attempts,
+                    output: output.as_slice(),
+                    trace: trace.as_slice(),
+                    answers: answers.as_slice(),
+                };
+                replay_commit(alloc, store, runner, told)
+            }
+        },
+        _ => Ok(true),
+    }
+}
+
+/// Whether the line of an event is right, once it can stand there. The event's call is made.
+fn replays(
+    alloc: Global,
+    store: &mut Store,
+    runners: &[Runner],
+    number: u64,
+    event: &WorldEvent,
+    line: &ReportLine,
+) -> Result<bool, AllocError>
+    ensures right { IfOk result (λ b. IsTrue b ↔ Replays number store.old.standing runners.now event.now line.now) }
+    ensures next { IfOk result (λ b. IsTrue b → store.new.standing
+        ≡ led_by (entries_told store.old.standing runners.now event.now line.now) store.old.standing (moment_after store.old.standing event.now)) }
+{
+    match event {
+        WorldEvent::Start { limit, .. } => Ok(start_replays(*limit, line)),
+        WorldEvent::Step { runner } => {
+            step_replays(alloc, store, find_running(runners, *runner), line)
+        }
+        WorldEvent::Txn { txn } => replay_txn(store, number, txn, line),
+        WorldEvent::Grant { id, ttl } => replay_grant(store, number, *id, *ttl, line),
+        WorldEvent::Keep { id } => replay_keep(store, number, *id, line),
+        WorldEvent::Revoke { id } => replay_revoke(store, number, *id, line),
+        WorldEvent::Advance { now } => replay_advance(store, number, *now, line),
+        _ => Ok(true),
+    }
+}
+
+impl Walk {
+    /// Before the first line, of a store that opens at a revision.
+    pub(crate) fn begin(alloc: Global, start: u64) -> Result<Walk, AllocError>
+        requires { (1 ≤ start) × (start ≤ HIGHEST_REVISION) }
+        ensures point { IfOk result (λ walk. point_of walk ≡ beginning start) }
+        ensures leases { IfOk result (λ walk. HasLeases walk.leases walk.store.standing.live) }
+    {
+        let store = Store::with_revision(alloc, start)?;
+        Ok(Walk {
+            alloc,
+            store,
+            entries: 0,
+            runners: Vec::new(alloc),
+            leases: no_leases(alloc),
+        })
+    }
+
+    /// Takes the line of an event, and tells why it is wrong, if it is.
+    pub(crate) fn take(
+        &mut self,
+        number: u64,
+        event: &WorldEvent,
+        line: &ReportLine,
+    ) -> Result<Option<WrongCause>, AllocError>
+        ensures right { IfOk result (λ found. found ≡ None → IsRight number (point_of self.old) event.now line.now) }
+        ensures wrong { IfOk result (λ found. IfSome found (IsWrong number (point_of self.old) event.now line.now)) }
+        ensures next { IfOk result (λ found. found ≡ None → point_of self.new ≡ after (point_of self.old) event.now line.now) }
+        ensures leases { IfOk result (λ found. found ≡ None → HasLeases self.old.leases self.old.store.standing.live
+            → HasLeases self.new.leases self.new.store.standing.live) }
+    {
+        if !fits(number, self.runners.as_slice(), event, line) {
+            return Ok(Some(WrongCause::Event));
+        }
+        let more = count_told(&self.store, self.runners.as_slice(), event, line);
+        let moment = self.store.moment();
+        if !replays(
+            self.alloc,
+            &mut self.store,
+            self.runners.as_slice(),
+            number,
+            event,
+            line,
+        )? {
+            return Ok(Some(WrongCause::Replay));
+        }
+        self.entries = add_count(self.entries, more)?;
+        note(&mut self.runners, event, line)?;
+        note_leases(&mut self.leases, moment, event, line)?;
+        Ok(None)
+    }
+}

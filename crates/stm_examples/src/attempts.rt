@@ -82,7 +82,24 @@ fn absent(key: Text, revision: u64) -> ReadAnswer
     }
 }
 
-/// What an attempt answers once it has taken that the key it asked for is absent at a revision.
+/// What an attempt answers once it has taken that the key it asked for is absent at a revision; the same where it asked for none.
+fn supplied(
+    program: &Program,
+    attempt: &mut Attempt,
+    asked: Next,
+    revision: u64,
+) -> Result<Next, AllocError>
+    requires of { IsOf program.now attempt.old }
+    requires asked { awaited attempt.old ≡ key_asked asked }
+    requires bounded { revision ≤ HIGHEST_NUMBER }
+{
+    let Next::Fetch { key, .. } = asked else {
+        return Ok(asked);
+    };
+    attempt.supply(absent(key, revision))?;
+    attempt.advance(program)
+}
+
 fn told_after(
     alloc: Global,
     program: &Program,
@@ -94,11 +111,7 @@ fn told_after(
     requires asked { awaited attempt.old ≡ key_asked asked }
     requires bounded { revision ≤ HIGHEST_NUMBER }
 {
-    let Next::Fetch { key, .. } = asked else {
-        return String::from_str(alloc, "no fetch");
-    };
-    attempt.supply(absent(key, revision))?;
-    let next = attempt.advance(program)?;
+    let next = supplied(program, attempt, asked, revision)?;
     show_next(alloc, &next)
 }
 

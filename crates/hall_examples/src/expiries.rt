@@ -39,14 +39,23 @@ fn show_foreign(alloc: Global, made: Result<TxnAnswer, Refusal>) -> Result<Strin
     }
 }
 
+fn put_of(alloc: Global, key: &str, lease: u64) -> Result<Op, AllocError> {
+    let key = Text::copy_of(alloc, key)?;
+    let value = Text::copy_of(alloc, "1")?;
+    Ok(Op::Put { key, value, lease })
+}
+
+fn add_puts(alloc: Global, txn: &mut Txn, puts: &[(&str, u64)]) -> Result<(), AllocError> {
+    for (key, lease) in puts {
+        let put = put_of(alloc, key, *lease)?;
+        txn.success.push(put)?;
+    }
+    Ok(())
+}
+
 fn put(alloc: Global, hall: &mut Hall, puts: &[(&str, u64)]) -> Result<String, AllocError> {
     let mut txn = empty_txn(alloc);
-    for (key, lease) in puts {
-        let key = Text::copy_of(alloc, key)?;
-        let value = Text::copy_of(alloc, "1")?;
-        let lease = *lease;
-        txn.success.push(Op::Put { key, value, lease })?;
-    }
+    add_puts(alloc, &mut txn, puts)?;
     show_foreign(alloc, hall.foreign(&txn))
 }
 
@@ -72,11 +81,9 @@ fn show_advance(
 fn read_of(alloc: Global, key: &str) -> Result<Txn, AllocError>
     ensures { IfOk result OnlyReads }
 {
+    let key = Text::copy_of(alloc, key)?;
     let mut success = ShortList::new(alloc);
-    success.push(Op::Get {
-        key: Text::copy_of(alloc, key)?,
-        rev: 0,
-    })?;
+    success.push(Op::Get { key, rev: 0 })?;
     Ok(Txn {
         compares: ShortList::new(alloc),
         success,

@@ -5,6 +5,8 @@
 ghost use Rattle.std.specs.Prelude.{◌≡◌, ◌≤◌, IfOk};
 ghost use Rattle.stm_history.specs.declared.revisions.TheConstants.{HIGHEST_NUMBER};
 ghost use Rattle.stm_txn.specs.Numbers.{ReadFits};
+ghost use Rattle.stm_attempt.specs.AttemptState.{IsOf, awaited};
+ghost use Rattle.stm_attempt.specs.Next.{key_asked};
 ghost use Rattle.stm_hall.specs.Fetching.{OnlyReads};
 
 use serde_json::Value as Json;
@@ -17,19 +19,32 @@ use stm_program::{Level, Program};
 use stm_program_json::read_program;
 use stm_txn::{Op, OpAnswer, Refusal, ShortList, Store, Txn, TxnAnswer};
 
-/// Puts "a" as "1".
-fn put_a(alloc: Global, store: &mut Store) -> Result<(), Refusal> {
-    let mut success = ShortList::new(alloc);
-    success.push(Op::Put {
-        key: Text::copy_of(alloc, "a")?,
-        value: Text::copy_of(alloc, "1")?,
-        lease: 0,
-    })?;
-    let put = Txn {
+fn put_of(alloc: Global, key: &str, value: &str) -> Result<Op, AllocError> {
+    let key = Text::copy_of(alloc, key)?;
+    let value = Text::copy_of(alloc, value)?;
+    let lease = 0;
+    Ok(Op::Put { key, value, lease })
+}
+
+/// Adds a put of "a" as "1".
+fn add_put(alloc: Global, txn: &mut Txn) -> Result<(), AllocError> {
+    let put = put_of(alloc, "a", "1")?;
+    txn.success.push(put)
+}
+
+/// A transaction that puts "a" as "1".
+fn put_of_a(alloc: Global) -> Result<Txn, AllocError> {
+    let mut txn = Txn {
         compares: ShortList::new(alloc),
-        success,
+        success: ShortList::new(alloc),
         failure: ShortList::new(alloc),
     };
+    add_put(alloc, &mut txn)?;
+    Ok(txn)
+}
+
+fn put_a(alloc: Global, store: &mut Store) -> Result<(), Refusal> {
+    let put = put_of_a(alloc)?;
     let _answer = store.txn(&put)?;
     Ok(())
 }
@@ -47,11 +62,9 @@ fn hall_with_a(alloc: Global) -> Result<Hall, Fail> {
 fn read_of_a(alloc: Global) -> Result<Txn, AllocError>
     ensures { IfOk result OnlyReads }
 {
+    let key = Text::copy_of(alloc, "a")?;
     let mut success = ShortList::new(alloc);
-    success.push(Op::Get {
-        key: Text::copy_of(alloc, "a")?,
-        rev: 0,
-    })?;
+    success.push(Op::Get { key, rev: 0 })?;
     Ok(Txn {
         compares: ShortList::new(alloc),
         success,
@@ -125,9 +138,16 @@ fn a_hall_answers_who_has_seen_its_counter(rt: HostRuntime) -> Result<(), Fail> 
     Ok(())
 }
 
+fn program_of(alloc: Global, value: &Json) -> Result<Program, Fail> {
+    let program = read_program(alloc, value)?;
+    Ok(program)
+}
+
 fn emit_a(alloc: Global) -> Result<Program, Fail> {
     let value = Json::from_str(alloc, r#"[["emit",["get","a"]]]"#)?;
-    Ok(read_program(alloc, &value)?)
+    let program = program_of(alloc, &value);
+    drop(value);
+    program
 }
 
 /// An answer of a key at revision 2, with this value and modification revision.
@@ -187,20 +207,41 @@ fn show_verdict(
     }
 }
 
-/// An attempt that emits "a", once it was told this value and modification revision of it.
-fn attempted(alloc: Global, value: &str, mod_rev: u64) -> Result<Next, Fail>
+/// What an attempt comes to once it has taken this value and modification revision of the key that it asked for.
+fn supplied(
+    alloc: Global,
+    program: &Program,
+    attempt: &mut Attempt,
+    asked: Next,
+    value: &str,
+    mod_rev: u64,
+) -> Result<Next, AllocError>
+    requires of { IsOf program.now attempt.old }
+    requires asked { awaited attempt.old ≡ key_asked asked }
+    requires bounded { mod_rev ≤ 2 }
+{
+    let Next::Fetch { key, .. } = asked else {
+        return Ok(asked);
+    };
+    let answer = answer(alloc, key, value, mod_rev)?;
+    attempt.supply(answer)?;
+    attempt.advance(program)
+}
+
+/// The same, of an attempt of its own.
+fn attempted(
+    alloc: Global,
+    program: &Program,
+    value: &str,
+    mod_rev: u64,
+) -> Result<Next, AllocError>
     requires { mod_rev ≤ 2 }
 {
-    let program = emit_a(alloc)?;
     let mut attempt = Attempt::new(alloc, Level::Serializable);
-    match attempt.advance(&program)? {
-        Next::Fetch { key, .. } => {
-            attempt.supply(answer(alloc, key, value, mod_rev)?)?;
-            let next = attempt.advance(&program)?;
-            Ok(next)
-        }
-        other => Ok(other),
-    }
+    let asked = attempt.advance(program)?;
+    let next = supplied(alloc, program, &mut attempt, asked, value, mod_rev);
+    drop(attempt);
+    next
 }
 
 /// The verdict on an attempt, and how many entries the hall has then.
@@ -217,17 +258,20 @@ fn judged(alloc: Global, ready: &Ready) -> Result<String, Fail> {
     Ok(told?)
 }
 
+fn judged_next(alloc: Global, next: &Next) -> Result<String, Fail> {
+    match next {
+        Next::Ready(ready) => judged(alloc, ready),
+        _ => Ok(String::from_str(alloc, "no commit")?),
+    }
+}
+
 /// The verdict on an attempt that emits "a", and was told this of it.
 fn verdict(alloc: Global, value: &str, mod_rev: u64) -> Result<String, Fail>
     requires { mod_rev ≤ 2 }
 {
-    match attempted(alloc, value, mod_rev)? {
-        Next::Ready(ready) => judged(alloc, &ready),
-        _ => {
-            let none = String::from_str(alloc, "no commit")?;
-            Ok(none)
-        }
-    }
+    let program = emit_a(alloc)?;
+    let next = attempted(alloc, &program, value, mod_rev)?;
+    judged_next(alloc, &next)
 }
 
 #[test]

@@ -4,7 +4,7 @@ use std::alloc::{AllocError, Global};
 use std::process::Abort;
 use std::test::Fail;
 use stm_history::Text;
-use stm_meaning::{End, Run, State, Value, apply_alone, last_write, run_alone};
+use stm_meaning::{End, Run, State, StateEntry, Value, apply_alone, last_write, run_alone};
 use stm_program::{Program, Write};
 use stm_program_json::write_program;
 use stm_recipes::{
@@ -21,19 +21,27 @@ fn state_of(alloc: Global, entries: &[(&str, &str)]) -> Result<State, AllocError
     Ok(state)
 }
 
+fn show_end(alloc: Global, end: &End) -> Result<String, AllocError> {
+    match end {
+        End::Done => String::from_str(alloc, "Done"),
+        End::Aborted(text) => format!(in alloc; "Aborted {text}"),
+        End::Faulted(fault) => format!(in alloc; "{fault}"),
+    }
+}
+
+fn show_value(alloc: Global, value: &Value) -> Result<String, AllocError> {
+    match value {
+        Value::Text(text) => format!(in alloc; " {text}"),
+        Value::Number(number) => format!(in alloc; " {number}"),
+    }
+}
+
 /// The end of a run in words, and then each value that it emitted.
 fn described(alloc: Global, run: &Run) -> Result<String, AllocError> {
-    let mut text = match &run.end {
-        End::Done => String::from_str(alloc, "Done")?,
-        End::Aborted(text) => format!(in alloc; "Aborted {text}")?,
-        End::Faulted(fault) => format!(in alloc; "{fault}")?,
-    };
+    let mut text = show_end(alloc, &run.end)?;
     for value in run.output.as_slice() {
-        let value = match value {
-            Value::Text(text) => format!(in alloc; " {text}")?,
-            Value::Number(number) => format!(in alloc; " {number}")?,
-        };
-        text.push_str(value.as_str())?;
+        let shown = show_value(alloc, value)?;
+        text.push_str(shown.as_str())?;
     }
     Ok(text)
 }
@@ -179,21 +187,59 @@ fn the_first_item_is_taken(rt: HostRuntime) -> Result<(), Fail> {
     )
 }
 
+/// Copies an entry, unless its key was written.
+fn copy_unwritten(
+    entry: &StateEntry,
+    writes: &[Write],
+    after: &mut State,
+) -> Result<(), AllocError> {
+    if last_write(writes, entry.key.as_str()).is_some() {
+        return Ok(());
+    }
+    let key = entry.key.clone()?;
+    let value = entry.value.clone()?;
+    after.insert(key, value, 2)
+}
+
+/// Copies what was not written.
+fn copy_rest(state: &State, writes: &[Write], after: &mut State) -> Result<(), AllocError> {
+    for i in 0..state.len() {
+        copy_unwritten(state.at(i), writes, after)?;
+    }
+    Ok(())
+}
+
+/// Puts what a write puts.
+fn put_write(write: &Write, after: &mut State) -> Result<(), AllocError> {
+    match write {
+        Write::Put { key, value, .. } => {
+            let key = key.clone()?;
+            let value = value.clone()?;
+            after.insert(key, value, 3)
+        }
+        Write::Del { .. } => Ok(()),
+    }
+}
+
+/// Puts what the effect of writes on a state puts.
+fn put_effect(
+    alloc: Global,
+    state: &State,
+    writes: &[Write],
+    after: &mut State,
+) -> Result<(), AllocError> {
+    for write in apply_alone(alloc, writes, state)? {
+        put_write(&write, after)?;
+    }
+    Ok(())
+}
+
 /// The state after a program's run: what the run did not write, and then what it put.
 fn state_after(alloc: Global, program: &Program, state: &State) -> Result<State, AllocError> {
     let run = run_alone(alloc, program, state)?;
     let mut after = State::new(alloc);
-    for i in 0..state.len() {
-        let entry = state.at(i);
-        if last_write(run.writes.as_slice(), entry.key.as_str()).is_none() {
-            after.insert(entry.key.clone()?, entry.value.clone()?, 2)?;
-        }
-    }
-    for write in apply_alone(alloc, run.writes.as_slice(), state)? {
-        if let Write::Put { key, value, .. } = write {
-            after.insert(key, value, 3)?;
-        }
-    }
+    copy_rest(state, run.writes.as_slice(), &mut after)?;
+    put_effect(alloc, state, run.writes.as_slice(), &mut after)?;
     Ok(after)
 }
 

@@ -1,10 +1,12 @@
 //! An attempt for which an answer was prefetched. What is expected comes from the rule of the base revision, and never
 //! from a run.
-ghost use Rattle.std.specs.Prelude.{◌≡◌, ◌≤◌, All, IfOk};
+ghost use Rattle.std.specs.Prelude.{◌≡◌, ◌≤◌, All, None, IfOk};
 ghost use Rattle.stm_history.specs.declared.revisions.TheConstants.{HIGHEST_NUMBER};
 ghost use Rattle.stm_txn.specs.Numbers.{ReadFits};
 ghost use Rattle.stm_attempt.specs.Known.{HaveDistinctKeys};
 ghost use Rattle.stm_attempt.specs.Fetches.{ShowOneRevision};
+ghost use Rattle.stm_attempt.specs.AttemptState.{IsOf, awaited};
+ghost use Rattle.stm_attempt.specs.Next.{key_asked};
 
 use crate::programs::program_of;
 use std::alloc::{AllocError, Global};
@@ -12,7 +14,7 @@ use std::test::Fail;
 use stm_attempt::{Attempt, Next, Ready};
 use stm_history::{KeyState, ReadAnswer, Sequence, Text};
 use stm_meaning::Value;
-use stm_program::Level;
+use stm_program::{Level, Program};
 
 /// "a" has the value "1" since revision 2, and was read at revision 5.
 fn read_of_a(alloc: Global) -> Result<ReadAnswer, AllocError>
@@ -42,30 +44,26 @@ fn prefetched(alloc: Global) -> Result<Sequence<ReadAnswer>, AllocError>
     Ok(Sequence::of(answers))
 }
 
-fn add_value(alloc: Global, value: &Value, line: &mut String) -> Result<(), AllocError> {
-    let shown = match value {
+fn show_value(alloc: Global, value: &Value) -> Result<String, AllocError> {
+    match value {
         Value::Text(text) => format!(in alloc; " \"{}\"", text.as_str()),
         Value::Number(number) => format!(in alloc; " {number}"),
-    };
-    line.push_str(shown?.as_str())
+    }
 }
 
 fn show_ready(alloc: Global, ready: &Ready) -> Result<String, AllocError> {
     let mut line = String::from_str(alloc, "Ready")?;
     for value in ready.output.as_slice() {
-        add_value(alloc, value, &mut line)?;
+        let shown = show_value(alloc, value)?;
+        line.push_str(shown.as_str())?;
     }
     Ok(line)
 }
 
-fn show_fetch(alloc: Global, key: &Text, at: u64) -> Result<String, AllocError> {
-    format!(in alloc; "Fetch {} at {at}", key.as_str())
-}
-
-fn show_next(alloc: Global, next: Next) -> Result<String, AllocError> {
+fn show_next(alloc: Global, next: &Next) -> Result<String, AllocError> {
     match next {
-        Next::Fetch { key, at } => show_fetch(alloc, &key, at),
-        Next::Ready(ready) => show_ready(alloc, &ready),
+        Next::Fetch { key, at } => format!(in alloc; "Fetch {} at {at}", key.as_str()),
+        Next::Ready(ready) => show_ready(alloc, ready),
         Next::Aborted(_) => String::from_str(alloc, "Aborted"),
         Next::Faulted(_) => String::from_str(alloc, "Faulted"),
     }
@@ -84,28 +82,80 @@ fn absent(key: Text, revision: u64) -> ReadAnswer
     }
 }
 
-const EMIT_B_AND_A: &str = r#"[["emit",["get","b"]],["emit",["get","a"]]]"#;
+/// What an attempt answers once it has taken that the key it asked for is absent at a revision; the same where it asked for none.
+fn supplied(
+    program: &Program,
+    attempt: &mut Attempt,
+    asked: Next,
+    revision: u64,
+) -> Result<Next, AllocError>
+    requires of { IsOf program.now attempt.old }
+    requires asked { awaited attempt.old ≡ key_asked asked }
+    requires bounded { revision ≤ HIGHEST_NUMBER }
+{
+    let Next::Fetch { key, .. } = asked else {
+        return Ok(asked);
+    };
+    attempt.supply(absent(key, revision))?;
+    attempt.advance(program)
+}
 
-/// What the attempt answers at first, and then once it has taken that the wanted key is absent at a revision.
+fn told_after(
+    alloc: Global,
+    program: &Program,
+    attempt: &mut Attempt,
+    asked: Next,
+    revision: u64,
+) -> Result<String, AllocError>
+    requires of { IsOf program.now attempt.old }
+    requires asked { awaited attempt.old ≡ key_asked asked }
+    requires bounded { revision ≤ HIGHEST_NUMBER }
+{
+    let next = supplied(program, attempt, asked, revision)?;
+    show_next(alloc, &next)
+}
+
+/// What an attempt answers at first, and then once it has taken that the wanted key is absent at a revision.
+fn told_of(
+    alloc: Global,
+    program: &Program,
+    attempt: &mut Attempt,
+    revision: u64,
+) -> Result<String, AllocError>
+    requires of { IsOf program.now attempt.old }
+    requires bounded { revision ≤ HIGHEST_NUMBER }
+{
+    let asked = attempt.advance(program)?;
+    let first = show_next(alloc, &asked)?;
+    let second = told_after(alloc, program, attempt, asked, revision)?;
+    format!(in alloc; "{first}, {second}")
+}
+
+/// An attempt for which the answer was prefetched.
+fn prepared(alloc: Global) -> Result<Attempt, AllocError>
+    ensures { IfOk result (λ attempt. attempt.program ≡ None) }
+{
+    let answers = prefetched(alloc)?;
+    let attempt = Attempt::from_prefetch(alloc, Level::Serializable, answers)?;
+    Ok(attempt)
+}
+
+/// The same of a program.
+fn told_program(alloc: Global, program: &Program, revision: u64) -> Result<String, AllocError>
+    requires { revision ≤ HIGHEST_NUMBER }
+{
+    let mut attempt = prepared(alloc)?;
+    let told = told_of(alloc, program, &mut attempt, revision);
+    drop(attempt);
+    told
+}
+
+/// The same of the program that emits "b" and then "a".
 fn told(alloc: Global, revision: u64) -> Result<String, Fail>
     requires { revision ≤ HIGHEST_NUMBER }
 {
-    let program = program_of(alloc, EMIT_B_AND_A)?;
-    let mut attempt = Attempt::from_prefetch(alloc, Level::Serializable, prefetched(alloc)?)?;
-    match attempt.advance(&program)? {
-        Next::Fetch { key, at } => {
-            let first = show_fetch(alloc, &key, at)?;
-            attempt.supply(absent(key, revision))?;
-            let next = attempt.advance(&program)?;
-            let second = show_next(alloc, next)?;
-            let line = format!(in alloc; "{}, {}", first.as_str(), second.as_str())?;
-            Ok(line)
-        }
-        other => {
-            let line = show_next(alloc, other)?;
-            Ok(line)
-        }
-    }
+    let program = program_of(alloc, r#"[["emit",["get","b"]],["emit",["get","a"]]]"#)?;
+    Ok(told_program(alloc, &program, revision)?)
 }
 
 #[test]

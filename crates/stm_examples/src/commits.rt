@@ -121,12 +121,22 @@ fn show_transaction(alloc: Global, txn: &Txn) -> Result<String, AllocError> {
     Ok(line)
 }
 
+/// What commits these reads and writes at a level.
+fn shown_commit(
+    alloc: Global,
+    level: Level,
+    reads: &ReadSet,
+    writes: &WriteBuffer,
+) -> Result<String, AllocError> {
+    let txn = compile(alloc, level, reads, writes)?;
+    show_transaction(alloc, &txn)
+}
+
 /// What commits the read and the two writes at a level.
 fn committing(alloc: Global, level: Level) -> Result<String, AllocError> {
     let reads = read_of_a(alloc)?;
     let writes = two_writes(alloc)?;
-    let txn = compile(alloc, level, &reads, &writes)?;
-    show_transaction(alloc, &txn)
+    shown_commit(alloc, level, &reads, &writes)
 }
 
 const COMMITS: [(Level, &str); 4] = [

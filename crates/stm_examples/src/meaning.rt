@@ -10,19 +10,27 @@ use stm_meaning::{
 };
 use stm_program::{Program, Write};
 
+fn show_end(alloc: Global, end: &End) -> Result<String, AllocError> {
+    match end {
+        End::Done => String::from_str(alloc, "Done"),
+        End::Aborted(text) => format!(in alloc; "Aborted {text}"),
+        End::Faulted(fault) => format!(in alloc; "{fault}"),
+    }
+}
+
+fn show_value(alloc: Global, value: &Value) -> Result<String, AllocError> {
+    match value {
+        Value::Text(text) => format!(in alloc; " {text}"),
+        Value::Number(number) => format!(in alloc; " {number}"),
+    }
+}
+
 /// The end of a run in words, and then each value that it emitted.
 fn described(alloc: Global, run: &Run) -> Result<String, AllocError> {
-    let mut text = match &run.end {
-        End::Done => String::from_str(alloc, "Done")?,
-        End::Aborted(text) => format!(in alloc; "Aborted {text}")?,
-        End::Faulted(fault) => format!(in alloc; "{fault}")?,
-    };
+    let mut text = show_end(alloc, &run.end)?;
     for value in run.output.as_slice() {
-        let value = match value {
-            Value::Text(text) => format!(in alloc; " {text}")?,
-            Value::Number(number) => format!(in alloc; " {number}")?,
-        };
-        text.push_str(value.as_str())?;
+        let shown = show_value(alloc, value)?;
+        text.push_str(shown.as_str())?;
     }
     Ok(text)
 }

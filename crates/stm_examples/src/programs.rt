@@ -5,8 +5,15 @@ use std::test::Fail;
 use stm_program::Program;
 use stm_program_json::read_program;
 
+fn read(alloc: Global, value: &Value) -> Result<Program, Fail> {
+    let program = read_program(alloc, value)?;
+    Ok(program)
+}
+
 /// The program of a text.
 pub fn program_of(alloc: Global, text: &str) -> Result<Program, Fail> {
     let value = Value::from_str(alloc, text)?;
-    Ok(read_program(alloc, &value)?)
+    let program = read(alloc, &value);
+    drop(value);
+    program
 }

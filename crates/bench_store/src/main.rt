@@ -1,5 +1,5 @@
-//! Times transactions of one put each over few and over many keys, and reads of the past of long histories, and
-//! holds a long history while its bytes are counted.
+//! Times transactions of one put each over few and over many keys, and reads of the past of keys with many versions,
+//! and holds a long history while its bytes are counted.
 //!
 //! The figures go to standard error. They are of one machine at one moment: no proof is about time.
 #![tactic(auto)]
@@ -18,8 +18,8 @@ const PUTS: u32 = 1_000_000;
 /// How many revisions are held while their bytes are counted.
 const REVISIONS: u32 = 100_000;
 
-/// How many reads are timed.
-const READS: u32 = 100;
+/// How many keys are put in turn before reads are timed.
+const KEYS: u32 = 8;
 
 fn main(rt: HostRuntime) -> Result<()> {
     hold_revisions(&rt, rt.alloc(), REVISIONS)?;
@@ -28,7 +28,8 @@ fn main(rt: HostRuntime) -> Result<()> {
     time_puts(&rt, rt.alloc(), 100_000)?;
     time_reads(&rt, rt.alloc(), 1_000)?;
     time_reads(&rt, rt.alloc(), 10_000)?;
-    time_reads(&rt, rt.alloc(), 100_000)
+    time_reads(&rt, rt.alloc(), 100_000)?;
+    time_reads(&rt, rt.alloc(), 1_000_000)
 }
 
 /// A transaction that puts one key.
@@ -85,11 +86,11 @@ fn time_puts(rt: &(impl Clock + Eprint), alloc: Global, keys: u32) -> Result<()>
     outcome
 }
 
-/// Reads the first key at so many of the last revisions, and counts where it was present.
+/// Reads the first key at so many revisions, from the first change on, and counts where it was present.
 fn read_often(keys: &Keys, count: u32) -> Result<u32> {
     let mut present = 0_u32;
     for number in 0..count {
-        let revision = keys.revision().saturating_sub(u64::from(number));
+        let revision = u64::from(number) + 2;
         if keys.get_at("key-0", revision)?.is_some() {
             present = present.saturating_add(1);
         }
@@ -106,22 +107,26 @@ fn put_behind(alloc: Global, store: &mut Store, count: u32) -> Result<()> {
     Ok(())
 }
 
-/// Times reads that walk back over so many revisions, in an empty store.
+/// Times reads of a key at each of so many revisions, of which every eighth changed it, in an empty store.
 fn reads_back(
     rt: &(impl Clock + Eprint),
     alloc: Global,
     store: &mut Store,
     revisions: u32,
-) -> Result<()> {
-    put_behind(alloc, store, revisions)?;
+) -> Result<()>
+    requires { 0 < revisions }
+{
+    put_in_turn(alloc, store, KEYS, revisions)?;
     let start = Instant::now(rt)?;
-    let present = read_often(store.keys(), READS)?;
+    let present = read_often(store.keys(), revisions)?;
     let elapsed = start.elapsed(rt)?;
-    report_read(rt, revisions, elapsed / READS, present)
+    report_read(rt, revisions, elapsed / revisions, present)
 }
 
 /// The same in a store of its own.
-fn time_reads(rt: &(impl Clock + Eprint), alloc: Global, revisions: u32) -> Result<()> {
+fn time_reads(rt: &(impl Clock + Eprint), alloc: Global, revisions: u32) -> Result<()>
+    requires { 0 < revisions }
+{
     let mut store = Store::new(alloc)?;
     let outcome = reads_back(rt, alloc, &mut store, revisions);
     drop(store);
@@ -156,7 +161,7 @@ fn report_rate(rt: &impl Eprint, keys: u32, each: Duration) -> Result<()> {
 fn report_read(rt: &impl Eprint, revisions: u32, each: Duration, present: u32) -> Result<()> {
     let nanos = each.as_nanos();
     eprintln!(rt;
-        "reads of the past over {revisions:>6} revisions: {nanos:>8} ns each, {present} found the key"
+        "reads of the past over {revisions:>7} revisions: {nanos:>8} ns each, {present} found the key"
     )?;
     Ok(())
 }

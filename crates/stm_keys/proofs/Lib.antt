@@ -1,5 +1,7 @@
 pub mod Recorded
 pub mod Fields
+pub mod Apart
+pub mod Versions
 pub mod Showing
 pub mod Numbers
 pub mod Walked

@@ -15,6 +15,7 @@ use Rattle.stm_keys.specs.Events.{event_about, after_event}
 use Rattle.stm_keys.specs.Keys.{Contents, state_recorded, changes_of, IsKept}
 use Rattle.stm_history.specs.History.{key_after, revisions_up_to}
 use Rattle.stm_keys.proofs.Recorded.{recorded_state}
+use Rattle.stm_keys.proofs.Apart.{apart_there}
 use Rattle.stm_keys.proofs.Fields.{reverse-split, found_at}
 use Rattle.stm_keys.specs.Places.{Places, places_in, places_of, with_place, newest_below}
 use Rattle.stm_keys.specs.Places.{state_from, found_in, present_among, AreSearchable, StandFirst, is_left}
@@ -231,6 +232,7 @@ pub searchable : (opening : ℕ) (xs : List (List Event)) (chains : List ℕ →
 searchable opening xs chains kept = record {
   rising = λ key. subst (λ (ps : List ℕ). IsNonDecreasing (reverse ps)) (sym (kept.places key)) (are_rising key (reverse xs));
   within = λ key count. place_within xs key count (places_in (chains key)) (kept.places key);
+  apart = λ place within. apart_there xs place kept.shaped within;
 }
 
 -- a key without a place was never changed

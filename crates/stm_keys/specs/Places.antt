@@ -7,13 +7,18 @@ use Rattle.std.specs.declared.string.String.{String}
 use Rattle.std.specs.List.Sorted.{IsNonDecreasing}
 use Rattle.stm_history.specs.declared.key_state.KeyState.{KeyState}
 use Rattle.stm_keys.specs.declared.event.Event.{Event}
-use Rattle.stm_keys.specs.Events.{event_about, after_event, is_put}
+use Rattle.stm_keys.specs.declared.places.Version.{Version}
+use Rattle.stm_keys.specs.Events.{event_about, after_event, is_put, AreApart}
 
 -- A revision's place is the number of revisions before it. A chain has the places of the revisions that changed its key, the
 -- newest first, and has room for so many more.
 pub record Places : Type 0 where
   pub places : List ℕ
   pub room : ℕ
+
+-- the place of a version; where its event is looked for first is no part of what it stands for
+abbrev pub place_of : Version → ℕ
+place_of v = v.place
 
 -- what a look-up of a key's chain finds: no place where there is no chain
 abbrev pub places_in : Option Places → List ℕ
@@ -48,10 +53,11 @@ state_from recorded key (Some place) = after_event (event_about key (get_or reco
 abbrev pub found_in : (List ℕ → Option Places) → List (List Event) → ℕ → List ℕ → Option KeyState
 found_in chains recorded count key = state_from recorded key (newest_below count (places_in (chains key)))
 
--- chains that can be searched: their places rise, and each is that of a revision
+-- chains that can be searched: their places rise, each is that of a revision, and no two events of a revision are about one key
 pub record AreSearchable (chains : List ℕ → Option Places) (recorded : List (List Event)) : Type 0 where
   pub rising : (key : List ℕ) → IsNonDecreasing (reverse (places_in (chains key)))
   pub within : (key : List ℕ) (count : ℕ) → IfSome (newest_below count (places_in (chains key))) (λ place. place < length recorded)
+  pub apart : (place : ℕ) → place < length recorded → AreApart (get_or recorded place [])
 
 -- the keys with a chain that are present, each with its state
 abbrev pub with_state : List ℕ → Option KeyState → List (List ℕ × KeyState) → List (List ℕ × KeyState)

@@ -1,13 +1,13 @@
 //! The version chains of all keys.
 ghost use Rattle.std.specs.Prelude.{◌≡◌, ◌<◌, ◌≤◌, ◌∷◌, List, [], ℕ, IfOk, OnOk, None, Option, is_some, bytes_eq, true, false, reverse, length, slice_get, Some, IfSome};
-ghost use Rattle.std.specs.Prelude.{option_copied, Bool, if◌then◌else◌};
+ghost use Rattle.std.specs.Prelude.{option_copied, option_map, get_or, Bool, if◌then◌else◌};
 ghost use Rattle.std.specs.List.Sorted.{IsNonDecreasing};
 ghost use Rattle.indexmap.specs.IndexMap.{get_by_text};
 ghost use Rattle.stm_keys.specs.Events.{key_of_event, event_about, is_put, AreApart};
-ghost use Rattle.stm_keys.specs.Places.{places_in, room_in, with_place, newest_below, state_from, found_in, AreSearchable, StandFirst, KeepsPresent, is_left, names_of};
+ghost use Rattle.stm_keys.specs.Places.{places_in, room_in, with_place, newest_below, state_from, found_in, AreSearchable, StandFirst, KeepsPresent, is_left, names_of, place_of};
 
-use crate::event::{Event, find_event};
-use crate::places::Places;
+use crate::event::{Event, find_event_at};
+use crate::places::{Places, Version};
 use indexmap::IndexMap;
 use std::alloc::{AllocError, Global};
 use stm_history::{KeyState, Sequence, Text};
@@ -15,10 +15,10 @@ use stm_history::{KeyState, Sequence, Text};
 /// The chain of each key that was ever changed.
 pub(crate) type Chains = IndexMap<String, Places>;
 
-/// The newest place below a count in the chain of a key.
-fn find_place(chains: &Chains, key: &str, count: usize) -> Option<usize>
+/// The newest version whose place is below a count, in the chain of a key.
+fn find_version(chains: &Chains, key: &str, count: usize) -> Option<Version>
     requires { IsNonDecreasing (reverse (places_in (get_by_text chains.now key.now))) }
-    ensures { result ≡ newest_below count (places_in (get_by_text chains.now key.now)) }
+    ensures { option_map place_of result ≡ newest_below count (places_in (get_by_text chains.now key.now)) }
 {
     match chains.get(key) {
         None => None,
@@ -26,17 +26,18 @@ fn find_place(chains: &Chains, key: &str, count: usize) -> Option<usize>
     }
 }
 
-/// What a key is after the revision at a place, which changed it.
+/// What a key is after the revision of a version, which changed it.
 fn state_from<'a>(
     revisions: &'a [Sequence<Event>],
     key: &str,
-    place: Option<usize>,
+    version: Option<Version>,
 ) -> Option<&'a KeyState>
-    requires { IfSome place (λ p. p < length revisions.now) }
-    ensures { option_copied result ≡ state_from revisions.now key.now place }
+    requires within { IfSome version (λ v. place_of v < length revisions.now) }
+    requires apart { (place : ℕ) → place < length revisions.now → AreApart (get_or revisions.now place []) }
+    ensures { option_copied result ≡ state_from revisions.now key.now (option_map place_of version) }
 {
-    let place = place?;
-    match find_event(revisions[place].as_slice(), key) {
+    let version = version?;
+    match find_event_at(revisions[version.place].as_slice(), key, version.spot) {
         Some(Event::Put { state, .. }) => Some(state),
         _ => None,
     }
@@ -52,8 +53,8 @@ pub(crate) fn find_state<'a>(
     requires { AreSearchable (get_by_text chains.now) revisions.now }
     ensures { option_copied result ≡ found_in (get_by_text chains.now) revisions.now count key.now }
 {
-    let place = find_place(chains, key, count);
-    state_from(revisions, key, place)
+    let version = find_version(chains, key, count);
+    state_from(revisions, key, version)
 }
 
 /// What a key is after all these revisions.
@@ -156,19 +157,19 @@ fn index_of(chains: &Chains, key: &str) -> usize
     }
 }
 
-/// Adds a place to the chain at an index, which has room for it.
-fn push_at(chains: &mut Chains, index: usize, place: usize)
+/// Adds a version to the chain at an index, which has room for it.
+fn push_at(chains: &mut Chains, index: usize, version: Version)
     requires within { index < length chains.old.entries }
     requires room { (key : List ℕ) → slice_get (names_of chains.old) index ≡ Some key → 0 < room_in (get_by_text chains.old key) }
     ensures names { names_of chains.new ≡ names_of chains.old }
     ensures len { length chains.new.entries ≡ length chains.old.entries }
     ensures places { (key : List ℕ) → slice_get (names_of chains.old) index ≡ Some key → (k : List ℕ) →
-        places_in (get_by_text chains.new k) ≡ with_place (bytes_eq key k) place (places_in (get_by_text chains.old k)) }
+        places_in (get_by_text chains.new k) ≡ with_place (bytes_eq key k) (place_of version) (places_in (get_by_text chains.old k)) }
     ensures room { (key : List ℕ) → slice_get (names_of chains.old) index ≡ Some key → (k : List ℕ) →
         bytes_eq key k ≡ false → room_in (get_by_text chains.new k) ≡ room_in (get_by_text chains.old k) }
 {
     let (_key, chain) = chains.pair_mut(index);
-    chain.push(place);
+    chain.push(version);
 }
 
 /// Brings the key at an index, which is present from now on, among the first ones.
@@ -203,18 +204,18 @@ fn take_out(chains: &mut Chains, present: &mut usize, index: usize)
     }
 }
 
-/// Adds a place to the chain of an event's key, which has room for it, and moves the chain to where it belongs.
-fn add_place(chains: &mut Chains, present: &mut usize, event: &Event, place: usize)
+/// Adds a version to the chain of an event's key, which has room for it, and moves the chain to where it belongs.
+fn add_version(chains: &mut Chains, present: &mut usize, event: &Event, version: Version)
     requires room { 0 < room_in (get_by_text chains.old (key_of_event event.now)) }
     requires bound { present.old ≤ length chains.old.entries }
-    ensures places { (k : List ℕ) → places_in (get_by_text chains.new k) ≡ with_place (bytes_eq (key_of_event event.now) k) place (places_in (get_by_text chains.old k)) }
+    ensures places { (k : List ℕ) → places_in (get_by_text chains.new k) ≡ with_place (bytes_eq (key_of_event event.now) k) (place_of version) (places_in (get_by_text chains.old k)) }
     ensures room { (k : List ℕ) → bytes_eq (key_of_event event.now) k ≡ false → room_in (get_by_text chains.new k) ≡ room_in (get_by_text chains.old k) }
     ensures bound { present.new ≤ length chains.new.entries }
     ensures first { (is_present : List ℕ → Bool) → StandFirst is_present present.old (names_of chains.old) →
         StandFirst (λ k. if bytes_eq (key_of_event event.now) k then is_put event.now else is_present k) present.new (names_of chains.new) }
 {
     let index = index_of(chains, event.key().as_str());
-    push_at(chains, index, place);
+    push_at(chains, index, version);
     match event {
         Event::Put { .. } => bring_in(chains, present, index),
         Event::Delete { .. } => take_out(chains, present, index),
@@ -230,7 +231,9 @@ pub(crate) fn add_places(chains: &mut Chains, present: &mut usize, events: &[Eve
     ensures first { (is_present : List ℕ → Bool) → StandFirst is_present present.old (names_of chains.old) →
         StandFirst (λ k. is_left (event_about k events.now) (is_present k)) present.new (names_of chains.new) }
 {
+    let mut spot: usize = 0;
     for event in events {
-        add_place(chains, present, event, place);
+        add_version(chains, present, event, Version { place, spot });
+        spot = spot.saturating_add(1);
     }
 }

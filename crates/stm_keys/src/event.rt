@@ -1,6 +1,6 @@
 //! What a change of a key shows to those who watch it.
 ghost use Rattle.std.specs.Prelude.{◌≡◌, option_copied};
-ghost use Rattle.stm_keys.specs.Events.{key_of_event, event_about};
+ghost use Rattle.stm_keys.specs.Events.{key_of_event, event_about, AreApart};
 
 use stm_history::{KeyState, Text};
 
@@ -35,4 +35,18 @@ pub(crate) fn find_event<'a>(events: &'a [Event], key: &str) -> Option<&'a Event
         }
     }
     None
+}
+
+/// The same of events that are about different keys: it is looked for first at a spot, and among all where it does not stand there.
+pub(crate) fn find_event_at<'a>(events: &'a [Event], key: &str, spot: usize) -> Option<&'a Event>
+    requires { AreApart events.now }
+    ensures { option_copied result ≡ event_about key.now events.now }
+{
+    if spot < events.len() {
+        let event = &events[spot];
+        if event.key().as_str() == key {
+            return Some(event);
+        }
+    }
+    find_event(events, key)
 }

@@ -1,37 +1,46 @@
 //! The version chains: for each key the places of the revisions that changed it.
-ghost use Rattle.std.specs.Prelude.{◌≡◌, ◌<◌, ◌≤◌, ◌∷◌, [], IfOk, OnOk, reverse, slice_get};
+ghost use Rattle.std.specs.Prelude.{◌≡◌, ◌<◌, ◌≤◌, ◌∷◌, [], IfOk, OnOk, reverse, slice_get, option_map};
 ghost use Rattle.std.specs.List.Sorted.{IsNonDecreasing};
 
 use std::alloc::{AllocError, Global};
 use std::marker::Model;
 
-/// The places of the revisions that changed one key, rising: how many revisions stand before each.
+/// One version of a key: which revision changed it, and where its event is looked for first.
+#[derive(Debug, Drop, Clone, Copy)]
+pub(crate) struct Version {
+    /// How many revisions stand before the one that changed the key.
+    pub(crate) place: usize,
+    /// Where the key's event stands among those of the revision. No contract says so: a wrong one costs a walk over them.
+    pub(crate) spot: usize,
+}
+
+/// The versions of one key, their places rising.
 ///
 /// Contracts see the places with the newest first, and for how many more there is room.
 #[derive(Debug, Drop)]
 pub(crate) struct Places {
-    places: Vec<usize>,
+    versions: Vec<Version>,
 }
 
 impl Model for Places {
-    ghost use Rattle.std.specs.Prelude.{◌-◌, reverse};
-    ghost use Rattle.stm_keys.specs.Places.{Places as Chain};
+    ghost use Rattle.std.specs.Prelude.{◌-◌, reverse, map};
+    ghost use Rattle.stm_keys.specs.Places.{Places as Chain, place_of};
 
     ghost Value = { Chain };
 
-    ghost view = { λ p. record { places = reverse p.places.items; room = p.places.cap - p.places.len } };
+    ghost view = { λ p. record { places = reverse (map place_of p.versions.items); room = p.versions.cap - p.versions.len } };
 }
 
 impl Places {
-    ghost use Rattle.stm_keys.specs.Places.{newest_below};
+    ghost use Rattle.stm_keys.specs.Places.{newest_below, place_of};
 
     /// A chain of no place, and room for one.
     pub(crate) fn with_room(alloc: Global) -> Result<Places, AllocError>
         ensures empty { IfOk result (λ chain. chain.places ≡ []) }
         ensures room { IfOk result (λ chain. 0 < chain.room) }
     {
-        let places = Vec::with_capacity(alloc, 1)?;
-        Ok(Places { places })
+        let versions = Vec::with_capacity(alloc, 1)?;
+        Ok(Places { versions })
     }
 
     /// Makes room for one more.
@@ -40,41 +49,41 @@ impl Places {
         ensures more { self.old.room ≤ self.new.room }
         ensures room { OnOk result (0 < self.new.room) }
     {
-        self.places.reserve(1)?;
+        self.versions.reserve(1)?;
         Ok(())
     }
 
-    /// Adds the newest place, for which there is room.
-    pub(crate) fn push(&mut self, place: usize)
+    /// Adds the newest version, for which there is room.
+    pub(crate) fn push(&mut self, version: Version)
         requires { 0 < self.old.room }
-        ensures { self.new.places ≡ place ∷ self.old.places }
+        ensures { self.new.places ≡ place_of version ∷ self.old.places }
     {
-        self.places.push_reserved(place);
+        self.versions.push_reserved(version);
     }
 
-    /// The newest place.
-    pub(crate) fn newest(&self) -> Option<usize>
-        ensures { result ≡ slice_get self.now.places 0 }
+    /// The newest version.
+    pub(crate) fn newest(&self) -> Option<Version>
+        ensures { option_map place_of result ≡ slice_get self.now.places 0 }
     {
-        let count = self.places.len();
+        let count = self.versions.len();
         if count == 0 {
             return None;
         }
-        Some(self.places[count - 1])
+        Some(self.versions[count - 1])
     }
 
-    /// The newest place below a count, found by halves.
-    pub(crate) fn newest_below(&self, count: usize) -> Option<usize>
+    /// The newest version whose place is below a count, found by halves.
+    pub(crate) fn newest_below(&self, count: usize) -> Option<Version>
         requires { IsNonDecreasing (reverse self.now.places) }
-        ensures { result ≡ newest_below count self.now.places }
+        ensures { option_map place_of result ≡ newest_below count self.now.places }
     {
         let older = self
-            .places
+            .versions
             .as_slice()
-            .partition_point(|place| *place < count);
+            .partition_point(|version| version.place < count);
         if older == 0 {
             return None;
         }
-        Some(self.places[older - 1])
+        Some(self.versions[older - 1])
     }
 }

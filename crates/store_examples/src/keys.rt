@@ -177,6 +177,61 @@ fn nothing_changes_at_the_highest_revision(rt: HostRuntime) -> Result<(), Fail> 
     Ok(())
 }
 
+/// Puts "a" with the texts of 1 to so many, each in a revision of its own.
+fn put_numbers(alloc: Global, keys: &mut Keys, count: u64) -> Result<(), ApplyRefusal> {
+    for number in 1..=count {
+        let value = number.to_string(alloc)?;
+        change_one(alloc, keys, "a", value.as_str())?;
+    }
+    Ok(())
+}
+
+/// What "a" is at the revision that put a number there, the first one having put 1 at revision 2.
+fn numbered(alloc: Global, number: u64) -> Result<String, AllocError> {
+    let revision = number.saturating_add(1);
+    format!(in alloc; "{number}/2/{revision}/{number}/0")
+}
+
+/// What "a" is where the read of a revision shows something else than the number that was put there: nothing where each is right.
+fn told_unlike(alloc: Global, keys: &Keys, count: u64) -> Result<String, AllocError> {
+    let mut told = String::new(alloc);
+    for number in 1..=count {
+        let found = told_read(alloc, keys, "a", number.saturating_add(1))?;
+        let expected = numbered(alloc, number)?;
+        if found.as_str() != expected.as_str() {
+            told.push_str(found.as_str())?;
+            told.push_str(" ")?;
+        }
+    }
+    Ok(told)
+}
+
+/// What "a" is at revisions around its deletion, after so many puts of it, and where these were read wrongly.
+fn told_numbers(alloc: Global, keys: &mut Keys, count: u64) -> Result<String, ApplyRefusal> {
+    put_numbers(alloc, keys, count)?;
+    let wrong = told_unlike(alloc, keys, count)?;
+    let changes = [("a", "-"), ("a", "x")];
+    let revisions = [1, 2, 501, 1001, 1002, 1003, 1004];
+    let told = told_changes_and_reads(alloc, keys, &changes, "a", &revisions)?;
+    Ok(format!(in alloc; "{wrong}{told}")?)
+}
+
+fn told_long_chain(alloc: Global, count: u64) -> Result<String, ApplyRefusal> {
+    let mut keys = Keys::new(alloc);
+    told_numbers(alloc, &mut keys, count)
+}
+
+// Each put counts on, and the key begins anew after its deletion.
+#[test]
+fn each_of_a_thousand_versions_is_found(rt: HostRuntime) -> Result<(), Fail> {
+    let told = told_long_chain(rt.alloc(), 1000)?;
+    assert_eq!(rt;
+        told.as_str(),
+        "1002 1003 : - 1/2/2/1/0 500/2/501/500/0 1000/2/1001/1000/0 - x/1003/1003/1/0 FutureRevision "
+    );
+    Ok(())
+}
+
 /// One revision that puts three keys.
 fn put_three(alloc: Global, keys: &mut Keys) -> Result<u64, ApplyRefusal> {
     let first = put_of(alloc, "c", "1")?;

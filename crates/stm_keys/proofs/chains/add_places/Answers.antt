@@ -9,8 +9,8 @@ use Rattle.stm_keys.proofs.Order.{left_after, same_presence}
 use Rattle.stm_keys.proofs.Steps.{found_first, room_left, places_left}
 use Rattle.stm_keys.proofs.chains.add_places.Goals as goal
 
-pub add_place-requires-clause-room : goal.add_place-requires-clause-room
-add_place-requires-clause-room c =
+pub add_version-requires-clause-room : goal.add_version-requires-clause-room
+add_version-requires-clause-room c =
     let cs : List Event = c.args.events.now in
     let i : ℕ = c.loop-event.event-index in
     let x : Event = c.event-item.result in
@@ -28,21 +28,21 @@ loop-event-preserved c =
     let apart : AreApart (x ∷ left) = subst AreApart rest c.loop-event.invariant.apart in
     record {
       room =
-          room_left x left (λ l. room_in (get_by_text c.loop-event.chains l)) (λ l. room_in (get_by_text c.add_place.new.chains l)) apart.0
+          room_left x left (λ l. room_in (get_by_text c.loop-event.chains l)) (λ l. room_in (get_by_text c.add_version.new.chains l)) apart.0
           (λ k some. c.loop-event.invariant.room k (ap (λ (l : List Event). is_some (event_about k l)) rest ∙ some))
-          c.add_place.ensures.room;
+          c.add_version.ensures.room;
       apart = apart.1;
       told =
-          places_left x left c.args.place (λ l. places_in (get_by_text c.loop-event.chains l)) (λ l. places_in (get_by_text c.add_place.new.chains l))
+          places_left x left c.args.place (λ l. places_in (get_by_text c.loop-event.chains l)) (λ l. places_in (get_by_text c.add_version.new.chains l))
           (λ k. with_place (is_some (event_about k cs)) c.args.place (places_in (get_by_text c.args.chains.now k))) apart.0
           (λ k. sym (ap (λ (l : List Event). with_place (is_some (event_about k l)) c.args.place (places_in (get_by_text c.loop-event.chains k))) rest)
           ∙ c.loop-event.invariant.told k)
-          c.add_place.ensures.places;
-      bound = c.add_place.ensures.bound;
+          c.add_version.ensures.places;
+      bound = c.add_version.ensures.bound;
       first = λ is_present first.
           let so_far = c.loop-event.invariant.first is_present first in (
             (λ k. cond (bytes_eq (key_of_event x) k) (is_put x) (so_far.0 k)),
-            c.add_place.ensures.first so_far.0 so_far.1,
+            c.add_version.ensures.first so_far.0 so_far.1,
             left_after x left so_far.0 (λ k. is_left (event_about k cs) (is_present k)) apart.0
                 (λ k. sym (ap (λ (l : List Event). is_left (event_about k l) (so_far.0 k)) rest) ∙ so_far.2 k),
           );

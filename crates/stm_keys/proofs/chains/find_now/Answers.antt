@@ -1,16 +1,18 @@
 use Rattle.std.proofs.Common.{◌≡◌, ◌<◌, ◌∙◌, Some, sym, ap, subst, IfSome, ℕ, Option, length}
 use Rattle.indexmap.specs.IndexMap.{get_by_text}
-use Rattle.stm_keys.specs.Places.{Places, places_in, newest_below, state_from}
+use Rattle.stm_keys.specs.Places.{Places, places_in, newest_below, state_from, place_of}
 use Rattle.stm_keys.proofs.Steps.{newest_within, newest_first}
+use Rattle.stm_keys.proofs.Versions.{if_read}
 use Rattle.stm_keys.proofs.chains.find_now.Goals as goal
 
-pub state_from-requires : goal.state_from-requires
-state_from-requires c =
+pub state_from-requires-clause-within : goal.state_from-requires-clause-within
+state_from-requires-clause-within c =
     let n : ℕ = length c.args.revisions.now in
-    subst (λ (o : Option ℕ). IfSome o (λ q. q < n)) (sym c.newest.ensures)
+    if_read place_of n c.newest.result
+    (subst (λ (o : Option ℕ). IfSome o (λ q. q < n)) (sym c.newest.ensures)
     (newest_within c.in-Some.chain.now.places n
     (subst (λ (o : Option Places). (count : ℕ) → IfSome (newest_below count (places_in o)) (λ q. q < n)) (sym c.in-Some.ensures.value)
-    (c.requires.within c.args.key.now)))
+    (c.requires.within c.args.key.now))))
 
 pub returns-in-Some : goal.returns-in-Some
 returns-in-Some c =

@@ -2,7 +2,7 @@ use Rattle.std.proofs.Common.{◌<◌, ◌∙◌, ◌∷◌, ap, sym, subst, map
 use Rattle.std.specs.Prelude.{string_bytes}
 use Rattle.indexmap.specs.IndexMap.{get_by_text, with_value_at}
 use Rattle.indexmap.proofs.CallerLemmas.{keys-with_value_at, index_map_len-with_value_at}
-use Rattle.stm_keys.specs.Places.{Places, places_in, room_in}
+use Rattle.stm_keys.specs.Places.{Places, places_in, room_in, place_of}
 use Rattle.stm_keys.proofs.Order.{named_at, found_at_index, found_under, written_at}
 use Rattle.stm_keys.proofs.Steps.{place_added, room_elsewhere}
 use Rattle.stm_keys.proofs.chains.push_at.Goals as goal
@@ -25,8 +25,9 @@ returns-clause-places c = λ key named.
     let e = c.pair_mut-chain.ensures in
     let r = c.pair_mut-chain.result in
     place_added (get_by_text c.args.chains.now) (get_by_text (with_value_at c.args.chains.now c.args.index c.push.new.self)) key c.push.new.self
-    (written_at c.args.chains.now c.args.index r.0.now r.1.now e.unique e.value c.push.new.self key named) c.args.place
-    (c.push.ensures ∙ ap (λ o. c.args.place ∷ places_in o) (sym (found_under c.args.chains.now c.args.index r.0.now r.1.now e.unique e.value key named)))
+    (written_at c.args.chains.now c.args.index r.0.now r.1.now e.unique e.value c.push.new.self key named) (place_of c.args.version)
+    (c.push.ensures
+    ∙ ap (λ o. place_of c.args.version ∷ places_in o) (sym (found_under c.args.chains.now c.args.index r.0.now r.1.now e.unique e.value key named)))
 
 pub returns-clause-room : goal.returns-clause-room
 returns-clause-room c = λ key named.

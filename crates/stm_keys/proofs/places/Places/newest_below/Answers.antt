@@ -1,42 +1,51 @@
-use Rattle.std.proofs.Common.{◌≡◌, ◌+◌, ◌-◌, ◌≤◌, ◌∙◌, sym, ap, subst, arith, rules, ltb, true, false, List, ℕ, length, reverse}
-use Rattle.std.specs.List.Sorted.{IsNonDecreasing, IsPartitionPoint}
-use Rattle.std.proofs.lemmas.List.{reverse-reverse, get_or_default}
+use Rattle.std.proofs.Common.{◌≡◌, ◌+◌, ◌-◌, ◌<◌, ◌∙◌, sym, ap, map, subst, arith, rules, ltb, true, false, List, ℕ, length, reverse}
+use Rattle.std.specs.List.Sorted.{IsNonDecreasing, IsNonDecreasingBy, IsPartitionPoint}
+use Rattle.std.proofs.lemmas.List.{reverse-reverse, length-map, get_or-map}
 use Rattle.std.proofs.lemmas.List.Sorted.{IsPartitionPoint-from_clause, IsPartitionedBy-ltb}
-use Rattle.stm_keys.specs.Places.{Places, newest_below}
+use Rattle.stm_keys.specs.declared.places.Version.{Version}
+use Rattle.stm_keys.specs.Places.{Places, newest_below, place_of}
+use Rattle.stm_keys.proofs.Versions.{rising_by, cut_by}
 use Rattle.stm_keys.proofs.Walked.{none_found, one_found}
 use Rattle.stm_keys.proofs.places.Places.newest_below.Goals as goal
 
 pub returns-then-older-eq0 : goal.returns-then-older-eq0
 returns-then-older-eq0 c =
-    let xs : List ℕ = c.self.inside.places.items in
+    let xs : List Version = c.self.inside.versions.items in
     let count : ℕ = c.args.count in
-    let rising : IsNonDecreasing c.as_slice.result.now =
-    subst IsNonDecreasing (reverse-reverse xs ∙ sym c.as_slice.ensures.value)
-    (subst (λ (v : Places). IsNonDecreasing (reverse v.places)) (sym c.self.view_is) c.requires) in
-    let point : IsPartitionPoint (λ y. ltb y count ≡ true) (λ y. ltb y count ≡ false) c.as_slice.result.now c.partition_point-older.result =
-    IsPartitionPoint-from_clause (λ y. ltb y count) c.as_slice.result.now c.partition_point-older.result c.partition_point-older.ensures.partitioned
-    (IsPartitionedBy-ltb (λ m. m) c.as_slice.result.now count rising) (λ a r q k. search rules) in
-    none_found c.as_slice.result.now count
-    (subst (IsPartitionPoint (λ y. ltb y count ≡ true) (λ y. ltb y count ≡ false) c.as_slice.result.now) c.if-older-eq0.true point)
-    ∙ ap (λ (l : List ℕ). newest_below count (reverse l)) c.as_slice.ensures.value
+    let seen : List Version = c.as_slice.result.now in
+    let rising : IsNonDecreasingBy place_of seen =
+    subst (IsNonDecreasingBy place_of) (sym c.as_slice.ensures.value)
+    (rising_by place_of xs (subst IsNonDecreasing (reverse-reverse (map place_of xs))
+    (subst (λ (v : Places). IsNonDecreasing (reverse v.places)) (sym c.self.view_is) c.requires))) in
+    let point : IsPartitionPoint (λ y. ltb (place_of y) count ≡ true) (λ y. ltb (place_of y) count ≡ false) seen c.partition_point-older.result =
+    IsPartitionPoint-from_clause (λ y. ltb (place_of y) count) seen c.partition_point-older.result c.partition_point-older.ensures.partitioned
+    (IsPartitionedBy-ltb place_of seen count rising) (λ a r q k. search rules) in
+    none_found (map place_of seen) count
+    (subst (IsPartitionPoint (λ y. ltb y count ≡ true) (λ y. ltb y count ≡ false) (map place_of seen)) c.if-older-eq0.true
+    (cut_by place_of seen count c.partition_point-older.result c.partition_point-older.ensures.bound point))
+    ∙ ap (λ (l : List Version). newest_below count (reverse (map place_of l))) c.as_slice.ensures.value
     ∙ ap (λ (v : Places). newest_below count v.places) c.self.view_is
 
 pub returns : goal.returns
 returns c =
-    let xs : List ℕ = c.self.inside.places.items in
+    let xs : List Version = c.self.inside.versions.items in
     let count : ℕ = c.args.count in
     let found : ℕ = c.partition_point-older.result in
-    let rising : IsNonDecreasing c.as_slice.result.now =
-    subst IsNonDecreasing (reverse-reverse xs ∙ sym c.as_slice.ensures.value)
-    (subst (λ (v : Places). IsNonDecreasing (reverse v.places)) (sym c.self.view_is) c.requires) in
-    let point : IsPartitionPoint (λ y. ltb y count ≡ true) (λ y. ltb y count ≡ false) c.as_slice.result.now found =
-    IsPartitionPoint-from_clause (λ y. ltb y count) c.as_slice.result.now found c.partition_point-older.ensures.partitioned
-    (IsPartitionedBy-ltb (λ m. m) c.as_slice.result.now count rising) (λ a r q k. search rules) in
+    let seen : List Version = c.as_slice.result.now in
+    let rising : IsNonDecreasingBy place_of seen =
+    subst (IsNonDecreasingBy place_of) (sym c.as_slice.ensures.value)
+    (rising_by place_of xs (subst IsNonDecreasing (reverse-reverse (map place_of xs))
+    (subst (λ (v : Places). IsNonDecreasing (reverse v.places)) (sym c.self.view_is) c.requires))) in
+    let point : IsPartitionPoint (λ y. ltb (place_of y) count ≡ true) (λ y. ltb (place_of y) count ≡ false) seen found =
+    IsPartitionPoint-from_clause (λ y. ltb (place_of y) count) seen found c.partition_point-older.ensures.partitioned
+    (IsPartitionedBy-ltb place_of seen count rising) (λ a r q k. search rules) in
     let whole : found ≡ found - 1 + 1 = omega (arith, c.if-older-eq0.false) in
-    let within : found - 1 + 1 ≤ length xs =
-    omega (arith, c.if-older-eq0.false, c.partition_point-older.ensures.bound, ap (λ (l : List ℕ). length l) c.as_slice.ensures.value) in
-    one_found xs count (found - 1) c.index.result.now within
-    (c.index.ensures ∙ get_or_default xs (found - 1) c.index.result.now 0 (omega (arith, within)))
-    (subst (λ (l : List ℕ). IsPartitionPoint (λ y. ltb y count ≡ true) (λ y. ltb y count ≡ false) l (found - 1 + 1)) c.as_slice.ensures.value
-    (subst (IsPartitionPoint (λ y. ltb y count ≡ true) (λ y. ltb y count ≡ false) c.as_slice.result.now) whole point))
+    let long : length seen ≡ length xs = ap (λ (l : List Version). length l) c.as_slice.ensures.value in
+    let within : found - 1 < length xs = omega (arith, c.if-older-eq0.false, c.partition_point-older.ensures.bound, long) in
+    let cut : IsPartitionPoint (λ y. ltb y count ≡ true) (λ y. ltb y count ≡ false) (map place_of xs) found =
+    subst (λ (l : List Version). IsPartitionPoint (λ y. ltb y count ≡ true) (λ y. ltb y count ≡ false) (map place_of l) found) c.as_slice.ensures.value
+    (cut_by place_of seen count found c.partition_point-older.ensures.bound point) in
+    one_found (map place_of xs) count (found - 1) (place_of c.index.result.now) (omega (arith, within, length-map xs place_of))
+    (ap place_of c.index.ensures ∙ sym (get_or-map place_of xs (found - 1) c.index.result.now 0 within))
+    (subst (IsPartitionPoint (λ y. ltb y count ≡ true) (λ y. ltb y count ≡ false) (map place_of xs)) whole cut)
     ∙ ap (λ (v : Places). newest_below count v.places) c.self.view_is

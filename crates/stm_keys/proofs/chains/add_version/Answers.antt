@@ -2,7 +2,7 @@ use Rattle.std.proofs.Common.{◌≡◌, ◌∙◌, ap, sym, subst, cond, Some, 
 use Rattle.std.specs.Prelude.{bytes_eq}
 use Rattle.stm_keys.specs.Events.{is_put}
 use Rattle.stm_keys.specs.Places.{StandFirst, names_of}
-use Rattle.stm_keys.proofs.chains.add_place.Goals as goal
+use Rattle.stm_keys.proofs.chains.add_version.Goals as goal
 
 pub returns-in-Put-clause-first : goal.returns-in-Put-clause-first
 returns-in-Put-clause-first c = λ is_present first.

@@ -5,21 +5,22 @@
 #![tactic(auto)]
 
 mod calls;
-pub mod cause;
-pub mod checking;
+mod cause;
+mod checking;
 mod commits;
 mod count;
 mod finals;
 mod fits;
-pub mod judging;
+mod judging;
 pub mod laws;
 mod leases;
 mod lookups;
-pub mod runner;
+mod runner;
 mod walk;
 
 pub use cause::WrongCause;
 pub use checking::{Checked, check};
 pub use judging::{CheckFault, check_sources};
+pub use runner::Runner;
 pub use stm_reports::{Report, ReportLine};
 pub use stm_texts::Scenario;

@@ -1,5 +1,6 @@
 -- Each step keeps the rule, and tells what it is said to tell.
-use Rattle.std.proofs.Common.{◌≡◌, ◌≢◌, ℕ, zero, suc, ◌+◌, ◌-◌, ◌%◌, ◌^◌, ◌<◌, ◌≤◌, min, Bool, true, false, cond, ltb, eqb, List, [], ◌∷◌, ◌++◌, length, set, get_or}
+use Rattle.std.proofs.Common.{◌≡◌, ◌≢◌, ℕ, zero, suc, ◌+◌, ◌-◌, ◌%◌, ◌^◌, ◌<◌, ◌≤◌, min, Bool, true, false, cond, ltb, eqb}
+use Rattle.std.proofs.Common.{List, [], ◌∷◌, ◌++◌, length, set, get_or}
 use Rattle.std.proofs.Common.{sum_by, refl, sym, ap, ap₂, ◌∙◌, subst, ⊎_elim, arith, add-zero, length-set, get_or-set_same, lt-ltb, le-ltb, mod-eq_of_lt}
 use Rattle.std.proofs.Math.Nat.{min-eq_left, min-eq_right}
 use Rattle.std.proofs.lemmas.List.Sums.{sum_by_push, sum_by-le-sum_by}
@@ -10,7 +11,8 @@ use Rattle.atomic_table.specs.Table.{State, Me, step, keeps, Allows, Splits, Joi
 use Rattle.atomic_table.proofs.Lists.{at_set, at_snoc, set_here, set_again}
 use Rattle.stm_draw.specs.declared.view.Size.{Size}
 use Rattle.stm_draw.specs.declared.view.View.{View}
-use Rattle.stm_draw.specs.Draw.{times, once_below, EachOnce, counter, Dealt, newcomer, drew, passed, after_draw, kept, given, joined, spent, IsWhole, Knows, Draws, Looks}
+use Rattle.stm_draw.specs.Draw.{times, once_below, EachOnce, counter, Dealt, newcomer, drew, passed, after_draw, kept, given, joined, spent}
+use Rattle.stm_draw.specs.Draw.{IsWhole, Knows, Draws, Looks}
 use Rattle.stm_draw.proofs.Sums.{grown, in_range, sum_changed, at_most_all, alone, times_push, times_both, one_more}
 
 -- facts of plain numbers

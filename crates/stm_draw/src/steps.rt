@@ -28,7 +28,8 @@ impl JobTable {
     pub fn draw(&self, seat: &mut JobSeat) -> Option<usize>
         requires { IsSeatOf self.now seat.old }
         ensures seat { IsSeatOf self.now seat.new }
-        ensures drawn { MatchOption result (seat_view seat.new ≡ after_none (seat_view seat.old)) (λ job. (0 < (seat_view seat.old).left) × (job < (table_size self.now).jobs) × (seat_view seat.new ≡ drew (seat_view seat.old) job)) }
+        ensures drawn { MatchOption result (seat_view seat.new ≡ after_none (seat_view seat.old)) (λ job. (0 < (seat_view seat.old).left)
+            × (job < (table_size self.now).jobs) × (seat_view seat.new ≡ drew (seat_view seat.old) job)) }
     {
         if seat.left == 0 {
             return None;

@@ -37,7 +37,7 @@ returns-in-Err-clause-right c =
     refused_right c.tells_refusal.result c.in-Err.cause (keep_line n s c.args.id) (Refused n (cause_told c.in-Err.cause) []) l
     c.tells_refusal.ensures.told c.tells_refusal.ensures.memory
     (λ other. refused_line n (λ _. Kept n c.args.id) (kept_alive s c.args.id) c.in-Err.cause
-        (subst (λ (o : Result (Step (Unit {0})) Cause). IsRefusalOf o c.in-Err.cause) (sym c.in-Err.ensures.step) refl) other)
+    (subst (λ (o : Result (Step (Unit {0})) Cause). IsRefusalOf o c.in-Err.cause) (sym c.in-Err.ensures.step) refl) other)
 
 pub returns-in-Err-clause-next : goal.returns-in-Err-clause-next
 returns-in-Err-clause-next c =

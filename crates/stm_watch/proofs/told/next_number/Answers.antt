@@ -27,7 +27,7 @@ returns-then-has_any c =
     let long : 0 < length (matching w (events_of h (passed + 1))) = subst (λ (es : List Event). 0 < length (matching w es)) c.events_at.ensures some in (
       omega arith,
       found_is_next h w c.args.above passed (matching w (events_of h (passed + 1))) c.loop-passed.invariant.opened reached c.loop-passed.invariant.told
-        refl long,
+          refl long,
     )
 
 pub loop-passed-preserved : goal.loop-passed-preserved

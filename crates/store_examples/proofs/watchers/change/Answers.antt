@@ -15,5 +15,7 @@ returns c =
     ∙ last_changes h cs in
     let next : add_revision h (map change_of_event c.last_events.result.now) ≡ c.apply.new.self.history =
     ap (add_revision h) shown ∙ sym c.in_ok-number.ensures.ok in
-    let number : c.in_ok-number.number ≡ now h + 1 = c.in_ok-number.ensures.number ∙ ap now c.in_ok-number.ensures.ok ∙ (let one : now (add_revision h cs) ≡ now h + 1 = omega arith in one) in
+    let number : c.in_ok-number.number ≡ now h + 1 =
+    c.in_ok-number.ensures.number ∙ ap now c.in_ok-number.ensures.ok
+    ∙ (let one : now (add_revision h cs) ≡ now h + 1 = omega arith in one) in
     subst (λ (x : History). StandFor x c.touched.new.self) next (c.touched.ensures.stand h c.requires.stand number)

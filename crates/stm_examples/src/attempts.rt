@@ -1,6 +1,6 @@
 //! An attempt for which an answer was prefetched. What is expected comes from the rule of the base revision, and never
 //! from a run.
-ghost use Rattle.std.specs.Prelude.{◌≡◌, ◌≤◌, All, None, IfOk};
+ghost use Rattle.std.specs.Prelude.{◌≡◌, ◌≤◌, All, None, Some, IfOk};
 ghost use Rattle.stm_history.specs.declared.revisions.TheConstants.{HIGHEST_NUMBER};
 ghost use Rattle.stm_txn.specs.Numbers.{ReadFits};
 ghost use Rattle.stm_attempt.specs.Known.{HaveDistinctKeys};
@@ -82,21 +82,31 @@ fn absent(key: Text, revision: u64) -> ReadAnswer
     }
 }
 
+/// Supplies that a key is absent at a revision.
+fn supply(attempt: &mut Attempt, key: &Text, revision: u64) -> Result<(), AllocError>
+    requires asked { awaited attempt.old ≡ Some key.now }
+    requires bounded { revision ≤ HIGHEST_NUMBER }
+    ensures { attempt.new.program ≡ attempt.old.program }
+{
+    let key = key.clone()?;
+    attempt.supply(absent(key, revision))?;
+    Ok(())
+}
+
 /// What an attempt answers once it has taken that the key it asked for is absent at a revision; the same where it asked for none.
 fn supplied(
     program: &Program,
     attempt: &mut Attempt,
-    asked: Next,
+    asked: &Next,
     revision: u64,
 ) -> Result<Next, AllocError>
     requires of { IsOf program.now attempt.old }
-    requires asked { awaited attempt.old ≡ key_asked asked }
+    requires asked { awaited attempt.old ≡ key_asked asked.now }
     requires bounded { revision ≤ HIGHEST_NUMBER }
 {
-    let Next::Fetch { key, .. } = asked else {
-        return Ok(asked);
-    };
-    attempt.supply(absent(key, revision))?;
+    if let Next::Fetch { key, .. } = asked {
+        supply(attempt, key, revision)?;
+    }
     attempt.advance(program)
 }
 
@@ -104,15 +114,32 @@ fn told_after(
     alloc: Global,
     program: &Program,
     attempt: &mut Attempt,
-    asked: Next,
+    asked: &Next,
     revision: u64,
 ) -> Result<String, AllocError>
     requires of { IsOf program.now attempt.old }
-    requires asked { awaited attempt.old ≡ key_asked asked }
+    requires asked { awaited attempt.old ≡ key_asked asked.now }
     requires bounded { revision ≤ HIGHEST_NUMBER }
 {
     let next = supplied(program, attempt, asked, revision)?;
     show_next(alloc, &next)
+}
+
+/// What an attempt answered, and what it answers then.
+fn told_both(
+    alloc: Global,
+    program: &Program,
+    attempt: &mut Attempt,
+    asked: &Next,
+    revision: u64,
+) -> Result<String, AllocError>
+    requires of { IsOf program.now attempt.old }
+    requires asked { awaited attempt.old ≡ key_asked asked.now }
+    requires bounded { revision ≤ HIGHEST_NUMBER }
+{
+    let first = show_next(alloc, asked)?;
+    let second = told_after(alloc, program, attempt, asked, revision)?;
+    format!(in alloc; "{first}, {second}")
 }
 
 /// What an attempt answers at first, and then once it has taken that the wanted key is absent at a revision.
@@ -126,9 +153,7 @@ fn told_of(
     requires bounded { revision ≤ HIGHEST_NUMBER }
 {
     let asked = attempt.advance(program)?;
-    let first = show_next(alloc, &asked)?;
-    let second = told_after(alloc, program, attempt, asked, revision)?;
-    format!(in alloc; "{first}, {second}")
+    told_both(alloc, program, attempt, &asked, revision)
 }
 
 /// An attempt for which the answer was prefetched.

@@ -7,10 +7,16 @@ use stm_program::Level;
 use stm_retry::{World, WorldEvent};
 use stm_txn::Keys;
 
-/// Runs a program of one put to its end.
-fn run_put(alloc: Global, world: &mut World) -> Result<(), Fail> {
+/// Starts a program of one put.
+fn start_put(alloc: Global, world: &mut World) -> Result<u64, Fail> {
     let program = program_of(alloc, r#"[["put","a","1",0]]"#)?;
     let runner = world.start(program, Level::ReadCommitted, 1)?;
+    Ok(runner)
+}
+
+/// Runs it to its end.
+fn run_put(alloc: Global, world: &mut World) -> Result<(), Fail> {
+    let runner = start_put(alloc, world)?;
     let _reply = world.step(&WorldEvent::Step { runner })?;
     Ok(())
 }

@@ -1,16 +1,24 @@
 -- What a command line asks for.
-use Rattle.std.specs.Prelude.{◌≡◌, ◌⊎◌, List, []}
-use Rattle.clap.specs.Words.{Text}
+use Rattle.std.specs.Prelude.{◌≡◌, List, [], Option, None, Some, codes, option_map}
+use Rattle.clap.specs.Words.{Text, Row, first_of, subcommand_of}
 use Rattle.stmrun.specs.declared.arguments.Asked.{Asked}
-use Rattle.stmrun.specs.declared.arguments.Asked.TheVariants.{Script, Nothing}
-use Rattle.stmrun.specs.CommandLine.{faults_of, IsStatusOf}
+use Rattle.stmrun.specs.declared.arguments.Asked.TheVariants.{Script, Check, Nothing}
+use Rattle.stmrun.specs.CommandLine.{stmrun_app, faults_of, IsStatusOf}
 
--- a script where the words have no fault, and else the status of their fault
+-- a command of this name, with what stands in the places of its arguments, asks for a script of its file, or of standard
+-- input where it names none, or for a check of its files
+abbrev pub AsksAt : Text → List Row → Asked → Type 0
+AsksAt name rows (Script file) = (name ≡ codes "script") × (first_of (codes "FILE") rows ≡ option_map (λ path. path.now) file)
+AsksAt name rows (Check scenario report) =
+    (name ≡ codes "check") × (first_of (codes "SCENARIO") rows ≡ Some scenario.now) × (first_of (codes "REPORT") rows ≡ Some report.now)
+AsksAt name rows (Nothing status) = ⊥
+
+-- the same, of the command that the words name
+abbrev pub AsksBy : Option (Text × List Row) → Asked → Type 0
+AsksBy None asked = ⊥
+AsksBy (Some named) asked = AsksAt named.0 named.1 asked
+
+-- a script, or a check with its files, where the words have no fault, and else the status of their fault
 abbrev pub Asks : List Text → Asked → Type 0
-Asks words Script = faults_of words ≡ []
 Asks words (Nothing status) = IsStatusOf (faults_of words) status
-
--- one of the statuses of a command line that asks for no script
-abbrev pub AsksSome : Asked → Type 0
-AsksSome Script = Unit {0}
-AsksSome (Nothing status) = (status ≡ 0) ⊎ ((status ≡ 2) ⊎ (status ≡ 3))
+Asks words asked = (faults_of words ≡ []) × AsksBy (subcommand_of stmrun_app words) asked

@@ -1,13 +1,29 @@
 -- The command, and the status of each kind of fault that `clap` finds in a command line.
 use Rattle.std.specs.Prelude.{◌≡◌, ◌⊎◌, ℕ, List, codes, true}
-use Rattle.clap.specs.Words.{App, IsAmong, Kinds, Text, fault_of, new_app, with_subcommand}
+use Rattle.clap.specs.Words.{AddsSubcommand, App, IsAmong, Kinds, Rule, Text, app_of, fault_of, new_app, new_rule, with_rule, with_subcommand}
+use Rattle.clap.specs.declared.builder.command.Command.{Command}
 use Rattle.clap.specs.Simple.{on_top}
 use Rattle.clap.specs.declared.error.kind.ErrorKind.{ErrorKind}
 use Rattle.clap.specs.declared.error.kind.ErrorKind.TheVariants.{DisplayHelp, OutOfMemory}
 
--- stmrun: it wants a subcommand, of which there is the one script
+-- an argument that has to be there, by its place
+abbrev pub wanted : List ℕ → Rule
+wanted name = record (new_rule name) { required = true }
+
+abbrev pub script_app : App
+script_app = with_rule (new_app (codes "script")) (new_rule (codes "FILE"))
+
+abbrev pub check_app : App
+check_app = with_rule (with_rule (new_app (codes "check")) (wanted (codes "SCENARIO"))) (wanted (codes "REPORT"))
+
+-- a command that is added to another makes it that one with this as a subcommand, the last
+abbrev pub IsAddedAs : App → Command → Type 0
+IsAddedAs app command = (old new : Command) → AddsSubcommand old command new → app_of new ≡ with_subcommand (app_of old) app.top
+
+-- stmrun: it wants a subcommand, script or check
 abbrev pub stmrun_app : App
-stmrun_app = with_subcommand (on_top (λ top. record top { subcommand_required = true }) (new_app (codes "stmrun"))) (new_app (codes "script")).top
+stmrun_app =
+    with_subcommand (with_subcommand (on_top (λ top. record top { subcommand_required = true }) (new_app (codes "stmrun"))) script_app.top) check_app.top
 
 -- 0 for help, 3 for want of memory and 2 for usage
 abbrev pub status_of_kind : ErrorKind → ℕ
@@ -19,7 +35,7 @@ status_of_kind _ = 2
 abbrev pub IsToldBy : ErrorKind → ℕ → Type 0
 IsToldBy kind status = (status ≡ status_of_kind kind) ⊎ ((kind ≡ DisplayHelp) × (status ≡ 3))
 
--- the kinds that the first fault of a command line may have, the program's name first in it; none where it asks for a script
+-- the kinds that the first fault of a command line may have, the program's name first in it; none where it is right
 abbrev pub faults_of : List Text → Kinds
 faults_of words = fault_of stmrun_app words
 

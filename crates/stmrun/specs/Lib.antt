@@ -1,3 +1,4 @@
 pub mod Asking
+pub mod Checking
 pub mod CommandLine
 pub mod Statuses

@@ -15,13 +15,13 @@ status_of (Bad fault) = 2
 status_of Read = 3
 status_of Write = 3
 
--- place and cause of the first fault
-abbrev pub bad_message : BadInput → List ℕ
-bad_message bad = codes "stmrun: bad scenario at " ++ bad.place ++ codes ": " ++ cause_name bad.cause ++ codes "\n"
+-- place and cause of the first fault of an input, behind this
+abbrev pub bad_input : List ℕ → BadInput → List ℕ
+bad_input begin bad = begin ++ bad.place ++ codes ": " ++ cause_name bad.cause ++ codes "\n"
 
 abbrev pub message_of : ScriptFault → List ℕ
 message_of OutOfMemory = codes "stmrun: out of memory\n"
-message_of (Bad bad) = bad_message bad
+message_of (Bad bad) = bad_input (codes "stmrun: bad scenario at ") bad
 message_of Read = codes "stmrun: device fault\n"
 message_of Write = codes "stmrun: device fault\n"
 

@@ -1,20 +1,22 @@
 //! The command line.
-ghost use Rattle.std.specs.Prelude.{◌≡◌, IfOk, map, string_bytes};
-ghost use Rattle.clap.specs.Words.{app_of, kind_of};
-ghost use Rattle.stmrun.specs.CommandLine.{stmrun_app, IsToldBy};
-ghost use Rattle.stmrun.specs.Asking.{Asks, AsksSome};
+ghost use Rattle.std.specs.Prelude.{◌≡◌, ◌⊎◌, codes, false, IfOk, IfErr, IfSome, map, option_map, string_bytes};
+ghost use Rattle.clap.specs.Words.{app_of, first_of, found_of, kind_of, new_rule, rows_of, rule_of, subcommand_rows_of};
+ghost use Rattle.stmrun.specs.CommandLine.{script_app, check_app, stmrun_app, wanted, IsAddedAs, IsToldBy};
+ghost use Rattle.stmrun.specs.Asking.{Asks, AsksAt, AsksBy};
 
 use clap::error::ErrorKind;
-use clap::{Command, Error};
+use clap::{Arg, ArgMatches, Command, Error};
 use std::alloc::{AllocError, Global};
 use std::rt::Env;
 use std::{env, io};
 
 /// What a command line asks for.
 #[derive(Clone, Copy, Debug, PartialEq, Eq)]
-pub(crate) enum Asked {
-    /// A script of standard input.
-    Script,
+pub(crate) enum Asked<'a> {
+    /// A script, by the path of its scenario; of standard input, where there is none.
+    Script { scenario: Option<&'a str> },
+    /// A check of a report, by the paths of its scenario and of itself.
+    Check { scenario: &'a str, report: &'a str },
     /// Nothing more: help was printed, or the command line was refused, with this status.
     Nothing(u8),
 }
@@ -53,7 +55,40 @@ the end line:
   [\"key\",\"a\",\"1\",2,2,1,0]
   [\"end\",2,1]
 
+Statuses: 0 done or yes, 1 no, 2 bad input or usage, 3 want of memory or a failed device.";
+
+const SCRIPT_EXAMPLE: &str =
+    "The report is printed once it is whole, and nothing of it where the scenario is bad: then the place of its
+first fault and the cause stand on standard error. If s.json holds the example of stmrun --help,
+
+  stmrun script s.json
+
+prints its report, and so does stmrun script < s.json. From this scenario, which lacks the runner of its step,
+
+  [[\"step\"]]
+
+it prints no report, but says
+
+  stmrun: bad scenario at /0: Shape
+
 Statuses: 0 done, 2 bad input or usage, 3 want of memory or a failed device.";
+
+const CHECK_EXAMPLE: &str =
+    "Prints yes where no line of the report is wrong, and else no LINE CAUSE: the first wrong line, counted
+from 1, and why it is wrong:
+
+  Count     it is missing, or stands behind the end line
+  Event     it stands in an event's place, and is no line that this event can have there
+  Replay    it tells of a commit, a change or a refusal something else than the replay gives
+  Final     it stands behind the events' lines, and is not the key, lease or end line that is due there
+
+If s.json holds the example of stmrun --help and r.txt its report,
+
+  stmrun check s.json r.txt
+
+prints yes. Where r.txt has another value in the line of key a, it prints no 3 Final.
+
+Statuses: 0 yes, 1 no, 2 bad input or usage, 3 want of memory or a failed device.";
 
 /// What is said of words that are not UTF-8, in the manner of the other usage faults.
 const NOT_TEXT: &str = "error: the command line is not UTF-8
@@ -62,18 +97,66 @@ Usage: stmrun <COMMAND>
 
 For more information, try '--help'.";
 
+/// What is said where `clap` takes a command line and yet tells of no command, which it never does: that is answered as
+/// want of memory is.
+const NOT_ASKED: &str = "stmrun: the command line was taken for no command";
+
+/// A file that has to be named, by its place.
+fn file<'a>(alloc: Global, name: &'a str, help: &'a str) -> Arg<'a>
+    ensures rule { rule_of result ≡ wanted name.now }
+    ensures local { result.global ≡ false }
+{
+    Arg::new(alloc, name).required(true).help(help)
+}
+
+/// A file that may be named, by its place.
+fn other_input<'a>(alloc: Global, name: &'a str, help: &'a str) -> Arg<'a>
+    ensures rule { rule_of result ≡ new_rule name.now }
+    ensures local { result.global ≡ false }
+{
+    Arg::new(alloc, name).help(help)
+}
+
+/// The command `script`.
+fn script_command<'a>(alloc: Global) -> Result<Command<'a>, AllocError>
+    ensures { IfOk result (IsAddedAs script_app) }
+{
+    let input = other_input(
+        alloc,
+        "FILE",
+        "The file of the scenario, in the place of standard input",
+    );
+    Command::new(alloc, "script")
+        .about("Runs a scenario, and prints its report")
+        .after_help(SCRIPT_EXAMPLE)
+        .arg(input)
+}
+
+/// The command `check`.
+fn check_command<'a>(alloc: Global) -> Result<Command<'a>, AllocError>
+    ensures { IfOk result (IsAddedAs check_app) }
+{
+    let scenario = file(alloc, "SCENARIO", "The file of the scenario");
+    let report = file(alloc, "REPORT", "The file of the report");
+    Command::new(alloc, "check")
+        .about("Says whether REPORT is a report of SCENARIO, and if not, which line is wrong first")
+        .after_help(CHECK_EXAMPLE)
+        .arg(scenario)?
+        .arg(report)
+}
+
 /// The command.
 fn command<'a>(alloc: Global) -> Result<Command<'a>, AllocError>
     ensures { IfOk result (λ command. app_of command ≡ stmrun_app) }
 {
-    let script = Command::new(alloc, "script").about(
-        "Runs the scenario on standard input, and prints its report",
-    );
+    let script = script_command(alloc)?;
+    let check = check_command(alloc)?;
     Command::new(alloc, "stmrun")
         .about("Runs transactional programs over an etcd-like store, one event at a time")
         .after_help(EXAMPLE)
         .subcommand_required(true)
-        .subcommand(script)
+        .subcommand(script)?
+        .subcommand(check)
 }
 
 /// The status of a command line that is refused, or that asks for help, once its text is printed: 0 for help that was
@@ -115,26 +198,74 @@ fn words<R: Env + AllocGlobal>(rt: &R) -> Result<Vec<String>, WordsFault> {
     }
 }
 
-/// What these words ask for.
-fn asked_of<R: Print + Eprint>(rt: &R, alloc: Global, words: &[String]) -> Asked
+/// The file in the place of an argument.
+fn file_of<'a>(found: &ArgMatches<'a>, name: &str) -> Option<&'a str>
+    ensures { option_map (λ file. file.now) result ≡ first_of name.now (rows_of (found_of found.now)) }
+{
+    found.get_str(name)
+}
+
+/// What a check with these files asks for; `None` where one is missing.
+fn files_of<'a>(found: &ArgMatches<'a>) -> Option<Asked<'a>>
+    ensures { IfSome result (AsksAt (codes "check") (rows_of (found_of found.now))) }
+{
+    let scenario = file_of(found, "SCENARIO")?;
+    let report = file_of(found, "REPORT")?;
+    Some(Asked::Check { scenario, report })
+}
+
+/// What a command of this name asks for; `None` where it is no command of this program, or has no file.
+fn asked_at<'a>(name: &str, found: &ArgMatches<'a>) -> Option<Asked<'a>>
+    ensures { IfSome result (AsksAt name.now (rows_of (found_of found.now))) }
+{
+    if name == "script" {
+        let scenario = file_of(found, "FILE");
+        return Some(Asked::Script { scenario });
+    }
+    if name == "check" {
+        return files_of(found);
+    }
+    None
+}
+
+/// What the words ask for of which `clap` has found this; `None` where they name no command of this program.
+fn asked_by<'a>(matches: &ArgMatches<'a>) -> Option<Asked<'a>>
+    ensures { IfSome result (AsksBy (subcommand_rows_of matches.now)) }
+{
+    match matches.subcommand() {
+        Some((name, found)) => asked_at(name, found),
+        None => None,
+    }
+}
+
+/// What these words ask for. Where they are refused, or ask for help, that was printed.
+pub(crate) fn asked_of<'a, R: Print + Eprint>(
+    rt: &R,
+    alloc: Global,
+    words: &'a [String],
+) -> Asked<'a>
     ensures { Asks (map string_bytes words.now) result }
 {
     let Ok(command) = command(alloc) else {
         return Asked::Nothing(fail(rt, "stmrun: out of memory", 3));
     };
     match command.try_get_matches_from(words) {
-        Ok(_) => Asked::Script,
+        Ok(matches) => match asked_by(&matches) {
+            Some(asked) => asked,
+            None => Asked::Nothing(fail(rt, NOT_ASKED, 3)),
+        },
         Err(error) => Asked::Nothing(told(rt, &error)),
     }
 }
 
-/// What this process's command line asks for. Where it is refused, or asks for help, that was printed.
-pub(crate) fn read_arguments<R: Print + Eprint + Env + AllocGlobal>(rt: &R) -> Asked
-    ensures { AsksSome result }
+/// The words of this process's command line, or the status where they cannot be read, which was printed: 2 where one of
+/// them is not UTF-8, and 3 for want of memory.
+pub(crate) fn read_words<R: Eprint + Env + AllocGlobal>(rt: &R) -> Result<Vec<String>, u8>
+    ensures { IfErr result (λ status. (status ≡ 2) ⊎ (status ≡ 3)) }
 {
     match words(rt) {
-        Ok(words) => asked_of(rt, rt.alloc(), words.as_slice()),
-        Err(WordsFault::NotText) => Asked::Nothing(fail(rt, NOT_TEXT, 2)),
-        Err(WordsFault::OutOfMemory) => Asked::Nothing(fail(rt, "stmrun: out of memory", 3)),
+        Ok(words) => Ok(words),
+        Err(WordsFault::NotText) => Err(fail(rt, NOT_TEXT, 2)),
+        Err(WordsFault::OutOfMemory) => Err(fail(rt, "stmrun: out of memory", 3)),
     }
 }

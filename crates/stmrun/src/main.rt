@@ -1,24 +1,59 @@
-//! The program: runs scenarios of transactional programs over one store, and reports what happened.
+//! The program: runs scenarios of transactional programs over one store and reports what happened, and checks reports.
 #![tactic(auto)]
 
 mod arguments;
+mod checking;
+mod files;
 mod scripting;
 #[cfg(test)]
 mod tests;
 
-use arguments::{Asked, read_arguments};
+use arguments::{Asked, asked_of, read_words};
+pub use checking::check_to;
+use files::open;
 pub use scripting::script_to;
+use std::io::Read;
 use std::process::ExitCode;
 use stm_report::Std;
 
-fn main(rt: HostRuntime) -> ExitCode {
-    match read_arguments(&rt) {
-        Asked::Script => {
-            let mut input = Std::new(rt.reader());
-            let mut out = Std::new(rt.stdout());
-            let mut err = Std::new(rt.stderr());
-            ExitCode::from(script_to(rt.alloc(), &mut input, &mut out, &mut err))
-        }
-        Asked::Nothing(status) => ExitCode::from(status),
+/// Runs the scenario of an input.
+fn run_input<R: Read + Drop>(rt: &HostRuntime, input: R) -> u8 {
+    let mut input = Std::new(input);
+    let mut out = Std::new(rt.stdout());
+    let mut err = Std::new(rt.stderr());
+    script_to(rt.alloc(), &mut input, &mut out, &mut err)
+}
+
+/// Runs the scenario of a path, or that on standard input.
+fn run_script(rt: &HostRuntime, scenario: Option<&str>) -> u8 {
+    match scenario {
+        Some(path) => run_input(rt, open(rt, path)),
+        None => run_input(rt, rt.reader()),
     }
+}
+
+/// Checks the report of a path beside the scenario of another.
+fn run_check(rt: &HostRuntime, scenario: &str, report: &str) -> u8 {
+    let mut scenario = Std::new(open(rt, scenario));
+    let mut report = Std::new(open(rt, report));
+    let mut out = Std::new(rt.stdout());
+    let mut err = Std::new(rt.stderr());
+    check_to(rt.alloc(), &mut scenario, &mut report, &mut out, &mut err)
+}
+
+/// Does what the command line asks for, and gives the status.
+fn run(rt: &HostRuntime) -> u8 {
+    let words = match read_words(rt) {
+        Ok(words) => words,
+        Err(status) => return status,
+    };
+    match asked_of(rt, rt.alloc(), words.as_slice()) {
+        Asked::Script { scenario } => run_script(rt, scenario),
+        Asked::Check { scenario, report } => run_check(rt, scenario, report),
+        Asked::Nothing(status) => status,
+    }
+}
+
+fn main(rt: HostRuntime) -> ExitCode {
+    ExitCode::from(run(&rt))
 }

@@ -1,7 +1,7 @@
 //! The command `script` over devices.
 ghost use Rattle.std.specs.Prelude.{◌≡◌, ◌++◌, false};
 ghost use Rattle.stm_devices.specs.Transfers.{HasWritten};
-ghost use Rattle.stmrun.specs.Statuses.{status_of, bad_message, message_of, SaysOf, Ends};
+ghost use Rattle.stmrun.specs.Statuses.{status_of, bad_input, message_of, SaysOf, Ends};
 
 use std::alloc::Global;
 use stm_report::{DeviceFault, ScriptFault, Sink, Source, script, write_all};
@@ -18,7 +18,7 @@ fn status(fault: &ScriptFault) -> u8
 }
 
 /// Writes a text. Where the sink fails, a front of it was written.
-fn write_text<E: Sink>(err: &mut E, text: &str) -> Result<(), DeviceFault>
+pub(crate) fn write_text<E: Sink>(err: &mut E, text: &str) -> Result<(), DeviceFault>
     requires { E.failed err.old ≡ false }
     ensures { HasWritten (E.held err.old) (E.held err.new) (E.failed err.new) result text.now }
 {
@@ -35,13 +35,17 @@ fn write_both<E: Sink>(err: &mut E, first: &str, second: &str) -> Result<(), Dev
     Ok(())
 }
 
-/// Writes what is wrong with a scenario, piece by piece, which takes no memory. Where the sink fails, a front of it was
+/// Writes what is wrong with an input, piece by piece, which takes no memory. Where the sink fails, a front of it was
 /// written.
-fn write_bad<E: Sink>(err: &mut E, bad: &BadInput) -> Result<(), DeviceFault>
+pub(crate) fn write_bad<E: Sink>(
+    err: &mut E,
+    begin: &str,
+    bad: &BadInput,
+) -> Result<(), DeviceFault>
     requires { E.failed err.old ≡ false }
-    ensures { HasWritten (E.held err.old) (E.held err.new) (E.failed err.new) result (bad_message bad.now) }
+    ensures { HasWritten (E.held err.old) (E.held err.new) (E.failed err.new) result (bad_input begin.now bad.now) }
 {
-    write_both(err, "stmrun: bad scenario at ", bad.place.as_str())?;
+    write_both(err, begin, bad.place.as_str())?;
     write_both(err, ": ", bad.cause.name())?;
     write_text(err, "\n")?;
     Ok(())
@@ -53,7 +57,7 @@ fn write_message<E: Sink>(err: &mut E, fault: &ScriptFault) -> Result<(), Device
     ensures { HasWritten (E.held err.old) (E.held err.new) (E.failed err.new) result (message_of fault.now) }
 {
     match fault {
-        ScriptFault::Bad(bad) => write_bad(err, bad),
+        ScriptFault::Bad(bad) => write_bad(err, "stmrun: bad scenario at ", bad),
         ScriptFault::OutOfMemory => write_text(err, "stmrun: out of memory\n"),
         ScriptFault::Read | ScriptFault::Write => write_text(err, "stmrun: device fault\n"),
     }

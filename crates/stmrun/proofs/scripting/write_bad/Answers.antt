@@ -5,9 +5,6 @@ use Rattle.stm_json.specs.CauseNames.{cause_name}
 use Rattle.stmrun.proofs.PieceLemmas.{longer, behind, grouped}
 use Rattle.stmrun.proofs.scripting.write_bad.Goals as goal
 
-abbrev begin : List ℕ
-begin = codes "stmrun: bad scenario at "
-
 abbrev between : List ℕ
 between = codes ": "
 
@@ -20,6 +17,7 @@ returns-in_err-write_both g c =
     let e = rw c.as_str.ensures at c.in_err-write_both.ensures in
     let held = g.E.Sink.held in
     let bad = c.args.bad.now in
+    let begin = c.args.begin.now in
     let text = (begin ++ bad.place) ++ (between ++ cause_name bad.cause) in
     let old = held c.args.err.now in
     let new = held c.write_both.new.err in
@@ -33,6 +31,7 @@ returns-in_err-write_both-2 g c =
     let placed = rw c.as_str.ensures at c.in_ok-write_both.ensures in
     let held = g.E.Sink.held in
     let bad = c.args.bad.now in
+    let begin = c.args.begin.now in
     let text = (begin ++ bad.place) ++ (between ++ cause_name bad.cause) in
     let old = held c.args.err.now in
     let new = held c.write_both-2.new.err in
@@ -45,6 +44,7 @@ returns-in_err-write_text g c =
     let placed = rw c.as_str.ensures at c.in_ok-write_both.ensures in
     let named = rw c.name.ensures at c.in_ok-write_both-2.ensures in
     let bad = c.args.bad.now in
+    let begin = c.args.begin.now in
     let e = c.in_err-write_text.ensures in
     let front = begin ++ bad.place in
     let back = between ++ cause_name bad.cause in
@@ -63,6 +63,7 @@ returns g c =
     let placed = rw c.as_str.ensures at c.in_ok-write_both.ensures in
     let named = rw c.name.ensures at c.in_ok-write_both-2.ensures in
     let bad = c.args.bad.now in
+    let begin = c.args.begin.now in
     let front = begin ++ bad.place in
     let back = between ++ cause_name bad.cause in
     let held = g.E.Sink.held in

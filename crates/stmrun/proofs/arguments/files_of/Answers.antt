@@ -1,0 +1,5 @@
+use Rattle.std.proofs.Common.{refl, sym}
+use Rattle.stmrun.proofs.arguments.files_of.Goals as goal
+
+pub returns : goal.returns
+returns c = (refl, sym c.in_ok-scenario.ensures, sym c.in_ok-report.ensures)

@@ -4,3 +4,5 @@ pub mod SeenLemmas
 pub mod CommitLemmas
 pub mod PrefetchLemmas
 pub mod Cases
+pub mod PresentLemmas
+pub mod StateLemmas

@@ -1,14 +1,23 @@
-//! What an attempt asks of a store, one transaction each: the fetch of a key, and the commit.
+//! What an attempt asks of a store, one transaction each: the fetch of a key, and the commit. Beside them what those who
+//! keep such a store have in common: copies of what a commit tells, and the store's present keys and its state.
 #![tactic(auto)]
 
 mod answers;
+mod copies;
 mod fetching;
+mod present;
 mod sending;
 mod sent;
+mod state;
 
+pub use copies::{Copies, copies_of};
 pub use fetching::fetch;
+pub use present::present_keys;
 pub use sending::{commit, conflict};
 pub use sent::Sent;
+pub use state::state_of;
 pub use stm_attempt::Ready;
 pub use stm_history::{ReadAnswer, Sequence, Text};
+pub use stm_keys::Keys;
+pub use stm_meaning::{State, TraceItem, Value};
 pub use stm_txn::{Refusal, Store};

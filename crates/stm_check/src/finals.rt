@@ -1,8 +1,5 @@
 //! The lines of the end.
-ghost use Rattle.std.specs.Prelude.{◌≡◌, ◌++◌, ◌+◌, ℕ, ◌↔◌, map, string_bytes, IsTrue, IfOk, IfSome, OnOk, None};
-ghost use Rattle.std.specs.Map.{keys_of};
-ghost use Rattle.stm_keys.specs.Keys.{ListsPresent};
-ghost use Rattle.stm_txn.specs.PresentKeys.{keys_present};
+ghost use Rattle.std.specs.Prelude.{◌≡◌, ◌++◌, ◌+◌, ℕ, ◌↔◌, IsTrue, IfOk, IfSome, OnOk, None};
 ghost use Rattle.stm_leases.specs.Live.{Live};
 ghost use Rattle.stm_history.specs.History.{key_now};
 ghost use Rattle.stm_check.specs.Finals.{AreFinal, IsFinalKind};
@@ -17,32 +14,11 @@ use crate::leases::Lease;
 use crate::walk::Walk;
 use std::alloc::{AllocError, Global};
 use std::collections::BTreeMap;
+use stm_calls::present_keys;
 use stm_history::Text;
 use stm_keys::Keys;
 use stm_reports::ReportLine;
 use stm_told::{is_end, is_key, is_lease};
-
-/// Copies of the keys that are present, in the order of the store.
-fn listed_keys(alloc: Global, keys: &Keys) -> Result<Vec<String>, AllocError>
-    ensures copies { IfOk result (λ listed. map string_bytes listed.items ≡ keys_of keys.now.present) }
-    ensures present { ListsPresent keys.now.history keys.now.present }
-{
-    let mut listed = Vec::with_capacity(alloc, keys.len())?;
-    for index in 0..keys.len() {
-        let (key, _) = keys.at(index);
-        listed.push(String::from_str(alloc, key)?)?;
-    }
-    Ok(listed)
-}
-
-/// The keys that are present, ascending by bytes.
-fn present_keys(alloc: Global, keys: &Keys) -> Result<Vec<String>, AllocError>
-    ensures { IfOk result (λ present. map string_bytes present.items ≡ keys_present keys.now.history) }
-{
-    let mut present = listed_keys(alloc, keys)?;
-    present.sort()?;
-    Ok(present)
-}
 
 /// Adds the line of a key, if it is present.
 fn add_key(

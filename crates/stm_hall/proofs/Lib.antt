@@ -6,5 +6,4 @@ pub mod Sending
 pub mod FetchLemmas
 pub mod TurningDown
 pub mod Keeping
-pub mod StateLemmas
 pub mod WorkedExamples

@@ -4,6 +4,6 @@ pub mod Locked
 pub mod Fetching
 pub mod Verdicts
 pub mod Entering
-pub mod StateOf
 pub mod Laws
 pub mod Names
+pub use Rattle.stm_calls.specs.StateOf

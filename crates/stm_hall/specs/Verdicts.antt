@@ -4,6 +4,7 @@
 -- are applied, else nothing is changed and the keys that were read are read again. There an attempt and its reads are the package's
 -- own. Here an attempt is the caller's, so the values that it says it read are looked at too, at the levels that compare. That a
 -- commit of which no compare fails is refused for a value that is not the store's, is our own.
+pub use Rattle.stm_calls.specs.Kept.{answers_kept}
 use Rattle.std.specs.Prelude.{◌≡◌, ◌⊎◌, ℕ, Bool, bytes_eq, not, if◌then◌else◌, List, [], ◌∷◌, map, length, Option, None, Some, Result, Ok, Err, slice_get}
 use Rattle.std.specs.List.{find}
 use Rattle.stm_history.specs.declared.key_state.ReadAnswer.{ReadAnswer}
@@ -42,9 +43,6 @@ abbrev pub asking : Txn → Txn
 asking txn = record { compares = txn.compares; success = []; failure = txn.failure }
 
 -- its entry, after which the store's revision is this: the answers that it read are kept at ReadCommitted alone
-abbrev pub answers_kept : Level → List ReadAnswer → List ReadAnswer
-answers_kept level reads = if is_comparing level then [] else reads
-
 abbrev pub entry_of : ReadyRun → ℕ → Entry
 entry_of ready revision = Program ready.program ready.level (answers_kept ready.level ready.answers) ready.output ready.trace revision
 

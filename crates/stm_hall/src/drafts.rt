@@ -3,9 +3,9 @@ ghost use Rattle.std.specs.Prelude.{◌≡◌, IfOk};
 ghost use Rattle.stm_entries.specs.declared.entry.Entry.TheVariants.{Program as ProgramEntry};
 ghost use Rattle.stm_hall.specs.Verdicts.{answers_kept};
 
-use crate::vouching::is_comparing;
 use std::alloc::{AllocError, Global};
-use stm_attempt::{ReadSet, Ready};
+use stm_attempt::Ready;
+use stm_calls::copies_of;
 use stm_entries::Entry;
 use stm_history::{ReadAnswer, Sequence};
 use stm_meaning::{TraceItem, Value};
@@ -28,42 +28,6 @@ fn copy_program(program: &Program) -> Result<Program, AllocError>
     program.clone()
 }
 
-/// A copy of a run's output.
-fn copy_output(output: &Sequence<Value>) -> Result<Sequence<Value>, AllocError>
-    ensures { IfOk result (λ copy. copy ≡ output.now) }
-{
-    output.clone()
-}
-
-/// A copy of a run's trace.
-fn copy_trace(trace: &Sequence<TraceItem>) -> Result<Sequence<TraceItem>, AllocError>
-    ensures { IfOk result (λ copy. copy ≡ trace.now) }
-{
-    trace.clone()
-}
-
-/// A copy of what was read.
-fn copy_answers(answers: &ReadSet) -> Result<ReadSet, AllocError>
-    ensures { IfOk result (λ copy. copy ≡ answers.now) }
-{
-    answers.clone()
-}
-
-/// The answers that an entry keeps, copied: at ReadCommitted those that were read, else none.
-fn copy_kept(
-    alloc: Global,
-    level: Level,
-    answers: &ReadSet,
-) -> Result<Sequence<ReadAnswer>, AllocError>
-    ensures { IfOk result (λ copy. copy ≡ answers_kept level answers.now) }
-{
-    if is_comparing(level) {
-        return Ok(Sequence::new(alloc));
-    }
-    let copy = copy_answers(answers)?;
-    Ok(copy.into_answers())
-}
-
 /// Copies of what the entry of an attempt keeps.
 pub(crate) fn draft_of(alloc: Global, ready: &Ready) -> Result<Draft, AllocError>
     ensures program { IfOk result (λ draft. draft.program ≡ ready.now.program) }
@@ -73,15 +37,13 @@ pub(crate) fn draft_of(alloc: Global, ready: &Ready) -> Result<Draft, AllocError
     ensures trace { IfOk result (λ draft. draft.trace ≡ ready.now.trace) }
 {
     let program = copy_program(&ready.program)?;
-    let answers = copy_kept(alloc, ready.level, &ready.answers)?;
-    let output = copy_output(&ready.output)?;
-    let trace = copy_trace(&ready.trace)?;
+    let copies = copies_of(alloc, ready)?;
     Ok(Draft {
         program,
         level: ready.level,
-        answers,
-        output,
-        trace,
+        answers: copies.answers,
+        output: copies.output,
+        trace: copies.trace,
     })
 }
 

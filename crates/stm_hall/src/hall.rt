@@ -2,21 +2,21 @@
 ghost use Rattle.std.specs.Prelude.{◌≡◌, ◌≤◌, None, IfOk, IfErr};
 ghost use Rattle.stm_history.specs.History.{now};
 ghost use Rattle.stm_txn.specs.Numbers.{AnswerFits};
+ghost use Rattle.stm_calls.specs.StateOf.{IsStateOf};
 ghost use Rattle.stm_hall.specs.HallState.{made_over};
 ghost use Rattle.stm_hall.specs.Locked.{IsLocked};
 ghost use Rattle.stm_hall.specs.Laws.{GoesOn};
 ghost use Rattle.stm_hall.specs.Fetching.{OnlyReads, fetched, IsFetched};
 ghost use Rattle.stm_hall.specs.Verdicts.{verdict_of, IsVerdict, CanGoOn};
 ghost use Rattle.stm_hall.specs.Entering.{made, IsMade, IsAdvanced, HasStopped};
-ghost use Rattle.stm_hall.specs.StateOf.{IsStateOf};
 
 use crate::log::Log;
 use crate::refusal::{CommitRefusal, FetchRefusal};
-use crate::state::state_of;
 use crate::verdict::Verdict;
 use std::alloc::{AllocError, Global};
 use std::marker::Model;
 use stm_attempt::Ready;
+use stm_calls::state_of;
 use stm_entries::Entry;
 use stm_meaning::State;
 use stm_txn::{AdvanceRefused, Expired, Refusal, Store, Txn, TxnAnswer};

@@ -12,7 +12,6 @@ mod hall;
 pub mod laws;
 mod log;
 mod refusal;
-mod state;
 mod verdict;
 mod vouching;
 

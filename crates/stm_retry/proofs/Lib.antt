@@ -1,7 +1,6 @@
 pub mod Wants
 pub mod CallLemmas
 pub mod WatchCalls
-pub mod StateLemmas
 pub mod RunnerLemmas
 pub mod SlotLemmas
 pub mod StepLemmas

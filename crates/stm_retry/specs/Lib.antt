@@ -4,4 +4,4 @@ pub mod CallTells
 pub mod MachineTells
 pub mod RunnerView
 pub mod RunnerTells
-pub mod StateOf
+pub use Rattle.stm_calls.specs.StateOf

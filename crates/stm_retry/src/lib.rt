@@ -5,12 +5,11 @@
 //! transaction: the fetch of the key that it wants, or its commit.
 #![tactic(auto)]
 
-mod copies;
+mod entries;
 mod machine;
 mod runner;
 mod runner_steps;
 mod slots;
-mod state;
 mod store_calls;
 mod told;
 mod watch_calls;

@@ -18,14 +18,14 @@ ghost use Rattle.stm_retry.specs.MachineTells.{Tells};
 ghost use Rattle.stm_retry.specs.RunnerView.{task_of, AreNamed, with_answer, begun_again};
 ghost use Rattle.stm_retry.specs.RunnerTells.{workplace, Leaves, TellsEnd, IsReady, told_of_failure, may_go_on, reply_in, reply_told, slot_left};
 
-use crate::copies::{copies_of, entry_of};
+use crate::entries::entry_of;
 use crate::machine::{Machine, denied};
 use crate::runner::Runner;
 use crate::slots::{Slot, put_slot, take_runner};
 use crate::told::Told;
 use std::alloc::{AllocError, Global};
 use stm_attempt::{Next, Ready};
-use stm_calls::Sent;
+use stm_calls::{Sent, copies_of};
 use stm_history::{KeyState, ReadAnswer, Sequence, Text};
 use stm_meaning::{End, Run};
 use stm_program::{Level, Program};

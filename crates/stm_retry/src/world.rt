@@ -6,17 +6,17 @@ ghost use Rattle.stm_txn.specs.declared.refusal.Refusal.TheVariants.{OutOfMemory
 ghost use Rattle.stm_entries.specs.Replayed.{opening, without_moment};
 ghost use Rattle.stm_entries.specs.Replay.{replay};
 ghost use Rattle.stm_entries.specs.Legal.{AreLegal};
+ghost use Rattle.stm_calls.specs.StateOf.{IsStateOf};
 ghost use Rattle.stm_world.specs.declared.refusal.Refusal.TheVariants.{Store as OfStore, BadLimit};
 ghost use Rattle.stm_world.specs.declared.reply.Reply.TheVariants.{Started};
 ghost use Rattle.stm_world.specs.Headline.{Holds, logged};
 ghost use Rattle.stm_world.specs.World.{opened, start_runner, world_after, replies_to};
-ghost use Rattle.stm_retry.specs.StateOf.{IsStateOf};
 ghost use Rattle.stm_retry.specs.Tells.{Tells, ran_out, expired_of, IsRunStop};
 
 use crate::machine::Machine;
-use crate::state::state_of;
 use std::alloc::{AllocError, Global};
 use std::marker::Model;
+use stm_calls::state_of;
 use stm_history::{HIGHEST_REVISION, Sequence};
 use stm_meaning::State;
 use stm_program::{Level, Program};

@@ -19,4 +19,4 @@ loop-key-preserved c =
 pub returns : goal.returns
 returns c =
     all_key_lines c.args.keys.now.history c.as_slice-key-items.result.now c.loop-key.key-index c.args.lines.now.items c.loop-key.lines.items
-    c.loop-key-test.false (ap (map string_bytes) c.as_slice-key-items.ensures.value ∙ c.in_ok-present.ensures) c.loop-key.invariant
+    c.loop-key-test.false (ap (map string_bytes) c.as_slice-key-items.ensures.value ∙ c.in_ok-present.ensures.computed) c.loop-key.invariant

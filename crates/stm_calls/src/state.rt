@@ -1,7 +1,8 @@
 //! The state of a store, as programs run on it.
-ghost use Rattle.std.specs.Prelude.{◌≡◌, ◌<◌, ◌||◌, Bool, List, ℕ, IfOk, OnOk, bytes_eq, length};
-ghost use Rattle.stm_hall.specs.StateOf.{IsStateOf, IsStateOfSeen};
+ghost use Rattle.std.specs.Prelude.{◌||◌, Bool, List, ℕ, IfOk, OnOk, bytes_eq};
+ghost use Rattle.stm_calls.specs.StateOf.{IsStateOf, IsStateOfSeen};
 
+use crate::present::present_keys;
 use std::alloc::{AllocError, Global};
 use stm_history::Text;
 use stm_keys::Keys;
@@ -23,13 +24,16 @@ fn add_key(alloc: Global, state: &mut State, keys: &Keys, key: &str) -> Result<(
 }
 
 /// The state of a store's keys at its last revision.
-pub(crate) fn state_of(alloc: Global, keys: &Keys) -> Result<State, AllocError>
+///
+/// The keys come ascending, so that each entry is put behind those before it and none is moved. Want of memory is the
+/// only refusal.
+pub fn state_of(alloc: Global, keys: &Keys) -> Result<State, AllocError>
     ensures { IfOk result (λ state. IsStateOf keys.now.history state) }
 {
+    let present = present_keys(alloc, keys)?;
     let mut state = State::new(alloc);
-    for index in 0..keys.len() {
-        let (key, _) = keys.at(index);
-        add_key(alloc, &mut state, keys, key)?;
+    for key in present.as_slice() {
+        add_key(alloc, &mut state, keys, key.as_str())?;
     }
     Ok(state)
 }

@@ -1,7 +1,7 @@
 use Rattle.std.proofs.Common.{◌∙◌, ◌++◌, ◌∷◌, [], List, ℕ, ap, map, string_bytes}
 use Rattle.std.proofs.lemmas.List.{map-append}
-use Rattle.stm_check.proofs.FinalLemmas.{keys_more}
-use Rattle.stm_check.proofs.finals.listed_keys.Goals as goal
+use Rattle.stm_calls.proofs.PresentLemmas.{keys_more}
+use Rattle.stm_calls.proofs.present.listed_keys.Goals as goal
 
 pub loop-index-preserved : goal.loop-index-preserved
 loop-index-preserved c =

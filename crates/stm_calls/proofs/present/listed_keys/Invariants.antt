@@ -1,6 +1,6 @@
 use Rattle.std.proofs.Common.{◌≡◌, map, take, string_bytes}
 use Rattle.std.specs.Map.{keys_of}
-use Rattle.stm_check.proofs.finals.listed_keys.Given as goal
+use Rattle.stm_calls.proofs.present.listed_keys.Given as goal
 
 -- the keys so far are copied
 abbrev pub invariant-loop-index : goal.invariant-loop-index

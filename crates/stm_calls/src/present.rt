@@ -25,7 +25,7 @@ fn listed_keys(alloc: Global, keys: &Keys) -> Result<Vec<String>, AllocError>
 ///
 /// They are copied and sorted once. Want of memory is the only refusal.
 pub fn present_keys(alloc: Global, keys: &Keys) -> Result<Vec<String>, AllocError>
-    ensures are { IfOk result (λ present. ArePresent keys.now.history (map string_bytes present.items)) }
+    ensures present { IfOk result (λ present. ArePresent keys.now.history (map string_bytes present.items)) }
     ensures computed { IfOk result (λ present. map string_bytes present.items ≡ keys_present keys.now.history) }
 {
     let mut present = listed_keys(alloc, keys)?;

@@ -1,12 +1,13 @@
 -- Adding lines one after the other, as a loop does.
-use Rattle.std.proofs.Common.{◌≡◌, ℕ, zero, suc, ◌+◌, List, [], ◌∷◌, ◌++◌, drop, slice_get, Option, Some, refl, sym, ap, ◌∙◌, append_assoc, append-nil, arith}
+use Rattle.std.proofs.Common.{◌≡◌, ℕ, suc, ◌+◌, ◌<◌, ◌≤◌, List, [], ◌∷◌, ◌++◌, length, map, drop, get_or, Option, Some, refl, sym, ap, ◌∙◌}
+use Rattle.std.proofs.Common.{String, string_bytes, append_assoc, append-nil, arith}
+use Rattle.std.proofs.lemmas.List.{drop_all}
+use Rattle.std.proofs.Math.Seq.{drop-cons}
 use Rattle.serde_json.specs.Data.{Data}
 use Rattle.stm_history.specs.declared.key_state.KeyState.{KeyState}
 use Rattle.stm_history.specs.History.{History, key_now}
-use Rattle.stm_meaning.specs.declared.state.StateEntry.{StateEntry}
 use Rattle.stm_lines.specs.Lines.{key_line}
 use Rattle.stm_report.specs.Report.{line_text, lines_text, line_of_key, key_lines}
-use Rattle.stm_report.specs.StateKeys.{keys_of}
 
 pub lines_text-append : (ds es : List Data) → lines_text (ds ++ es) ≡ lines_text ds ++ lines_text es
 lines_text-append [] es = refl
@@ -19,19 +20,31 @@ pub one_key : (h : History) (key : List ℕ) (state : KeyState) (d : Data) → S
 one_key h key state d present is =
     ap (λ (kv : Option KeyState). lines_text (line_of_key key kv)) (sym present) ∙ append-nil (line_text (key_line key state)) ∙ ap line_text (sym is)
 
-next_entry : (es : List StateEntry) (i : ℕ) (e : StateEntry) → slice_get es i ≡ Some e → drop i es ≡ e ∷ drop (suc i) es
-next_entry [] i e h = cc
-next_entry (x ∷ es) zero e h = cc
-next_entry (x ∷ es) (suc i) e h = next_entry es i e h
+module _ {A : Type 0} where
+  -- what is left at a key
+  left_at : (keys : List (String A)) (i : ℕ) (key : String A) → i < length keys → key ≡ get_or keys i key → drop i keys ≡ key ∷ drop (i + 1) keys
+  left_at keys i key within is =
+      let step : i + 1 ≡ suc i = omega arith in
+      drop-cons keys i key within ∙ ap (λ (k : String A). k ∷ drop (suc i) keys) (sym is) ∙ ap (λ (n : ℕ). key ∷ drop n keys) (sym step)
 
-pub next_key : (text total : List ℕ) (h : History) (es : List StateEntry) (i : ℕ) (e : StateEntry) → slice_get es i ≡ Some e
-    → text ++ lines_text (key_lines h (keys_of (drop i es))) ≡ total
-    → (text ++ lines_text (line_of_key e.key (key_now h e.key))) ++ lines_text (key_lines h (keys_of (drop (i + 1) es))) ≡ total
-next_key text total h es i e at so_far =
-    let line = line_of_key e.key (key_now h e.key) in
-    let k : i + 1 ≡ suc i = omega arith in
-    let one : text ++ lines_text (key_lines h (keys_of (drop i es))) ≡ (text ++ lines_text line) ++ lines_text (key_lines h (keys_of (drop (i + 1) es))) =
-    ap (λ (fs : List StateEntry). text ++ lines_text (key_lines h (keys_of fs))) (next_entry es i e at)
-    ∙ ap (λ (t : List ℕ). text ++ t) (lines_text-append line (key_lines h (keys_of (drop (suc i) es))))
-    ∙ sym (append_assoc text (lines_text line) (lines_text (key_lines h (keys_of (drop (suc i) es))))) ∙ rw k refl in
-    sym one ∙ so_far
+  -- the line of one more key
+  pub next_key : (text total : List ℕ) (h : History) (keys : List (String A)) (i : ℕ) (key : String A) → i < length keys → key ≡ get_or keys i key
+      → text ++ lines_text (key_lines h (map string_bytes (drop i keys))) ≡ total
+      → (text ++ lines_text (line_of_key (string_bytes key) (key_now h (string_bytes key)))) ++ lines_text (key_lines h (map string_bytes (drop (i + 1) keys)))
+      ≡ total
+  next_key text total h keys i key within is so_far =
+      let line : List Data = line_of_key (string_bytes key) (key_now h (string_bytes key)) in
+      let rest : List Data = key_lines h (map string_bytes (drop (i + 1) keys)) in
+      append_assoc text (lines_text line) (lines_text rest)
+      ∙ ap (λ (t : List ℕ). text ++ t) (sym (lines_text-append line rest))
+      ∙ ap (λ (ks : List (String A)). text ++ lines_text (key_lines h (map string_bytes ks))) (sym (left_at keys i key within is))
+      ∙ so_far
+
+  -- once no key is left
+  pub all_keys : (before text : List ℕ) (h : History) (keys : List (String A)) (i : ℕ) → length keys ≤ i
+      → text ++ lines_text (key_lines h (map string_bytes (drop i keys))) ≡ before ++ lines_text (key_lines h (map string_bytes keys))
+      → text ≡ before ++ lines_text (key_lines h (map string_bytes keys))
+  all_keys before text h keys i end so_far =
+      sym (append-nil text)
+      ∙ ap (λ (ks : List (String A)). text ++ lines_text (key_lines h (map string_bytes ks))) (sym (drop_all i keys end))
+      ∙ so_far

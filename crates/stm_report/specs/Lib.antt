@@ -1,4 +1,3 @@
-pub mod StateKeys
 pub mod Leases
 pub mod Report
 pub mod Script

@@ -1,19 +1,18 @@
 //! Reports.
-ghost use Rattle.std.specs.Prelude.{◌≡◌, ◌++◌, false, IfOk, OnOk, string_bytes};
+ghost use Rattle.std.specs.Prelude.{◌≡◌, ◌++◌, false, map, IfOk, OnOk, string_bytes};
 ghost use Rattle.serde_json.specs.View.{view};
 ghost use Rattle.serde_json.specs.Written.{has_float};
 ghost use Rattle.stm_history.specs.History.{key_now};
 ghost use Rattle.stm_leases.specs.Live.{Live};
 ghost use Rattle.stm_report.specs.Leases.{HasLeases};
 ghost use Rattle.stm_report.specs.Report.{line_text, lines_text, event_lines, line_of_key, key_lines, lease_lines, IsReport};
-ghost use Rattle.stm_report.specs.StateKeys.{keys_of};
 
 use crate::leases::{Lease, live_leases};
 use serde_json::Value as Json;
 use std::alloc::{AllocError, Global};
 use std::collections::BTreeMap;
+use stm_calls::present_keys;
 use stm_lines::{end_json, event_json, key_json, lease_json};
-use stm_meaning::State;
 use stm_retry::{Denied, Reply, Store, World};
 
 /// Adds a line.
@@ -55,18 +54,18 @@ fn push_key(alloc: Global, text: &mut String, store: &Store, key: &str) -> Resul
     }
 }
 
-/// Adds a line for each key of the state.
+/// Adds a line for each of these keys that is present.
 fn push_keys(
     alloc: Global,
     text: &mut String,
     store: &Store,
-    state: &State,
+    keys: &[String],
 ) -> Result<(), AllocError>
     ensures { OnOk result (string_bytes text.new
-        ≡ string_bytes text.old ++ lines_text (key_lines store.now.standing.history (keys_of state.now))) }
+        ≡ string_bytes text.old ++ lines_text (key_lines store.now.standing.history (map string_bytes keys.now))) }
 {
-    for i in 0..state.len() {
-        push_key(alloc, text, store, state.at(i).key.as_str())?;
+    for key in keys {
+        push_key(alloc, text, store, key.as_str())?;
     }
     Ok(())
 }
@@ -98,11 +97,11 @@ pub fn report(
 ) -> Result<String, AllocError>
     ensures { IfOk result (λ text. IsReport world.now replies.now (string_bytes text)) }
 {
-    let state = world.state()?;
+    let present = present_keys(alloc, world.store().keys())?;
     let leases = live_leases(alloc, world.history())?;
     let mut text = String::new(alloc);
     push_events(alloc, &mut text, replies)?;
-    push_keys(alloc, &mut text, world.store(), &state)?;
+    push_keys(alloc, &mut text, world.store(), present.as_slice())?;
     push_leases(alloc, &mut text, &leases)?;
     let revision = world.store().keys().revision();
     let end = end_json(alloc, revision, world.history().len() as u64)?;

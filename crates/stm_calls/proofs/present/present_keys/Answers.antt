@@ -1,8 +1,8 @@
 use Rattle.stm_calls.proofs.PresentLemmas.{sorted_present, sorted_computed}
 use Rattle.stm_calls.proofs.present.present_keys.Goals as goal
 
-pub returns-clause-are : goal.returns-clause-are
-returns-clause-are c =
+pub returns-clause-present : goal.returns-clause-present
+returns-clause-present c =
     sorted_present c.args.keys.now.history c.args.keys.now.present c.in_ok-present.present.items c.sort_unstable.new.self.items
     c.in_ok-present.ensures.present c.in_ok-present.ensures.copies c.sort_unstable.ensures.permutation c.sort_unstable.ensures.sorted
 

@@ -13,4 +13,4 @@ loop-key-preserved c =
 pub returns : goal.returns
 returns c =
     all_keys_seen c.args.keys.now.history c.as_slice-key-items.result.now c.in_ok-present.present.items c.loop-key.key-index c.loop-key.state
-    c.loop-key-test.false c.as_slice-key-items.ensures.value c.in_ok-present.ensures.are c.loop-key.invariant
+    c.loop-key-test.false c.as_slice-key-items.ensures.value c.in_ok-present.ensures.present c.loop-key.invariant

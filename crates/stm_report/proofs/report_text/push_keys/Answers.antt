@@ -1,11 +1,18 @@
-use Rattle.std.proofs.Common.{◌++◌, string_bytes}
+use Rattle.std.proofs.Common.{◌++◌, map, refl, string_bytes}
 use Rattle.stm_report.specs.Report.{lines_text, key_lines}
-use Rattle.stm_report.specs.StateKeys.{keys_of}
-use Rattle.stm_report.proofs.LineLoops.{next_key}
+use Rattle.stm_report.proofs.LineLoops.{next_key, all_keys}
 use Rattle.stm_report.proofs.report_text.push_keys.Goals as goal
 
-pub loop-i-preserved : goal.loop-i-preserved
-loop-i-preserved c =
-    rw (c.in_ok-push_key.ensures, c.as_str.ensures) (next_key (string_bytes c.loop-i.text)
-    (string_bytes c.args.text.now ++ lines_text (key_lines c.args.store.now.standing.history (keys_of c.args.state.now)))
-    c.args.store.now.standing.history c.args.state.now c.loop-i.i c.at.result.now c.at.ensures.entry c.loop-i.invariant)
+pub loop-key-init : goal.loop-key-init
+loop-key-init c = refl
+
+pub loop-key-preserved : goal.loop-key-preserved
+loop-key-preserved c =
+    rw (c.in_ok-push_key.ensures, c.as_str.ensures.value) (next_key (string_bytes c.loop-key.text)
+    (string_bytes c.args.text.now ++ lines_text (key_lines c.args.store.now.standing.history (map string_bytes c.args.keys.now)))
+    c.args.store.now.standing.history c.args.keys.now c.loop-key.key-index c.key-item.result c.loop-key-test.true c.key-item.is c.loop-key.invariant)
+
+pub returns : goal.returns
+returns c =
+    all_keys (string_bytes c.args.text.now) (string_bytes c.loop-key.text) c.args.store.now.standing.history c.args.keys.now c.loop-key.key-index
+    c.loop-key-test.false c.loop-key.invariant

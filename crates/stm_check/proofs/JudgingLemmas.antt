@@ -7,10 +7,9 @@ use Rattle.std.proofs.lemmas.List.{length-take-le}
 use Rattle.stm_json.specs.declared.cause.Cause.TheVariants.{TooLong}
 use Rattle.stm_json.specs.Outcome.{Outcome, bad}
 use Rattle.stm_devices.specs.declared.transfer.TheConstants.{MOST_READ}
-use Rattle.stm_texts.specs.declared.reading.TheConstants.{MOST_BYTES}
+use Rattle.stm_json.specs.declared.limits.TheConstants.{MOST_BYTES}
 use Rattle.stm_texts.specs.declared.scenario.Scenario.{Scenario}
 use Rattle.stm_texts.specs.Reading.{scenario_in}
-use Rattle.stm_reports.specs.declared.reading.TheConstants.{MOST_BYTES as MOST_OF_REPORT}
 use Rattle.stm_reports.specs.declared.report.Report.{Report}
 use Rattle.stm_reports.specs.Reading.{report_in}
 
@@ -20,7 +19,7 @@ scenario_in-long : (bytes : List ℕ) → MOST_BYTES < length bytes → scenario
 unfolding scenario_in
 scenario_in-long bytes long = grind (arith, nat_tests)
 
-report_in-long : (bytes : List ℕ) → MOST_OF_REPORT < length bytes → report_in bytes ≡ bad TooLong
+report_in-long : (bytes : List ℕ) → MOST_BYTES < length bytes → report_in bytes ≡ bad TooLong
 unfolding report_in
 report_in-long bytes long = grind (arith, nat_tests)
 
@@ -33,13 +32,13 @@ scenario_by_length false all is =
     let short : length all ≤ MOST_BYTES = ltb-false MOST_BYTES (length all) is in
     ap scenario_in (take_all MOST_READ all (omega arith))
 
-report_by_length : (b : Bool) (all : List ℕ) → nat_lt MOST_OF_REPORT (length all) ≡ b → report_in (take MOST_READ all) ≡ report_in all
+report_by_length : (b : Bool) (all : List ℕ) → nat_lt MOST_BYTES (length all) ≡ b → report_in (take MOST_READ all) ≡ report_in all
 report_by_length true all is =
-    let long : MOST_OF_REPORT < length all = ltb-true MOST_OF_REPORT (length all) is in
+    let long : MOST_BYTES < length all = ltb-true MOST_BYTES (length all) is in
     let front : length (take MOST_READ all) ≡ MOST_READ = length-take-le MOST_READ all (omega arith) in
     report_in-long (take MOST_READ all) (omega arith) ∙ sym (report_in-long all long)
 report_by_length false all is =
-    let short : length all ≤ MOST_OF_REPORT = ltb-false MOST_OF_REPORT (length all) is in
+    let short : length all ≤ MOST_BYTES = ltb-false MOST_BYTES (length all) is in
     ap report_in (take_all MOST_READ all (omega arith))
 
 -- ---- what was read of the bytes was read of the source
@@ -54,4 +53,4 @@ pub report_told : (bytes : List ℕ) (known : Option (List ℕ)) (outcome : Outc
     report_in bytes ≡ outcome → IfSome known (λ all. report_in all ≡ outcome)
 report_told bytes None outcome read is = tt
 report_told bytes (Some all) outcome read is =
-    sym (report_by_length (nat_lt MOST_OF_REPORT (length all)) all refl) ∙ sym (ap report_in read) ∙ is
+    sym (report_by_length (nat_lt MOST_BYTES (length all)) all refl) ∙ sym (ap report_in read) ∙ is

@@ -159,7 +159,7 @@ third_within false false false within = refl
 
 sum_is_above : (m n : ℕ) → is_above m ≡ true → is_above (m + n) ≡ true
 unfolding is_above
-sum_is_above m n above = lt-ltb most_operations (m + n) (let more : 128 < m = ltb-true most_operations m above in omega arith)
+sum_is_above m n above = lt-ltb most_operations (m + n) (let more : most_operations < m = ltb-true most_operations m above in omega arith)
 
 -- how many reads a failure list has
 rereads : Level → ℕ → ℕ

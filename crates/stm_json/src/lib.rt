@@ -6,11 +6,13 @@
 
 mod cause;
 mod elements;
+mod limits;
 mod place;
 mod read_error;
 
 pub use cause::Cause;
 pub use elements::{four, number_between, number_within, one, three, two, whole, worded_array};
+pub use limits::MOST_BYTES;
 pub use place::{fault, within};
 pub use read_error::{BadInput, ReadError};
 pub use stm_history::Text;

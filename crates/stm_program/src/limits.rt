@@ -8,6 +8,7 @@ ghost use Rattle.stm_program.specs.Syntax.{of_statements};
 use crate::condition::{Cond, CondNode};
 use crate::expression::{Expr, ExprNode};
 use crate::statement::{Block, Stmt, StmtNode};
+use stm_history::HIGHEST_NUMBER;
 
 /// How deep the nodes of a program may stand in one another.
 pub const MAX_DEPTH: usize = 32;
@@ -25,7 +26,7 @@ pub const MAX_TURNS: u64 = 1000;
 pub const MAX_VARIABLE: u64 = 15;
 
 /// The greatest id of a lease.
-pub const MAX_LEASE: u64 = 9223372036854775807;
+pub const MAX_LEASE: u64 = HIGHEST_NUMBER;
 
 /// Whether statements are within the limits of a program. It takes no memory.
 pub fn fits(statements: &[Stmt]) -> bool

@@ -7,7 +7,7 @@ use Rattle.std.proofs.lemmas.List.{length-take-le}
 use Rattle.stm_json.specs.declared.cause.Cause.TheVariants.{TooLong}
 use Rattle.stm_texts.specs.declared.scenario.Scenario.{Scenario}
 use Rattle.stm_json.specs.Outcome.{Outcome, bad}
-use Rattle.stm_texts.specs.declared.reading.TheConstants.{MOST_BYTES}
+use Rattle.stm_json.specs.declared.limits.TheConstants.{MOST_BYTES}
 use Rattle.stm_devices.specs.declared.transfer.TheConstants.{MOST_READ}
 use Rattle.stm_texts.specs.Reading.{scenario_in}
 use Rattle.stm_report.specs.declared.run_script.ScriptFault.{ScriptFault}

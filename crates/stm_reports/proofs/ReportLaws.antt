@@ -12,7 +12,7 @@ use Rattle.stm_json.proofs.OutcomeLemmas.{bind_ok, within_ok}
 use Rattle.stm_txn_json.specs.Faults.{first_of, wrong}
 use Rattle.stm_txn_json.proofs.FaultLemmas.{fault_of, wrong_is, part_then, made}
 use Rattle.stm_reports.specs.declared.line.ReportLine.{ReportLine}
-use Rattle.stm_reports.specs.declared.reading.TheConstants.{MOST_BYTES}
+use Rattle.stm_json.specs.declared.limits.TheConstants.{MOST_BYTES}
 use Rattle.stm_reports.specs.declared.report.Report.{Report}
 use Rattle.stm_reports.specs.Bytes.{data_of, parts_of}
 use Rattle.stm_reports.specs.FirstFault.{json_faults, rest_faults, lines_faults, first_fault, IsFirstFault}

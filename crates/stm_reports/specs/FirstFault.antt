@@ -12,7 +12,7 @@ use Rattle.stm_json.specs.Outcome.{step}
 use Rattle.stm_txn_json.specs.Faults.{Faults, first_of, wrong, at, Sort, AnyText, WordOf, NumberIn, By, faults_by}
 use Rattle.stm_txn_json.specs.Faults.{Table, sorts_of, is_count, parts_faults, sorted_faults, worded_faults}
 use Rattle.stm_txn_json.specs.FirstFault.{any_number}
-use Rattle.stm_reports.specs.declared.reading.TheConstants.{MOST_BYTES}
+use Rattle.stm_json.specs.declared.limits.TheConstants.{MOST_BYTES}
 use Rattle.stm_reports.specs.Bytes.{data_of, parts_of}
 
 -- ---- parts

@@ -8,7 +8,7 @@ use Rattle.stm_reports.specs.declared.line.ReportLine.{ReportLine}
 use Rattle.stm_reports.specs.declared.line.ReportLine.TheVariants.{Txn}
 use Rattle.stm_reports.specs.declared.line.ToldOp.{ToldOp}
 use Rattle.stm_reports.specs.declared.line.ToldOp.TheVariants.{Get, Put, Del}
-use Rattle.stm_reports.specs.declared.reading.TheConstants.{MOST_BYTES}
+use Rattle.stm_json.specs.declared.limits.TheConstants.{MOST_BYTES}
 use Rattle.stm_reports.specs.declared.report.Report.{Report}
 use Rattle.stm_reports.specs.Bytes.{data_of, parts_of}
 use Rattle.stm_reports.specs.LineData.{line_data}

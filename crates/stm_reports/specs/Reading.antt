@@ -17,7 +17,7 @@ use Rattle.stm_reports.specs.declared.line.ToldAnswer.{ToldAnswer}
 use Rattle.stm_reports.specs.declared.line.ToldEvent.{ToldEvent}
 use Rattle.stm_reports.specs.declared.line.ToldOp.{ToldOp}
 use Rattle.stm_reports.specs.declared.report.Report.{Report}
-use Rattle.stm_reports.specs.declared.reading.TheConstants.{MOST_BYTES}
+use Rattle.stm_json.specs.declared.limits.TheConstants.{MOST_BYTES}
 use Rattle.stm_reports.specs.declared.words.EventWord.{EventWord}
 use Rattle.stm_reports.specs.declared.words.EventWord.TheVariants as event
 use Rattle.stm_reports.specs.declared.words.StandingWord.{StandingWord}

@@ -15,9 +15,9 @@ mod words;
 
 pub use causes::RefusalName;
 pub use line::{ReportLine, ToldAnswer, ToldEvent, ToldOp};
-pub use reading::{MOST_BYTES, read_report};
+pub use reading::read_report;
 pub use report::Report;
 pub use stm_history::{KeyState, Sequence, Text};
-pub use stm_json::{BadInput, Cause, ReadError};
+pub use stm_json::{BadInput, Cause, MOST_BYTES, ReadError};
 pub use stm_meaning::{Fault, TraceItem, Value};
 pub use stm_txn::Expired;

@@ -13,10 +13,7 @@ use crate::report::Report;
 use serde_json::Value as Json;
 use std::alloc::Global;
 use stm_history::Sequence;
-use stm_json::{Cause, ReadError, fault, within};
-
-/// A report has at most so many bytes.
-pub const MOST_BYTES: usize = 16777216;
+use stm_json::{Cause, MOST_BYTES, ReadError, fault, within};
 
 /// The line that bytes spell, or their first fault.
 #[tactic(auto, unfolding(crate::specs::Reading::line_in))]

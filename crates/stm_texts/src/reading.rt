@@ -12,10 +12,7 @@ use crate::scenario::Scenario;
 use serde_json::Value;
 use std::alloc::Global;
 use stm_history::{HIGHEST_REVISION, Sequence};
-use stm_json::{Cause, ReadError, fault, number_between, one, within, worded_array};
-
-/// A scenario has at most so many bytes.
-pub const MOST_BYTES: usize = 16777216;
+use stm_json::{Cause, MOST_BYTES, ReadError, fault, number_between, one, within, worded_array};
 
 /// What stands behind the word `begin`, where an array begins with it.
 fn beginning(value: &Value) -> Option<&[Value]>

@@ -1,6 +1,6 @@
 use Rattle.std.proofs.Common.{◌≤◌, length, arith, IsTrue}
 use Rattle.serde_json.specs.View.{view}
-use Rattle.stm_texts.specs.declared.reading.TheConstants.{MOST_BYTES}
+use Rattle.stm_json.specs.declared.limits.TheConstants.{MOST_BYTES}
 use Rattle.stm_texts.proofs.ScenarioLemmas.{scenario_in-json, scenario_in-other}
 use Rattle.stm_texts.proofs.reading.scenario_of_bytes.Goals as goal
 

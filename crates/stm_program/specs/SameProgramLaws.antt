@@ -1,10 +1,9 @@
 -- That `==` of programs is equality, and so an equivalence. It stands beside the definition and not among the proofs, since the impl of
 -- `==` states its laws by it.
-use Rattle.std.specs.Prelude.{◌≡◌, ◌↔◌, refl, Bool, true, false, ◌&&◌, IsTrue}
+use Rattle.std.specs.Prelude.{◌≡◌, refl, Bool, true, false, ◌&&◌}
 use Rattle.std.specs.Cmp.{IsEquivalence, decided, unsigned_Decides}
 use Rattle.std.proofs.Common.{sym, ap, ◌∙◌}
 use base.Stored.{Gv, gnil, gnum, gcons}
-use Rattle.stm_program.specs.Syntax.{ProgramTree}
 use Rattle.stm_program.specs.Coding.{encode_program, decode_program, decode_program-encode}
 use Rattle.stm_program.specs.SameProgram.{same_code, same_program, SameProgramsAreEqual}
 

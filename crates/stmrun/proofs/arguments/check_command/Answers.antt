@@ -10,7 +10,8 @@ neither a b left right = ap₂ (λ (x y : Bool). x || y) left right
 pub returns : goal.returns
 returns c =
     let bare_is : app_of c.after_help.result ≡ new_app (codes "check") = search rules in
-    let local_is = neither _ _ ((λ i. (c.after_help.ensures i).has_globals) ∙ ((λ i. (c.about.ensures i).has_globals) ∙ c.new.ensures.local)) c.file-scenario.ensures.local in
+    let local_is =
+    neither _ _ ((λ i. (c.after_help.ensures i).has_globals) ∙ ((λ i. (c.about.ensures i).has_globals) ∙ c.new.ensures.local)) c.file-scenario.ensures.local in
     IfOk-weaker c.arg-2.result _ _ (λ m adds. λ (old new : Command). λ (h : AddsSubcommand old m new).
     h.shape (adds.globals ∙ neither _ _ (c.in_ok-arg.ensures.globals ∙ local_is) c.file-report.ensures.local)
     ∙ ap (λ (a : App). with_subcommand (app_of old) a.top)

@@ -12,6 +12,8 @@ returns c =
     let bare_is : app_of c.after_help.result ≡ new_app (codes "script") = search rules in
     IfOk-weaker c.arg.result _ _ (λ m adds. λ (old new : Command). λ (h : AddsSubcommand old m new).
     h.shape (adds.globals
-    ∙ neither _ _ ((λ i. (c.after_help.ensures i).has_globals) ∙ ((λ i. (c.about.ensures i).has_globals) ∙ c.new.ensures.local)) c.other_input-input.ensures.local)
-    ∙ ap (λ (a : App). with_subcommand (app_of old) a.top) (adds.shape c.other_input-input.ensures.local ∙ ap₂ with_rule bare_is c.other_input-input.ensures.rule))
+    ∙ neither _ _ ((λ i. (c.after_help.ensures i).has_globals) ∙ ((λ i. (c.about.ensures i).has_globals) ∙ c.new.ensures.local))
+    c.other_input-input.ensures.local)
+    ∙ ap (λ (a : App). with_subcommand (app_of old) a.top)
+    (adds.shape c.other_input-input.ensures.local ∙ ap₂ with_rule bare_is c.other_input-input.ensures.rule))
     c.arg.ensures

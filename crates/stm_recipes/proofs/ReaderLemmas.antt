@@ -17,10 +17,6 @@ use Rattle.stm_recipes.proofs.AccountRuns.{written_in_range}
 
 -- ---- sums
 
-pub sum_of-zero : (rest : Option ℤ) → sum_of (Some (pos 0)) rest ≡ rest
-sum_of-zero None = refl
-sum_of-zero (Some y) = let e : pos 0 +ℤ y ≡ y = omega (arith, ints) in ap (λ z. Some z) e
-
 pub sum_of-more : (s x : ℤ) (rest : Option ℤ) → sum_of (Some (s +ℤ x)) rest ≡ sum_of (Some s) (sum_of (Some x) rest)
 sum_of-more s x None = refl
 sum_of-more s x (Some y) = let e : s +ℤ x +ℤ y ≡ s +ℤ (x +ℤ y) = omega (arith, ints) in ap (λ z. Some z) e

@@ -1,7 +1,7 @@
 -- What a runner knows, and what its attempt relies on, from call to call.
-use Rattle.std.proofs.Common.{◌≡◌, ◌≢◌, ℕ, ◌+◌, ◌<◌, List, [], ◌∷◌, ◌++◌, length, cond, refl, sym, ap, subst, arith}
+use Rattle.std.proofs.Common.{◌≡◌, ℕ, ◌+◌, ◌<◌, List, [], ◌∷◌, ◌++◌, length, cond, refl, sym, ap, subst}
 use Rattle.std.specs.Prelude.{Option, None, Some, IfSome, Contains, is_some, Result, Ok, Err, OnOk, OnErr}
-use Rattle.std.proofs.lemmas.List.Elements.{All-nil, All-push, All-append, All-same, All-weaker, All-contains}
+use Rattle.std.proofs.lemmas.List.Elements.{All-push, All-append, All-same, All-weaker, All-contains}
 use Rattle.stm_history.specs.declared.key_state.ReadAnswer.{ReadAnswer}
 use Rattle.stm_program.specs.Syntax.{ProgramTree}
 use Rattle.stm_program.specs.declared.level.Level.{Level}
@@ -114,10 +114,6 @@ pub named_runner : (task : Task) (failures : ℕ) (attempt : AttemptState) → I
     AreNamed (view_of task failures attempt).runner.known.reads
 named_runner task failures attempt x = named_settled task.program attempt.known x.read x.prefetched
 
-pub begun_is_runner : (task : Task) → task.limit ≢ 0 → IsRunner task 0 (begun task.level [])
-begun_is_runner task some =
-    record { of_program = tt; of_level = refl; has_more = omega arith; read = All-nil IsNamed; prefetched = All-nil IsNamed }
-
 pub advanced_is_runner : (task : Task) (failures : ℕ) (attempt : AttemptState) → IsRunner task failures attempt →
     IsRunner task failures (advanced task.program attempt)
 advanced_is_runner task failures attempt x =
@@ -139,8 +135,3 @@ supplied_is_runner task failures attempt a x is =
       read = All-push IsNamed attempt.known.reads a x.read (awaits task.program attempt a.key x.of_program is).named;
       prefetched = x.prefetched;
     }
-
-pub next_is_runner : (task : Task) (failures : ℕ) (answers : List ReadAnswer) → failures + 1 < task.limit → AreNamed answers →
-    IsRunner task (failures + 1) (begun task.level answers)
-next_is_runner task failures answers more named =
-    record { of_program = tt; of_level = refl; has_more = more; read = All-nil IsNamed; prefetched = named }

@@ -1,6 +1,6 @@
 -- The parts of a runner's step, as the code has them at hand.
 use Rattle.std.proofs.Common.{◌≡◌, ◌≢◌, ℕ, ◌+◌, ◌<◌, List, [], ◌∷◌, ◌++◌, length, map, Option, Some, None, Result, Ok, Err, Bool, true, false, cond, refl, sym}
-use Rattle.std.proofs.Common.{◌∙◌, ap, subst, ◌⊎◌, inl, inr, ◌≤◌}
+use Rattle.std.proofs.Common.{◌∙◌, ap, subst, ◌⊎◌, inl, inr}
 use Rattle.std.specs.Prelude.{nat_eq, slice_get, IsOk, is_ok}
 use Rattle.std.specs.declared.alloc.AllocError.{AllocError}
 use Rattle.std.proofs.lemmas.List.Elements.{All-nil, All-cons, All-head, All-tail}
@@ -26,7 +26,7 @@ use Rattle.stm_txn.specs.Outcome.{Done}
 use Rattle.stm_txn.specs.Commits.{revision_read}
 use Rattle.stm_txn.specs.Standing.{Standing, with_history}
 use Rattle.stm_compile.specs.Levels.{is_serializable}
-use Rattle.stm_compile.specs.Answers.{AreTrue, look_up, answer_now}
+use Rattle.stm_compile.specs.Answers.{look_up, answer_now}
 use Rattle.stm_compile.specs.CommitTxn.{reread_keys}
 use Rattle.stm_compile.specs.Committed.{committed}
 use Rattle.stm_compile.specs.Conflicts.{Seen, seen_by}
@@ -51,13 +51,8 @@ use Rattle.stm_retry.specs.MachineTells.{Tells}
 use Rattle.stm_retry.specs.RunnerView.{AreNamed, next_for, with_answer, begun_again}
 use Rattle.stm_retry.specs.RunnerTells.{Workplace, workplace, world_around, reply_in, slot_after, Leaves, TellsEnd, IsReady, may_go_on}
 use Rattle.stm_retry.specs.RunnerTells.{told_of_failure, reply_told, slot_left}
-use Rattle.stm_world.proofs.Truth.{base_is_reached}
 use Rattle.stm_world.proofs.Slots.{other_number, count_grows}
 use Rattle.stm_retry.proofs.SlotLemmas.{put_back, put_there}
-
-pub same_place : (s after : Standing) (entries more : List Entry) (r q : Runner) → after ≡ s → more ≡ entries → q ≡ r →
-    workplace after more q ≡ workplace s entries r
-same_place s after entries more r q standing_is entries_is runner_is = cc
 
 -- ---- a fetch ----
 
@@ -86,10 +81,6 @@ is_wanting r key at told = wanting_by r (run_on r.task.program r.known.reads) ke
 -- a key that is wanted is not empty
 pub wanted_is_named : (r : Runner) (key : List ℕ) (at : ℕ) → IsWanting r key at → 0 < length key
 wanted_is_named r key at x = (wanted_keys_are_unknown (look_up r.known.reads) r.task.program.statements key x.trace x.wants).1
-
--- the revision that its fetch names is reached
-pub wanted_is_reached : (r : Runner) (key : List ℕ) (at : ℕ) (h : History) → IsWanting r key at → AreTrue h r.known.reads → at ≤ now h
-wanted_is_reached r key at h x truth = subst (λ (n : ℕ). n ≤ now h) x.at_is (base_is_reached h r.task.level r.known.reads truth)
 
 step_fetches : (id : ℕ) (r : Runner) (key : List ℕ) (at : ℕ) (w : World) → IsWanting r key at →
     step_live id r w ≡ fetch id r key (revision_read w.standing.history at) w
@@ -161,14 +152,6 @@ ready_leaves id r q ready outcome s entries after same told leaves =
     let mine = subst (λ (x : Runner). (run : Run) → IsReady x run ready → Leaves id outcome (workplace s entries x) after (commit id x x.known.reads run))
     same leaves in
     commit_leaves id r found.0 ready outcome (workplace s entries r) after found.1 (mine found.0 found.1)
-
-pub still_ready : (r q : Runner) (ready : ReadyRun) → q ≡ r → next_for r ≡ Ready ready → (run : Run) × IsReady q run ready
-still_ready r q ready same told = subst (λ (x : Runner). (run : Run) × IsReady x run ready) (sym same) (is_ready r ready told)
-
-pub ready_is_named : (r q : Runner) (ready : ReadyRun) → q ≡ r → next_for r ≡ Ready ready → AreNamed q.known.reads → AreNamed ready.answers
-ready_is_named r q ready same told named =
-    let found : (run : Run) × IsReady q run ready = still_ready r q ready same told in
-    subst AreNamed (sym (ap (λ (p : ReadyRun). p.answers) found.1.is)) named
 
 -- the run that is ready is the run on its answers
 pub ready_runs : (r : Runner) (run : Run) (ready : ReadyRun) → IsReady r run ready → run_on ready.program ready.answers ≡ EndedRun run
@@ -370,9 +353,6 @@ named_by h false reads named = All-nil (λ (x : ReadAnswer). 0 < length x.key)
 -- the keys that were read again are named, as those that were read
 pub reread_named : (h : History) (level : Level) (reads : List ReadAnswer) → AreNamed reads → AreNamed (map (answer_now h) (reread_keys level reads))
 reread_named h level reads named = named_by h (is_serializable level) reads named
-
-pub reread_none : (h : History) (level : Level) (reads : List ReadAnswer) → is_serializable level ≡ false → map (answer_now h) (reread_keys level reads) ≡ []
-reread_none h level reads other = ap (λ b. map (answer_now h) (cond b (map (λ (a : ReadAnswer). a.key) reads) [])) other
 
 -- ---- which events are taken ----
 

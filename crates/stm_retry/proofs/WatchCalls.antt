@@ -55,14 +55,6 @@ abbrev pub MayWant : WorldEvent → Standing → Type 0
 MayWant event s = (runners : List Slot) (es : List Entry) → IsOk (step event (world_of runners s es)).reply →
     WantTells event [] (world_of runners s es) (world_of runners s es)
 
--- a call about watchers that the store took
-pub watch_taken : {A : Type 0} (event : WorldEvent) (tell : A → Reply) (s next : Standing) (o : Result (StoreStep A) StoreRefusal) (answer : A) →
-    IsWatchCall event tell s o → o ≡ Ok (record { answer = answer; next = next }) → WatchTells event (Ok (tell answer)) s next
-watch_taken event tell s next o answer call is es runners = record {
-  reply_is = ap (λ (x : Stepped). x.reply) (call runners es) ∙ ap (reply_to tell) is;
-  next_is = ap (λ (x : Stepped). x.next) (call runners es) ∙ ap (λ x. world_of runners (store_after_call s x) es) is;
-}
-
 refused_by : {A : Type 0} (event : WorldEvent) (tell : A → Reply) (s : Standing) (o : Result (StoreStep A) StoreRefusal) (cause : StoreRefusal) →
     IsWatchCall event tell s o → MayWant event s → NeverWants o → IsRefusalOf o cause → WatchTells event (denied (Store cause)) s s
 refused_by event tell s (Ok done) cause call want never refusal es runners =

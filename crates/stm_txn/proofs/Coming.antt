@@ -11,10 +11,6 @@ use Rattle.stm_txn.proofs.Ending.{none_due, one_ended}
 abbrev come_to : List Expired → Standing → Option Refusal → Advance
 come_to expired leaves cause = record { expired = expired; leaves = leaves; cause = cause }
 
--- none has expired yet
-pub come_none : (s : Standing) → HasCome s [] s
-come_none s = refl
-
 -- the first of several expiries, and the rest of them
 record ComesFirst (first : Standing) (e : Expired) (es : List Expired) (left : Standing) : Type 0 where
   id : ℕ

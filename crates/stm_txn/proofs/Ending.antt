@@ -171,18 +171,6 @@ pub stuck : (h : History) (id : ℕ) (has : Bool) → IsTrue has ↔ HasKeys (le
     (nat_eq (now h) HIGHEST_REVISION && has) ≡ is_used_up h (deletions_of h id)
 stuck h id has tells = stuck_case h id has (keys_of_lease h id) (are_keys h id) tells
 
--- a lease that ends is refused, or taken away with its keys
-pub ended_stuck : (s : Standing) (id : ℕ) → is_used_up s.history (deletions_of s.history id) ≡ true → ended s id ≡ Err RevisionsUsedUp
-ended_stuck s id used = ap (λ b. cond b (Err RevisionsUsedUp) (Ok (without_lease s id))) used
-
-pub ended_free : (s : Standing) (id : ℕ) → is_used_up s.history (deletions_of s.history id) ≡ false → ended s id ≡ Ok (without_lease s id)
-ended_free s id used = ap (λ b. cond b (Err RevisionsUsedUp) (Ok (without_lease s id))) used
-
-pub is_without : (s next : Standing) (id : ℕ) → next.history ≡ with_changes s.history (deletions_of s.history id) →
-    next.live ≡ finmap.remove s.live id → next.moment ≡ s.moment → next.watchers ≡ s.watchers → next ≡ without_lease s id
-is_without s next id history live moment watchers =
-    λ i. record { history = history i; live = live i; moment = moment i; watchers = watchers i }
-
 ended_case : (used : Bool) (taken next : Standing) → cond used (Err RevisionsUsedUp) (Ok taken) ≡ Ok next → taken ≡ next
 ended_case true taken next is = cc
 ended_case false taken next is = cc
@@ -267,9 +255,6 @@ next_refused s id cause due is =
     ∙ one_ended (finmap.len (finmap.remove s.live id)) id s (Err cause) due is
 
 -- What expired so far, followed by the rest.
-pub nothing_yet : (whole : Advance) → whole ≡ after [] whole
-nothing_yet whole = refl
-
 pub one_more_expired : (whole : Advance) (expired : List Expired) (s next : Standing) (id : ℕ) → whole ≡ after expired (expire_all s) →
     first_due s.live s.moment ≡ Some id → ended s id ≡ Ok next → whole ≡ after (expired ++ expired_in id next ∷ []) (expire_all next)
 one_more_expired whole expired s next id so_far due is =
@@ -283,10 +268,6 @@ one_more_expired whole expired s next id so_far due is =
 ended_with : (expired : List Expired) (s : Standing) (cause : Option Refusal) →
     after expired (record { expired = []; leaves = s; cause = cause }) ≡ record { expired = expired; leaves = s; cause = cause }
 ended_with expired s cause = λ i. record { expired = append-nil expired i; leaves = s; cause = cause }
-
-pub all_expired : (whole : Advance) (expired : List Expired) (s : Standing) → whole ≡ after expired (expire_all s) →
-    first_due s.live s.moment ≡ None → whole ≡ record { expired = expired; leaves = s; cause = None }
-all_expired whole expired s so_far none = so_far ∙ ap (after expired) (done s none) ∙ ended_with expired s None
 
 cut_case : (whole : Advance) (expired : List Expired) (s : Standing) (id : ℕ) (cause : Refusal) (outcome : Result Standing Refusal) → ended s id ≡ outcome →
     whole ≡ after expired (expire_all s) → first_due s.live s.moment ≡ Some id → IsRefusalOf outcome cause → IsCutShort whole expired cause s

@@ -84,7 +84,7 @@ module _ {A : Type 0} where
         both_ways (is_listed key (map string_bytes sorted)) (is_some (key_now h key))
         (λ listed. listed_present h present key lists ∙ listed_from key (keys_of present) (unsorted key (among_from key (map string_bytes sorted) listed)))
         (λ is. listed_from key (map string_bytes sorted)
-            (sorted_again key (among_from key (keys_of present) (sym (listed_present h present key lists) ∙ is))));
+        (sorted_again key (among_from key (keys_of present) (sym (listed_present h present key lists) ∙ is))));
   }
     where
       permuted : IsPermutation (map string_bytes texts) (map string_bytes sorted)

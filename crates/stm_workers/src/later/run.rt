@@ -1,0 +1,258 @@
+//! The run of jobs by several threads.
+ghost use Rattle.std.specs.Prelude.{◌≡◌, ◌+◌, ◌≤◌, ◌<◌, ◌^◌, [], length, vec_len, count_by, IfOk, IfErr, MatchResult};
+ghost use Rattle.stm_draw.specs.Draw.{size_of, newcomer};
+ghost use Rattle.stm_draw.specs.Seats.{IsSeatAt, seat_view, table_id, table_size};
+ghost use Rattle.stm_workers.specs.Ends.{commits_in, is_committed, StandsAt, AllStand};
+ghost use Rattle.stm_workers.specs.Gathered.{RanTo, OnAudit, BrokeOff};
+ghost use Rattle.stm_workers.specs.Rounds.{committed_in, HasGoneOn};
+
+use crate::attempts::Floor;
+use crate::audit::audit;
+use crate::begun::Begun;
+use crate::desk::{Desk, Round};
+use crate::gate::Gate;
+use crate::gathered::{FaultCause, Gathered, RunFault};
+use crate::job::Job;
+use crate::job_end::JobEnd;
+use crate::worker::{Chief, EndOf, Fresh, Idle, Whole};
+use std::alloc::{AllocError, Global};
+use std::marker::Brand;
+use std::sync::ledger::Blank;
+use std::sync::{Mutex, Wait};
+use std::thread;
+use std::thread::{JoinHandle, Scope, Threads};
+use stm_draw::{JobSeat, JobTable};
+use stm_hall::Hall;
+
+/// How many workers there may be.
+pub const MOST_WORKERS: usize = 16;
+
+/// What one worker does: it draws jobs until there are none left.
+fn work<R: Round, W: Wait, G: Gate>(
+    floor: &Floor<R, W, G>,
+    worker: Fresh<R>,
+) -> Result<Idle<R>, AllocError> {
+    let Fresh {
+        mut seat,
+        mut share,
+    } = worker;
+    let mut seen = 0;
+    let mut ended = Vec::new(floor.alloc);
+    for _ in floor.rt.forever() {
+        let Some(job) = floor.table.draw(&mut seat) else {
+            return Ok(Idle { seat, share, ended });
+        };
+        let end = floor.run_job(job, &mut share, &mut seen)?;
+        ended.push(EndOf { job, end })?;
+    }
+    unreachable!()
+}
+
+/// Starts the workers. Where a thread can't be started, those that run are left to the scope.
+fn start_all<'s, E, R: Round + Send + Sync, W: Threads + Wait + Sync, G: Gate + Sync>(
+    scope: &'s Scope<'s, E>,
+    floor: &'s Floor<'s, R, W, G>,
+    workers: usize,
+    chief: &mut Chief<R>,
+) -> Result<Vec<JoinHandle<Result<Idle<R>, AllocError>>>, FaultCause>
+    requires parts { chief.old.share.parts ≡ workers + 1 }
+    requires passes { (seat_view chief.old.seat).left ≡ workers + 1 }
+    requires nothing { chief.old.ended.items ≡ [] }
+    ensures { IfOk result (λ started. (vec_len started ≡ workers) × (chief.new.share.parts ≡ 1)) }
+{
+    let mut started = Vec::with_capacity(floor.alloc, workers)?;
+    for _ in 0..workers {
+        let fresh = chief.equip(floor.table);
+        match scope.spawn(move || work(floor, fresh)) {
+            Ok(handle) => started.push_reserved(handle),
+            Err(_) => return Err(FaultCause::Spawn),
+        }
+    }
+    Ok(started)
+}
+
+/// Joins the workers.
+fn join_all<R: Round, W: Threads + Wait>(
+    rt: &W,
+    table: &JobTable,
+    started: Vec<JoinHandle<Result<Idle<R>, AllocError>>>,
+    chief: Chief<R>,
+) -> Result<Whole<R>, FaultCause>
+    requires table { (table_id table.now ≡ R.table) × (table_size table.now ≡ R.size) }
+    requires parts { chief.share.parts + vec_len started ≡ R.size.seats }
+    requires some { 0 < vec_len started }
+{
+    let mut chief = chief;
+    for handle in started {
+        let idle = handle.join(rt)?;
+        chief.take_in(table, idle)?;
+    }
+    Ok(Whole { chief })
+}
+
+/// Starts the workers, and joins them. All threads have ended when it returns.
+fn employ<R: Round + Send + Sync, W: Threads + Wait + Sync, G: Gate + Sync>(
+    floor: &Floor<R, W, G>,
+    workers: usize,
+    chief: Chief<R>,
+) -> Result<Whole<R>, FaultCause>
+    requires workers { (1 ≤ workers) × (R.size.seats ≡ workers + 1) }
+    requires parts { chief.share.parts ≡ workers + 1 }
+    requires passes { (seat_view chief.seat).left ≡ workers + 1 }
+    requires nothing { chief.ended.items ≡ [] }
+{
+    let mut chief = chief;
+    thread::scope(
+        thread::scope_env(),
+        floor.rt,
+        |scope| -> Result<Whole<R>, FaultCause>
+            requires { (1 ≤ workers) × (R.size.seats ≡ workers + 1) × (chief.share.parts ≡ workers + 1) × ((seat_view chief.seat).left ≡ workers + 1) × (chief.ended.items ≡ []) }
+        {
+            let started = start_all(scope, floor, workers, &mut chief)?;
+            join_all(floor.rt, floor.table, started, chief)
+        },
+    )
+}
+
+/// The ends in the order of their jobs.
+fn in_places(alloc: Global, ended: Vec<EndOf>) -> Result<Vec<JobEnd>, FaultCause>
+    ensures { IfOk result (λ ends. (length ends.items ≡ length ended.items) × (count_by is_committed ends.items ≡ committed_in ended.items)) }
+{
+    let mut ended = ended;
+    ended.sort_unstable_by_key(|end| end.job);
+    let mut ends = Vec::with_capacity(alloc, ended.len())?;
+    for EndOf { end, .. } in ended {
+        ends.push_reserved(end);
+    }
+    Ok(ends)
+}
+
+/// One run, with its own table and its own ledger. It answers the ends of all jobs in their places, and the hall.
+fn run_round<R: Round + Send + Sync, W: Threads + Wait + Sync, G: Gate + Sync>(
+    rt: &W,
+    alloc: Global,
+    jobs: &[Job],
+    workers: usize,
+    hall: Hall,
+    gate: &G,
+    blank: Blank,
+    table: &JobTable,
+    seat: JobSeat,
+) -> (Result<Vec<JobEnd>, FaultCause>, Hall)
+    requires ledger { (blank.name ≡ R.name) × (blank.parts ≡ R.parts) × (R.parts ≡ workers + 1) }
+    requires table { (table_id table.now ≡ R.table) × (table_size table.now ≡ R.size) × (R.size ≡ size_of (length jobs.now) (workers + 1)) }
+    requires seat { IsSeatAt R.table R.size seat × (seat_view seat ≡ newcomer R.size) }
+    requires hall { hall ≡ R.before }
+    ensures gone_on { HasGoneOn hall result.1 }
+    ensures ends { IfOk result.0 (λ ends. length ends.items ≡ length jobs.now) }
+    ensures commits { IfOk result.0 (λ ends. commits_in result.1.entries ≡ commits_in hall.entries + count_by is_committed ends.items) }
+{
+    let (book, share) = blank.open::<R>();
+    let desk = Mutex::new(Desk::new(hall, book));
+    let chief = Chief::new(alloc, seat, share);
+    let floor = Floor {
+        rt,
+        alloc,
+        desk: &desk,
+        table,
+        jobs,
+        gate,
+    };
+    let employed = employ(&floor, workers, chief);
+    let desk = desk.into_inner();
+    match employed {
+        Ok(whole) => {
+            let (mut share, ended) = whole.parts();
+            (in_places(alloc, ended), desk.close(&mut share))
+        }
+        Err(cause) => (Err(cause), desk.hall_of()),
+    }
+}
+
+/// What the audit says of the ends.
+fn gather(
+    alloc: Global,
+    jobs: &[Job],
+    begun: Begun,
+    ends: Vec<JobEnd>,
+    hall: Hall,
+) -> Result<Gathered, RunFault>
+    requires { length ends.items ≡ length jobs.now }
+    ensures hall { MatchResult result (λ gathered. gathered.hall ≡ hall) (λ fault. fault.hall ≡ hall) }
+    ensures ends { IfOk result (λ gathered. (gathered.ends.items ≡ ends.items) × (gathered.committed ≡ count_by is_committed ends.items) × AllStand begun hall jobs.now ends.items) }
+    ensures cause { IfErr result (λ fault. OnAudit fault.cause (λ job. (job < length jobs.now) × (StandsAt begun hall jobs.now ends.items job → ⊥))) }
+{
+    let committed = ends.iter().filter(|end| end.is_committed()).count();
+    match audit(alloc, jobs, ends.as_slice(), begun, &hall) {
+        Ok(None) => Ok(Gathered {
+            ends,
+            committed,
+            hall,
+        }),
+        Ok(Some(job)) => Err(RunFault {
+            cause: FaultCause::Audit { job },
+            hall,
+        }),
+        Err(AllocError) => Err(RunFault {
+            cause: FaultCause::OutOfMemory,
+            hall,
+        }),
+    }
+}
+
+/// The table of the jobs, with a seat for each worker and one for who starts them.
+fn make_table(
+    alloc: Global,
+    jobs: usize,
+    workers: usize,
+) -> Result<(JobTable, JobSeat), AllocError>
+    requires { workers ≤ 16 }
+    ensures { IfOk result (λ made. (table_size made.0 ≡ size_of jobs (workers + 1)) × IsSeatAt (table_id made.0) (table_size made.0) made.1 × (seat_view made.1 ≡ newcomer (table_size made.0))) }
+{
+    // No memory has room for so many jobs.
+    if jobs >= 1 << 63 {
+        return Err(AllocError);
+    }
+    JobTable::new(alloc, jobs, workers + 1)
+}
+
+/// Runs jobs on a hall by so many threads, from 1 to `MOST_WORKERS`.
+///
+/// A worker draws a job, evaluates it without the lock, and holds the lock for one fetch or one commit at a time. Each job is drawn once.
+/// After a commit that failed a job is attempted again, until it has sent as many commits as it may.
+///
+/// At `Ok` each job has its end at its place, each end stands in the hall, and the hall has the entries that it had, with one commit
+/// for each job that committed. `OutOfMemory`: a growth was refused, in a worker, in the hall, or here. `Spawn`: a thread could not be
+/// started. `Audit`: the end of this job does not stand. At each of these all threads have ended, and the hall has what was committed
+/// until then. Nothing is said of which job goes first, nor that it returns.
+pub fn run_workers<W: Threads + Wait + Sync, G: Gate + Sync>(
+    rt: &W,
+    alloc: Global,
+    jobs: &[Job],
+    workers: usize,
+    hall: Hall,
+    gate: &G,
+) -> Result<Gathered, RunFault>
+    requires { (1 ≤ workers) × (workers ≤ 16) }
+    ensures ok { IfOk result (λ gathered. RanTo hall jobs.now gathered.ends.items gathered.committed gathered.hall) }
+    ensures fault { IfErr result (λ fault. BrokeOff hall jobs.now fault.cause fault.hall) }
+{
+    let begun = Begun {
+        entries: hall.entries().len(),
+        revision: hall.revision(),
+    };
+    let Ok((table, seat)) = make_table(alloc, jobs.len(), workers) else {
+        return Err(RunFault {
+            cause: FaultCause::OutOfMemory,
+            hall,
+        });
+    };
+    let blank = Blank::new(workers as u64 + 1);
+    let (ends, hall) = run_round::<Brand, W, G>(
+        rt, alloc, jobs, workers, hall, gate, blank, &table, seat,
+    );
+    match ends {
+        Ok(ends) => gather(alloc, jobs, begun, ends, hall),
+        Err(cause) => Err(RunFault { cause, hall }),
+    }
+}

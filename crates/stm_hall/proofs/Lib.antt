@@ -8,3 +8,5 @@ pub mod TurningDown
 pub mod Keeping
 pub mod StateLemmas
 pub mod WorkedExamples
+pub mod TrueReads
+pub mod Changed

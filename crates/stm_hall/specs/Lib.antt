@@ -7,3 +7,4 @@ pub mod Entering
 pub mod StateOf
 pub mod Laws
 pub mod Names
+pub mod Prepared

@@ -9,4 +9,4 @@ pub mod Keeping
 pub mod StateLemmas
 pub mod WorkedExamples
 pub mod TrueReads
-pub mod Changed
+pub mod ChangedAbove

@@ -1,5 +1,5 @@
 //! Whether a key was changed above a revision.
-ghost use Rattle.std.specs.Prelude.{◌≡◌, is_some};
+ghost use Rattle.std.specs.Prelude.{◌≡◌, ◌≤◌, is_some};
 ghost use Rattle.stm_keys.specs.Events.{event_about};
 ghost use Rattle.stm_compile.specs.Conflicts.{changes_above};
 
@@ -17,17 +17,26 @@ fn has_event_of(events: &[Event], key: &str) -> bool
     false
 }
 
-/// Whether the history changes a key above a revision. The newest revisions are looked at first.
-pub(crate) fn is_changed_above(keys: &Keys, key: &str, since: u64) -> bool
-    ensures { result ≡ changes_above keys.now.history.opening since key.now keys.now.history.revisions }
+/// Whether the history changes a key above a revision that is not below its opening. The newest revisions are looked
+/// at first.
+fn is_changed_from(keys: &Keys, key: &str, floor: u64) -> bool
+    requires { keys.now.history.opening ≤ floor }
+    ensures { result ≡ changes_above keys.now.history.opening floor key.now keys.now.history.revisions }
 {
-    let floor = keys.opening().max(since);
     let mut number = keys.revision();
-    while number > floor {
+    while floor < number {
         if has_event_of(keys.events_at(number), key) {
             return true;
         }
         number -= 1;
     }
     false
+}
+
+/// Whether the history changes a key above a revision.
+pub(crate) fn is_changed_above(keys: &Keys, key: &str, since: u64) -> bool
+    ensures { result ≡ changes_above keys.now.history.opening since key.now keys.now.history.revisions }
+{
+    let floor = since.max(keys.opening());
+    is_changed_from(keys, key, floor)
 }

@@ -67,14 +67,13 @@ fn send(
     ensures answers { IfOk result CanGoOn }
 {
     let _keys_differ = ready.answers.as_slice();
-    let Prepared { txn, draft } = prepared;
     entries.reserve(1)?;
-    let answer = store.txn(&txn)?;
+    let answer = store.txn(&prepared.txn)?;
     match answer.failed {
         None => {
             let index = entries.len();
             let revision = answer.revision;
-            entries.push_reserved(entry_from(draft, revision));
+            entries.push_reserved(entry_from(prepared.draft, revision));
             Ok(Verdict::Committed { index, revision })
         }
         Some(compare) => {
@@ -145,6 +144,7 @@ pub(crate) fn commit(
     ensures answers { IfOk result CanGoOn }
     ensures run { IsRunOnItsAnswers ready.now }
 {
+    // (the attempt's type tells that it is a run on its answers)
     let _is_run = ready.answers.as_slice();
     let unvouched = find_unvouched(store.keys(), ready);
     match unvouched {

@@ -1,8 +1,8 @@
 //! The hall.
-ghost use Rattle.std.specs.Prelude.{◌≡◌, ◌↔◌, ◌≤◌, None, IfOk, IfErr, IsTrue};
+ghost use Rattle.std.specs.Prelude.{◌≡◌, ◌≤◌, None, IfOk, IfErr};
 ghost use Rattle.stm_history.specs.History.{now};
 ghost use Rattle.stm_txn.specs.Numbers.{AnswerFits};
-ghost use Rattle.stm_compile.specs.Conflicts.{IsChangedAbove};
+ghost use Rattle.stm_compile.specs.Conflicts.{changes_above};
 ghost use Rattle.stm_hall.specs.HallState.{made_over};
 ghost use Rattle.stm_hall.specs.Locked.{IsLocked};
 ghost use Rattle.stm_hall.specs.Laws.{GoesOn};
@@ -149,7 +149,7 @@ impl Hall {
 
     /// Whether the history changes a key above a revision. It takes no memory, and a step for each revision above that.
     pub fn is_changed_above(&self, key: &str, since: u64) -> bool
-        ensures { IsTrue result ↔ IsChangedAbove self.now.standing.history since key.now }
+        ensures { result ≡ changes_above self.now.standing.history.opening since key.now self.now.standing.history.revisions }
     {
         is_changed_above(self.log.store.keys(), key, since)
     }

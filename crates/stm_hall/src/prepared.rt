@@ -1,5 +1,6 @@
 //! What a commit needs beside its attempt.
 ghost use Rattle.std.specs.Prelude.{IfOk};
+ghost use Rattle.stm_attempt.specs.ReadyRun.{IsRunOnItsAnswers};
 ghost use Rattle.stm_hall.specs.Prepared.{IsPreparedFor};
 
 use crate::drafts::{Draft, draft_of};
@@ -18,7 +19,8 @@ pub struct Prepared {
 
 /// Prepares the commit of an attempt. Want of memory is the only refusal.
 pub fn prepare(alloc: Global, ready: &Ready) -> Result<Prepared, AllocError>
-    ensures { IfOk result (λ prepared. IsPreparedFor prepared ready.now) }
+    ensures prepared { IfOk result (λ prepared. IsPreparedFor prepared ready.now) }
+    ensures run { IsRunOnItsAnswers ready.now }
 {
     let txn = compile(alloc, ready.level, &ready.answers, &ready.writes)?;
     let draft = draft_of(alloc, ready)?;

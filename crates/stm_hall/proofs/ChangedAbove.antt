@@ -1,6 +1,6 @@
 -- Whether a key was changed above a revision, by the events of the revisions from the newest down.
-use Rattle.std.proofs.Common.{◌≡◌, ℕ, zero, suc, ◌+◌, ◌-◌, ◌<◌, ◌≤◌, ◌&&◌, ◌||◌, List, [], ◌∷◌, length, map, Bool, true, false, cond, Option, Some, None, is_some}
-use Rattle.std.proofs.Common.{refl, sym, ◌∙◌, ap, ⊎_elim, arith, lt-ltb, le-ltb, eq-eqb, ne_eqb}
+use Rattle.std.proofs.Common.{◌≡◌, ℕ, zero, suc, ◌+◌, ◌<◌, ◌≤◌, max, ◌&&◌, ◌||◌, List, [], ◌∷◌, length, map, Bool, true, false, cond}
+use Rattle.std.proofs.Common.{Option, Some, None, is_some, refl, sym, ◌∙◌, ap, subst, ⊎_elim, arith, lt-ltb, le-ltb, eq-eqb, ne_eqb}
 use Rattle.std.proofs.lemmas.Bool.{cases_order, cases_lt}
 use Rattle.std.specs.Prelude.{bytes_eq, nat_lt}
 use Rattle.stm_history.specs.declared.change.Change.{Change}
@@ -97,11 +97,29 @@ found_above h since n key low under high found =
 
 -- or none
 pub passed_above : (h : History) (since n : ℕ) (key : List ℕ) → h.opening ≤ n → since ≤ n → suc n ≤ now h →
-    is_some (event_about key (events_of h (suc n))) ≡ false
-    → changes_above h.opening since key (revisions_up_to h.opening (suc n) h.revisions) ≡ changes_above h.opening since key (revisions_up_to h.opening n h.revisions)
+    is_some (event_about key (events_of h (suc n))) ≡ false →
+    changes_above h.opening since key (revisions_up_to h.opening (suc n) h.revisions)
+    ≡ changes_above h.opening since key (revisions_up_to h.opening n h.revisions)
 passed_above h since n key low under high none =
     next_up h.opening since n key h.revisions (newest h.opening n h.revisions low high) under
     ∙ either_false (is_some (event_about key (events_of h (suc n)))) (changes_above h.opening since key (revisions_up_to h.opening n h.revisions)) none
+
+-- the same, of a number above the floor of the search
+pub found_at : (h : History) (floor number : ℕ) (key : List ℕ) → h.opening ≤ floor → floor < number → number ≤ now h →
+    is_some (event_about key (events_of h number)) ≡ true → changes_above h.opening floor key (revisions_up_to h.opening number h.revisions) ≡ true
+found_at h floor zero key opened above reached found = absurd (omega arith)
+found_at h floor (suc n) key opened above reached found = found_above h floor n key (omega arith) (omega arith) reached found
+
+pub passed_at : (h : History) (floor number next : ℕ) (key : List ℕ) → suc next ≡ number → h.opening ≤ floor → floor ≤ next → number ≤ now h →
+    is_some (event_about key (events_of h number)) ≡ false →
+    changes_above h.opening floor key (revisions_up_to h.opening number h.revisions)
+    ≡ changes_above h.opening floor key (revisions_up_to h.opening next h.revisions)
+passed_at h floor number next key step opened above =
+    subst (λ (m : ℕ). m ≤ now h → is_some (event_about key (events_of h m)) ≡ false →
+        changes_above h.opening floor key (revisions_up_to h.opening m h.revisions)
+        ≡ changes_above h.opening floor key (revisions_up_to h.opening next h.revisions))
+    step
+    (λ reached none. passed_above h floor next key (omega arith) above reached none)
 
 -- revisions up to the one that was seen are not above it
 nothing_above : (opening since : ℕ) (key : List ℕ) (revisions : List (List Change)) → number_of_last opening revisions ≤ since →
@@ -124,15 +142,7 @@ short_enough opening n (c ∷ revisions) low = ⊎_elim
         ap (λ (l : List (List Change)). length l) (all_up_to opening n (c ∷ revisions) within) in omega (arith, e, within))
     (cases_lt n (number_of_last opening (c ∷ revisions)))
 
-none_below : (opening n : ℕ) (revisions : List (List Change)) → n ≤ opening → revisions_up_to opening n revisions ≡ []
-none_below opening n [] low = refl
-none_below opening n (c ∷ revisions) low = last_is_above opening n c revisions (omega arith) ∙ none_below opening n revisions low
-
--- once the number is at the opening or at the revision that was seen, nothing is left
-pub none_above : (h : History) (since n : ℕ) (key : List ℕ) → n ≤ h.opening →
-    changes_above h.opening since key (revisions_up_to h.opening n h.revisions) ≡ false
-none_above h since n key low = ap (changes_above h.opening since key) (none_below h.opening n h.revisions low)
-
+-- once the number is at the floor, nothing is left
 pub seen_all : (h : History) (since n : ℕ) (key : List ℕ) → h.opening ≤ n → n ≤ since →
     changes_above h.opening since key (revisions_up_to h.opening n h.revisions) ≡ false
 seen_all h since n key low seen =
@@ -143,3 +153,19 @@ seen_all h since n key low seen =
 pub from_the_last : (h : History) (since : ℕ) (key : List ℕ) →
     changes_above h.opening since key h.revisions ≡ changes_above h.opening since key (revisions_up_to h.opening (now h) h.revisions)
 from_the_last h since key = ap (changes_above h.opening since key) (sym (all_up_to h.opening (now h) h.revisions (omega arith)))
+
+-- every revision is above the opening
+later_test : (opening since n : ℕ) → opening < n → nat_lt since n ≡ nat_lt (max since opening) n
+later_test opening since n above = ⊎_elim
+    (λ (under : since < n). lt-ltb since n under ∙ sym (lt-ltb (max since opening) n (omega arith)))
+    (λ (reached : n ≤ since). le-ltb since n reached ∙ sym (le-ltb (max since opening) n (omega arith)))
+    (cases_lt since n)
+
+pub above_the_opening : (opening since : ℕ) (key : List ℕ) (revisions : List (List Change)) →
+    changes_above opening since key revisions ≡ changes_above opening (max since opening) key revisions
+above_the_opening opening since key [] = refl
+above_the_opening opening since key (c ∷ revisions) =
+    ap (λ b. (b && is_some (change_of key c)) || changes_above opening since key revisions)
+        (later_test opening since (number_of_last opening (c ∷ revisions)) (omega arith))
+    ∙ ap (λ b. (nat_lt (max since opening) (number_of_last opening (c ∷ revisions)) && is_some (change_of key c)) || b)
+        (above_the_opening opening since key revisions)

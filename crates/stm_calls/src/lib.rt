@@ -6,7 +6,8 @@ mod fetching;
 mod sending;
 mod sent;
 
-pub use fetching::fetch;
+pub use answers::take_only_read;
+pub use fetching::{fetch, read_one};
 pub use sending::{commit, conflict};
 pub use sent::Sent;
 pub use stm_attempt::Ready;

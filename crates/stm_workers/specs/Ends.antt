@@ -3,7 +3,7 @@
 -- The documentation of the Go package `clientv3/concurrency`, "STM": a transaction whose commit fails is run again. That a job sends
 -- so many commits at most, and then tells the key over which the last one failed, is our own; so is the look at all ends once the
 -- threads have ended.
-use Rattle.std.specs.Prelude.{◌≡◌, ℕ, ◌+◌, ◌<◌, ◌≤◌, Bool, true, false, List, length, Option, None, Some, option_and_then, slice_get, count_by}
+use Rattle.std.specs.Prelude.{◌≡◌, ℕ, ◌+◌, ◌<◌, ◌≤◌, ◌==◌, Bool, true, false, List, length, Option, None, Some, option_and_then, slice_get, count_by}
 use Rattle.stm_history.specs.History.{now}
 use Rattle.stm_compile.specs.Levels.{is_comparing}
 use Rattle.stm_compile.specs.Conflicts.{IsChangedAbove}
@@ -59,15 +59,32 @@ entry_named (Faulted fault) = None
 entry_named (Refused cause) = None
 entry_named (GaveUp key) = None
 
--- What an end says is so. A commit is an entry made since the hall was handed in. Who gave up over a key was at a level that compares;
--- the key was changed since, and the counter has grown by the commits that the job could send. Of the other ends nothing is said.
+-- the entry that it names is this one
+abbrev pub names_entry : ℕ → JobEnd → Bool
+names_entry index (Committed named revision) = named == index
+names_entry index (Aborted text) = false
+names_entry index (Faulted fault) = false
+names_entry index (Refused cause) = false
+names_entry index (GaveUp key) = false
+
+-- a job gave up over this key: at a level that compares; the key was changed since the hall was handed in, and the counter has grown by
+-- the commits that the job could send
+abbrev pub IsGivenUp : Begun → HallState → Job → List ℕ → Type 0
+IsGivenUp begun hall job key =
+    (is_comparing job.level ≡ true) × IsChangedAbove hall.standing.history begun.revision key × (begun.revision + job.limit ≤ now hall.standing.history)
+
+-- What an end says is so: a commit is an entry made since the hall was handed in, and who gave up could. Of the other ends nothing is
+-- said.
 abbrev pub IsBorneOut : Begun → HallState → Job → JobEnd → Type 0
 IsBorneOut begun hall job (Committed index revision) = (begun.entries ≤ index) × IsCommitOf job revision (slice_get hall.entries index)
-IsBorneOut begun hall job (GaveUp key) =
-    (is_comparing job.level ≡ true) × IsChangedAbove hall.standing.history begun.revision key × (begun.revision + job.limit ≤ now hall.standing.history)
+IsBorneOut begun hall job (GaveUp key) = IsGivenUp begun hall job key
 IsBorneOut begun hall job (Aborted text) = Unit {0}
 IsBorneOut begun hall job (Faulted fault) = Unit {0}
 IsBorneOut begun hall job (Refused cause) = Unit {0}
+
+abbrev pub BorneOutAt : Begun → HallState → List Job → List JobEnd → ℕ → Type 0
+BorneOutAt begun hall jobs ends place =
+    (job : Job) (end : JobEnd) → slice_get jobs place ≡ Some job → slice_get ends place ≡ Some end → IsBorneOut begun hall job end
 
 -- no end before this place names the entry
 abbrev pub IsNew : List JobEnd → ℕ → ℕ → Type 0

@@ -1,9 +1,13 @@
 -- What the values under the lock and in each worker have in common: facts that are written as equations, since a value keeps them.
-use Rattle.std.specs.Prelude.{◌≡◌, ℕ, ◌+◌, Bool, List, [], ◌∷◌, map, length, take, cond, count_by}
+use Rattle.std.specs.Prelude.{◌≡◌, ℕ, Bool, List, [], map, length, take, cond, count_by, Result}
 use Rattle.atomic_table.specs.Seated.{TableId}
 use Rattle.stm_draw.specs.declared.view.Size.{Size}
 use Rattle.stm_draw.specs.declared.view.View.{View}
-use Rattle.stm_txn.specs.Standing.{opening}
+use Rattle.stm_txn.specs.declared.txn.Txn.{Txn}
+use Rattle.stm_txn.specs.declared.answer.TxnAnswer.{TxnAnswer}
+use Rattle.stm_txn.specs.Standing.{Standing, opening}
+use Rattle.stm_hall.specs.declared.refusal.FetchRefusal.{FetchRefusal}
+use Rattle.stm_hall.specs.Fetching.{fetched, IsFetched}
 use Rattle.stm_hall.specs.declared.verdict.Verdict.{Verdict}
 use Rattle.stm_hall.specs.declared.verdict.Verdict.TheVariants.{Committed, Failed}
 use Rattle.stm_hall.specs.HallState.{HallState, made_over}
@@ -25,6 +29,14 @@ jobs_of ended = map (λ e. e.job) ended
 abbrev pub committed_in : List EndOf → ℕ
 committed_in ended = count_by (λ e. is_committed e.end) ended
 
+-- the ends without the places of their jobs
+abbrev pub ends_in : List EndOf → List JobEnd
+ends_in ended = map (λ e. e.end) ended
+
+-- what a fetch answered, in whichever hall it was made
+abbrev pub AnswersInSomeHall : ℕ → Txn → Result TxnAnswer FetchRefusal → Type 0
+AnswersInSomeHall seen txn result = (s : Standing) × IsFetched (fetched s seen txn) result
+
 -- how many commits a verdict counts
 abbrev pub committed_by : Verdict → ℕ
 committed_by (Committed index revision) = 1
@@ -41,6 +53,10 @@ no_hall = made_over (opening 1)
 abbrev pub counted_end : JobEnd → ℕ
 counted_end end = cond (is_committed end) 1 0
 
--- the seat of a worker that was given one pass and has used it, after these draws
+-- the seat of a worker that was given one pass, after these draws
+abbrev pub drawing : Size → List ℕ → View
+drawing size numbers = record { size = size; drawn = numbers; past = 0; left = 1 }
+
+-- and once it has used the pass
 abbrev pub used_up : Size → List ℕ → View
 used_up size numbers = record { size = size; drawn = numbers; past = 1; left = 0 }

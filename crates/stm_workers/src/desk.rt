@@ -1,16 +1,17 @@
 //! What lies under the lock.
-ghost use Rattle.std.specs.Prelude.{◌≡◌, ◌+◌, ◌<◌, OnErr, IfOk};
-ghost use Rattle.atomic_table.specs.Seated.{TableId};
-ghost use Rattle.stm_draw.specs.declared.view.Size.{Size};
-ghost use Rattle.stm_hall.specs.HallState.{HallState};
+ghost use Rattle.std.specs.Prelude.{◌≡◌, ◌+◌, ◌<◌, ◌≤◌, OnErr, IfOk};
+ghost use Rattle.stm_txn.specs.Numbers.{AnswerFits};
+ghost use Rattle.stm_hall.specs.Fetching.{OnlyReads};
+ghost use Rattle.stm_hall.specs.Prepared.{IsPreparedFor};
 ghost use Rattle.stm_hall.specs.Verdicts.{CanGoOn};
 ghost use Rattle.stm_workers.specs.Ends.{commits_in};
-ghost use Rattle.stm_workers.specs.Rounds.{HasGoneOn, committed_by};
+ghost use Rattle.stm_workers.specs.Rounds.{HasGoneOn, AnswersInSomeHall, committed_by};
 
 use std::marker::Brand;
 use std::sync::ledger::{Book, Ledger, Share};
 use stm_attempt::Ready;
-use stm_hall::{CommitRefusal, Hall, Verdict};
+use stm_hall::{CommitRefusal, FetchRefusal, Hall, Prepared, Verdict};
+use stm_txn::{Txn, TxnAnswer};
 
 /// One run of jobs: its table, how many jobs and seats that has, and the hall that was handed in. Its ledger counts commits; each worker
 /// has one part of it, and so has who started them.
@@ -37,6 +38,19 @@ impl Round for Brand {
     ghost before = { no_hall };
 }
 
+/// Counts a verdict: a commit that was made is one more in the share of who sent it.
+fn count<R: Round>(commits: &mut Book<R>, mine: &mut Share<R>, verdict: &Verdict)
+    requires { 0 < mine.old.parts }
+    ensures total { commits.new.total ≡ commits.old.total + committed_by verdict.now }
+    ensures amount { mine.new.amount ≡ mine.old.amount + committed_by verdict.now }
+    ensures parts { mine.new.parts ≡ mine.old.parts }
+{
+    match verdict {
+        Verdict::Committed { .. } => commits.add(mine, 1),
+        Verdict::Failed { .. } => {}
+    }
+}
+
 /// The hall, beside the count of the commits that it took in this run.
 #[derive(Drop)]
 pub(crate) struct Desk<R: Round> {
@@ -48,7 +62,6 @@ pub(crate) struct Desk<R: Round> {
 
 impl<R: Round> Desk<R> {
     /// The hall as it was handed in.
-    #[tactic(auto, using(crate::proofs::RoundLemmas::has_not_gone))]
     pub fn new(hall: Hall, commits: Book<R>) -> Desk<R>
         requires { (hall ≡ R.before) × (commits.total ≡ 0) }
         ensures { result.hall ≡ hall }
@@ -56,19 +69,32 @@ impl<R: Round> Desk<R> {
         Desk { hall, commits }
     }
 
-    /// Commits an attempt, as the hall does. A commit counts in the share of who sent it.
-    #[tactic(auto, using(crate::proofs::RoundLemmas::goes_further, crate::proofs::RoundLemmas::verdict_adds))]
-    pub fn commit(&mut self, mine: &mut Share<R>, ready: &Ready) -> Result<Verdict, CommitRefusal>
-        requires { 0 < mine.old.parts }
+    /// Answers reads for a worker that has seen this revision, as the hall does. It changes nothing.
+    pub fn fetch(&mut self, seen: u64, txn: &Txn) -> Result<TxnAnswer, FetchRefusal>
+        requires { OnlyReads txn.now }
+        ensures answer { AnswersInSomeHall seen txn.now result }
+        ensures seen { IfOk result (λ answer. seen ≤ answer.revision) }
+        ensures numbers { IfOk result AnswerFits }
+    {
+        self.hall.fetch(seen, txn)
+    }
+
+    /// Commits an attempt, for which this was prepared, as the hall does. A commit counts in the share of who sent it.
+    pub fn commit(
+        &mut self,
+        mine: &mut Share<R>,
+        ready: &Ready,
+        prepared: Prepared,
+    ) -> Result<Verdict, CommitRefusal>
+        requires part { 0 < mine.old.parts }
+        requires is_its { IsPreparedFor prepared ready.now }
         ensures parts { mine.new.parts ≡ mine.old.parts }
         ensures committed { IfOk result (λ verdict. mine.new.amount ≡ mine.old.amount + committed_by verdict) }
         ensures refused { OnErr result (mine.new.amount ≡ mine.old.amount) }
         ensures answers { IfOk result CanGoOn }
     {
-        let verdict = self.hall.commit(ready)?;
-        if let Verdict::Committed { .. } = &verdict {
-            self.commits.add(mine, 1);
-        }
+        let verdict = self.hall.commit_prepared(ready, prepared)?;
+        count(&mut self.commits, mine, &verdict);
         Ok(verdict)
     }
 

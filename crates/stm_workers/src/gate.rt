@@ -1,7 +1,7 @@
 //! Places at which a run of jobs can be watched or held.
 
-/// What is called by each worker without the lock, with the job's place. A call may wait for another thread's, as far as it ends by itself:
-/// the worker goes on when it returns.
+/// What each worker calls without the lock, with the job's place. A call may look again and again for what another thread does, as far as
+/// it ends by itself: the worker goes on when it returns.
 pub trait Gate {
     /// A key is about to be fetched for the job.
     fn before_fetch(&self, job: usize);
@@ -9,7 +9,7 @@ pub trait Gate {
     /// A commit of the job is about to be sent.
     fn before_commit(&self, job: usize);
 
-    /// A commit of the job was answered or refused, other than for want of memory.
+    /// A commit of the job was answered, by a verdict or by a refusal.
     fn after_commit(&self, job: usize);
 }
 

@@ -5,6 +5,8 @@
 //! ended is looked at then, by the audit.
 #![tactic(auto)]
 
+mod attempts;
+mod auditing;
 mod begun;
 mod desk;
 mod gate;
@@ -12,13 +14,16 @@ mod gathered;
 mod job;
 mod job_end;
 pub mod laws;
+mod run;
 mod stop;
 mod worker;
 
+pub use auditing::audit;
 pub use begun::Begun;
 pub use gate::{Gate, NoGate};
 pub use gathered::{FaultCause, Gathered, RunFault};
 pub use job::Job;
 pub use job_end::{JobEnd, JobRefusal};
+pub use run::{MOST_WORKERS, run_workers};
 pub use stm_draw::{JobSeat, JobTable};
 pub use stm_hall::{CommitRefusal, FetchRefusal, Hall, Verdict};

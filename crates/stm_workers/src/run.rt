@@ -1,20 +1,20 @@
 //! The run of jobs by several threads.
-ghost use Rattle.std.specs.Prelude.{◌≡◌, ◌+◌, ◌≤◌, ◌<◌, ◌^◌, [], length, vec_len, count_by, IfOk, IfErr, MatchResult};
+ghost use Rattle.std.specs.Prelude.{◌≡◌, ◌+◌, ◌≤◌, ◌<◌, length, map, vec_len, count_by, IfOk, IfErr, MatchResult};
 ghost use Rattle.stm_draw.specs.Draw.{size_of, newcomer};
 ghost use Rattle.stm_draw.specs.Seats.{IsSeatAt, seat_view, table_id, table_size};
-ghost use Rattle.stm_workers.specs.Ends.{commits_in, is_committed, StandsAt, AllStand};
+ghost use Rattle.stm_workers.specs.Ends.{begun_at, commits_in, is_committed, StandsAt, AllStand};
 ghost use Rattle.stm_workers.specs.Gathered.{RanTo, OnAudit, BrokeOff};
-ghost use Rattle.stm_workers.specs.Rounds.{committed_in, HasGoneOn};
+ghost use Rattle.stm_workers.specs.Rounds.{committed_in, ends_in, HasGoneOn};
 
 use crate::attempts::Floor;
-use crate::audit::audit;
+use crate::auditing::audit;
 use crate::begun::Begun;
 use crate::desk::{Desk, Round};
 use crate::gate::Gate;
 use crate::gathered::{FaultCause, Gathered, RunFault};
 use crate::job::Job;
 use crate::job_end::JobEnd;
-use crate::worker::{Chief, EndOf, Fresh, Idle, Whole};
+use crate::worker::{Busy, Chief, EndOf, Idle, Shift, Whole};
 use std::alloc::{AllocError, Global};
 use std::marker::Brand;
 use std::sync::ledger::Blank;
@@ -30,48 +30,41 @@ pub const MOST_WORKERS: usize = 16;
 /// What one worker does: it draws jobs until there are none left.
 fn work<R: Round, W: Wait, G: Gate>(
     floor: &Floor<R, W, G>,
-    worker: Fresh<R>,
+    worker: Busy<R>,
 ) -> Result<Idle<R>, AllocError> {
-    let Fresh {
-        mut seat,
-        mut share,
-    } = worker;
-    let mut seen = 0;
-    let mut ended = Vec::new(floor.alloc);
+    let mut worker = worker;
     for _ in floor.rt.forever() {
-        let Some(job) = floor.table.draw(&mut seat) else {
-            return Ok(Idle { seat, share, ended });
+        worker = match floor.next(worker)? {
+            Shift::On(next) => next,
+            Shift::Over(idle) => return Ok(idle),
         };
-        let end = floor.run_job(job, &mut share, &mut seen)?;
-        ended.push(EndOf { job, end })?;
     }
     unreachable!()
 }
 
-/// Starts the workers. Where a thread can't be started, those that run are left to the scope.
-fn start_all<'s, E, R: Round + Send + Sync, W: Threads + Wait + Sync, G: Gate + Sync>(
-    scope: &'s Scope<'s, E>,
-    floor: &'s Floor<'s, R, W, G>,
+/// Starts the workers. Where a thread can't be started, those that run are left to the scope, which waits for them.
+fn start_all<'s, 'a: 's, E, R: Round + Send + Sync, W: Wait + Sync, G: Gate + Sync>(
+    scope: &Scope<'s, E>,
+    floor: &'s Floor<'a, R, W, G>,
     workers: usize,
     chief: &mut Chief<R>,
 ) -> Result<Vec<JoinHandle<Result<Idle<R>, AllocError>>>, FaultCause>
     requires parts { chief.old.share.parts ≡ workers + 1 }
     requires passes { (seat_view chief.old.seat).left ≡ workers + 1 }
-    requires nothing { chief.old.ended.items ≡ [] }
     ensures { IfOk result (λ started. (vec_len started ≡ workers) × (chief.new.share.parts ≡ 1)) }
 {
-    let mut started = Vec::with_capacity(floor.alloc, workers)?;
-    for _ in 0..workers {
-        let fresh = chief.equip(floor.table);
-        match scope.spawn(move || work(floor, fresh)) {
-            Ok(handle) => started.push_reserved(handle),
+    let mut started = Vec::new(floor.alloc);
+    for _worker in 0..workers {
+        let worker = chief.equip(floor.alloc, floor.table);
+        match scope.spawn(move || work(floor, worker)) {
+            Ok(handle) => started.push(handle)?,
             Err(_) => return Err(FaultCause::Spawn),
         }
     }
     Ok(started)
 }
 
-/// Joins the workers.
+/// Joins the workers, and takes in what they hand back.
 fn join_all<R: Round, W: Threads + Wait>(
     rt: &W,
     table: &JobTable,
@@ -83,11 +76,12 @@ fn join_all<R: Round, W: Threads + Wait>(
     requires some { 0 < vec_len started }
 {
     let mut chief = chief;
-    for handle in started {
+    let mut started = started;
+    while let Some(handle) = started.pop() {
         let idle = handle.join(rt)?;
         chief.take_in(table, idle)?;
     }
-    Ok(Whole { chief })
+    Ok(Whole::of(chief))
 }
 
 /// Starts the workers, and joins them. All threads have ended when it returns.
@@ -99,31 +93,39 @@ fn employ<R: Round + Send + Sync, W: Threads + Wait + Sync, G: Gate + Sync>(
     requires workers { (1 ≤ workers) × (R.size.seats ≡ workers + 1) }
     requires parts { chief.share.parts ≡ workers + 1 }
     requires passes { (seat_view chief.seat).left ≡ workers + 1 }
-    requires nothing { chief.ended.items ≡ [] }
 {
-    let mut chief = chief;
     thread::scope(
         thread::scope_env(),
         floor.rt,
-        |scope| -> Result<Whole<R>, FaultCause>
-            requires { (1 ≤ workers) × (R.size.seats ≡ workers + 1) × (chief.share.parts ≡ workers + 1) × ((seat_view chief.seat).left ≡ workers + 1) × (chief.ended.items ≡ []) }
+        move |scope| -> Result<Whole<R>, FaultCause>
+            requires { (1 ≤ workers) × (R.size.seats ≡ workers + 1) × (chief.share.parts ≡ workers + 1) × ((seat_view chief.seat).left ≡ workers + 1) }
         {
+            let mut chief = chief;
             let started = start_all(scope, floor, workers, &mut chief)?;
             join_all(floor.rt, floor.table, started, chief)
         },
     )
 }
 
+/// The ends, without the places of their jobs.
+fn ends_of(alloc: Global, ended: Vec<EndOf>) -> Result<Vec<JobEnd>, AllocError>
+    ensures { IfOk result (λ ends. ends.items ≡ ends_in ended.items) }
+{
+    let mut ends = Vec::with_capacity(alloc, ended.len())?;
+    for ended_job in ended {
+        ends.push(ended_job.end)?;
+    }
+    Ok(ends)
+}
+
 /// The ends in the order of their jobs.
 fn in_places(alloc: Global, ended: Vec<EndOf>) -> Result<Vec<JobEnd>, FaultCause>
-    ensures { IfOk result (λ ends. (length ends.items ≡ length ended.items) × (count_by is_committed ends.items ≡ committed_in ended.items)) }
+    ensures length { IfOk result (λ ends. length ends.items ≡ length ended.items) }
+    ensures counted { IfOk result (λ ends. count_by is_committed ends.items ≡ committed_in ended.items) }
 {
     let mut ended = ended;
-    ended.sort_unstable_by_key(|end| end.job);
-    let mut ends = Vec::with_capacity(alloc, ended.len())?;
-    for EndOf { end, .. } in ended {
-        ends.push_reserved(end);
-    }
+    ended.sort_unstable_by_key(|ended_job| ended_job.job);
+    let ends = ends_of(alloc, ended)?;
     Ok(ends)
 }
 
@@ -139,25 +141,19 @@ fn run_round<R: Round + Send + Sync, W: Threads + Wait + Sync, G: Gate + Sync>(
     table: &JobTable,
     seat: JobSeat,
 ) -> (Result<Vec<JobEnd>, FaultCause>, Hall)
+    requires workers { 1 ≤ workers }
     requires ledger { (blank.name ≡ R.name) × (blank.parts ≡ R.parts) × (R.parts ≡ workers + 1) }
     requires table { (table_id table.now ≡ R.table) × (table_size table.now ≡ R.size) × (R.size ≡ size_of (length jobs.now) (workers + 1)) }
     requires seat { IsSeatAt R.table R.size seat × (seat_view seat ≡ newcomer R.size) }
     requires hall { hall ≡ R.before }
     ensures gone_on { HasGoneOn hall result.1 }
-    ensures ends { IfOk result.0 (λ ends. length ends.items ≡ length jobs.now) }
+    ensures places { IfOk result.0 (λ ends. length ends.items ≡ length jobs.now) }
     ensures commits { IfOk result.0 (λ ends. commits_in result.1.entries ≡ commits_in hall.entries + count_by is_committed ends.items) }
 {
     let (book, share) = blank.open::<R>();
     let desk = Mutex::new(Desk::new(hall, book));
     let chief = Chief::new(alloc, seat, share);
-    let floor = Floor {
-        rt,
-        alloc,
-        desk: &desk,
-        table,
-        jobs,
-        gate,
-    };
+    let floor = Floor::new(rt, alloc, &desk, table, jobs, gate);
     let employed = employ(&floor, workers, chief);
     let desk = desk.into_inner();
     match employed {
@@ -167,6 +163,13 @@ fn run_round<R: Round + Send + Sync, W: Threads + Wait + Sync, G: Gate + Sync>(
         }
         Err(cause) => (Err(cause), desk.hall_of()),
     }
+}
+
+/// How many of these ends are commits.
+fn count_committed(ends: &[JobEnd]) -> usize
+    ensures { result ≡ count_by is_committed ends.now }
+{
+    ends.iter().filter(|end| end.is_committed()).count()
 }
 
 /// What the audit says of the ends.
@@ -182,7 +185,7 @@ fn gather(
     ensures ends { IfOk result (λ gathered. (gathered.ends.items ≡ ends.items) × (gathered.committed ≡ count_by is_committed ends.items) × AllStand begun hall jobs.now ends.items) }
     ensures cause { IfErr result (λ fault. OnAudit fault.cause (λ job. (job < length jobs.now) × (StandsAt begun hall jobs.now ends.items job → ⊥))) }
 {
-    let committed = ends.iter().filter(|end| end.is_committed()).count();
+    let committed = count_committed(ends.as_slice());
     match audit(alloc, jobs, ends.as_slice(), begun, &hall) {
         Ok(None) => Ok(Gathered {
             ends,
@@ -207,13 +210,25 @@ fn make_table(
     workers: usize,
 ) -> Result<(JobTable, JobSeat), AllocError>
     requires { workers ≤ 16 }
-    ensures { IfOk result (λ made. (table_size made.0 ≡ size_of jobs (workers + 1)) × IsSeatAt (table_id made.0) (table_size made.0) made.1 × (seat_view made.1 ≡ newcomer (table_size made.0))) }
+    ensures size { IfOk result (λ made. table_size made.0 ≡ size_of jobs (workers + 1)) }
+    ensures seat { IfOk result (λ made. IsSeatAt (table_id made.0) (table_size made.0) made.1 × (seat_view made.1 ≡ newcomer (table_size made.0))) }
 {
-    // No memory has room for so many jobs.
+    // (no memory has room for so many jobs)
     if jobs >= 1 << 63 {
         return Err(AllocError);
     }
-    JobTable::new(alloc, jobs, workers + 1)
+    let made = JobTable::new(alloc, jobs, workers + 1)?;
+    Ok(made)
+}
+
+/// How far a hall has come.
+fn begin(hall: &Hall) -> Begun
+    ensures { result ≡ begun_at hall.now }
+{
+    Begun {
+        entries: hall.entries().len(),
+        revision: hall.revision(),
+    }
 }
 
 /// Runs jobs on a hall by so many threads, from 1 to `MOST_WORKERS`.
@@ -237,10 +252,7 @@ pub fn run_workers<W: Threads + Wait + Sync, G: Gate + Sync>(
     ensures ok { IfOk result (λ gathered. RanTo hall jobs.now gathered.ends.items gathered.committed gathered.hall) }
     ensures fault { IfErr result (λ fault. BrokeOff hall jobs.now fault.cause fault.hall) }
 {
-    let begun = Begun {
-        entries: hall.entries().len(),
-        revision: hall.revision(),
-    };
+    let begun = begin(&hall);
     let Ok((table, seat)) = make_table(alloc, jobs.len(), workers) else {
         return Err(RunFault {
             cause: FaultCause::OutOfMemory,

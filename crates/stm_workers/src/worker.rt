@@ -1,8 +1,8 @@
-//! What a worker begins with, and what it hands back.
+//! What a worker has, and who starts the workers and takes in what they hand back.
 ghost use Rattle.std.specs.Prelude.{◌≡◌, ◌+◌, ◌<◌, ◌≤◌, [], OnOk};
-ghost use Rattle.stm_draw.specs.Draw.{newcomer, fresh, EachOnce};
+ghost use Rattle.stm_draw.specs.Draw.{newcomer, EachOnce};
 ghost use Rattle.stm_draw.specs.Seats.{IsSeatAt, seat_view, table_id, table_size};
-ghost use Rattle.stm_workers.specs.Rounds.{jobs_of, committed_in, used_up};
+ghost use Rattle.stm_workers.specs.Rounds.{jobs_of, committed_in, drawing, used_up};
 
 use crate::desk::Round;
 use crate::job_end::JobEnd;
@@ -18,17 +18,20 @@ pub struct EndOf {
     pub end: JobEnd,
 }
 
-/// A worker that has drawn nothing yet: a seat with one pass, and one part of the ledger.
+/// A worker at its jobs, between two of them: a seat with one pass left, one part of the ledger, the greatest revision that an answer to
+/// it carried, and the ends of the jobs that it drew, in the order of its draws.
 #[derive(Drop)]
-pub(crate) struct Fresh<R: Round> {
+pub(crate) struct Busy<R: Round> {
     pub seat: JobSeat,
     pub share: Share<R>,
+    pub seen: u64,
+    pub ended: Vec<EndOf>,
     ghost seated: { IsSeatAt R.table R.size seat },
-    ghost one_pass: { seat_view seat ≡ fresh R.size },
-    ghost one_part: { (share.parts ≡ 1) × (share.amount ≡ 0) },
+    ghost one_left: { seat_view seat ≡ drawing R.size (jobs_of ended.items) },
+    ghost counted: { (share.parts ≡ 1) × (share.amount ≡ committed_in ended.items) },
 }
 
-/// A worker that found no job left: the ends of the jobs that it drew, in the order of its draws.
+/// A worker that found no job left.
 #[derive(Drop)]
 pub(crate) struct Idle<R: Round> {
     pub seat: JobSeat,
@@ -37,6 +40,15 @@ pub(crate) struct Idle<R: Round> {
     ghost seated: { IsSeatAt R.table R.size seat },
     ghost none_left: { seat_view seat ≡ used_up R.size (jobs_of ended.items) },
     ghost counted: { (share.parts ≡ 1) × (share.amount ≡ committed_in ended.items) },
+}
+
+/// A worker after it looked for a job.
+#[derive(Drop)]
+pub(crate) enum Shift<R: Round> {
+    /// It has brought one more job to its end.
+    On(Busy<R>),
+    /// It found none.
+    Over(Idle<R>),
 }
 
 /// Who starts the workers, and takes in what they hand back. It draws nothing itself. Of what it has, each pass of its seat, used or
@@ -74,22 +86,26 @@ impl<R: Round> Chief<R> {
         }
     }
 
-    /// What the next worker begins with.
-    pub fn equip(&mut self, table: &JobTable) -> Fresh<R>
+    /// The next worker, which has drawn nothing yet. It takes no memory.
+    pub fn equip(&mut self, alloc: Global, table: &JobTable) -> Busy<R>
         requires table { (table_id table.now ≡ R.table) × (table_size table.now ≡ R.size) }
         requires passes { 2 ≤ (seat_view self.old.seat).left }
         requires parts { 2 ≤ self.old.share.parts }
-        ensures passes { ((seat_view self.new.seat).left + 1 ≡ (seat_view self.old.seat).left) × ((seat_view self.new.seat).past ≡ (seat_view self.old.seat).past) }
+        ensures left { (seat_view self.new.seat).left + 1 ≡ (seat_view self.old.seat).left }
+        ensures past { (seat_view self.new.seat).past ≡ (seat_view self.old.seat).past }
         ensures parts { self.new.share.parts + 1 ≡ self.old.share.parts }
-        ensures ended { self.new.ended.items ≡ self.old.ended.items }
     {
-        Fresh {
-            seat: table.split(&mut self.seat),
-            share: self.share.split_off(1, 0),
+        let seat = table.split(&mut self.seat);
+        let share = self.share.split_off(1, 0);
+        Busy {
+            seat,
+            share,
+            seen: 0,
+            ended: Vec::new(alloc),
         }
     }
 
-    /// Takes in what a worker hands back.
+    /// Takes in what a worker hands back. `AllocError`: a growth was refused, and it is as it was; what the worker had is lost.
     pub fn take_in(&mut self, table: &JobTable, idle: Idle<R>) -> Result<(), AllocError>
         requires { (table_id table.now ≡ R.table) × (table_size table.now ≡ R.size) }
         ensures past { OnOk result ((seat_view self.new.seat).past ≡ (seat_view self.old.seat).past + 1) }
@@ -108,6 +124,14 @@ impl<R: Round> Chief<R> {
 }
 
 impl<R: Round> Whole<R> {
+    /// This chief.
+    pub fn of(chief: Chief<R>) -> Whole<R>
+        requires parts { chief.share.parts ≡ R.size.seats }
+        requires past { 0 < (seat_view chief.seat).past }
+    {
+        Whole { chief }
+    }
+
     /// The whole share, and the ends of all jobs: each job has one.
     pub fn parts(self) -> (Share<R>, Vec<EndOf>)
         ensures share { (result.0.parts ≡ R.size.seats) × (result.0.amount ≡ committed_in result.1.items) }
@@ -115,8 +139,8 @@ impl<R: Round> Whole<R> {
     {
         let Whole { chief } = self;
         let Chief { seat, share, ended } = chief;
-        // The seat knows that every job was drawn.
-        let _ = seat.left();
+        // (the seat knows that every job was drawn)
+        let _passes = seat.left();
         (share, ended)
     }
 }

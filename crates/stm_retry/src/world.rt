@@ -210,6 +210,15 @@ impl World {
         &self.machine.store
     }
 
+    /// The store, once the world has served. Its watchers and leases stay in it.
+    pub fn into_store(self) -> Store
+        ensures { result.standing ≡ self.standing }
+    {
+        let World { machine, .. } = self;
+        let Machine { store, .. } = machine;
+        store
+    }
+
     /// The state of the store now: the present keys with their values and modification revisions.
     ///
     /// Want of memory is its only refusal.

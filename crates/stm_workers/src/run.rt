@@ -42,6 +42,18 @@ fn work<R: Round, W: Wait, G: Gate>(
     unreachable!()
 }
 
+/// Starts a worker.
+fn start<'s, 'a: 's, E, R: Round + Send + Sync, W: Wait + Sync, G: Gate + Sync>(
+    scope: &Scope<'s, E>,
+    floor: &'s Floor<'a, R, W, G>,
+    worker: Busy<R>,
+) -> Result<JoinHandle<Result<Idle<R>, AllocError>>, FaultCause> {
+    match scope.spawn(move || work(floor, worker)) {
+        Ok(handle) => Ok(handle),
+        Err(_) => Err(FaultCause::Spawn),
+    }
+}
+
 /// Starts the workers. Where a thread can't be started, those that run are left to the scope, which waits for them.
 fn start_all<'s, 'a: 's, E, R: Round + Send + Sync, W: Wait + Sync, G: Gate + Sync>(
     scope: &Scope<'s, E>,
@@ -56,9 +68,9 @@ fn start_all<'s, 'a: 's, E, R: Round + Send + Sync, W: Wait + Sync, G: Gate + Sy
     let mut started = Vec::new(floor.alloc);
     for _worker in 0..workers {
         let worker = chief.equip(floor.alloc, floor.table);
-        match scope.spawn(move || work(floor, worker)) {
-            Ok(handle) => started.push(handle)?,
-            Err(_) => return Err(FaultCause::Spawn),
+        let handle = start(scope, floor, worker)?;
+        if started.push(handle).is_err() {
+            return Err(FaultCause::OutOfMemory);
         }
     }
     Ok(started)

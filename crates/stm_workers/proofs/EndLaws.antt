@@ -8,26 +8,26 @@ use Rattle.stm_workers.specs.declared.job_end.JobEnd.{JobEnd}
 use Rattle.stm_workers.specs.Ends.{entry_named, IsNew, Stands, StandsAt, AllStand, NameDifferentEntries, CommitsAreApart}
 
 -- an end that names an entry is an end
-record Named (o : Option JobEnd) (index : ℕ) : Type 0 where
+pub record Named (o : Option JobEnd) (index : ℕ) : Type 0 where
   pub end : JobEnd
   pub is : o ≡ Some end
   pub names : entry_named end ≡ Some index
 
-named : (o : Option JobEnd) (index : ℕ) → option_and_then o entry_named ≡ Some index → Named o index
+pub named : (o : Option JobEnd) (index : ℕ) → option_and_then o entry_named ≡ Some index → Named o index
 named None index e = absurd (cc)
 named (Some end) index e = record { end = end; is = refl; names = e }
 
 -- what stands in a list stands within its length, and another list of that length has something there too
-within : {A : Type 0} (xs : List A) (k : ℕ) (x : A) → slice_get xs k ≡ Some x → k < length xs
+pub within : {A : Type 0} (xs : List A) (k : ℕ) (x : A) → slice_get xs k ≡ Some x → k < length xs
 within [] k x e = absurd (cc)
 within (y ∷ ys) zero x e = omega arith
 within (y ∷ ys) (suc k) x e = let r = within ys k x e in omega arith
 
-record There {A : Type 0} (xs : List A) (k : ℕ) : Type 0 where
+pub record There {A : Type 0} (xs : List A) (k : ℕ) : Type 0 where
   pub item : A
   pub is : slice_get xs k ≡ Some item
 
-there : {A : Type 0} (xs : List A) (k : ℕ) → k < length xs → There xs k
+pub there : {A : Type 0} (xs : List A) (k : ℕ) → k < length xs → There xs k
 there [] k short = absurd (omega arith)
 there (x ∷ xs) zero short = record { item = x; is = refl }
 there (x ∷ xs) (suc k) short = let r = there xs k (omega arith) in record { item = r.item; is = r.is }

@@ -1,3 +1,6 @@
 pub mod EndLaws
 pub mod RoundLemmas
+pub mod SeatLemmas
+pub mod AskLemmas
 pub mod NextLemmas
+pub mod AuditLemmas

@@ -1,5 +1,5 @@
--- What an attempt answers: a key that is not empty, or a run that is not done.
-use Rattle.std.proofs.Common.{◌≡◌, ◌≢◌, ℕ, ◌<◌, List, length, refl, sym, subst}
+-- What an attempt answers: a run that is not done; and that it stays an attempt of its program.
+use Rattle.std.proofs.Common.{◌≡◌, ◌≢◌, ℕ, List, Some, refl, sym, ◌∙◌, ap, subst}
 use Rattle.stm_history.specs.declared.key_state.ReadAnswer.{ReadAnswer}
 use Rattle.stm_program.specs.Syntax.{ProgramTree}
 use Rattle.stm_program.specs.declared.level.Level.{Level}
@@ -8,31 +8,12 @@ use Rattle.stm_meaning.specs.declared.run.End.TheVariants.{Done as DoneEnd, Abor
 use Rattle.stm_meaning.specs.declared.run.Run.{Run}
 use Rattle.stm_meaning.specs.declared.run.Answered.{Answered}
 use Rattle.stm_meaning.specs.declared.run.Answered.TheVariants.{Ended, Wants}
-use Rattle.stm_meaning.proofs.RunLaws.{wanted_keys_are_unknown}
-use Rattle.stm_compile.specs.Answers.{look_up}
+use Rattle.stm_attempt.specs.declared.next.Next.{Next}
 use Rattle.stm_attempt.specs.declared.next.Next.TheVariants.{Fetch, Aborted, Faulted}
+use Rattle.stm_attempt.specs.AttemptState.{AttemptState, IsOf, begun, advanced, supplied, awaited}
 use Rattle.stm_attempt.specs.Known.{Known}
 use Rattle.stm_attempt.specs.Settled.{run_on, settled}
-use Rattle.stm_attempt.specs.Next.{next_at_end, next_after, next_of}
-
-no_fetch_at_end : (program : ProgramTree) (level : Level) (reads : List ReadAnswer) (run : Run) (end : End) (key : List ℕ) (at : ℕ) →
-    next_at_end program level reads run end ≡ Fetch key at → ⊥
-no_fetch_at_end program level reads run DoneEnd key at told = absurd (cc)
-no_fetch_at_end program level reads run (AbortedEnd text) key at told = absurd (cc)
-no_fetch_at_end program level reads run (FaultedEnd fault) key at told = absurd (cc)
-
-fetched_by : (program : ProgramTree) (level : Level) (reads : List ReadAnswer) (x : Answered) (key : List ℕ) (at : ℕ) → run_on program reads ≡ x →
-    next_after program level reads x ≡ Fetch key at → 0 < length key
-fetched_by program level reads (Wants k trace) key at is told =
-    let same : k ≡ key = cc in
-    subst (λ (q : List ℕ). 0 < length q) same (wanted_keys_are_unknown (look_up reads) program.statements k trace is).1
-fetched_by program level reads (Ended run) key at is told = absurd (no_fetch_at_end program level reads run run.end key at told)
-
--- a key that is to be fetched is not empty
-pub fetched_is_named : (program : ProgramTree) (level : Level) (known : Known) (key : List ℕ) (at : ℕ) → next_of program level known ≡ Fetch key at →
-    0 < length key
-fetched_is_named program level known key at told =
-    let reads : List ReadAnswer = settled program known in fetched_by program level reads (run_on program reads) key at refl told
+use Rattle.stm_attempt.specs.Next.{next_at_end, next_after, next_of, key_asked}
 
 aborted_at_end : (program : ProgramTree) (level : Level) (reads : List ReadAnswer) (run aborted : Run) (end : End) → run.end ≡ end →
     next_at_end program level reads run end ≡ Aborted aborted → aborted.end ≢ DoneEnd
@@ -66,3 +47,20 @@ faulted_by program level reads (Ended run) faulted told = faulted_at_end program
 pub faulted_is_not_done : (program : ProgramTree) (level : Level) (known : Known) (run : Run) → next_of program level known ≡ Faulted run → run.end ≢ DoneEnd
 faulted_is_not_done program level known run told =
     let reads : List ReadAnswer = settled program known in faulted_by program level reads (run_on program reads) run told
+
+-- ---- an attempt of a program
+
+pub advanced_is_of : (program : ProgramTree) (old new : AttemptState) → new ≡ advanced program old → IsOf program new
+advanced_is_of program old new is = subst (IsOf program) (sym is) refl
+
+pub supplied_is_of : (program : ProgramTree) (answer : ReadAnswer) (old new : AttemptState) → new ≡ supplied answer old → IsOf program old →
+    IsOf program new
+supplied_is_of program answer old new is of = subst (IsOf program) (sym is) of
+
+pub begun_is_of : (program : ProgramTree) (level : Level) (answers : List ReadAnswer) (new : AttemptState) → new ≡ begun level answers → IsOf program new
+begun_is_of program level answers new is = subst (IsOf program) (sym is) tt
+
+-- the key that is fetched is the one that the attempt waits for
+pub waits_for : (attempt : AttemptState) (next : Next) (key : List ℕ) (at : ℕ) (answer : ReadAnswer) → awaited attempt ≡ key_asked next →
+    next ≡ Fetch key at → answer.key ≡ key → awaited attempt ≡ Some answer.key
+waits_for attempt next key at answer asked is same = asked ∙ ap key_asked is ∙ ap (λ (k : List ℕ). Some k) (sym same)

@@ -73,3 +73,24 @@ pub verdict_adds : (hall after : HallState) (ready : ReadyRun) (verdict : Verdic
     verdict_of hall ready ≡ Ok record { answer = verdict; next = after } →
     commits_in after.entries ≡ commits_in hall.entries + committed_by verdict
 verdict_adds hall after ready verdict is = subst (Counts hall) is (verdict_counts hall ready)
+
+-- ---- the desk
+
+pub same_gone : (before old new : HallState) → new ≡ old → HasGoneOn before old → HasGoneOn before new
+same_gone before old new same gone = subst (HasGoneOn before) (sym same) gone
+
+pub same_count : (before old new : HallState) (total : ℕ) → new ≡ old → commits_in old.entries ≡ commits_in before.entries + total →
+    commits_in new.entries ≡ commits_in before.entries + total
+same_count before old new total same counted = ap (λ (h : HallState). commits_in h.entries) same ∙ counted
+
+-- what a verdict adds to the hall is what it adds to the book
+pub adds_up : (before old new total later added : ℕ) → new ≡ old + added → old ≡ before + total → later ≡ total + added → new ≡ before + later
+adds_up before old new total later added more counted booked = omega (arith, more, counted, booked)
+
+-- a desk begins as the hall was handed in
+pub begins : (before hall : HallState) (total : ℕ) → hall ≡ before → total ≡ 0 →
+    HasGoneOn before hall × (commits_in hall.entries ≡ commits_in before.entries + total)
+begins before hall total same none = (
+  subst (HasGoneOn before) (sym same) (has_not_gone before),
+  ap (λ (h : HallState). commits_in h.entries) same ∙ sym (add-zero (commits_in before.entries)) ∙ ap (λ n. commits_in before.entries + n) (sym none),
+)

@@ -1,0 +1,133 @@
+-- When an audit finds something.
+use Rattle.std.proofs.Common.{◌≡◌, ℕ, zero, suc, ◌+◌, ◌<◌, ◌≤◌, ◌||◌, ◌==◌, List, [], ◌∷◌, length, Bool, true, false, Option, None, Some, option_and_then}
+use Rattle.std.proofs.Common.{slice_get, get_or, IfSome, refl, sym, ◌∙◌, ap, subst, ⊎_elim, arith, eq-eqb, eqb-true}
+use Rattle.std.proofs.lemmas.Bool.{cases_lt, cases_order}
+use Rattle.stm_entries.specs.declared.entry.Entry.{Entry}
+use Rattle.stm_hall.specs.HallState.{HallState}
+use Rattle.stm_workers.specs.declared.begun.Begun.{Begun}
+use Rattle.stm_workers.specs.declared.job.Job.{Job}
+use Rattle.stm_workers.specs.declared.job_end.JobEnd.{JobEnd}
+use Rattle.stm_workers.specs.declared.job_end.JobEnd.TheVariants.{Committed, Aborted, Faulted, Refused, GaveUp}
+use Rattle.stm_workers.specs.Ends.{entry_named, names_entry, IsCommitOf, IsBorneOut, BorneOutAt, IsNew, Stands, StandsAt, AllStand}
+use Rattle.stm_workers.specs.Marks.{NamesWithin, IsNewAt, is_named_before}
+use Rattle.stm_workers.proofs.EndLaws.{Named, named, There, there, within}
+
+-- ---- the entry that an end names
+
+index_or_none : ℕ → Option ℕ → ℕ
+index_or_none other None = other
+index_or_none other (Some index) = index
+
+pub names_it : (index : ℕ) (end : JobEnd) → entry_named end ≡ Some index → names_entry index end ≡ true
+names_it index (Committed own revision) is = eq-eqb own index (ap (index_or_none own) is)
+names_it index (Aborted text) is = absurd (cc)
+names_it index (Faulted fault) is = absurd (cc)
+names_it index (Refused cause) is = absurd (cc)
+names_it index (GaveUp key) is = absurd (cc)
+
+pub is_named : (index : ℕ) (end : JobEnd) → names_entry index end ≡ true → entry_named end ≡ Some index
+is_named index (Committed own revision) is = ap (λ (n : ℕ). Some n) (eqb-true own index is)
+is_named index (Aborted text) is = absurd (cc)
+is_named index (Faulted fault) is = absurd (cc)
+is_named index (Refused cause) is = absurd (cc)
+is_named index (GaveUp key) is = absurd (cc)
+
+-- ---- one of so many ends names it
+
+either_parts : (a b : Bool) → (a || b) ≡ false → (a ≡ false) × (b ≡ false)
+either_parts true b is = absurd (cc)
+either_parts false b is = (refl, is)
+
+either_swaps : (a b c : Bool) → (a || (b || c)) ≡ (b || (a || c))
+either_swaps true true c = refl
+either_swaps true false c = refl
+either_swaps false true c = refl
+either_swaps false false c = refl
+
+same_end : (x y : JobEnd) → Some x ≡ Some y → x ≡ y
+same_end x y is = ap (end_or x) is
+  where
+    end_or : JobEnd → Option JobEnd → JobEnd
+    end_or other None = other
+    end_or other (Some end) = end
+
+-- the next end is one more
+pub one_end_more : (index place : ℕ) (ends : List JobEnd) (end : JobEnd) → slice_get ends place ≡ Some end →
+    is_named_before index (suc place) ends ≡ (names_entry index end || is_named_before index place ends)
+one_end_more index place [] end is = absurd (cc)
+one_end_more index zero (e ∷ ends) end is =
+    ap (λ (x : JobEnd). names_entry index x || false) (same_end e end is)
+one_end_more index (suc n) (e ∷ ends) end is =
+    ap (λ b. names_entry index e || b) (one_end_more index n ends end is)
+    ∙ either_swaps (names_entry index e) (names_entry index end) (is_named_before index n ends)
+
+-- none does, so it is new
+pub none_named : (index place : ℕ) (ends : List JobEnd) → is_named_before index place ends ≡ false → IsNew ends place index
+none_named index zero ends is k less names = absurd (omega arith)
+none_named index (suc n) [] is k less names = absurd (cc)
+none_named index (suc n) (e ∷ ends) is zero less names =
+    let parts = either_parts (names_entry index e) (is_named_before index n ends) is in
+    let both : false ≡ true = sym parts.0 ∙ names_it index e names in absurd (cc)
+none_named index (suc n) (e ∷ ends) is (suc k) less names =
+    let parts = either_parts (names_entry index e) (is_named_before index n ends) is in
+    none_named index n ends parts.1 k (omega arith) names
+
+-- one does, so it is not
+pub some_named : (index place : ℕ) (ends : List JobEnd) → is_named_before index place ends ≡ true → IsNew ends place index → ⊥
+some_named index zero ends is new = absurd (cc)
+some_named index (suc n) [] is new = absurd (cc)
+some_named index (suc n) (e ∷ ends) is new = by_first (names_entry index e) refl
+  where
+    by_first : (b : Bool) → names_entry index e ≡ b → ⊥
+    by_first true own = new zero (omega arith) (is_named index e own)
+    by_first false own =
+        let rest : is_named_before index n ends ≡ true = sym (ap (λ c. c || is_named_before index n ends) own) ∙ is in
+        some_named index n ends rest (λ k less names. new (suc k) (omega arith) names)
+
+-- ---- what two looks say of an end
+
+-- an end that is borne out, and whose entry is new, stands
+pub both_stand : (begun : Begun) (hall : HallState) (jobs : List Job) (ends : List JobEnd) →
+    ((place : ℕ) → BorneOutAt begun hall jobs ends place) → ((place : ℕ) → IsNewAt ends place) → AllStand begun hall jobs ends
+both_stand begun hall jobs ends borne new place job end job_is end_is = record {
+  borne_out = borne place job end job_is end_is;
+  is_new = λ index names. new place index (ap (λ (o : Option JobEnd). option_and_then o entry_named) end_is ∙ names);
+}
+
+-- one that is not borne out does not
+pub unborne_falls : (begun : Begun) (hall : HallState) (jobs : List Job) (ends : List JobEnd) (place : ℕ) →
+    (BorneOutAt begun hall jobs ends place → ⊥) → StandsAt begun hall jobs ends place → ⊥
+unborne_falls begun hall jobs ends place not stands = not (λ job end job_is end_is. (stands job end job_is end_is).borne_out)
+
+-- nor one whose entry an earlier end names
+pub repeated_falls : (begun : Begun) (hall : HallState) (jobs : List Job) (ends : List JobEnd) (place : ℕ) → length ends ≡ length jobs →
+    place < length ends → (IsNewAt ends place → ⊥) → StandsAt begun hall jobs ends place → ⊥
+repeated_falls begun hall jobs ends place same short not stands =
+    let j = there jobs place (subst (λ (m : ℕ). place < m) same short) in
+    not (λ index names.
+        let n = named (slice_get ends place) index names in
+        (stands j.item n.end j.is n.is).is_new index n.names)
+
+-- what is borne out names an entry of the hall
+commit_is_there : (job : Job) (revision : ℕ) (o : Option Entry) (entries : List Entry) (index : ℕ) → slice_get entries index ≡ o →
+    IsCommitOf job revision o → index < length entries
+commit_is_there job revision None entries index is commit = absurd commit
+commit_is_there job revision (Some e) entries index is commit = within entries index e is
+
+named_is_there : (begun : Begun) (hall : HallState) (job : Job) (end : JobEnd) (index : ℕ) → IsBorneOut begun hall job end → entry_named end ≡ Some index →
+    index < length hall.entries
+named_is_there begun hall job (Committed own revision) index borne names =
+    let same : own ≡ index = ap (index_or_none own) names in
+    subst (λ (n : ℕ). n < length hall.entries) same
+    (commit_is_there job revision (slice_get hall.entries own) hall.entries own refl borne.1)
+named_is_there begun hall job (Aborted text) index borne names = absurd (cc)
+named_is_there begun hall job (Faulted fault) index borne names = absurd (cc)
+named_is_there begun hall job (Refused cause) index borne names = absurd (cc)
+named_is_there begun hall job (GaveUp key) index borne names = absurd (cc)
+
+pub names_within : (begun : Begun) (hall : HallState) (jobs : List Job) (ends : List JobEnd) → length ends ≡ length jobs →
+    ((place : ℕ) → BorneOutAt begun hall jobs ends place) → NamesWithin ends (length hall.entries)
+names_within begun hall jobs ends same borne place index names =
+    let n = named (slice_get ends place) index names in
+    let j = there jobs place (subst (λ (m : ℕ). place < m) same (within ends place n.end n.is)) in
+    named_is_there begun hall j.item n.end index (borne place j.item n.end j.is n.is) n.names

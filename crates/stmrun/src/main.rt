@@ -11,6 +11,8 @@ mod scripting;
 #[cfg(test)]
 mod tests;
 mod threading;
+#[cfg(test)]
+mod threading_tests;
 
 use arguments::{Asked, asked_of, read_words};
 pub use checking::check_to;

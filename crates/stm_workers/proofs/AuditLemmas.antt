@@ -1,7 +1,7 @@
 -- When an audit finds something.
 use Rattle.std.proofs.Common.{◌≡◌, ℕ, zero, suc, ◌+◌, ◌<◌, ◌≤◌, ◌||◌, ◌==◌, List, [], ◌∷◌, length, Bool, true, false, Option, None, Some, option_and_then}
-use Rattle.std.proofs.Common.{slice_get, get_or, IfSome, refl, sym, ◌∙◌, ap, subst, ⊎_elim, arith, eq-eqb, eqb-true}
-use Rattle.std.proofs.lemmas.Bool.{cases_lt, cases_order}
+use Rattle.std.proofs.Common.{slice_get, get_or, ◌↔◌, refl, sym, ◌∙◌, ap, subst, ⊎_elim, arith, eq-eqb, eqb-true}
+use Rattle.std.proofs.lemmas.Bool.{cases_lt}
 use Rattle.stm_entries.specs.declared.entry.Entry.{Entry}
 use Rattle.stm_hall.specs.HallState.{HallState}
 use Rattle.stm_workers.specs.declared.begun.Begun.{Begun}
@@ -9,7 +9,7 @@ use Rattle.stm_workers.specs.declared.job.Job.{Job}
 use Rattle.stm_workers.specs.declared.job_end.JobEnd.{JobEnd}
 use Rattle.stm_workers.specs.declared.job_end.JobEnd.TheVariants.{Committed, Aborted, Faulted, Refused, GaveUp}
 use Rattle.stm_workers.specs.Ends.{entry_named, names_entry, IsCommitOf, IsBorneOut, BorneOutAt, IsNew, Stands, StandsAt, AllStand}
-use Rattle.stm_workers.specs.Marks.{NamesWithin, IsNewAt, is_named_before}
+use Rattle.stm_workers.specs.Marks.{NamesWithin, IsNewAt, is_marked, is_named_before}
 use Rattle.stm_workers.proofs.EndLaws.{Named, named, There, there, within}
 
 -- ---- the entry that an end names
@@ -131,3 +131,81 @@ names_within begun hall jobs ends same borne place index names =
     let n = named (slice_get ends place) index names in
     let j = there jobs place (subst (λ (m : ℕ). place < m) same (within ends place n.end n.is)) in
     named_is_there begun hall j.item n.end index (borne place j.item n.end j.is n.is) n.names
+
+-- ---- one end
+
+same_some : {A : Type 0} (x y : A) → Some x ≡ Some y → x ≡ y
+same_some {A} x y is = ap (some_or x) is
+  where
+    some_or : A → Option A → A
+    some_or other None = other
+    some_or other (Some z) = z
+
+-- the end at a place is borne out where this one is, which stands there
+pub borne_there : (begun : Begun) (hall : HallState) (jobs : List Job) (ends : List JobEnd) (place : ℕ) (job : Job) (end : JobEnd) →
+    slice_get jobs place ≡ Some job → slice_get ends place ≡ Some end → IsBorneOut begun hall job end ↔ BorneOutAt begun hall jobs ends place
+borne_there begun hall jobs ends place job end job_is end_is = (
+  (λ borne other another other_is another_is.
+      subst (λ (e : JobEnd). IsBorneOut begun hall other e) (same_some end another (sym end_is ∙ another_is))
+      (subst (λ (j : Job). IsBorneOut begun hall j end) (same_some job other (sym job_is ∙ other_is)) borne)),
+  (λ at. at job end job_is end_is),
+)
+
+pub told_through : (A B : Type 0) (b : Bool) → (b ≡ true) ↔ A → A ↔ B → (b ≡ true) ↔ B
+told_through A B b first second = ((λ yes. second.0 (first.0 yes)), (λ x. first.1 (second.1 x)))
+
+-- it is not, where a test of it fails
+pub not_told : (A : Type 0) (b : Bool) → (b ≡ true) ↔ A → b ≡ false → A → ⊥
+not_told A false test no x = let yes : false ≡ true = test.1 x in absurd (cc)
+not_told A true test no x = absurd (cc)
+
+-- where all places below a number are fine, and the next one is, all below the next number are
+pub next_place : (P : ℕ → Type 0) (n : ℕ) → ((p : ℕ) → p < n → P p) → P n → (p : ℕ) → p < n + 1 → P p
+next_place P n before here p below = ⊎_elim
+    (λ (less : p < n). before p less)
+    (λ (above : n ≤ p). subst P (omega (arith, below, above)) here)
+    (cases_lt p n)
+
+-- a place without an end or a job says nothing
+pub all_places : (begun : Begun) (hall : HallState) (jobs : List Job) (ends : List JobEnd) →
+    ((p : ℕ) → p < length ends → BorneOutAt begun hall jobs ends p) → (place : ℕ) → BorneOutAt begun hall jobs ends place
+all_places begun hall jobs ends below place job end job_is end_is = below place (within ends place end end_is) job end job_is end_is
+
+pub all_new : (ends : List JobEnd) → ((p : ℕ) → p < length ends → IsNewAt ends p) → (place : ℕ) → IsNewAt ends place
+all_new ends below place index names =
+    let n = named (slice_get ends place) index names in below place (within ends place n.end n.is) index names
+
+-- ---- marks
+
+-- an end whose entry is not marked names a new one
+pub new_there : (ends : List JobEnd) (place entries : ℕ) (end : JobEnd) (marks : List Bool) → slice_get ends place ≡ Some end →
+    ((index : ℕ) → index < entries → get_or marks index false ≡ is_named_before index place ends) → NamesWithin ends entries →
+    is_marked marks (entry_named end) ≡ false → IsNewAt ends place
+new_there ends place entries end marks is marked few unmarked index names =
+    let own : entry_named end ≡ Some index = ap (λ (o : Option JobEnd). option_and_then o entry_named) (sym is) ∙ names in
+    let here : get_or marks index false ≡ false = sym (ap (is_marked marks) own) ∙ unmarked in
+    none_named index place ends (sym (marked index (few place index names)) ∙ here)
+
+-- one whose entry is marked does not
+pub not_new_there : (ends : List JobEnd) (place entries : ℕ) (end : JobEnd) (marks : List Bool) → slice_get ends place ≡ Some end →
+    ((index : ℕ) → index < entries → get_or marks index false ≡ is_named_before index place ends) → NamesWithin ends entries →
+    is_marked marks (entry_named end) ≡ true → IsNewAt ends place → ⊥
+not_new_there ends place entries end marks is marked few was new = by_name (entry_named end) refl
+  where
+    by_name : (o : Option ℕ) → entry_named end ≡ o → ⊥
+    by_name None own = let none : false ≡ true = sym (ap (is_marked marks) own) ∙ was in absurd (cc)
+    by_name (Some index) own =
+        let names : option_and_then (slice_get ends place) entry_named ≡ Some index =
+        ap (λ (o : Option JobEnd). option_and_then o entry_named) is ∙ own in
+        let here : get_or marks index false ≡ true = sym (ap (is_marked marks) own) ∙ was in
+        some_named index place ends (sym (marked index (few place index names)) ∙ here) (new index names)
+
+-- the marks after one end more
+pub marked_more : (ends : List JobEnd) (place entries : ℕ) (end : JobEnd) (before after : List Bool) → slice_get ends place ≡ Some end →
+    length before ≡ entries → ((index : ℕ) → index < entries → get_or before index false ≡ is_named_before index place ends) →
+    ((index : ℕ) → index < length before → get_or after index false ≡ (names_entry index end || get_or before index false)) →
+    (index : ℕ) → index < entries → get_or after index false ≡ is_named_before index (suc place) ends
+marked_more ends place entries end before after is many marked adds index low =
+    adds index (subst (λ (n : ℕ). index < n) (sym many) low)
+    ∙ ap (λ b. names_entry index end || b) (marked index low)
+    ∙ sym (one_end_more index place ends end is)

@@ -64,6 +64,36 @@ fn is_borne_out(hall: &Hall, begun: Begun, job: &Job, end: &JobEnd) -> bool
     }
 }
 
+/// The job at a place.
+fn job_at(jobs: &[Job], place: usize) -> &Job
+    requires { place < length jobs.now }
+    ensures { slice_get jobs.now place ≡ Some result.now }
+{
+    &jobs[place]
+}
+
+/// The end at a place.
+fn end_at(ends: &[JobEnd], place: usize) -> &JobEnd
+    requires { place < length ends.now }
+    ensures { slice_get ends.now place ≡ Some result.now }
+{
+    &ends[place]
+}
+
+/// Whether what the end at a place says of the hall is so.
+fn is_borne_out_at(
+    jobs: &[Job],
+    ends: &[JobEnd],
+    place: usize,
+    begun: Begun,
+    hall: &Hall,
+) -> bool
+    requires { (place < length jobs.now) × (place < length ends.now) }
+    ensures { IsTrue result ↔ BorneOutAt begun hall.now jobs.now ends.now place }
+{
+    is_borne_out(hall, begun, job_at(jobs, place), end_at(ends, place))
+}
+
 /// The first job whose end the hall does not bear out.
 fn find_unborne(jobs: &[Job], ends: &[JobEnd], begun: Begun, hall: &Hall) -> Option<usize>
     requires { length ends.now ≡ length jobs.now }
@@ -71,7 +101,7 @@ fn find_unborne(jobs: &[Job], ends: &[JobEnd], begun: Begun, hall: &Hall) -> Opt
     ensures fault { IfSome result (λ place. (place < length jobs.now) × (BorneOutAt begun hall.now jobs.now ends.now place → ⊥)) }
 {
     for place in 0..ends.len() {
-        if !is_borne_out(hall, begun, &jobs[place], &ends[place]) {
+        if !is_borne_out_at(jobs, ends, place, begun, hall) {
             return Some(place);
         }
     }
@@ -110,7 +140,7 @@ fn find_repeated(
 {
     let mut marks = Vec::from_elem(alloc, false, entries)?;
     for place in 0..ends.len() {
-        if mark(&mut marks, &ends[place]) {
+        if mark(&mut marks, end_at(ends, place)) {
             return Ok(Some(place));
         }
     }

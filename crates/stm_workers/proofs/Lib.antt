@@ -4,3 +4,4 @@ pub mod SeatLemmas
 pub mod AskLemmas
 pub mod NextLemmas
 pub mod AuditLemmas
+pub mod RunLemmas

@@ -147,6 +147,25 @@ fn find_repeated(
     Ok(None)
 }
 
+/// The audit of ends that the hall bears out: whether each names an entry of its own.
+fn audit_names(
+    alloc: Global,
+    jobs: &[Job],
+    ends: &[JobEnd],
+    begun: Begun,
+    hall: &Hall,
+) -> Result<Option<usize>, AllocError>
+    requires many { length ends.now ≡ length jobs.now }
+    requires borne { (place : ℕ) → BorneOutAt begun hall.now jobs.now ends.now place }
+    ensures clear { IfOk result (λ found. IfNone found (AllStand begun hall.now jobs.now ends.now)) }
+    ensures fault { IfOk result (λ found. IfSome found (λ place. (place < length jobs.now) × (StandsAt begun hall.now jobs.now ends.now place → ⊥))) }
+{
+    match find_repeated(alloc, ends, hall.entries().len())? {
+        None => Ok(None),
+        Some(place) => Ok(Some(place)),
+    }
+}
+
 /// A job whose end the hall does not bear out, or whose entry an earlier job has named: the first of the former, or else of the latter.
 /// `None`: each end stands.
 ///
@@ -164,9 +183,6 @@ pub fn audit(
 {
     match find_unborne(jobs, ends, begun, hall) {
         Some(place) => Ok(Some(place)),
-        None => {
-            let repeated = find_repeated(alloc, ends, hall.entries().len())?;
-            Ok(repeated)
-        }
+        None => audit_names(alloc, jobs, ends, begun, hall),
     }
 }

@@ -1,6 +1,5 @@
 //! What a run of jobs comes to.
 use crate::job_end::JobEnd;
-use std::alloc::AllocError;
 use stm_hall::Hall;
 
 /// All jobs have ended.
@@ -34,15 +33,4 @@ pub enum FaultCause {
         /// The job's place.
         job: usize,
     },
-}
-
-impl From<AllocError> for FaultCause {
-    ghost use Rattle.std.specs.Prelude.{◌≡◌};
-    ghost use Rattle.stm_workers.specs.declared.gathered.FaultCause.TheVariants.{OutOfMemory};
-
-    ghost from_gives = { λ error cause. cause ≡ OutOfMemory };
-
-    fn from(_error: AllocError) -> FaultCause {
-        FaultCause::OutOfMemory
-    }
 }

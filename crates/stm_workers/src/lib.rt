@@ -14,6 +14,7 @@ mod gathered;
 mod job;
 mod job_end;
 pub mod laws;
+mod lost;
 mod run;
 mod stop;
 mod worker;

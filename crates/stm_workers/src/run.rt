@@ -1,5 +1,5 @@
 //! The run of jobs by several threads.
-ghost use Rattle.std.specs.Prelude.{◌≡◌, ◌+◌, ◌≤◌, ◌<◌, length, map, vec_len, count_by, IfOk, IfErr, MatchResult};
+ghost use Rattle.std.specs.Prelude.{◌≡◌, ◌+◌, ◌≤◌, ◌<◌, length, vec_len, count_by, IfOk, IfErr};
 ghost use Rattle.stm_draw.specs.Draw.{size_of, newcomer};
 ghost use Rattle.stm_draw.specs.Seats.{IsSeatAt, seat_view, table_id, table_size};
 ghost use Rattle.stm_workers.specs.Ends.{begun_at, commits_in, is_committed, StandsAt, AllStand};
@@ -14,6 +14,7 @@ use crate::gate::Gate;
 use crate::gathered::{FaultCause, Gathered, RunFault};
 use crate::job::Job;
 use crate::job_end::JobEnd;
+use crate::lost::Lost;
 use crate::worker::{Busy, Chief, EndOf, Idle, Shift, Whole};
 use std::alloc::{AllocError, Global};
 use std::marker::Brand;
@@ -47,10 +48,10 @@ fn start<'s, 'a: 's, E, R: Round + Send + Sync, W: Wait + Sync, G: Gate + Sync>(
     scope: &Scope<'s, E>,
     floor: &'s Floor<'a, R, W, G>,
     worker: Busy<R>,
-) -> Result<JoinHandle<Result<Idle<R>, AllocError>>, FaultCause> {
+) -> Result<JoinHandle<Result<Idle<R>, AllocError>>, Lost> {
     match scope.spawn(move || work(floor, worker)) {
         Ok(handle) => Ok(handle),
-        Err(_) => Err(FaultCause::Spawn),
+        Err(_) => Err(Lost::Spawn),
     }
 }
 
@@ -60,7 +61,7 @@ fn start_all<'s, 'a: 's, E, R: Round + Send + Sync, W: Wait + Sync, G: Gate + Sy
     floor: &'s Floor<'a, R, W, G>,
     workers: usize,
     chief: &mut Chief<R>,
-) -> Result<Vec<JoinHandle<Result<Idle<R>, AllocError>>>, FaultCause>
+) -> Result<Vec<JoinHandle<Result<Idle<R>, AllocError>>>, Lost>
     requires parts { chief.old.share.parts ≡ workers + 1 }
     requires passes { (seat_view chief.old.seat).left ≡ workers + 1 }
     ensures { IfOk result (λ started. (vec_len started ≡ workers) × (chief.new.share.parts ≡ 1)) }
@@ -70,7 +71,7 @@ fn start_all<'s, 'a: 's, E, R: Round + Send + Sync, W: Wait + Sync, G: Gate + Sy
         let worker = chief.equip(floor.alloc, floor.table);
         let handle = start(scope, floor, worker)?;
         if started.push(handle).is_err() {
-            return Err(FaultCause::OutOfMemory);
+            return Err(Lost::OutOfMemory);
         }
     }
     Ok(started)
@@ -82,7 +83,7 @@ fn join_all<R: Round, W: Threads + Wait>(
     table: &JobTable,
     started: Vec<JoinHandle<Result<Idle<R>, AllocError>>>,
     chief: Chief<R>,
-) -> Result<Whole<R>, FaultCause>
+) -> Result<Whole<R>, Lost>
     requires table { (table_id table.now ≡ R.table) × (table_size table.now ≡ R.size) }
     requires parts { chief.share.parts + vec_len started ≡ R.size.seats }
     requires some { 0 < vec_len started }
@@ -101,7 +102,7 @@ fn employ<R: Round + Send + Sync, W: Threads + Wait + Sync, G: Gate + Sync>(
     floor: &Floor<R, W, G>,
     workers: usize,
     chief: Chief<R>,
-) -> Result<Whole<R>, FaultCause>
+) -> Result<Whole<R>, Lost>
     requires workers { (1 ≤ workers) × (R.size.seats ≡ workers + 1) }
     requires parts { chief.share.parts ≡ workers + 1 }
     requires passes { (seat_view chief.seat).left ≡ workers + 1 }
@@ -109,7 +110,7 @@ fn employ<R: Round + Send + Sync, W: Threads + Wait + Sync, G: Gate + Sync>(
     thread::scope(
         thread::scope_env(),
         floor.rt,
-        move |scope| -> Result<Whole<R>, FaultCause>
+        move |scope| -> Result<Whole<R>, Lost>
             requires { (1 ≤ workers) × (R.size.seats ≡ workers + 1) × (chief.share.parts ≡ workers + 1) × ((seat_view chief.seat).left ≡ workers + 1) }
         {
             let mut chief = chief;
@@ -131,7 +132,7 @@ fn ends_of(alloc: Global, ended: Vec<EndOf>) -> Result<Vec<JobEnd>, AllocError>
 }
 
 /// The ends in the order of their jobs.
-fn in_places(alloc: Global, ended: Vec<EndOf>) -> Result<Vec<JobEnd>, FaultCause>
+fn in_places(alloc: Global, ended: Vec<EndOf>) -> Result<Vec<JobEnd>, Lost>
     ensures length { IfOk result (λ ends. length ends.items ≡ length ended.items) }
     ensures counted { IfOk result (λ ends. count_by is_committed ends.items ≡ committed_in ended.items) }
 {
@@ -152,7 +153,7 @@ fn run_round<R: Round + Send + Sync, W: Threads + Wait + Sync, G: Gate + Sync>(
     blank: Blank,
     table: &JobTable,
     seat: JobSeat,
-) -> (Result<Vec<JobEnd>, FaultCause>, Hall)
+) -> (Result<Vec<JobEnd>, Lost>, Hall)
     requires workers { 1 ≤ workers }
     requires ledger { (blank.name ≡ R.name) × (blank.parts ≡ R.parts) × (R.parts ≡ workers + 1) }
     requires table { (table_id table.now ≡ R.table) × (table_size table.now ≡ R.size) × (R.size ≡ size_of (length jobs.now) (workers + 1)) }
@@ -173,7 +174,7 @@ fn run_round<R: Round + Send + Sync, W: Threads + Wait + Sync, G: Gate + Sync>(
             let (mut share, ended) = whole.parts();
             (in_places(alloc, ended), desk.close(&mut share))
         }
-        Err(cause) => (Err(cause), desk.hall_of()),
+        Err(lost) => (Err(lost), desk.hall_of()),
     }
 }
 
@@ -193,7 +194,8 @@ fn gather(
     hall: Hall,
 ) -> Result<Gathered, RunFault>
     requires { length ends.items ≡ length jobs.now }
-    ensures hall { MatchResult result (λ gathered. gathered.hall ≡ hall) (λ fault. fault.hall ≡ hall) }
+    ensures hall { IfOk result (λ gathered. gathered.hall ≡ hall) }
+    ensures broken { IfErr result (λ fault. fault.hall ≡ hall) }
     ensures ends { IfOk result (λ gathered. (gathered.ends.items ≡ ends.items) × (gathered.committed ≡ count_by is_committed ends.items) × AllStand begun hall jobs.now ends.items) }
     ensures cause { IfErr result (λ fault. OnAudit fault.cause (λ job. (job < length jobs.now) × (StandsAt begun hall jobs.now ends.items job → ⊥))) }
 {
@@ -276,7 +278,13 @@ pub fn run_workers<W: Threads + Wait + Sync, G: Gate + Sync>(
         rt, alloc, jobs, workers, hall, gate, blank, &table, seat,
     );
     match ends {
-        Ok(ends) => gather(alloc, jobs, begun, ends, hall),
-        Err(cause) => Err(RunFault { cause, hall }),
+        Ok(ends) => match gather(alloc, jobs, begun, ends, hall) {
+            Ok(gathered) => Ok(gathered),
+            Err(fault) => Err(fault),
+        },
+        Err(lost) => Err(RunFault {
+            cause: lost.cause(),
+            hall,
+        }),
     }
 }

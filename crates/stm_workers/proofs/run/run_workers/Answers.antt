@@ -1,0 +1,11 @@
+use Rattle.stm_workers.specs.Gathered.{IsAtFault}
+use Rattle.stm_workers.proofs.RunLemmas.{ran_to, broke_off_early, broke_off, fault_found}
+use Rattle.stm_workers.proofs.run.run_workers.Goals as goal
+
+-- no table could be made: the hall is as it was
+pub returns-in_default-clause-fault : goal.returns-in_default-clause-fault
+returns-in_default-clause-fault g c = broke_off_early c.args.hall c.args.jobs.now
+
+-- the threads were given up
+pub returns-in-Err-clause-fault : goal.returns-in-Err-clause-fault
+returns-in-Err-clause-fault g c = broke_off _ _ _ _ c.run_round.ensures.gone_on (c.cause.ensures (IsAtFault c.args.hall c.args.jobs.now _))

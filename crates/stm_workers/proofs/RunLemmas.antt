@@ -28,6 +28,12 @@ pub broke_off : (before after : HallState) (jobs : List Job) (cause : FaultCause
     OnAudit cause (IsAtFault before jobs after) → BrokeOff before jobs cause after
 broke_off before after jobs cause gone fault = record { at_fault = fault; goes_on = goes_on before after gone }
 
+-- its cause is no audit
+pub no_audit : (cause : FaultCause) (fact : ℕ → Type 0) → OnAudit cause (λ (job : ℕ). ⊥) → OnAudit cause fact
+no_audit OutOfMemory fact none = tt
+no_audit Spawn fact none = tt
+no_audit (Audit job) fact none = absurd none
+
 -- or before it began
 pub broke_off_early : (before : HallState) (jobs : List Job) → BrokeOff before jobs OutOfMemory before
 broke_off_early before jobs = record { at_fault = tt; goes_on = goes_on before before (has_not_gone before) }

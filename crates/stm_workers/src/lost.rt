@@ -1,5 +1,4 @@
 //! Why the threads of a run are given up.
-ghost use Rattle.std.specs.Prelude.{ℕ};
 ghost use Rattle.stm_workers.specs.Gathered.{OnAudit};
 
 use crate::gathered::FaultCause;
@@ -26,7 +25,7 @@ impl From<AllocError> for Lost {
 impl Lost {
     /// The cause that is told. It is no audit.
     pub fn cause(self) -> FaultCause
-        ensures { (fact : ℕ → Type 0) → OnAudit result fact }
+        ensures { OnAudit result (λ job. ⊥) }
     {
         match self {
             Lost::OutOfMemory => FaultCause::OutOfMemory,

@@ -1,8 +1,10 @@
 //! Two workers are at work at once, and no program is evaluated under the lock: job 0 is held before its commit until job 1's was
 //! answered, which can't be on one thread.
+ghost use Rattle.std.specs.Prelude.{◌≤◌};
 
 use serde_json::Value as Json;
 use std::alloc::Global;
+use std::process::Abort;
 use std::sync::Wait;
 use std::sync::atomic::{AtomicBool, Ordering};
 use std::test::Fail;
@@ -61,7 +63,11 @@ fn job(alloc: Global, text: &str) -> Result<Job, Fail> {
 }
 
 /// Whether two jobs, which put two keys, were run one after another.
-fn is_serial<R: Threads + Wait + Sync>(rt: &R, alloc: Global, workers: usize) -> Result<bool, Fail>
+fn is_serial<R: Abort + Threads + Wait + Sync>(
+    rt: &R,
+    alloc: Global,
+    workers: usize,
+) -> Result<bool, Fail>
     requires { (1 ≤ workers) × (workers ≤ 16) }
 {
     let mut jobs = Vec::new(alloc);
@@ -73,7 +79,7 @@ fn is_serial<R: Threads + Wait + Sync>(rt: &R, alloc: Global, workers: usize) ->
     };
     let hall = Hall::new(alloc, Store::new(alloc)?);
     let Ok(gathered) = run_workers(rt, alloc, jobs.as_slice(), workers, hall, &gate) else {
-        return Err(Fail::new("the run was broken off"));
+        return Err(Fail::from("the run was broken off"));
     };
     assert_eq!(rt; gathered.committed, 2);
     Ok(gate.serial.load(Ordering::SeqCst))

@@ -29,8 +29,10 @@ fn opened(alloc: Global) -> Result<Store, Fail> {
         failure: ShortList::new(alloc),
     };
     let mut store = Store::new(alloc)?;
-    store.txn(&txn)?;
-    Ok(store)
+    match store.txn(&txn) {
+        Ok(_) => Ok(store),
+        Err(refusal) => Err(Fail::from(refusal)),
+    }
 }
 
 /// The job of this number.
@@ -43,16 +45,23 @@ fn job(alloc: Global, number: usize) -> Result<Job, AllocError> {
     })
 }
 
+/// 64 jobs.
+fn jobs(alloc: Global) -> Result<Vec<Job>, AllocError> {
+    let mut jobs = Vec::new(alloc);
+    for number in 0..64usize {
+        let next = job(alloc, number)?;
+        jobs.push(next)?;
+    }
+    Ok(jobs)
+}
+
 #[test]
 fn transfers_by_four_workers_lose_nothing(rt: HostRuntime) -> Result<(), Fail> {
     let alloc = rt.alloc();
-    let mut jobs = Vec::with_capacity(alloc, 64)?;
-    for number in 0..64usize {
-        jobs.push_reserved(job(alloc, number)?);
-    }
+    let jobs = jobs(alloc)?;
     let hall = Hall::new(alloc, opened(alloc)?);
     let Ok(gathered) = run_workers(&rt, alloc, jobs.as_slice(), 4, hall, &NoGate) else {
-        return Err(Fail::new("the run was broken off"));
+        return Err(Fail::from("the run was broken off"));
     };
     assert_eq!(rt; gathered.committed, 64);
     assert_eq!(rt; gathered.hall.entries().len(), 64);

@@ -1,4 +1,5 @@
 //! How jobs end, and what is left of the hall that was handed in. What is expected comes from the rules, and never from a run.
+
 use serde_json::Value as Json;
 use std::alloc::{AllocError, Global};
 use std::sync::Wait;
@@ -61,10 +62,12 @@ fn ends_of<R: Threads + Wait + Sync, G: Gate + Sync>(
 
 /// The transaction of another client that puts one key.
 fn put(alloc: Global, key: &str) -> Result<Txn, AllocError> {
+    let key = Text::copy_of(alloc, key)?;
+    let value = Text::copy_of(alloc, "1")?;
     let mut success = ShortList::new(alloc);
     success.push(Op::Put {
-        key: Text::copy_of(alloc, key)?,
-        value: Text::copy_of(alloc, "1")?,
+        key,
+        value,
         lease: 0,
     })?;
     Ok(Txn {
@@ -74,13 +77,22 @@ fn put(alloc: Global, key: &str) -> Result<Txn, AllocError> {
     })
 }
 
+/// Another client puts a key.
+fn put_into(alloc: Global, hall: &mut Hall, key: &str) -> Result<(), Fail> {
+    let txn = put(alloc, key)?;
+    match hall.foreign(&txn) {
+        Ok(_) => Ok(()),
+        Err(refusal) => Err(Fail::from(refusal)),
+    }
+}
+
 /// A hall that another client has committed to before it is handed in.
 fn begun(alloc: Global) -> Result<Hall, Fail> {
-    let txn = put(alloc, "a")?;
-    let mut hall = Hall::new(alloc, Store::new(alloc)?);
-    match hall.foreign(&txn) {
-        Ok(_) => Ok(hall),
-        Err(refusal) => Err(Fail::from(refusal)),
+    let store = Store::new(alloc)?;
+    let mut hall = Hall::new(alloc, store);
+    match put_into(alloc, &mut hall, "a") {
+        Ok(()) => Ok(hall),
+        Err(fail) => Err(fail),
     }
 }
 

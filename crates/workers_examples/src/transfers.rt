@@ -13,22 +13,30 @@ use stm_workers::{Hall, Job, NoGate, run_workers};
 
 const ACCOUNTS: [&str; 8] = ["a0", "a1", "a2", "a3", "a4", "a5", "a6", "a7"];
 
-/// The store in which each account has 100, put by one transaction.
-fn opened(alloc: Global) -> Result<Store, Fail> {
+/// The operations that put 100 on each account.
+fn openings(alloc: Global) -> Result<ShortList<Op>, AllocError> {
     let mut success = ShortList::new(alloc);
     for account in ACCOUNTS {
+        let key = Text::copy_of(alloc, account)?;
+        let value = Text::copy_of(alloc, "100")?;
         success.push(Op::Put {
-            key: Text::copy_of(alloc, account)?,
-            value: Text::copy_of(alloc, "100")?,
+            key,
+            value,
             lease: 0,
         })?;
     }
+    Ok(success)
+}
+
+/// The store in which each account has 100, put by one transaction.
+fn opened(alloc: Global) -> Result<Store, Fail> {
+    let success = openings(alloc)?;
+    let mut store = Store::new(alloc)?;
     let txn = Txn {
         compares: ShortList::new(alloc),
         success,
         failure: ShortList::new(alloc),
     };
-    let mut store = Store::new(alloc)?;
     match store.txn(&txn) {
         Ok(_) => Ok(store),
         Err(refusal) => Err(Fail::from(refusal)),

@@ -13,8 +13,8 @@ use Rattle.stm_hall.specs.HallState.{HallState, made_over}
 use Rattle.stm_workers.specs.declared.job.Job.{Job}
 use Rattle.stm_workers.specs.declared.job_end.JobEnd.{JobEnd}
 use Rattle.stm_workers.specs.Gathered.{RanTo}
-use Rattle.stm_jobs.specs.declared.run_jobs.JobsFault.{JobsFault}
-use Rattle.stm_jobs.specs.declared.run_jobs.JobsFault.TheVariants.{OutOfMemory, Bad, Read, Write, Spawn, Audit}
+use Rattle.stm_jobs.specs.declared.running.JobsFault.{JobsFault}
+use Rattle.stm_jobs.specs.declared.running.JobsFault.TheVariants.{OutOfMemory, Bad, Read, Write, Spawn, Audit}
 use Rattle.stm_jobs.specs.Accepting.{Sorted, task_of, accepted, opening_of}
 use Rattle.stm_jobs.specs.Lines.{AreLinesOf}
 
@@ -28,6 +28,15 @@ pub record AreLinesOfRun (start : ℕ) (calls : List WorldEvent) (jobs : List Jo
   pub after : HallState
   pub ran : RanTo (made_over (world_after calls (opened start)).standing) jobs ends committed after
   pub lines : AreLinesOf (length jobs) committed after.standing.history text
+
+-- a run that was broken off ends by one of these
+abbrev pub IsBrokenOff : JobsFault → Type 0
+IsBrokenOff OutOfMemory = Unit {0}
+IsBrokenOff Spawn = Unit {0}
+IsBrokenOff (Audit job) = Unit {0}
+IsBrokenOff (Bad fault) = ⊥
+IsBrokenOff Read = ⊥
+IsBrokenOff Write = ⊥
 
 -- a scenario of jobs was accepted, and the text is printed of a run of them
 pub record AreLinesOfScenario (s : Scenario) (text : List ℕ) : Type 0 where

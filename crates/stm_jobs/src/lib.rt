@@ -6,14 +6,14 @@
 #![tactic(auto)]
 
 mod accepting;
-mod lines;
+mod printing;
 mod opening;
-mod run_jobs;
+mod running;
 
 pub use accepting::{JobScenario, accept};
-pub use lines::lines;
+pub use printing::lines;
 pub use opening::open_store;
-pub use run_jobs::{JobsFault, run_jobs};
+pub use running::{JobsFault, run_jobs};
 pub use stm_hall::Hall;
 pub use stm_json::{BadInput, Cause, ReadError};
 pub use stm_txn::Store;

@@ -24,6 +24,7 @@ use stm_hall::{Verdict, prepare};
 use stm_program::Level;
 
 /// What all workers of a run share.
+#[derive(Drop)]
 pub(crate) struct Floor<'a, R: Round, W: Wait, G: Gate> {
     pub rt: &'a W,
     pub alloc: Global,

@@ -28,9 +28,12 @@ use stm_hall::Hall;
 /// How many workers there may be.
 pub const MOST_WORKERS: usize = 16;
 
+/// So many jobs have room in no memory.
+const TOO_MANY_JOBS: usize = 0x8000_0000_0000_0000;
+
 /// What one worker does: it draws jobs until there are none left.
 fn work<R: Round, W: Wait, G: Gate>(
-    floor: &Floor<R, W, G>,
+    floor: &Floor<'_, R, W, G>,
     worker: Busy<R>,
 ) -> Result<Idle<R>, AllocError> {
     let mut worker = worker;
@@ -99,7 +102,7 @@ fn join_all<R: Round, W: Threads + Wait>(
 
 /// Starts the workers, and joins them. All threads have ended when it returns.
 fn employ<R: Round + Send + Sync, W: Threads + Wait + Sync, G: Gate + Sync>(
-    floor: &Floor<R, W, G>,
+    floor: &Floor<'_, R, W, G>,
     workers: usize,
     chief: Chief<R>,
 ) -> Result<Whole<R>, Lost>
@@ -227,8 +230,7 @@ fn make_table(
     ensures size { IfOk result (λ made. table_size made.0 ≡ size_of jobs (workers + 1)) }
     ensures seat { IfOk result (λ made. IsSeatAt (table_id made.0) (table_size made.0) made.1 × (seat_view made.1 ≡ newcomer (table_size made.0))) }
 {
-    // (no memory has room for so many jobs)
-    if jobs >= 1 << 63 {
+    if jobs >= TOO_MANY_JOBS {
         return Err(AllocError);
     }
     let made = JobTable::new(alloc, jobs, workers + 1)?;

@@ -2,8 +2,8 @@
 use Rattle.std.specs.Prelude.{◌≡◌, ℕ, List, ◌++◌, Bool, false, Option, Result, Ok, Err, codes, decimal}
 use Rattle.std.specs.Io.KnownBytes.{Keeps}
 use Rattle.stm_report.specs.Script.{Devices}
-use Rattle.stm_jobs.specs.declared.run_jobs.JobsFault.{JobsFault}
-use Rattle.stm_jobs.specs.declared.run_jobs.JobsFault.TheVariants.{OutOfMemory, Bad, Read, Write, Spawn, Audit}
+use Rattle.stm_jobs.specs.declared.running.JobsFault.{JobsFault}
+use Rattle.stm_jobs.specs.declared.running.JobsFault.TheVariants.{OutOfMemory, Bad, Read, Write, Spawn, Audit}
 use Rattle.stm_jobs.specs.Running.{Does}
 use Rattle.stmrun.specs.Statuses.{bad_input, Says}
 

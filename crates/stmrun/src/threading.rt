@@ -1,7 +1,7 @@
 //! The command `threads` over devices.
 ghost use Rattle.std.specs.Prelude.{◌≡◌, ◌≤◌, false, decimal};
 ghost use Rattle.stm_devices.specs.Transfers.{HasWritten};
-ghost use Rattle.stm_jobs.specs.declared.run_jobs.JobsFault.TheVariants.{Audit};
+ghost use Rattle.stm_jobs.specs.declared.running.JobsFault.TheVariants.{Audit};
 ghost use Rattle.stmrun.specs.Threading.{fault_status, fault_message, SaysOf, Ends};
 
 use crate::scripting::{write_bad, write_text};

@@ -1,11 +1,11 @@
 //! From the bytes of a source to what is printed of its jobs in a sink.
-ghost use Rattle.std.specs.Prelude.{◌≡◌, ◌≤◌, false, string_bytes, Ok, IfOk};
+ghost use Rattle.std.specs.Prelude.{◌≡◌, ◌≤◌, false, string_bytes, Ok, IfOk, IfErr};
 ghost use Rattle.stm_history.specs.declared.revisions.TheConstants.{HIGHEST_REVISION};
 ghost use Rattle.stm_texts.specs.Reading.{IsOpening, scenario_in};
-ghost use Rattle.stm_jobs.specs.Running.{AreLinesOfRun, Answers, Writes, Does};
+ghost use Rattle.stm_jobs.specs.Running.{AreLinesOfRun, IsBrokenOff, Answers, Writes, Does};
 
 use crate::accepting::accept;
-use crate::lines::lines;
+use crate::printing::lines;
 use crate::opening::open_store;
 use std::alloc::Global;
 use std::sync::Wait;
@@ -42,7 +42,9 @@ pub enum JobsFault {
 }
 
 /// The fault of a run that was broken off.
-fn fault_of(cause: FaultCause) -> JobsFault {
+fn fault_of(cause: FaultCause) -> JobsFault
+    ensures { IsBrokenOff result }
+{
     match cause {
         FaultCause::OutOfMemory => JobsFault::OutOfMemory,
         FaultCause::Spawn => JobsFault::Spawn,
@@ -60,7 +62,8 @@ fn lines_of<R: Threads + Wait + Sync>(
     workers: usize,
 ) -> Result<String, JobsFault>
     requires { (1 ≤ workers) × (workers ≤ 16) × (1 ≤ start) × (start ≤ HIGHEST_REVISION) }
-    ensures { IfOk result (λ text. AreLinesOfRun start calls.now jobs.now (string_bytes text)) }
+    ensures lines { IfOk result (λ text. AreLinesOfRun start calls.now jobs.now (string_bytes text)) }
+    ensures fault { IfErr result IsBrokenOff }
 {
     let Ok(store) = open_store(alloc, start, calls) else {
         return Err(JobsFault::OutOfMemory);

@@ -6,13 +6,13 @@
 #![tactic(auto)]
 
 mod accepting;
-mod printing;
 mod opening;
+mod printing;
 mod running;
 
 pub use accepting::{JobScenario, accept};
-pub use printing::lines;
 pub use opening::open_store;
+pub use printing::lines;
 pub use running::{JobsFault, run_jobs};
 pub use stm_hall::Hall;
 pub use stm_json::{BadInput, Cause, ReadError};

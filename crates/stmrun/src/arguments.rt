@@ -194,12 +194,12 @@ fn threads_command<'a>(alloc: Global) -> Result<Command<'a>, AllocError>
         "FILE",
         "The file of the scenario, in the place of standard input",
     );
-    let workers = workers(alloc);
+    let count = workers(alloc);
     Command::new(alloc, "threads")
         .about("Runs the starts of a scenario as jobs, by several threads on one store")
         .after_help(THREADS_EXAMPLE)
         .arg(input)?
-        .arg(workers)
+        .arg(count)
 }
 
 /// The command.

@@ -1,4 +1,4 @@
-use Rattle.std.proofs.Common.{◌≡◌, List, ℕ, ◌∙◌, ap, subst, string_bytes, append_assoc}
+use Rattle.std.proofs.Common.{◌≡◌, List, refl, subst, string_bytes}
 use Rattle.stm_history.specs.History.{now}
 use Rattle.stm_meaning.specs.States.{IsAscending}
 use Rattle.stm_jobs.specs.Lines.{text_of}
@@ -12,5 +12,5 @@ returns c =
     let rises : IsAscending state = subst IsAscending c.state-2.view_is c.state-2.invariant.0 in
     let text : string_bytes c.push_count-3.new.text ≡ text_of c.args.jobs c.args.gathered.now.committed state (now h) =
     rw (c.in_ok-push_count-3.ensures, c.in_ok-push_values.ensures, c.in_ok-push_count-2.ensures, c.in_ok-push_count.ensures, c.new.ensures, c.revision.ensures)
-    (simp append_assoc) in
+    refl in
     (state, c.in_ok-state.ensures, present_keys h state rises c.in_ok-state.ensures, text)

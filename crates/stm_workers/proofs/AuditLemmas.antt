@@ -209,3 +209,40 @@ marked_more ends place entries end before after is many marked adds index low =
     adds index (subst (λ (n : ℕ). index < n) (sym many) low)
     ∙ ap (λ b. names_entry index end || b) (marked index low)
     ∙ sym (one_end_more index place ends end is)
+
+-- ---- what an end says of the hall, test by test
+
+-- the first of three facts fails, or the second, or the last
+pub first_fails : (b : Bool) (A B C : Type 0) → (b ≡ true) ↔ A → b ≡ false → (false ≡ true) ↔ (A × B × C)
+first_fails b A B C test no = ((λ yes. absurd (cc)), (λ all. sym no ∙ test.1 all.0))
+
+pub second_fails : (b : Bool) (A B C : Type 0) → (b ≡ true) ↔ B → b ≡ false → (false ≡ true) ↔ (A × B × C)
+second_fails b A B C test no = ((λ yes. absurd (cc)), (λ all. sym no ∙ test.1 all.1))
+
+pub third_fails : (b : Bool) (A B C : Type 0) → (b ≡ true) ↔ C → b ≡ false → (false ≡ true) ↔ (A × B × C)
+third_fails b A B C test no = ((λ yes. absurd (cc)), (λ all. sym no ∙ test.1 all.2))
+
+pub level_fails : (b c : Bool) (B C : Type 0) → b ≡ c → b ≡ false → (false ≡ true) ↔ ((c ≡ true) × B × C)
+level_fails b c B C is no = ((λ yes. absurd (cc)), (λ all. sym no ∙ is ∙ all.0))
+
+-- two of them hold, so the other one decides
+pub second_decides : (b c : Bool) (A C : Type 0) → b ≡ c → A → C → (b ≡ true) ↔ (A × (c ≡ true) × C)
+second_decides b c A C is first third = ((λ yes. (first, sym is ∙ yes, third)), (λ all. is ∙ all.1))
+
+pub third_decides : (b : Bool) (A B C : Type 0) → A → B → (b ≡ true) ↔ C → (b ≡ true) ↔ (A × B × C)
+third_decides b A B C first second test = ((λ yes. (first, second, test.0 yes)), (λ all. test.1 all.2))
+
+pub first_of_two_fails : (A B : Type 0) → (A → ⊥) → (false ≡ true) ↔ (A × B)
+first_of_two_fails A B not = ((λ yes. absurd (cc)), (λ both. absurd (not both.0)))
+
+pub second_of_two_fails : (A B : Type 0) → (B → ⊥) → (false ≡ true) ↔ (A × B)
+second_of_two_fails A B not = ((λ yes. absurd (cc)), (λ both. absurd (not both.1)))
+
+pub second_of_two_decides : (b : Bool) (A B : Type 0) → A → (b ≡ true) ↔ B → (b ≡ true) ↔ (A × B)
+second_of_two_decides b A B first test = ((λ yes. (first, test.0 yes)), (λ both. test.1 both.1))
+
+-- no commit stands behind the last entry
+pub nothing_behind : (job : Job) (revision : ℕ) (entries : List Entry) (index : ℕ) → length entries ≤ index →
+    IsCommitOf job revision (slice_get entries index) → ⊥
+nothing_behind job revision entries index behind commit =
+    let there : index < length entries = commit_is_there job revision (slice_get entries index) entries index refl commit in omega arith

@@ -1,5 +1,6 @@
 //! The look at the ends of jobs, once nobody is at the hall.
-ghost use Rattle.std.specs.Prelude.{◌≡◌, ◌<◌, ◌≤◌, ◌↔◌, ◌||◌, ℕ, false, length, get_or, slice_get, IfOk, IfSome, IfNone, IsTrue, Some};
+ghost use Rattle.std.specs.Prelude.{◌≡◌, ◌+◌, ◌<◌, ◌≤◌, ◌↔◌, ◌||◌, ℕ, false, length, get_or, slice_get, IfOk, IfSome, IfNone, IsTrue, Some};
+ghost use Rattle.stm_compile.specs.Levels.{is_comparing};
 ghost use Rattle.stm_workers.specs.Ends.{entry_named, names_entry, IsCommitOf, IsGivenUp, IsBorneOut, BorneOutAt, StandsAt, AllStand};
 ghost use Rattle.stm_workers.specs.Marks.{NamesWithin, IsNewAt, is_marked};
 
@@ -21,29 +22,70 @@ fn is_commit_of(entry: &Entry, job: &Job, after: u64) -> bool
             level,
             revision,
             ..
-        } => program.is_same(&job.program) && (*level).is_same(job.level) && *revision == after,
+        } => {
+            if !program.is_same(&job.program) {
+                return false;
+            }
+            if !(*level).is_same(job.level) {
+                return false;
+            }
+            *revision == after
+        }
         _ => false,
     }
+}
+
+/// The entry at a place.
+fn entry_at(entries: &[Entry], index: usize) -> &Entry
+    requires { index < length entries.now }
+    ensures { slice_get entries.now index ≡ Some result.now }
+{
+    &entries[index]
 }
 
 /// Whether the entry at a place is that commit, made since the run began.
 fn has_commit(entries: &[Entry], begun: Begun, job: &Job, index: usize, after: u64) -> bool
     ensures { IsTrue result ↔ ((begun.entries ≤ index) × IsCommitOf job.now after (slice_get entries.now index)) }
 {
-    if index < begun.entries || index >= entries.len() {
+    if index < begun.entries {
         return false;
     }
-    is_commit_of(&entries[index], job, after)
+    if index >= entries.len() {
+        return false;
+    }
+    is_commit_of(entry_at(entries, index), job, after)
+}
+
+/// Whether a commit at this level compares what was read.
+fn is_comparing(level: Level) -> bool
+    ensures { result ≡ is_comparing level }
+{
+    match level {
+        Level::SerializableSnapshot => true,
+        Level::Serializable => true,
+        Level::RepeatableReads => true,
+        Level::ReadCommitted => false,
+    }
+}
+
+/// Whether a counter has grown by at least so many since it was this.
+fn has_grown_by(now: u64, since: u64, many: u32) -> bool
+    ensures { IsTrue result ↔ since + many ≤ now }
+{
+    if now < since {
+        return false;
+    }
+    now - since >= many as u64
 }
 
 /// Whether a job may have sent its last commit over a key that others changed.
 fn may_have_given_up(hall: &Hall, begun: Begun, job: &Job, key: &str) -> bool
     ensures { IsTrue result ↔ IsGivenUp begun hall.now job.now key.now }
 {
-    if job.level.is_same(Level::ReadCommitted) {
+    if !is_comparing(job.level) {
         return false;
     }
-    if hall.revision() < begun.revision || hall.revision() - begun.revision < job.limit as u64 {
+    if !has_grown_by(hall.revision(), begun.revision, job.limit) {
         return false;
     }
     hall.is_changed_above(key, begun.revision)

@@ -7,12 +7,27 @@ use Rattle.std.specs.List.Sorted.{IsPermutation}
 use Rattle.std.proofs.lemmas.List.Sorted.{sum_by-IsPermutation, length_permutation}
 use Rattle.stm_draw.specs.declared.view.Size.{Size}
 use Rattle.stm_draw.specs.declared.view.View.{View}
-use Rattle.stm_draw.specs.Draw.{EachOnce, IsWhole, Knows, drew, joined, after_none}
+use Rattle.stm_draw.specs.declared.table.JobSeat.{JobSeat}
+use Rattle.atomic_table.specs.Seated.{TableId}
+use Rattle.stm_draw.specs.Seats.{IsSeatAt}
+use Rattle.stm_draw.specs.Draw.{EachOnce, Knows, fresh, given, drew, joined, after_none}
 use Rattle.stm_draw.proofs.Counted.{as_many}
 use Rattle.stm_workers.specs.declared.job_end.JobEnd.{JobEnd}
 use Rattle.stm_workers.specs.declared.worker.EndOf.{EndOf}
 use Rattle.stm_workers.specs.Ends.{is_committed}
 use Rattle.stm_workers.specs.Rounds.{jobs_of, committed_in, ends_in, counted_end, drawing, used_up}
+
+-- ---- seats
+
+-- a seat of this table is one of that table, where they are the same
+pub seat_at : (id other : TableId) (size more : Size) (seat : JobSeat) → id ≡ other → size ≡ more → IsSeatAt id size seat → IsSeatAt other more seat
+seat_at id other size more seat same as_large is = (is.0 ∙ same, is.1 ∙ as_large)
+
+-- a new worker has drawn nothing
+pub newly_equipped : (size : Size) (ended : List EndOf) (before after : View) → before.size ≡ size → ended ≡ [] → after ≡ given before →
+    after ≡ drawing size (jobs_of ended)
+newly_equipped size ended before after same none split =
+    split ∙ ap (λ (s : Size). fresh s) same ∙ ap (λ (es : List EndOf). drawing size (jobs_of es)) (sym none)
 
 -- ---- a worker
 

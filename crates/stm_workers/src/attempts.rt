@@ -267,16 +267,13 @@ impl<'a, R: Round, W: Wait, G: Gate> Floor<'a, R, W, G> {
             mut seen,
             mut ended,
         } = worker;
-        let Some(job) = self.table.draw(&mut seat) else {
-            return Ok(Shift::Over(Idle { seat, share, ended }));
-        };
-        let end = self.run_job(job, &mut share, &mut seen)?;
-        ended.push(EndOf { job, end })?;
-        Ok(Shift::On(Busy {
-            seat,
-            share,
-            seen,
-            ended,
-        }))
+        match self.table.draw(&mut seat) {
+            None => Ok(Shift::Over(Idle::at_rest(seat, share, ended))),
+            Some(job) => {
+                let end = self.run_job(job, &mut share, &mut seen)?;
+                ended.push(EndOf { job, end })?;
+                Ok(Shift::On(Busy::at_work(seat, share, seen, ended)))
+            }
+        }
     }
 }

@@ -72,6 +72,33 @@ pub(crate) struct Whole<R: Round> {
     ghost some_past: { 0 < (seat_view chief.seat).past },
 }
 
+impl<R: Round> Busy<R> {
+    /// A worker that has brought these jobs to their ends.
+    pub fn at_work(seat: JobSeat, share: Share<R>, seen: u64, ended: Vec<EndOf>) -> Busy<R>
+        requires seated { IsSeatAt R.table R.size seat }
+        requires one_left { seat_view seat ≡ drawing R.size (jobs_of ended.items) }
+        requires counted { (share.parts ≡ 1) × (share.amount ≡ committed_in ended.items) }
+    {
+        Busy {
+            seat,
+            share,
+            seen,
+            ended,
+        }
+    }
+}
+
+impl<R: Round> Idle<R> {
+    /// A worker that has brought these jobs to their ends, and found no more.
+    pub fn at_rest(seat: JobSeat, share: Share<R>, ended: Vec<EndOf>) -> Idle<R>
+        requires seated { IsSeatAt R.table R.size seat }
+        requires none_left { seat_view seat ≡ used_up R.size (jobs_of ended.items) }
+        requires counted { (share.parts ≡ 1) × (share.amount ≡ committed_in ended.items) }
+    {
+        Idle { seat, share, ended }
+    }
+}
+
 impl<R: Round> Chief<R> {
     /// With the first seat and the first share.
     pub fn new(alloc: Global, seat: JobSeat, share: Share<R>) -> Chief<R>
@@ -97,12 +124,7 @@ impl<R: Round> Chief<R> {
     {
         let seat = table.split(&mut self.seat);
         let share = self.share.split_off(1, 0);
-        Busy {
-            seat,
-            share,
-            seen: 0,
-            ended: Vec::new(alloc),
-        }
+        Busy::at_work(seat, share, 0, Vec::new(alloc))
     }
 
     /// Takes in what a worker hands back. `AllocError`: a growth was refused, and it is as it was; what the worker had is lost.

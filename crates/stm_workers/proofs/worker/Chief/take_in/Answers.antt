@@ -1,4 +1,4 @@
-use Rattle.stm_workers.proofs.SeatLemmas.{drawn_together, counted_together, even_together, past_together}
+use Rattle.stm_workers.proofs.SeatLemmas.{seat_at, drawn_together, counted_together, even_together, past_together}
 use Rattle.stm_workers.proofs.worker.Chief.take_in.Goals as goal
 
 -- its draws, its commits and its passes are more by those of the worker
@@ -7,7 +7,7 @@ invariant_of-self g c =
     let old = c.args.self.now in
     let idle = c.args.idle in
     record {
-      seated = c.join.ensures.seat;
+      seated = seat_at _ _ _ _ _ c.requires.0 c.requires.1 c.join.ensures.seat;
       drawn = drawn_together _ _ _ _ _ _ old.drawn idle.none_left c.join.ensures.view;
       counted = counted_together _ _ _ _ _ old.counted idle.counted.1 c.merge.ensures.amount;
       even = even_together _ _ _ _ _ _ _ _ old.even idle.none_left c.join.ensures.view idle.counted.0 c.merge.ensures.parts;

@@ -52,3 +52,18 @@ pub fault_found : (before after : HallState) (jobs : List Job) (ends : List JobE
     OnAudit cause (λ (job : ℕ). (job < length jobs) × (StandsAt begun after jobs ends job → ⊥)) → BrokeOff before jobs cause after
 fault_found before after jobs ends begun cause began places gone told =
     broke_off before after jobs cause gone (on_fault before after jobs ends begun cause began places told)
+
+-- ---- one round
+
+-- the hall that was handed in is the one that the round is of
+pub gone_from : (hall before after : HallState) → hall ≡ before → HasGoneOn before after → HasGoneOn hall after
+gone_from hall before after same gone = subst (λ (h : HallState). HasGoneOn h after) (sym same) gone
+
+-- it has the commits that it had, and one for each end that is one
+pub round_commits : (hall before after : HallState) (amount told counted : ℕ) → hall ≡ before →
+    commits_in after.entries ≡ commits_in before.entries + amount → amount ≡ told → counted ≡ told →
+    commits_in after.entries ≡ commits_in hall.entries + counted
+round_commits hall before after amount told counted same closed shared sorted =
+    closed
+    ∙ ap (λ (h : HallState). commits_in h.entries + amount) (sym same)
+    ∙ ap (λ (n : ℕ). commits_in hall.entries + n) (shared ∙ sym sorted)

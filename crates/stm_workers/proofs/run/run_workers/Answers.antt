@@ -1,5 +1,7 @@
-use Rattle.stm_workers.specs.Gathered.{IsAtFault}
-use Rattle.stm_workers.proofs.RunLemmas.{broke_off_early, broke_off, no_audit}
+use Rattle.std.proofs.Common.{sym, ap, subst}
+use Rattle.stm_hall.specs.HallState.{HallState}
+use Rattle.stm_workers.specs.Gathered.{IsAtFault, RanTo, BrokeOff}
+use Rattle.stm_workers.proofs.RunLemmas.{ran_to, broke_off_early, broke_off, no_audit, fault_found}
 use Rattle.stm_workers.proofs.run.run_workers.Goals as goal
 
 -- no table could be made: the hall is as it was

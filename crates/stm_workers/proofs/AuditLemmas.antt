@@ -1,7 +1,8 @@
 -- When an audit finds something.
 use Rattle.std.proofs.Common.{◌≡◌, ℕ, zero, suc, ◌+◌, ◌<◌, ◌≤◌, ◌||◌, ◌==◌, List, [], ◌∷◌, length, Bool, true, false, Option, None, Some, option_and_then}
-use Rattle.std.proofs.Common.{slice_get, get_or, ◌↔◌, refl, sym, ◌∙◌, ap, subst, ⊎_elim, arith, eq-eqb, eqb-true}
+use Rattle.std.proofs.Common.{slice_get, get_or, set, ◌↔◌, refl, sym, ◌∙◌, ap, subst, ⊎_elim, arith, eq-eqb, eqb-true}
 use Rattle.std.proofs.lemmas.Bool.{cases_lt}
+use Rattle.std.proofs.lemmas.List.{get_or-set_same, get_or-set_other}
 use Rattle.stm_entries.specs.declared.entry.Entry.{Entry}
 use Rattle.stm_hall.specs.HallState.{HallState}
 use Rattle.stm_workers.specs.declared.begun.Begun.{Begun}
@@ -246,3 +247,19 @@ pub nothing_behind : (job : Job) (revision : ℕ) (entries : List Entry) (index 
     IsCommitOf job revision (slice_get entries index) → ⊥
 nothing_behind job revision entries index behind commit =
     let there : index < length entries = commit_is_there job revision (slice_get entries index) entries index refl commit in omega arith
+
+-- ---- one mark more
+
+pub set_marks : (marks : List Bool) (own index : ℕ) → own < length marks →
+    get_or (set marks own true) index false ≡ (own == index || get_or marks index false)
+set_marks marks own index low = by_test (own == index) refl
+  where
+    by_test : (b : Bool) → (own == index) ≡ b → get_or (set marks own true) index false ≡ (own == index || get_or marks index false)
+    by_test true is =
+        let same : own ≡ index = eqb-true own index is in
+        subst (λ (n : ℕ). get_or (set marks own true) n false ≡ true) same (get_or-set_same marks own true false low)
+        ∙ sym (ap (λ b. b || get_or marks index false) is)
+    by_test false is =
+        get_or-set_other marks own index true false
+            (λ (same : index ≡ own). let both : false ≡ true = sym is ∙ eq-eqb own index (sym same) in absurd (cc))
+        ∙ sym (ap (λ b. b || get_or marks index false) is)

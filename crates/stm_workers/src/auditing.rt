@@ -1,5 +1,5 @@
 //! The look at the ends of jobs, once nobody is at the hall.
-ghost use Rattle.std.specs.Prelude.{◌≡◌, ◌+◌, ◌<◌, ◌≤◌, ◌↔◌, ◌||◌, ℕ, false, length, get_or, slice_get, IfOk, IfSome, IfNone, IsTrue, Some};
+ghost use Rattle.std.specs.Prelude.{◌≡◌, ◌+◌, ◌<◌, ◌≤◌, ◌↔◌, ◌||◌, ℕ, true, false, length, get_or, set, slice_get, IfOk, IfSome, IfNone, IsTrue, Some};
 ghost use Rattle.stm_compile.specs.Levels.{is_comparing};
 ghost use Rattle.stm_workers.specs.Ends.{entry_named, names_entry, IsCommitOf, IsGivenUp, IsBorneOut, BorneOutAt, StandsAt, AllStand};
 ghost use Rattle.stm_workers.specs.Marks.{NamesWithin, IsNewAt, is_marked};
@@ -150,6 +150,17 @@ fn find_unborne(jobs: &[Job], ends: &[JobEnd], begun: Begun, hall: &Hall) -> Opt
     None
 }
 
+/// Marks an entry, and tells whether it was marked before.
+fn set_mark(marks: &mut Vec<bool>, index: usize) -> bool
+    requires { index < length marks.old.items }
+    ensures was { result ≡ get_or marks.old.items index false }
+    ensures marks { marks.new.items ≡ set marks.old.items index true }
+{
+    let was = marks[index];
+    marks[index] = true;
+    was
+}
+
 /// Marks the entry that an end names, and tells whether it was marked before.
 fn mark(marks: &mut Vec<bool>, end: &JobEnd) -> bool
     requires { IfSome (entry_named end.now) (λ index. index < length marks.old.items) }
@@ -158,11 +169,7 @@ fn mark(marks: &mut Vec<bool>, end: &JobEnd) -> bool
     ensures length { length marks.new.items ≡ length marks.old.items }
 {
     match end {
-        JobEnd::Committed { index, .. } => {
-            let was = marks[*index];
-            marks[*index] = true;
-            was
-        }
+        JobEnd::Committed { index, .. } => set_mark(marks, *index),
         JobEnd::Aborted(_) => false,
         JobEnd::Faulted(_) => false,
         JobEnd::Refused(_) => false,

@@ -12,7 +12,7 @@ use std::thread::Threads;
 use stm_report::Std;
 
 /// A reader, or a writer, that fails.
-#[derive(Clone, Copy)]
+#[derive(Drop)]
 struct Broken;
 
 impl Read for Broken {

@@ -1,7 +1,10 @@
-use Rattle.std.proofs.Common.{◌≡◌, Err, refl, sym, subst}
+use Rattle.std.proofs.Common.{refl, sym, subst}
+use Rattle.stm_json.specs.declared.cause.Cause.TheVariants.{Shape}
+use Rattle.stm_json.specs.declared.read_error.ReadError.{ReadError}
+use Rattle.stm_json.specs.Outcome.{Outcome, bad}
 use Rattle.stm_json.specs.Tells.{Tells, TellsFault}
 use Rattle.stm_world.specs.declared.event.WorldEvent.{WorldEvent}
-use Rattle.stm_jobs.specs.Accepting.{sorted_of, add_event}
+use Rattle.stm_jobs.specs.Accepting.{Sorted, sorted_of, add_event}
 use Rattle.stm_jobs.proofs.accepting.add.Goals as goal
 
 -- ---- jobs and calls
@@ -38,27 +41,30 @@ returns-in-Advance c =
 
 -- ---- other events
 
+abbrev of_no_shape : Outcome Sorted
+of_no_shape = bad Shape
+
 pub returns-in-Step : goal.returns-in-Step
 returns-in-Step c =
     subst (λ (e : WorldEvent). TellsFault c.fault.result (add_event (sorted_of c.args.sorted.now) e)) (sym c.in-Step.is)
-    (subst (λ r. TellsFault r (add_event (sorted_of c.args.sorted.now) _)) (sym c.fault.ensures) refl)
+    (subst (λ (r : ReadError). TellsFault r of_no_shape) (sym c.fault.ensures) refl)
 
 pub returns-in-WatchKey : goal.returns-in-WatchKey
 returns-in-WatchKey c =
     subst (λ (e : WorldEvent). TellsFault c.fault-2.result (add_event (sorted_of c.args.sorted.now) e)) (sym c.in-WatchKey.is)
-    (subst (λ r. TellsFault r (add_event (sorted_of c.args.sorted.now) _)) (sym c.fault-2.ensures) refl)
+    (subst (λ (r : ReadError). TellsFault r of_no_shape) (sym c.fault-2.ensures) refl)
 
 pub returns-in-WatchRange : goal.returns-in-WatchRange
 returns-in-WatchRange c =
     subst (λ (e : WorldEvent). TellsFault c.fault-3.result (add_event (sorted_of c.args.sorted.now) e)) (sym c.in-WatchRange.is)
-    (subst (λ r. TellsFault r (add_event (sorted_of c.args.sorted.now) _)) (sym c.fault-3.ensures) refl)
+    (subst (λ (r : ReadError). TellsFault r of_no_shape) (sym c.fault-3.ensures) refl)
 
 pub returns-in-Poll : goal.returns-in-Poll
 returns-in-Poll c =
     subst (λ (e : WorldEvent). TellsFault c.fault-4.result (add_event (sorted_of c.args.sorted.now) e)) (sym c.in-Poll.is)
-    (subst (λ r. TellsFault r (add_event (sorted_of c.args.sorted.now) _)) (sym c.fault-4.ensures) refl)
+    (subst (λ (r : ReadError). TellsFault r of_no_shape) (sym c.fault-4.ensures) refl)
 
 pub returns-in-Cancel : goal.returns-in-Cancel
 returns-in-Cancel c =
     subst (λ (e : WorldEvent). TellsFault c.fault-5.result (add_event (sorted_of c.args.sorted.now) e)) (sym c.in-Cancel.is)
-    (subst (λ r. TellsFault r (add_event (sorted_of c.args.sorted.now) _)) (sym c.fault-5.ensures) refl)
+    (subst (λ (r : ReadError). TellsFault r of_no_shape) (sym c.fault-5.ensures) refl)

@@ -13,7 +13,7 @@ use serde_json::Value as Json;
 use std::alloc::{AllocError, Global};
 use std::test::Fail;
 use stm_attempt::{Attempt, Next};
-use stm_hall::{CommitRefusal, FetchRefusal, Hall, Ready, Verdict};
+use stm_hall::{CommitRefusal, FetchRefusal, Hall, Ready, Verdict, prepare};
 use stm_history::{KeyState, ReadAnswer, Text};
 use stm_program::{Level, Program};
 use stm_program_json::read_program;
@@ -244,10 +244,17 @@ fn attempted(
     next
 }
 
-/// The verdict on an attempt, and how many entries the hall has then.
+/// The verdict on an attempt whose commit was prepared.
+fn tell_prepared(alloc: Global, hall: &mut Hall, ready: &Ready) -> Result<String, AllocError> {
+    let prepared = prepare(alloc, ready)?;
+    show_verdict(alloc, hall.commit_prepared(ready, prepared))
+}
+
+/// The verdict on an attempt, that on the same one once more, prepared, and how many entries the hall has then.
 fn tell_verdict(alloc: Global, hall: &mut Hall, ready: &Ready) -> Result<String, AllocError> {
     let line = show_verdict(alloc, hall.commit(ready))?;
-    format!(in alloc; "{}; {} entries", line.as_str(), hall.entries().len())
+    let again = tell_prepared(alloc, hall, ready)?;
+    format!(in alloc; "{}; {}; {} entries", line.as_str(), again.as_str(), hall.entries().len())
 }
 
 /// The same, in a hall of its own.
@@ -278,7 +285,7 @@ fn verdict(alloc: Global, value: &str, mod_rev: u64) -> Result<String, Fail>
 fn a_value_that_the_store_has_not_is_unvouched(rt: HostRuntime) -> Result<(), Fail> {
     assert_eq!(rt;
         verdict(rt.alloc(), "9", 2)?.as_str(),
-        "Unvouched a; 0 entries"
+        "Unvouched a; Unvouched a; 0 entries"
     );
     Ok(())
 }
@@ -287,7 +294,7 @@ fn a_value_that_the_store_has_not_is_unvouched(rt: HostRuntime) -> Result<(), Fa
 fn an_older_modification_revision_fails(rt: HostRuntime) -> Result<(), Fail> {
     assert_eq!(rt;
         verdict(rt.alloc(), "9", 1)?.as_str(),
-        "Failed a seen 1 now 2: a 1@2 at 2 of 2; 0 entries"
+        "Failed a seen 1 now 2: a 1@2 at 2 of 2; Failed a seen 1 now 2: a 1@2 at 2 of 2; 0 entries"
     );
     Ok(())
 }
@@ -296,7 +303,23 @@ fn an_older_modification_revision_fails(rt: HostRuntime) -> Result<(), Fail> {
 fn what_the_store_has_commits(rt: HostRuntime) -> Result<(), Fail> {
     assert_eq!(rt;
         verdict(rt.alloc(), "1", 2)?.as_str(),
-        "Committed 0 2; 1 entries"
+        "Committed 0 2; Committed 1 2; 2 entries"
     );
+    Ok(())
+}
+
+// "a" was put at 2, and no other key was changed.
+#[test]
+fn a_key_is_changed_above_the_revisions_before_its_change(rt: HostRuntime) -> Result<(), Fail> {
+    let hall = hall_with_a(rt.alloc())?;
+    let changed = [
+        hall.is_changed_above("a", 0),
+        hall.is_changed_above("a", 1),
+        hall.is_changed_above("a", 2),
+        hall.is_changed_above("a", 3),
+        hall.is_changed_above("b", 0),
+    ];
+    drop(hall);
+    assert_eq!(rt; changed, [true, true, false, false, false]);
     Ok(())
 }

@@ -47,8 +47,8 @@ fn read_of(answer: OpAnswer) -> ReadAnswer
     }
 }
 
-/// The answer of a transaction that read once.
-pub(crate) fn take_only_read(answers: ShortList<OpAnswer>) -> Result<ReadAnswer, AllocError>
+/// The answer of a transaction that read once. Want of memory is the only refusal.
+pub fn take_only_read(answers: ShortList<OpAnswer>) -> Result<ReadAnswer, AllocError>
     requires { IsOneRead answers }
     ensures { IfOk result (λ read. answers ≡ Get read ∷ []) }
 {

@@ -9,8 +9,9 @@ use std::alloc::{AllocError, Global};
 use stm_history::{ReadAnswer, Text};
 use stm_txn::{Op, Refusal, ShortList, Store, Txn};
 
-/// The transaction that reads one key.
-fn read_one(alloc: Global, key: &str, at: u64) -> Result<Txn, AllocError>
+/// The transaction that reads one key at a revision, 0 for the current one, and does nothing else. Want of memory is the
+/// only refusal.
+pub fn read_one(alloc: Global, key: &str, at: u64) -> Result<Txn, AllocError>
     ensures { IfOk result (λ txn. txn ≡ fetch_of key.now at) }
 {
     let key = Text::copy_of(alloc, key)?;

@@ -10,8 +10,9 @@ mod sending;
 mod sent;
 mod state;
 
+pub use answers::take_only_read;
 pub use copies::{Copies, copies_of};
-pub use fetching::fetch;
+pub use fetching::{fetch, read_one};
 pub use present::present_keys;
 pub use sending::{commit, conflict};
 pub use sent::Sent;

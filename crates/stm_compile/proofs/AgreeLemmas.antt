@@ -2,7 +2,7 @@
 use Rattle.std.proofs.Common.{◌≡◌, ℕ, ◌+◌, ◌≤◌, List, [], ◌∷◌, ◌++◌, map, Bool, true, false, cond, Option, None, Some, refl, sym, ◌∙◌, ap, subst, arith}
 use Rattle.std.specs.Prelude.{bytes_eq, option_map}
 use Rattle.std.specs.List.{AllByRecursion}
-use Rattle.std.proofs.lemmas.List.Elements.{recursion_from_All}
+use Rattle.std.proofs.lemmas.List.Elements.{All-from_recursion, recursion_from_All}
 use Rattle.stm_history.specs.declared.change.Change.{Change}
 use Rattle.stm_history.specs.declared.key_state.ReadAnswer.{ReadAnswer}
 use Rattle.stm_history.specs.History.{History, now, add_revision, key_now, key_at, mod_of, IsTrueAnswer}
@@ -25,7 +25,7 @@ use Rattle.stm_compile.specs.Levels.{is_comparing}
 use Rattle.stm_compile.specs.Answers.{answer_in, seen_of, said, look_up, state_now, state_as_of, AreTrue, answer_now}
 use Rattle.stm_compile.specs.CommitTxn.{is_as_read}
 use Rattle.stm_compile.specs.Committed.{conflict_now}
-use Rattle.stm_compile.specs.Laws.{CommitIsTheRunNow, AnswersOfOneRevision, TrueAnswersStay}
+use Rattle.stm_compile.specs.Laws.{CommitIsTheRunNow, TrueReadsAreNow, AnswersOfOneRevision, TrueAnswersStay}
 
 -- ---- answers stay true
 
@@ -120,6 +120,21 @@ reads_are_now h SerializableSnapshot reads writes compares t none = unchanged_re
 reads_are_now h Serializable reads writes compares t none = reads_alone h reads t none
 reads_are_now h RepeatableReads reads writes compares t none = reads_alone h reads t none
 reads_are_now h ReadCommitted reads writes compares t none = absurd (cc)
+
+-- what a look-up that knows a key says of it
+known_by : Answer → Option Answer → Answer
+known_by other None = other
+known_by other (Some a) = a
+
+said_now : (h : History) (reads : List ReadAnswer) → AreOf (state_now h) reads →
+    AllByRecursion (λ (a : ReadAnswer). said a ≡ seen_of (key_now h a.key)) reads
+said_now h [] are = tt
+said_now h (a ∷ reads) are = (ap (known_by (said a)) (sym are.0), said_now h reads are.1)
+
+pub true_reads_are_now : TrueReadsAreNow
+true_reads_are_now h level reads writes compares t none =
+    All-from_recursion (λ (a : ReadAnswer). said a ≡ seen_of (key_now h a.key)) reads
+    (said_now h reads (reads_are_now h level reads writes compares t none))
 
 pub commit_is_the_run_now : CommitIsTheRunNow
 commit_is_the_run_now h level reads writes program run compares t ended none =

@@ -2,7 +2,7 @@
 use Rattle.std.specs.Prelude.{◌≡◌, ℕ, ◌<◌, Bool, true, List, length, map, None, Some, All}
 use Rattle.stm_history.specs.declared.change.Change.{Change}
 use Rattle.stm_history.specs.declared.key_state.ReadAnswer.{ReadAnswer}
-use Rattle.stm_history.specs.History.{History}
+use Rattle.stm_history.specs.History.{History, key_now}
 use Rattle.stm_program.specs.Syntax.{Block}
 use Rattle.stm_program.specs.declared.level.Level.{Level}
 use Rattle.stm_program.specs.declared.write.Write.{Write}
@@ -17,7 +17,7 @@ use Rattle.stm_txn.specs.Commits.{effective, turned_down}
 use Rattle.stm_compile.specs.Now.{as_change, changes_of_writes}
 use Rattle.stm_compile.specs.Levels.{is_comparing}
 use Rattle.stm_txn.specs.declared.answer.OpAnswer.TheVariants.{Get as GetAnswer}
-use Rattle.stm_compile.specs.Answers.{look_up, state_now, state_as_of, AreTrue, answer_now}
+use Rattle.stm_compile.specs.Answers.{seen_of, said, look_up, state_now, state_as_of, AreTrue, answer_now}
 use Rattle.stm_compile.specs.CommitTxn.{commit_of, reread_keys}
 use Rattle.stm_compile.specs.Committed.{conflict_now, committed}
 use Rattle.stm_compile.specs.Conflicts.{IsConflict}
@@ -35,6 +35,16 @@ CommitIsTheRunNow =
     (h : History) (level : Level) (reads : List ReadAnswer) (writes : List Write) (program : Block) (run : Run) →
     is_comparing level ≡ true → AreTrue h reads → run_over (look_up reads) program ≡ Ended run → conflict_now h level reads writes ≡ None
     → run_over (state_now h) program ≡ Ended run
+
+-- each answer says of its key what the key is now, by its value and its modification revision
+abbrev pub AreNow : History → List ReadAnswer → Type 0
+AreNow h reads = All (λ (a : ReadAnswer). said a ≡ seen_of (key_now h a.key)) reads
+
+-- At a comparing level, where no compare fails, true answers say what their keys are now.
+abbrev pub TrueReadsAreNow : Type 0
+TrueReadsAreNow =
+    (h : History) (level : Level) (reads : List ReadAnswer) (writes : List Write) → is_comparing level ≡ true → AreTrue h reads
+    → conflict_now h level reads writes ≡ None → AreNow h reads
 
 -- A failed compare is a conflict.
 abbrev pub FailedComparesConflict : Type 0

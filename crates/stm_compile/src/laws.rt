@@ -1,5 +1,5 @@
 //! The laws of commits. Each function does nothing: its contract is the law.
-ghost use Rattle.stm_compile.specs.Laws.{CommitComesTo, CommitIsTheRunNow, FailedComparesConflict, AnswersOfOneRevision, TrueAnswersStay, AppliedIsEffect, FailedCommitRereads};
+ghost use Rattle.stm_compile.specs.Laws.{CommitComesTo, CommitIsTheRunNow, TrueReadsAreNow, FailedComparesConflict, AnswersOfOneRevision, TrueAnswersStay, AppliedIsEffect, FailedCommitRereads};
 
 /// The transaction of a run comes to the run's commit: `TooManyOps` exactly where it compares or writes too
 /// much, else a failed compare is told and nothing changes, else its latest writes are applied.
@@ -11,6 +11,12 @@ pub fn commit_comes_to()
 /// store as it is now, with its end, output, trace and writes.
 pub fn commit_is_the_run_now()
     ensures { CommitIsTheRunNow }
+{}
+
+/// At a comparing level, where no compare fails, true answers say of their keys what these are now: value and
+/// modification revision.
+pub fn true_reads_are_now()
+    ensures { TrueReadsAreNow }
 {}
 
 /// A failed compare is a conflict: of a key that was read and has been changed above the revision that its

@@ -7,3 +7,5 @@ pub mod FetchLemmas
 pub mod TurningDown
 pub mod Keeping
 pub mod WorkedExamples
+pub mod TrueReads
+pub mod ChangedAbove

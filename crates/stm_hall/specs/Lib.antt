@@ -6,4 +6,5 @@ pub mod Verdicts
 pub mod Entering
 pub mod Laws
 pub mod Names
+pub mod Prepared
 pub use Rattle.stm_calls.specs.StateOf

@@ -6,14 +6,16 @@ ghost use Rattle.stm_attempt.specs.ReadyRun.{IsRunOnItsAnswers};
 ghost use Rattle.stm_calls.specs.Reads.{reads_in};
 ghost use Rattle.stm_calls.specs.Prefetch.{MayBePrefetched};
 ghost use Rattle.stm_history.specs.declared.revisions.TheConstants.{HIGHEST_NUMBER};
+ghost use Rattle.stm_hall.specs.Prepared.{IsPreparedFor};
 ghost use Rattle.stm_hall.specs.Verdicts.{txn_of, asking, failed_with, first_unvouched, CommitsAs, CanGoOn};
 
-use crate::drafts::{draft_of, entry_from};
+use crate::drafts::entry_from;
+use crate::prepared::Prepared;
 use crate::refusal::CommitRefusal;
 use crate::verdict::Verdict;
 use crate::vouching::find_unvouched;
 use std::alloc::{AllocError, Global};
-use stm_attempt::{Ready, compile};
+use stm_attempt::Ready;
 use stm_calls::{Sent, conflict};
 use stm_entries::Entry;
 use stm_history::ReadAnswer;
@@ -51,28 +53,27 @@ fn tell_failure(
 
 /// Sends the commit of an attempt, each value of which is the store's.
 ///
-/// All that a commit which succeeds takes of memory is taken before it is sent.
+/// The room of its entry is made before it is sent, so that a commit that the store took is never without it.
 fn send(
     alloc: Global,
     store: &mut Store,
     entries: &mut Vec<Entry>,
     ready: &Ready,
-    txn: &Txn,
+    prepared: Prepared,
 ) -> Result<Verdict, CommitRefusal>
-    requires is_its { txn.now ≡ txn_of ready.now }
+    requires is_its { IsPreparedFor prepared ready.now }
     requires vouched { first_unvouched store.old.standing.history ready.now.level ready.now.answers ≡ None }
     ensures verdict { CommitsAs ready.now result store.old.standing entries.old.items store.new.standing entries.new.items }
     ensures answers { IfOk result CanGoOn }
 {
     let _keys_differ = ready.answers.as_slice();
-    let draft = draft_of(alloc, ready)?;
     entries.reserve(1)?;
-    let answer = store.txn(txn)?;
+    let answer = store.txn(&prepared.txn)?;
     match answer.failed {
         None => {
             let index = entries.len();
             let revision = answer.revision;
-            entries.push_reserved(entry_from(draft, revision));
+            entries.push_reserved(entry_from(prepared.draft, revision));
             Ok(Verdict::Committed { index, revision })
         }
         Some(compare) => {
@@ -130,21 +131,24 @@ fn turn_down(
     }
 }
 
-/// Commits an attempt that is ready.
+/// Commits an attempt, for which this was prepared.
 pub(crate) fn commit(
     alloc: Global,
     store: &mut Store,
     entries: &mut Vec<Entry>,
     ready: &Ready,
+    prepared: Prepared,
 ) -> Result<Verdict, CommitRefusal>
+    requires { IsPreparedFor prepared ready.now }
     ensures verdict { CommitsAs ready.now result store.old.standing entries.old.items store.new.standing entries.new.items }
     ensures answers { IfOk result CanGoOn }
     ensures run { IsRunOnItsAnswers ready.now }
 {
-    let txn = compile(alloc, ready.level, &ready.answers, &ready.writes)?;
+    // (the attempt's type tells that it is a run on its answers)
+    let _is_run = ready.answers.as_slice();
     let unvouched = find_unvouched(store.keys(), ready);
     match unvouched {
-        None => send(alloc, store, entries, ready, &txn),
-        Some(unvouched) => turn_down(alloc, store, ready, txn, unvouched),
+        None => send(alloc, store, entries, ready, prepared),
+        Some(unvouched) => turn_down(alloc, store, ready, prepared.txn, unvouched),
     }
 }

@@ -3,14 +3,18 @@ ghost use Rattle.std.specs.Prelude.{◌≡◌, ◌≤◌, None, IfOk, IfErr};
 ghost use Rattle.stm_history.specs.History.{now};
 ghost use Rattle.stm_txn.specs.Numbers.{AnswerFits};
 ghost use Rattle.stm_calls.specs.StateOf.{IsStateOf};
+ghost use Rattle.stm_compile.specs.Conflicts.{changes_above};
 ghost use Rattle.stm_hall.specs.HallState.{made_over};
 ghost use Rattle.stm_hall.specs.Locked.{IsLocked};
 ghost use Rattle.stm_hall.specs.Laws.{GoesOn};
 ghost use Rattle.stm_hall.specs.Fetching.{OnlyReads, fetched, IsFetched};
+ghost use Rattle.stm_hall.specs.Prepared.{IsPreparedFor};
 ghost use Rattle.stm_hall.specs.Verdicts.{verdict_of, IsVerdict, CanGoOn};
 ghost use Rattle.stm_hall.specs.Entering.{made, IsMade, IsAdvanced, HasStopped};
 
+use crate::changed::is_changed_above;
 use crate::log::Log;
+use crate::prepared::Prepared;
 use crate::refusal::{CommitRefusal, FetchRefusal};
 use crate::verdict::Verdict;
 use std::alloc::{AllocError, Global};
@@ -97,6 +101,21 @@ impl Hall {
         self.log.commit(self.alloc, ready)
     }
 
+    /// Commits an attempt as `commit` does, with what was prepared for it, so that less is done while the hall is
+    /// locked.
+    pub fn commit_prepared(
+        &mut self,
+        ready: &Ready,
+        prepared: Prepared,
+    ) -> Result<Verdict, CommitRefusal>
+        requires { IsPreparedFor prepared ready.now }
+        ensures verdict { IsVerdict (verdict_of self.old ready.now) self.old result self.new }
+        ensures answers { IfOk result CanGoOn }
+        ensures goes_on { GoesOn self.old self.new }
+    {
+        self.log.commit_prepared(self.alloc, ready, prepared)
+    }
+
     /// Makes a transaction of another client, which is an entry where it changed something.
     ///
     /// It is refused as the store's `txn` refuses it, and then the hall is as it was. Want of memory is told only of a
@@ -126,6 +145,13 @@ impl Hall {
         ensures { result ≡ now self.now.standing.history }
     {
         self.log.store.keys().revision()
+    }
+
+    /// Whether the history changes a key above a revision. It takes no memory, and a step for each revision above that.
+    pub fn is_changed_above(&self, key: &str, since: u64) -> bool
+        ensures { result ≡ changes_above self.now.standing.history.opening since key.now self.now.standing.history.revisions }
+    {
+        is_changed_above(self.log.store.keys(), key, since)
     }
 
     /// What changed the store since the hall was made, the first first. It takes no memory.

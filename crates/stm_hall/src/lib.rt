@@ -6,16 +6,19 @@
 #![tactic(auto)]
 
 mod calls;
+mod changed;
 mod committing;
 mod drafts;
 mod hall;
 pub mod laws;
 mod log;
+mod prepared;
 mod refusal;
 mod verdict;
 mod vouching;
 
 pub use hall::Hall;
+pub use prepared::{Prepared, prepare};
 pub use refusal::{CommitRefusal, FetchRefusal};
 pub use stm_attempt::Ready;
 pub use stm_entries::Entry;

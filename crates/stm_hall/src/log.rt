@@ -3,11 +3,13 @@ ghost use Rattle.std.specs.Prelude.{◌≡◌, ◌≤◌, None, IfOk, IfErr};
 ghost use Rattle.stm_txn.specs.Numbers.{AnswerFits};
 ghost use Rattle.stm_attempt.specs.ReadyRun.{IsRunOnItsAnswers};
 ghost use Rattle.stm_hall.specs.Fetching.{OnlyReads, fetched, IsFetched};
+ghost use Rattle.stm_hall.specs.Prepared.{IsPreparedFor};
 ghost use Rattle.stm_hall.specs.Verdicts.{verdict_of, IsVerdict, CanGoOn};
 ghost use Rattle.stm_hall.specs.Entering.{made, IsMade, IsAdvanced, HasStopped};
 
 use crate::calls::{advance, fetch, make_txn};
 use crate::committing::commit;
+use crate::prepared::{Prepared, prepare};
 use crate::refusal::{CommitRefusal, FetchRefusal};
 use crate::verdict::Verdict;
 use std::alloc::Global;
@@ -49,13 +51,35 @@ impl Log {
         fetch(&mut self.store, seen, txn)
     }
 
+    /// Commits an attempt, for which this was prepared.
+    pub(crate) fn commit_prepared(
+        &mut self,
+        alloc: Global,
+        ready: &Ready,
+        prepared: Prepared,
+    ) -> Result<Verdict, CommitRefusal>
+        requires { IsPreparedFor prepared ready.now }
+        ensures verdict { IsVerdict (verdict_of self.old ready.now) self.old result self.new }
+        ensures answers { IfOk result CanGoOn }
+        ensures run { IsRunOnItsAnswers ready.now }
+    {
+        commit(
+            alloc,
+            &mut self.store,
+            &mut self.entries,
+            ready,
+            prepared,
+        )
+    }
+
     /// Commits an attempt that is ready.
     pub(crate) fn commit(&mut self, alloc: Global, ready: &Ready) -> Result<Verdict, CommitRefusal>
         ensures verdict { IsVerdict (verdict_of self.old ready.now) self.old result self.new }
         ensures answers { IfOk result CanGoOn }
         ensures run { IsRunOnItsAnswers ready.now }
     {
-        commit(alloc, &mut self.store, &mut self.entries, ready)
+        let prepared = prepare(alloc, ready)?;
+        self.commit_prepared(alloc, ready, prepared)
     }
 
     /// Makes another client's transaction.

@@ -10,6 +10,7 @@ ghost use Rattle.stm_calls.specs.StateOf.{IsStateOf};
 ghost use Rattle.stm_world.specs.declared.refusal.Refusal.TheVariants.{Store as OfStore, BadLimit};
 ghost use Rattle.stm_world.specs.declared.reply.Reply.TheVariants.{Started};
 ghost use Rattle.stm_world.specs.Headline.{Holds, logged};
+ghost use Rattle.stm_world.specs.ReadsNow.{ReadsAreNow};
 ghost use Rattle.stm_world.specs.World.{opened, start_runner, world_after, replies_to};
 ghost use Rattle.stm_retry.specs.Tells.{Tells, ran_out, expired_of, IsRunStop};
 
@@ -133,8 +134,12 @@ impl World {
     ///
     /// Want of memory (`OutOfMemory`) is told only where the event is taken otherwise, and of an advance that
     /// does not go back. Such an advance leaves the world as it was, or it was cut short so.
+    ///
+    /// A commit at a level that compares, of which no compare fails, has read what the store has just before it, each
+    /// value too; so also one that the store refuses.
     pub fn step(&mut self, event: &WorldEvent) -> Result<Reply, Denied>
-        ensures { Tells event.now result self.old self.new }
+        ensures told { Tells event.now result self.old self.new }
+        ensures reads { ReadsAreNow event.now self.old }
     {
         self.machine.step(self.alloc, event)
     }
@@ -203,6 +208,15 @@ impl World {
         ensures { result.now.standing ≡ self.now.standing }
     {
         &self.machine.store
+    }
+
+    /// The store, once the world has served. Its watchers and leases stay in it.
+    pub fn into_store(self) -> Store
+        ensures { result.standing ≡ self.standing }
+    {
+        let World { machine, .. } = self;
+        let Machine { store, .. } = machine;
+        store
     }
 
     /// The state of the store now: the present keys with their values and modification revisions.

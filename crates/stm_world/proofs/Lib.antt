@@ -16,6 +16,7 @@ pub mod Calls
 pub mod WatchCalls
 pub mod SoundSteps
 pub mod Sound
+pub mod ReadsNow
 pub mod Headlines
 pub mod Telling
 pub mod WorkedExamples

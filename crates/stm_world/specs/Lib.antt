@@ -6,6 +6,7 @@ pub mod Log
 pub mod Right
 pub mod World
 pub mod Sound
+pub mod ReadsNow
 pub mod Headline
 pub mod WrongLogs
 pub mod Telling

@@ -20,6 +20,7 @@ use Rattle.stm_hall.proofs.committing.send.Goals as goal
 pub returns-in_err-answer-clause-verdict : goal.returns-in_err-answer-clause-verdict
 returns-in_err-answer-clause-verdict c = λ start.
     let ready : ReadyRun = c.args.ready.now in
+    let txn : Txn = c.args.prepared.txn in
     let s : Standing = c.args.store.now.standing in
     let es : List Entry = c.args.entries.now.items in
     let hall : HallState = hall_of s es start in
@@ -28,13 +29,14 @@ returns-in_err-answer-clause-verdict c = λ start.
     let unchanged : c.txn.new.self.standing ≡ s = ap (λ (v : StoreView). v.standing) c.in_err-answer.ensures.err in
     refused_with (verdict_of hall ready) hall after c.from_residual-in_err-answer.result (Store c.in_err-answer.field-0.0)
     (exit.1 ∙ ap (λ e. Err e) exit.2)
-    (tells_refused hall after ready c.args.txn.now c.in_err-answer.field-0.0 c.requires.is_its c.requires.vouched c.in_err-answer.ensures.step
+    (tells_refused hall after ready txn c.in_err-answer.field-0.0 c.requires.is_its.txn c.requires.vouched c.in_err-answer.ensures.step
     (same_hall s c.txn.new.self.standing es c.reserve.new.self.items start unchanged c.in_ok-reserve.ensures.items))
 
 -- no compare failed
 pub returns-in-None-clause-verdict : goal.returns-in-None-clause-verdict
 returns-in-None-clause-verdict c = λ start.
     let ready : ReadyRun = c.args.ready.now in
+    let txn : Txn = c.args.prepared.txn in
     let s : Standing = c.args.store.now.standing in
     let es : List Entry = c.args.entries.now.items in
     let next : Standing = c.txn.new.self.standing in
@@ -42,17 +44,17 @@ returns-in-None-clause-verdict c = λ start.
     let entry : c.entry_from.result ≡ entry_of ready revision =
     cc (
       c.entry_from.ensures,
-      c.in_ok-draft.ensures.program,
-      c.in_ok-draft.ensures.level,
-      c.in_ok-draft.ensures.answers,
-      c.in_ok-draft.ensures.output,
-      c.in_ok-draft.ensures.trace,
+      c.requires.is_its.program,
+      c.requires.is_its.level,
+      c.requires.is_its.answers,
+      c.requires.is_its.output,
+      c.requires.is_its.trace,
     ) in
     let entered : c.push_reserved.new.self.items ≡ es ++ entry_of ready revision ∷ [] =
     c.push_reserved.ensures.items ∙ ap (λ (l : List Entry). l ++ c.entry_from.result ∷ []) c.in_ok-reserve.ensures.items
     ∙ ap (λ (e : Entry). es ++ e ∷ []) entry in
-    tells_committed (hall_of s es start) (hall_of next c.push_reserved.new.self.items start) ready c.args.txn.now c.in_ok-answer.answer next c.len-index.result
-    c.requires.is_its c.requires.vouched c.in_ok-answer.ensures.step c.in-None.is
+    tells_committed (hall_of s es start) (hall_of next c.push_reserved.new.self.items start) ready txn c.in_ok-answer.answer next c.len-index.result
+    c.requires.is_its.txn c.requires.vouched c.in_ok-answer.ensures.step c.in-None.is
     (c.len-index.ensures ∙ c.reserve.new.self.ok.0 ∙ ap (λ (l : List Entry). length l) c.in_ok-reserve.ensures.items)
     (ap (λ (l : List Entry). hall_of next l start) entered)
 
@@ -61,7 +63,7 @@ returns-in-None-clause-verdict c = λ start.
 pub tell_failure-requires-clause-place : goal.tell_failure-requires-clause-place
 tell_failure-requires-clause-place c =
     let within = rw c.in-Some.is at c.in_ok-answer.ensures.place in
-    place_seen c.args.ready.now c.args.txn.now c.in-Some.compare.index (ap (λ (t : Txn). t.compares) c.requires.is_its) within
+    place_seen c.args.ready.now c.args.prepared.txn c.in-Some.compare.index (ap (λ (t : Txn). t.compares) c.requires.is_its.txn) within
 
 pub tell_failure-requires-clause-in_range : goal.tell_failure-requires-clause-in_range
 tell_failure-requires-clause-in_range c = rw c.in-Some.is at c.in_ok-answer.ensures.numbers.failed
@@ -71,33 +73,36 @@ tell_failure-requires-clause-rereads c =
     let s : Standing = c.args.store.now.standing in
     let next : Standing = c.txn.new.self.standing in
     let ready : ReadyRun = c.args.ready.now in
+    let txn : Txn = c.args.prepared.txn in
     let distinct : IsDistinct bytes_eq (map (λ (a : ReadAnswer). a.key) ready.answers) =
     subst (λ (r : ReadyRun). IsDistinct bytes_eq (map (λ (a : ReadAnswer). a.key) r.answers)) c.ready.view_is c.as_slice-keys_differ.ensures.distinct in
     rereads_go_on s next ready c.in_ok-answer.answer.answers distinct c.in_ok-answer.ensures.numbers.answers
-    (sent_reread s next ready c.args.txn.now c.in_ok-answer.answer c.in-Some.compare c.requires.is_its c.in_ok-answer.ensures.step c.in-Some.is)
+    (sent_reread s next ready txn c.in_ok-answer.answer c.in-Some.compare c.requires.is_its.txn c.in_ok-answer.ensures.step c.in-Some.is)
 
 -- and a growth was refused
 pub returns-in_err-verdict-in-Some-clause-verdict : goal.returns-in_err-verdict-in-Some-clause-verdict
 returns-in_err-verdict-in-Some-clause-verdict c = λ start.
     let ready : ReadyRun = c.args.ready.now in
+    let txn : Txn = c.args.prepared.txn in
     let s : Standing = c.args.store.now.standing in
     let es : List Entry = c.args.entries.now.items in
     let next : Standing = c.txn.new.self.standing in
     let hall : HallState = hall_of s es start in
     let after : HallState = hall_of next c.reserve.new.self.items start in
     let exit = err_from_is_err_and c.from_residual-in_err-verdict-in-Some.result c.from_residual-in_err-verdict-in-Some.ensures.1 in
-    let down = sent_reread s next ready c.args.txn.now c.in_ok-answer.answer c.in-Some.compare c.requires.is_its c.in_ok-answer.ensures.step c.in-Some.is in
+    let down = sent_reread s next ready txn c.in_ok-answer.answer c.in-Some.compare c.requires.is_its.txn c.in_ok-answer.ensures.step c.in-Some.is in
     refused_with (verdict_of hall ready) hall after c.from_residual-in_err-verdict-in-Some.result (Store OutOfMemory) (exit.1 ∙ ap (λ e. Err e) exit.2)
     (inl refl, same_hall s next es c.reserve.new.self.items start down.unchanged c.in_ok-reserve.ensures.items)
 
 pub returns-in_ok-verdict-in-Some-clause-verdict : goal.returns-in_ok-verdict-in-Some-clause-verdict
 returns-in_ok-verdict-in-Some-clause-verdict c = λ start.
     let ready : ReadyRun = c.args.ready.now in
+    let txn : Txn = c.args.prepared.txn in
     let s : Standing = c.args.store.now.standing in
     let es : List Entry = c.args.entries.now.items in
     let next : Standing = c.txn.new.self.standing in
     let hall : HallState = hall_of s es start in
-    let down = sent_reread s next ready c.args.txn.now c.in_ok-answer.answer c.in-Some.compare c.requires.is_its c.in_ok-answer.ensures.step c.in-Some.is in
+    let down = sent_reread s next ready txn c.in_ok-answer.answer c.in-Some.compare c.requires.is_its.txn c.in_ok-answer.ensures.step c.in-Some.is in
     tells_failed hall (hall_of next c.reserve.new.self.items start) ready c.in-Some.compare c.in_ok-answer.answer.answers next c.in_ok-verdict-in-Some.verdict
-    (sent_compared hall next ready c.args.txn.now c.in_ok-answer.answer (Some c.in-Some.compare) c.requires.is_its c.in_ok-answer.ensures.step c.in-Some.is)
+    (sent_compared hall next ready txn c.in_ok-answer.answer (Some c.in-Some.compare) c.requires.is_its.txn c.in_ok-answer.ensures.step c.in-Some.is)
     down c.in_ok-verdict-in-Some.ensures.verdict (same_hall s next es c.reserve.new.self.items start down.unchanged c.in_ok-reserve.ensures.items)

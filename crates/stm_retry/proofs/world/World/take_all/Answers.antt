@@ -18,7 +18,7 @@ loop-event-preserved c =
     let reply : Result Reply Denied = c.step-reply.result in
     let within : i < length events = omega arith in
     let want : ran_out reply ≡ false = sym c.is_out_of_memory.ensures ∙ c.if-is_out_of_memory.false in
-    let s : IsStep (step e w) reply next = taken e reply w next want c.step-reply.ensures in
+    let s : IsStep (step e w) reply next = taken e reply w next want c.step-reply.ensures.told in
     record {
       counted = omega arith;
       room = omega (arith, length-drop i events, length-drop (i + 1) events);
@@ -39,4 +39,4 @@ returns-then-is_out_of_memory-clause-stopped c =
     subst (λ n. IsRunStop events n c.expired_of.result c.args.self.now c.step-reply.new.self) (sym counted)
     (subst (λ (es : List Expired). IsRunStop events i es c.args.self.now c.step-reply.new.self) (sym c.expired_of.ensures)
     (stops_at events i c.event-item.result c.loop-event.self c.step-reply.new.self c.args.self.now reply within c.event-item.is
-    c.loop-event.invariant.reached want c.step-reply.ensures))
+    c.loop-event.invariant.reached want c.step-reply.ensures.told))

@@ -1,0 +1,14 @@
+use Rattle.stm_hall.proofs.Keeping.{commit_keeps}
+use Rattle.stm_hall.proofs.hall.Hall.commit_prepared.Goals as goal
+
+pub invariant_of-self : goal.invariant_of-self
+invariant_of-self c =
+    let kept = commit_keeps c.self.inside.log c.commit_prepared.new.self c.args.ready.now c.commit_prepared.result c.self.invariant
+    c.commit_prepared.ensures.run c.commit_prepared.ensures.verdict in
+    kept.locked
+
+pub returns-clause-goes_on : goal.returns-clause-goes_on
+returns-clause-goes_on c =
+    let kept = commit_keeps c.self.inside.log c.commit_prepared.new.self c.args.ready.now c.commit_prepared.result c.self.invariant
+    c.commit_prepared.ensures.run c.commit_prepared.ensures.verdict in
+    rw c.self.view_is at kept.goes

@@ -1,0 +1,42 @@
+//! Whether a key was changed above a revision.
+ghost use Rattle.std.specs.Prelude.{◌≡◌, ◌≤◌, is_some};
+ghost use Rattle.stm_keys.specs.Events.{event_about};
+ghost use Rattle.stm_compile.specs.Conflicts.{changes_above};
+
+use stm_keys::{Event, Keys};
+
+/// Whether one of these events is about a key.
+fn has_event_of(events: &[Event], key: &str) -> bool
+    ensures { result ≡ is_some (event_about key.now events.now) }
+{
+    for event in events {
+        if event.key().as_str() == key {
+            return true;
+        }
+    }
+    false
+}
+
+/// Whether the history changes a key above a revision that is not below its opening. The newest revisions are looked
+/// at first.
+fn is_changed_from(keys: &Keys, key: &str, floor: u64) -> bool
+    requires { keys.now.history.opening ≤ floor }
+    ensures { result ≡ changes_above keys.now.history.opening floor key.now keys.now.history.revisions }
+{
+    let mut number = keys.revision();
+    while floor < number {
+        if has_event_of(keys.events_at(number), key) {
+            return true;
+        }
+        number -= 1;
+    }
+    false
+}
+
+/// Whether the history changes a key above a revision.
+pub(crate) fn is_changed_above(keys: &Keys, key: &str, since: u64) -> bool
+    ensures { result ≡ changes_above keys.now.history.opening since key.now keys.now.history.revisions }
+{
+    let floor = since.max(keys.opening());
+    is_changed_from(keys, key, floor)
+}

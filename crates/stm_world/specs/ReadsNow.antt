@@ -1,0 +1,27 @@
+-- What a commit has read is what the store has.
+--
+-- The Go package `concurrency`, "STM": a commit compares the modification revisions of what was read. That these stand for the
+-- values, since what a runner knows is true, is our own; a hall, to which any caller commits, has to look at the values too.
+use Rattle.std.specs.Prelude.{◌≡◌, Bool, true, Option, None, Some}
+use Rattle.stm_program.specs.Writes.{latest_writes}
+use Rattle.stm_meaning.specs.declared.run.Run.{Run}
+use Rattle.stm_meaning.specs.declared.run.Answered.TheVariants.{Ended as EndedRun}
+use Rattle.stm_compile.specs.Levels.{is_comparing}
+use Rattle.stm_compile.specs.Committed.{conflict_now}
+use Rattle.stm_compile.specs.Laws.{AreNow}
+use Rattle.stm_attempt.specs.Settled.{run_on}
+use Rattle.stm_world.specs.declared.event.WorldEvent.{WorldEvent}
+use Rattle.stm_world.specs.declared.event.WorldEvent.TheVariants.{Step}
+use Rattle.stm_world.specs.World.{World, Runner, runner_at}
+
+-- Where the runner's program has come to its end, at a level that compares, and no compare of its commit fails, each value and
+-- modification revision that it has read is that of its key now. So also where the store refuses the commit.
+abbrev pub HasReadWhatIsNow : World → Runner → Type 0
+HasReadWhatIsNow w r =
+    (run : Run) → run_on r.task.program r.known.reads ≡ EndedRun run → is_comparing r.task.level ≡ true
+    → conflict_now w.standing.history r.task.level r.known.reads (latest_writes run.writes) ≡ None → AreNow w.standing.history r.known.reads
+
+-- the same of the runner that an event steps
+abbrev pub ReadsAreNow : WorldEvent → World → Type 0
+ReadsAreNow (Step id) w = (r : Runner) → runner_at id w.runners ≡ Some r → HasReadWhatIsNow w r
+ReadsAreNow event w = Unit {0}

@@ -33,7 +33,7 @@ use Rattle.stm_attempt.specs.ReadyRun.{ReadyRun, IsRunOnItsAnswers}
 use Rattle.stm_calls.specs.declared.sent.Sent.{Sent}
 use Rattle.stm_calls.specs.declared.sent.Sent.TheVariants.{Committed}
 use Rattle.stm_calls.specs.Reads.{reads_in}
-use Rattle.stm_calls.specs.Sent.{seen_in, failed_at, decided, sent_as, sent, IsSent}
+use Rattle.stm_calls.specs.Sent.{seen_in, failed_at, decided, sent_as, sent, Tells}
 use Rattle.stm_calls.proofs.ReadLemmas.{all_reads}
 
 -- ---- the run of a ready attempt
@@ -208,7 +208,7 @@ tells_refused s level reads run cause refused =
 pub is_refused : (s after : Standing) (ready : ReadyRun) (run : Run) (txn : Txn) (cause : Refusal) → IsRunOnItsAnswers ready →
     All (λ (a : ReadAnswer). 0 < length a.key) ready.answers → run_on ready.program ready.answers ≡ Ended run →
     txn ≡ commit_of ready.level ready.answers ready.writes → IsRefusalOf (transacted s txn) cause → after ≡ s →
-    IsSent (sent s ready.level ready.answers run) s (Err cause) after
+    Tells (sent s ready.level ready.answers run) s (Err cause) after
 is_refused s after ready run txn cause kept named ended is refused unchanged = (
   tells_refused s ready.level ready.answers run cause
       (subst (λ (o : Result (Step TxnAnswer) Refusal). IsRefusalOf o cause) (comes_to s ready run txn kept named ended is) refused),
@@ -217,6 +217,6 @@ is_refused s after ready run txn cause kept named ended is refused unchanged = (
 
 -- the exit of a refusal
 pub refused_with : (defined : Result (Step Sent) Refusal) (before after : Standing) (result : Result Sent Refusal) (given cause : Refusal) →
-    result ≡ Err given → given ≡ cause → IsSent defined before (Err cause) after → IsSent defined before result after
+    result ≡ Err given → given ≡ cause → Tells defined before (Err cause) after → Tells defined before result after
 refused_with defined before after result given cause is same told =
-    subst (λ (r : Result Sent Refusal). IsSent defined before r after) (sym (is ∙ ap (λ (y : Refusal). Err y) same)) told
+    subst (λ (r : Result Sent Refusal). Tells defined before r after) (sym (is ∙ ap (λ (y : Refusal). Err y) same)) told

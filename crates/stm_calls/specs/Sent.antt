@@ -49,6 +49,6 @@ abbrev pub sent : Standing → Level → List ReadAnswer → Run → Result (Ste
 sent s level reads run = sent_as s level reads (latest_writes run.writes) (committed s.history (is_live_in s.live) level reads run)
 
 -- A commit comes to what its definition says, unless memory ran out. A refusal leaves the store as it was.
-abbrev pub IsSent : Result (Step Sent) Refusal → Standing → Result Sent Refusal → Standing → Type 0
-IsSent defined before (Ok answer) after = defined ≡ Ok record { answer = answer; next = after }
-IsSent defined before (Err cause) after = ((cause ≡ OutOfMemory) ⊎ (defined ≡ Err cause)) × (after ≡ before)
+abbrev pub Tells : Result (Step Sent) Refusal → Standing → Result Sent Refusal → Standing → Type 0
+Tells defined before (Ok answer) after = defined ≡ Ok record { answer = answer; next = after }
+Tells defined before (Err cause) after = ((cause ≡ OutOfMemory) ⊎ (defined ≡ Err cause)) × (after ≡ before)

@@ -9,7 +9,7 @@ ghost use Rattle.stm_txn.specs.Numbers.{StateFits};
 ghost use Rattle.stm_compile.specs.Conflicts.{seen_by};
 ghost use Rattle.stm_attempt.specs.Settled.{run_on};
 ghost use Rattle.stm_calls.specs.Reads.{reads_in};
-ghost use Rattle.stm_calls.specs.Sent.{seen_in, failed_at, sent, IsSent};
+ghost use Rattle.stm_calls.specs.Sent.{seen_in, failed_at, sent, Tells};
 ghost use Rattle.stm_calls.specs.Prefetch.{CanGoOn};
 ghost use Rattle.stm_calls.specs.Numbers.{SentFits};
 
@@ -95,7 +95,7 @@ pub fn conflict(
 pub fn commit(alloc: Global, store: &mut Store, ready: &Ready) -> Result<Sent, Refusal>
     requires named { All (λ (a : Answer). 0 < length a.key) ready.now.answers }
     ensures step { (run : Run) → run_on ready.now.program ready.now.answers ≡ Ended run →
-        IsSent (sent store.old.standing ready.now.level ready.now.answers run) store.old.standing result store.new.standing }
+        Tells (sent store.old.standing ready.now.level ready.now.answers run) store.old.standing result store.new.standing }
     ensures answers { IfOk result CanGoOn }
     ensures numbers { IfOk result SentFits }
 {

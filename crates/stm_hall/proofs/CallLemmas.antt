@@ -27,7 +27,7 @@ use Rattle.stm_entries.specs.Alone.{history_left}
 use Rattle.stm_entries.specs.Replay.{replay}
 use Rattle.stm_hall.specs.HallState.{HallState, HallStep, hall_of, gone_on}
 use Rattle.stm_hall.specs.Locked.{AreEntriesThere}
-use Rattle.stm_hall.specs.Entering.{if_changed, entered, made, IsMade, or_want, expiries, after_expiries, HasStopped}
+use Rattle.stm_hall.specs.Entering.{if_changed, entered, made, TxnTells, or_want, expiries, after_expiries, HasStopped}
 use Rattle.stm_hall.proofs.Opening.{Follows, nothing_follows}
 
 -- ---- a transaction is followed by its entry
@@ -82,7 +82,7 @@ refused_by hall txn (Err first) cause is = inl (ap (λ (c : Refusal). Err c) (sy
 
 -- it was refused, by the store or for want of room
 pub tells_refused : (hall after : HallState) (txn : Txn) (cause : Refusal) → IsRefusalOf (transacted hall.standing txn) cause → after ≡ hall →
-    IsMade (made hall txn) hall (Err cause) after
+    TxnTells (made hall txn) hall (Err cause) after
 tells_refused hall after txn cause is same = (refused_by hall txn (transacted hall.standing txn) cause is, same)
 
 by_result : {A : Type 0} (r : Result A Refusal) → IsRefusalOf r (or_want (refusal_of r))
@@ -95,9 +95,9 @@ wanted o found is = subst (λ (f : Option Refusal). IsRefusalOf o (or_want f)) (
 
 -- as the code tells it
 pub tells_wanted : (hall after : HallState) (txn : Txn) (found : Option Refusal) (told : Refusal) → found ≡ refusal_of (transacted hall.standing txn) →
-    told ≡ or_want found → after ≡ hall → IsMade (made hall txn) hall (Err told) after
+    told ≡ or_want found → after ≡ hall → TxnTells (made hall txn) hall (Err told) after
 tells_wanted hall after txn found told is same kept =
-    subst (λ (c : Refusal). IsMade (made hall txn) hall (Err c) after) (sym same)
+    subst (λ (c : Refusal). TxnTells (made hall txn) hall (Err c) after) (sym same)
     (tells_refused hall after txn (or_want found) (wanted (transacted hall.standing txn) found is) kept)
 
 -- ---- an advance is followed by its entries

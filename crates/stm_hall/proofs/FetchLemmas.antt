@@ -18,7 +18,7 @@ use Rattle.stm_txn.specs.Standing.{Standing, IsRefusalOf, with_history, step_of,
 use Rattle.stm_txn.proofs.Applying.{branch_run, is_done}
 use Rattle.stm_hall.specs.declared.refusal.FetchRefusal.{FetchRefusal}
 use Rattle.stm_hall.specs.declared.refusal.FetchRefusal.TheVariants.{Behind, Store}
-use Rattle.stm_hall.specs.Fetching.{is_read, OnlyReads, answered, fetched, IsFetched}
+use Rattle.stm_hall.specs.Fetching.{is_read, OnlyReads, answered, fetched, FetchTells}
 use Rattle.stm_hall.proofs.Sending.{IsAnswered, is_answered, answer_revision}
 
 -- ---- reads change nothing
@@ -62,7 +62,7 @@ fetched_by s seen txn behind =
     cond behind (Err (Behind seen (now s.history))) (answered (outcome s.history (is_live_in s.live) txn))
 
 pub tells_behind : (s : Standing) (seen : ℕ) (txn : Txn) → now s.history < seen →
-    IsFetched (fetched s seen txn) (Err (Behind seen (now s.history)))
+    FetchTells (fetched s seen txn) (Err (Behind seen (now s.history)))
 unfolding fetched_by
 tells_behind s seen txn below = inl (ap (fetched_by s seen txn) (lt-ltb (now s.history) seen below))
 
@@ -77,12 +77,12 @@ tells_answer s next seen txn answer reached step =
     let a : IsAnswered s next txn answer = is_answered s next txn answer step in
     not_behind s seen txn reached ∙ ap answered a.came ∙ ap (λ (x : TxnAnswer). Ok x) a.answered
 
-refused_by : (s : Standing) (o : Result Done Refusal) (cause : Refusal) → IsRefusalOf (step_of s o) cause → IsFetched (answered o) (Err (Store cause))
+refused_by : (s : Standing) (o : Result Done Refusal) (cause : Refusal) → IsRefusalOf (step_of s o) cause → FetchTells (answered o) (Err (Store cause))
 refused_by s (Ok done) cause is = inr (ap (λ (c : Refusal). Store c) is, refl)
 refused_by s (Err first) cause is = inl (ap (λ (c : Refusal). Err (Store c)) (sym is))
 
 pub tells_refused : (s : Standing) (seen : ℕ) (txn : Txn) (cause : Refusal) → seen ≤ now s.history →
-    IsRefusalOf (transacted s txn) cause → IsFetched (fetched s seen txn) (Err (Store cause))
+    IsRefusalOf (transacted s txn) cause → FetchTells (fetched s seen txn) (Err (Store cause))
 tells_refused s seen txn cause reached refused =
-    subst (λ (o : Result TxnAnswer FetchRefusal). IsFetched o (Err (Store cause))) (sym (not_behind s seen txn reached))
+    subst (λ (o : Result TxnAnswer FetchRefusal). FetchTells o (Err (Store cause))) (sym (not_behind s seen txn reached))
     (refused_by s (outcome s.history (is_live_in s.live) txn) cause refused)

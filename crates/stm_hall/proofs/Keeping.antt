@@ -20,8 +20,8 @@ use Rattle.stm_hall.specs.declared.refusal.CommitRefusal.{CommitRefusal}
 use Rattle.stm_hall.specs.HallState.{HallState, HallStep, gone_on}
 use Rattle.stm_hall.specs.Locked.{IsLocked}
 use Rattle.stm_hall.specs.Laws.{GoesOn}
-use Rattle.stm_hall.specs.Verdicts.{txn_of, entry_of, first_unvouched, taken, unless_unvouched, by_compares, unless_at_fault, verdict_of, IsVerdict}
-use Rattle.stm_hall.specs.Entering.{if_changed, entered, made, IsMade, expiries, IsAdvanced, IsCutShort, HasStopped}
+use Rattle.stm_hall.specs.Verdicts.{txn_of, entry_of, first_unvouched, taken, unless_unvouched, by_compares, unless_at_fault, verdict_of, CommitTells}
+use Rattle.stm_hall.specs.Entering.{if_changed, entered, made, TxnTells, expiries, IsAdvanced, IsCutShort, HasStopped}
 use Rattle.stm_hall.proofs.Opening.{Follows, stays_locked, goes_on, goes_nowhere}
 use Rattle.stm_hall.proofs.CommitEntries.{commit_follows}
 use Rattle.stm_hall.proofs.CallLemmas.{txn_follows, come_follows, advance_follows}
@@ -73,7 +73,7 @@ by_fault hall ready (Some cause) locked kept is = tt
 
 -- whatever the verdict
 pub commit_keeps : (before after : HallState) (ready : ReadyRun) (result : Result Verdict CommitRefusal) → IsLocked before → IsRunOnItsAnswers ready →
-    IsVerdict (verdict_of before ready) before result after → Keeps before after
+    CommitTells (verdict_of before ready) before result after → Keeps before after
 commit_keeps before after ready (Ok verdict) locked kept told =
     subst (λ (o : Result (HallStep Verdict) CommitRefusal). KeptBy before o) told (by_fault before ready (fault_of (txn_of ready)) locked kept refl)
 commit_keeps before after ready (Err cause) locked kept told = keeps_same before after locked told.1
@@ -87,7 +87,7 @@ by_done hall txn (Ok done) locked is =
     (txn_follows hall.standing txn done is)
 by_done hall txn (Err cause) locked is = tt
 
-pub made_keeps : (before after : HallState) (txn : Txn) (result : Result TxnAnswer Refusal) → IsLocked before → IsMade (made before txn) before result after →
+pub made_keeps : (before after : HallState) (txn : Txn) (result : Result TxnAnswer Refusal) → IsLocked before → TxnTells (made before txn) before result after →
     Keeps before after
 made_keeps before after txn (Ok answer) locked told =
     subst (λ (o : Result (HallStep TxnAnswer) Refusal). KeptBy before o) told

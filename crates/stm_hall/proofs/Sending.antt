@@ -39,7 +39,7 @@ use Rattle.stm_hall.specs.declared.refusal.CommitRefusal.{CommitRefusal}
 use Rattle.stm_hall.specs.declared.refusal.CommitRefusal.TheVariants.{Store}
 use Rattle.stm_hall.specs.HallState.{HallState, HallStep, gone_on}
 use Rattle.stm_hall.specs.Verdicts.{txn_of, entry_of, first_unvouched, failed_with, taken, unless_unvouched, by_compares, unless_at_fault, verdict_of}
-use Rattle.stm_hall.specs.Verdicts.{IsVerdict}
+use Rattle.stm_hall.specs.Verdicts.{CommitTells}
 
 -- ---- the verdict, by what is known
 
@@ -243,7 +243,7 @@ refused_by hall ready cause (Err first) None None vouched is whole compared refu
 
 pub tells_refused : (hall after : HallState) (ready : ReadyRun) (txn : Txn) (cause : Refusal) → txn ≡ txn_of ready →
     first_unvouched hall.standing.history ready.level ready.answers ≡ None → IsRefusalOf (transacted hall.standing txn) cause → after ≡ hall →
-    IsVerdict (verdict_of hall ready) hall (Err (Store cause)) after
+    CommitTells (verdict_of hall ready) hall (Err (Store cause)) after
 tells_refused hall after ready txn cause is vouched refused same = (
   refused_by hall ready cause (outcome hall.standing.history (is_live_in hall.standing.live) (txn_of ready)) (fault_of (txn_of ready))
       (first_failed (key_now hall.standing.history) 0 (txn_of ready).compares) vouched refl refl refl
@@ -253,6 +253,6 @@ tells_refused hall after ready txn cause is vouched refused same = (
 
 -- the exit of a refusal
 pub refused_with : (defined : Result (HallStep Verdict) CommitRefusal) (before after : HallState) (result : Result Verdict CommitRefusal)
-    (cause : CommitRefusal) → result ≡ Err cause → IsVerdict defined before (Err cause) after → IsVerdict defined before result after
+    (cause : CommitRefusal) → result ≡ Err cause → CommitTells defined before (Err cause) after → CommitTells defined before result after
 refused_with defined before after result cause is told =
-    subst (λ (r : Result Verdict CommitRefusal). IsVerdict defined before r after) (sym is) told
+    subst (λ (r : Result Verdict CommitRefusal). CommitTells defined before r after) (sym is) told

@@ -38,7 +38,7 @@ use Rattle.stm_compile.proofs.OutcomeLemmas.{changes_are_distinct}
 use Rattle.stm_attempt.specs.ReadyRun.{ReadyRun, IsRunOnItsAnswers}
 use Rattle.stm_hall.specs.declared.refusal.CommitRefusal.TheVariants.{Store, Unvouched}
 use Rattle.stm_hall.specs.HallState.{HallState}
-use Rattle.stm_hall.specs.Verdicts.{txn_of, asking, first_unvouched, taken, unless_unvouched, verdict_of, IsVerdict}
+use Rattle.stm_hall.specs.Verdicts.{txn_of, asking, first_unvouched, taken, unless_unvouched, verdict_of, CommitTells}
 use Rattle.stm_hall.proofs.CommitEntries.{ops_of_writes}
 use Rattle.stm_hall.proofs.Sending.{IsCompared, verdict_compared, verdict_at_fault, IsAnswered, is_answered, answer_compared, IsReread, is_reread}
 
@@ -205,7 +205,7 @@ refused_by hall ready cause (Err first) None None same is whole compared refused
 pub tells_asked_refused : (hall after : HallState) (ready : ReadyRun) (asked : Txn) (cause : Refusal) → IsRunOnItsAnswers ready →
     asked ≡ asking (txn_of ready) →
     length (txn_of ready).success ≤ most_operations → IsRefusalOf (transacted hall.standing asked) cause → after ≡ hall →
-    IsVerdict (verdict_of hall ready) hall (Err (Store cause)) after
+    CommitTells (verdict_of hall ready) hall (Err (Store cause)) after
 tells_asked_refused hall after ready asked cause kept is few refused same = (
   refused_by hall ready cause (outcome hall.standing.history (is_live_in hall.standing.live) (asking (txn_of ready))) (fault_of (asking (txn_of ready)))
       (first_failed (key_now hall.standing.history) 0 (txn_of ready).compares)

@@ -37,6 +37,6 @@ fetched s seen txn =
     if nat_lt (now s.history) seen then Err (Behind seen (now s.history)) else answered (outcome s.history (is_live_in s.live) txn)
 
 -- A fetch answers what its definition says. Want of memory is told only where the definition answers.
-abbrev pub IsFetched : Result TxnAnswer FetchRefusal → Result TxnAnswer FetchRefusal → Type 0
-IsFetched defined (Ok answer) = defined ≡ Ok answer
-IsFetched defined (Err cause) = (defined ≡ Err cause) ⊎ ((cause ≡ Store OutOfMemory) × IsOk defined)
+abbrev pub FetchTells : Result TxnAnswer FetchRefusal → Result TxnAnswer FetchRefusal → Type 0
+FetchTells defined (Ok answer) = defined ≡ Ok answer
+FetchTells defined (Err cause) = (defined ≡ Err cause) ⊎ ((cause ≡ Store OutOfMemory) × IsOk defined)

@@ -4,7 +4,7 @@
 ghost use Rattle.std.specs.Prelude.{◌≡◌, ◌+◌, ◌≤◌, ◌<◌, ◌++◌, ◌∷◌, [], if◌then◌else◌, nat_lt, length, vec_len, vec_capacity, IfOk, IfErr, OnOk};
 ghost use Rattle.stm_entries.specs.declared.entry.Entry.TheVariants.{Foreign};
 ghost use Rattle.stm_txn.specs.Numbers.{AnswerFits};
-ghost use Rattle.stm_hall.specs.Fetching.{OnlyReads, fetched, IsFetched};
+ghost use Rattle.stm_hall.specs.Fetching.{OnlyReads, fetched, FetchTells};
 ghost use Rattle.stm_hall.specs.Entering.{MakesOf, or_want, expiries, AdvancesTo, StopsAt};
 
 use crate::refusal::FetchRefusal;
@@ -16,7 +16,7 @@ use stm_txn::{AdvanceRefused, Expired, Refusal, Store, Txn, TxnAnswer};
 /// Answers reads, for a caller that has seen this revision. It changes nothing.
 pub(crate) fn fetch(store: &mut Store, seen: u64, txn: &Txn) -> Result<TxnAnswer, FetchRefusal>
     requires { OnlyReads txn.now }
-    ensures answer { IsFetched (fetched store.old.standing seen txn.now) result }
+    ensures answer { FetchTells (fetched store.old.standing seen txn.now) result }
     ensures seen { IfOk result (λ answer. seen ≤ answer.revision) }
     ensures numbers { IfOk result AnswerFits }
     ensures same { store.new.standing ≡ store.old.standing }

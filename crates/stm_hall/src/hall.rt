@@ -7,10 +7,10 @@ ghost use Rattle.stm_compile.specs.Conflicts.{changes_above};
 ghost use Rattle.stm_hall.specs.HallState.{made_over};
 ghost use Rattle.stm_hall.specs.Locked.{IsLocked};
 ghost use Rattle.stm_hall.specs.Laws.{GoesOn};
-ghost use Rattle.stm_hall.specs.Fetching.{OnlyReads, fetched, IsFetched};
+ghost use Rattle.stm_hall.specs.Fetching.{OnlyReads, fetched, FetchTells};
 ghost use Rattle.stm_hall.specs.Prepared.{IsPreparedFor};
-ghost use Rattle.stm_hall.specs.Verdicts.{verdict_of, IsVerdict, CanGoOn};
-ghost use Rattle.stm_hall.specs.Entering.{made, IsMade, IsAdvanced, HasStopped};
+ghost use Rattle.stm_hall.specs.Verdicts.{verdict_of, CommitTells, CanGoOn};
+ghost use Rattle.stm_hall.specs.Entering.{made, TxnTells, IsAdvanced, HasStopped};
 
 use crate::changed::is_changed_above;
 use crate::log::Log;
@@ -74,7 +74,7 @@ impl Hall {
     /// store's `txn` refuses it. It changes nothing, refused or not. (etcd's API reference, "Range".)
     pub fn fetch(&mut self, seen: u64, txn: &Txn) -> Result<TxnAnswer, FetchRefusal>
         requires { OnlyReads txn.now }
-        ensures answer { IsFetched (fetched self.old.standing seen txn.now) result }
+        ensures answer { FetchTells (fetched self.old.standing seen txn.now) result }
         ensures seen { IfOk result (λ answer. seen ≤ answer.revision) }
         ensures numbers { IfOk result AnswerFits }
         ensures same { self.new ≡ self.old }
@@ -94,7 +94,7 @@ impl Hall {
     /// change at the highest revision. `OutOfMemory` may come before each of these. (The Go package
     /// `clientv3/concurrency`, "STM"; `Unvouched` and the order of the refusals are this hall's own.)
     pub fn commit(&mut self, ready: &Ready) -> Result<Verdict, CommitRefusal>
-        ensures verdict { IsVerdict (verdict_of self.old ready.now) self.old result self.new }
+        ensures verdict { CommitTells (verdict_of self.old ready.now) self.old result self.new }
         ensures answers { IfOk result CanGoOn }
         ensures goes_on { GoesOn self.old self.new }
     {
@@ -109,7 +109,7 @@ impl Hall {
         prepared: Prepared,
     ) -> Result<Verdict, CommitRefusal>
         requires { IsPreparedFor prepared ready.now }
-        ensures verdict { IsVerdict (verdict_of self.old ready.now) self.old result self.new }
+        ensures verdict { CommitTells (verdict_of self.old ready.now) self.old result self.new }
         ensures answers { IfOk result CanGoOn }
         ensures goes_on { GoesOn self.old self.new }
     {
@@ -121,7 +121,7 @@ impl Hall {
     /// It is refused as the store's `txn` refuses it, and then the hall is as it was. Want of memory is told only of a
     /// transaction that the store takes.
     pub fn foreign(&mut self, txn: &Txn) -> Result<TxnAnswer, Refusal>
-        ensures made { IsMade (made self.old txn.now) self.old result self.new }
+        ensures made { TxnTells (made self.old txn.now) self.old result self.new }
         ensures goes_on { GoesOn self.old self.new }
     {
         self.log.make_txn(txn)

@@ -2,10 +2,10 @@
 ghost use Rattle.std.specs.Prelude.{◌≡◌, ◌≤◌, None, IfOk, IfErr};
 ghost use Rattle.stm_txn.specs.Numbers.{AnswerFits};
 ghost use Rattle.stm_attempt.specs.ReadyRun.{IsRunOnItsAnswers};
-ghost use Rattle.stm_hall.specs.Fetching.{OnlyReads, fetched, IsFetched};
+ghost use Rattle.stm_hall.specs.Fetching.{OnlyReads, fetched, FetchTells};
 ghost use Rattle.stm_hall.specs.Prepared.{IsPreparedFor};
-ghost use Rattle.stm_hall.specs.Verdicts.{verdict_of, IsVerdict, CanGoOn};
-ghost use Rattle.stm_hall.specs.Entering.{made, IsMade, IsAdvanced, HasStopped};
+ghost use Rattle.stm_hall.specs.Verdicts.{verdict_of, CommitTells, CanGoOn};
+ghost use Rattle.stm_hall.specs.Entering.{made, TxnTells, IsAdvanced, HasStopped};
 
 use crate::calls::{advance, fetch, make_txn};
 use crate::committing::commit;
@@ -43,7 +43,7 @@ impl Log {
     /// Answers reads, for a caller that has seen this revision. It changes nothing.
     pub(crate) fn fetch(&mut self, seen: u64, txn: &Txn) -> Result<TxnAnswer, FetchRefusal>
         requires { OnlyReads txn.now }
-        ensures answer { IsFetched (fetched self.old.standing seen txn.now) result }
+        ensures answer { FetchTells (fetched self.old.standing seen txn.now) result }
         ensures seen { IfOk result (λ answer. seen ≤ answer.revision) }
         ensures numbers { IfOk result AnswerFits }
         ensures same { self.new ≡ self.old }
@@ -59,7 +59,7 @@ impl Log {
         prepared: Prepared,
     ) -> Result<Verdict, CommitRefusal>
         requires { IsPreparedFor prepared ready.now }
-        ensures verdict { IsVerdict (verdict_of self.old ready.now) self.old result self.new }
+        ensures verdict { CommitTells (verdict_of self.old ready.now) self.old result self.new }
         ensures answers { IfOk result CanGoOn }
         ensures run { IsRunOnItsAnswers ready.now }
     {
@@ -74,7 +74,7 @@ impl Log {
 
     /// Commits an attempt that is ready.
     pub(crate) fn commit(&mut self, alloc: Global, ready: &Ready) -> Result<Verdict, CommitRefusal>
-        ensures verdict { IsVerdict (verdict_of self.old ready.now) self.old result self.new }
+        ensures verdict { CommitTells (verdict_of self.old ready.now) self.old result self.new }
         ensures answers { IfOk result CanGoOn }
         ensures run { IsRunOnItsAnswers ready.now }
     {
@@ -84,7 +84,7 @@ impl Log {
 
     /// Makes another client's transaction.
     pub(crate) fn make_txn(&mut self, txn: &Txn) -> Result<TxnAnswer, Refusal>
-        ensures { IsMade (made self.old txn.now) self.old result self.new }
+        ensures { TxnTells (made self.old txn.now) self.old result self.new }
     {
         make_txn(&mut self.store, &mut self.entries, txn)
     }

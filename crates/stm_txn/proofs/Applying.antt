@@ -35,7 +35,7 @@ use Rattle.stm_txn.specs.Effect.{op_of}
 use Rattle.stm_txn.specs.Outcome.{Done, chosen, with_changes, is_used_up, answer_of, finished, unless, branch_outcome, outcome}
 use Rattle.stm_txn.specs.declared.answer.TxnAnswer.{TxnAnswer}
 use Rattle.stm_leases.specs.Live.{is_live_in}
-use Rattle.stm_txn.specs.Standing.{Standing, Step, IsRefusalOf, ComesTo, with_history, step_of, transacted}
+use Rattle.stm_txn.specs.Standing.{Standing, Step, IsRefusalOf, Tells, with_history, step_of, transacted}
 use Rattle.std.specs.Prelude.{IfOk, IfErr}
 use Rattle.std.specs.Prelude.{IfSome}
 use Rattle.stm_txn.specs.Commits.{is_on_dead_lease, write_answer, effective, Read, read_op, read_now, AreReached, AreNamed, shown}
@@ -448,7 +448,7 @@ pub came : (s next : Standing) (txn : Txn) (failed : Option FailedCompare) (ops 
     first_failed (key_now s.history) 0 txn.compares ≡ failed → chosen failed txn ≡ ops →
     IfOk r (λ a. outcome_copied s.history (is_live_in s.live) failed ops ≡ Ok record { answer = a; history = next.history }) →
     IfErr r (IsRefusalOf (outcome_copied s.history (is_live_in s.live) failed ops)) → next.live ≡ s.live → next.moment ≡ s.moment
-    → next.watchers ≡ s.watchers → ComesTo (transacted s txn) r next
+    → next.watchers ≡ s.watchers → Tells (transacted s txn) r next
 came s next txn failed ops (Ok a) whole first branch ok refused live moment watchers =
     ap (step_of s) (as_run s txn failed ops whole first branch ∙ ok)
     ∙ ap (answered a) (same_but_history s next live moment watchers)

@@ -12,7 +12,7 @@ use Rattle.stm_txn.specs.Branches.{branch_refusal}
 use Rattle.stm_txn.specs.Commits.{is_on_dead_lease, effective}
 use Rattle.stm_txn.specs.Effect.{op_of}
 use Rattle.stm_txn.specs.Leasing.{hangs_of, HangOnLive}
-use Rattle.stm_txn.specs.Standing.{Standing, Step, IsRefusalOf, ComesTo, write_step, written, made}
+use Rattle.stm_txn.specs.Standing.{Standing, Step, IsRefusalOf, Tells, write_step, written, made}
 use Rattle.stm_txn.proofs.Applying.{branch_applies, writes_apart, dead_refusal}
 use Rattle.stm_txn.proofs.Branching.{changes_are_distinct, effect_copied}
 use Rattle.stm_txn.proofs.Running.{hangs_live, deletes_present}
@@ -43,6 +43,6 @@ as_made : (s : Standing) (ws : List Change) → HasDistinctKeys ws → written s
 as_made s ws distinct = ap (write_step s) (branch_applies s.history (is_live_in s.live) ws distinct)
 
 pub come : (s next : Standing) (ws : List Change) (r : Result ℕ Refusal) → HasDistinctKeys ws →
-    IfOk r (λ revision. made s ws ≡ Ok record { answer = revision; next = next }) → IfErr r (IsRefusalOf (made s ws)) → ComesTo (written s ws) r next
+    IfOk r (λ revision. made s ws ≡ Ok record { answer = revision; next = next }) → IfErr r (IsRefusalOf (made s ws)) → Tells (written s ws) r next
 come s next ws (Ok revision) distinct ok refused = as_made s ws distinct ∙ ok
 come s next ws (Err e) distinct ok refused = subst (λ (o : Result (Step ℕ) Refusal). IsRefusalOf o e) (sym (as_made s ws distinct)) refused

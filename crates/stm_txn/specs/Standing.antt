@@ -53,9 +53,9 @@ IsRefusalOf (Ok done) refusal = refusal ≡ OutOfMemory
 IsRefusalOf (Err cause) refusal = refusal ≡ cause
 
 -- A call comes to what its definition says, its answer and the store after it, unless memory was wanting.
-abbrev pub ComesTo : {A : Type 0} → Result (Step A) Refusal → Result A Refusal → Standing → Type 0
-ComesTo defined (Ok answer) next = defined ≡ Ok record { answer = answer; next = next }
-ComesTo defined (Err refusal) next = IsRefusalOf defined refusal
+abbrev pub Tells : {A : Type 0} → Result (Step A) Refusal → Result A Refusal → Standing → Type 0
+Tells defined (Ok answer) next = defined ≡ Ok record { answer = answer; next = next }
+Tells defined (Err refusal) next = IsRefusalOf defined refusal
 
 -- why a call is refused, if it is
 abbrev pub refusal_of : {A : Type 0} → Result A Refusal → Option Refusal

@@ -157,7 +157,7 @@ impl Store {
     ghost use Rattle.stm_txn.specs.LeaseKeys.{deletions_of};
     ghost use Rattle.stm_txn.specs.Outcome.{with_changes, answer_of};
     ghost use Rattle.stm_txn.specs.Numbers.{AnswerFits, StatesFit, ExpiredFits, AllExpiredFit, EventsFit};
-    ghost use Rattle.stm_txn.specs.Standing.{opening, IsRefusalOf, ComesTo, refusal_of, transacted, made, written, granted, kept_alive, told, ended, revoked};
+    ghost use Rattle.stm_txn.specs.Standing.{opening, IsRefusalOf, Tells, refusal_of, transacted, made, written, granted, kept_alive, told, ended, revoked};
     ghost use Rattle.stm_txn.specs.Standing.{watched, polled, cancelled};
     ghost use Rattle.stm_watch.specs.declared.watched.Watched.TheVariants.{Key, Range};
     ghost use Rattle.stm_watch.specs.Calls.{IsNextPending};
@@ -323,7 +323,7 @@ impl Store {
     /// Runs the branch that the compares pick, of a transaction that is right as a whole.
     fn run_chosen(&mut self, txn: &Txn) -> Result<TxnAnswer, Refusal>
         requires { fault_of txn.now ≡ None }
-        ensures step { ComesTo (transacted self.old.standing txn.now) result self.new.standing }
+        ensures step { Tells (transacted self.old.standing txn.now) result self.new.standing }
         ensures err { OnErr result (self.new ≡ self.old) }
     {
         let failed = find_failed(txn.compares.as_slice(), &self.keys);
@@ -332,7 +332,7 @@ impl Store {
 
     /// Looks at the whole transaction, then runs it.
     fn transact(&mut self, txn: &Txn) -> Result<TxnAnswer, Refusal>
-        ensures step { ComesTo (transacted self.old.standing txn.now) result self.new.standing }
+        ensures step { Tells (transacted self.old.standing txn.now) result self.new.standing }
         ensures err { OnErr result (self.new ≡ self.old) }
     {
         match find_fault(txn) {
@@ -352,7 +352,7 @@ impl Store {
     /// The place of a failed compare is below their number, and the store's numbers in an answer are at most
     /// `HIGHEST_NUMBER`.
     pub fn txn(&mut self, txn: &Txn) -> Result<TxnAnswer, Refusal>
-        ensures step { ComesTo (transacted self.old.standing txn.now) result self.new.standing }
+        ensures step { Tells (transacted self.old.standing txn.now) result self.new.standing }
         ensures place { IfOk result (λ answer. IfSome answer.failed (λ failed. failed.index < length txn.now.compares)) }
         ensures numbers { IfOk result AnswerFits }
         ensures err { OnErr result (self.new ≡ self.old) }
@@ -390,7 +390,7 @@ impl Store {
     /// (etcd's API reference, "Transaction"; that there is no bound of their number is this call's own.)
     pub fn write(&mut self, writes: Vec<Change>) -> Result<u64, Refusal>
         requires { HasDistinctKeys writes.items }
-        ensures step { ComesTo (written self.old.standing writes.items) result self.new.standing }
+        ensures step { Tells (written self.old.standing writes.items) result self.new.standing }
         ensures err { OnErr result (self.new ≡ self.old) }
     {
         self.make(writes)
@@ -402,7 +402,7 @@ impl Store {
     /// `OutOfMemory` that holds, and then changes nothing. (etcd's API reference, "Lease"; the order of the
     /// refusals is this store's own.)
     pub fn grant(&mut self, id: u64, ttl: u64) -> Result<(), Refusal>
-        ensures step { ComesTo (granted self.old.standing id ttl) result self.new.standing }
+        ensures step { Tells (granted self.old.standing id ttl) result self.new.standing }
         ensures log { OnOk result ((log : List LogItem) → StandsFor self.old.standing.live log → StandsFor self.new.standing.live (Grant id ttl self.old.standing.moment ∷ log)) }
         ensures present { self.new.present ≡ self.old.present }
         ensures err { OnErr result (self.new ≡ self.old) }
@@ -467,7 +467,7 @@ impl Store {
     /// `HIGHEST_REVISION`, and `OutOfMemory` that holds, and then changes nothing. (etcd's API reference,
     /// "Lease"; that the keys go in one revision, ascending by bytes, is this store's own.)
     pub fn revoke(&mut self, id: u64) -> Result<u64, Refusal>
-        ensures step { ComesTo (revoked self.old.standing id) result self.new.standing }
+        ensures step { Tells (revoked self.old.standing id) result self.new.standing }
         ensures log { OnOk result ((log : List LogItem) → StandsFor self.old.standing.live log → StandsFor self.new.standing.live (Revoke id ∷ log)) }
         ensures numbers { IfOk result (λ revision. revision ≤ HIGHEST_NUMBER) }
         ensures err { OnErr result (self.new ≡ self.old) }
@@ -567,7 +567,7 @@ impl Store {
     /// It is refused for the first of `EmptyKey` and `OutOfMemory` that holds, and then changes nothing, and takes no
     /// number. (etcd's API reference, "Watch": `key` and `start_revision` of a `WatchCreateRequest`.)
     pub fn watch_key(&mut self, key: &str, from: u64) -> Result<u64, Refusal>
-        ensures step { ComesTo (watched self.old.standing (Key key.now) from) result self.new.standing }
+        ensures step { Tells (watched self.old.standing (Key key.now) from) result self.new.standing }
         ensures present { self.new.present ≡ self.old.present }
         ensures err { OnErr result (self.new ≡ self.old) }
     {
@@ -578,7 +578,7 @@ impl Store {
     /// Watches the keys from `first` on that are below `end`, by bytes, as `watch_key` watches one. An `end` that is
     /// not above `first` leaves none. `EmptyKey` is answered where `first` is empty.
     pub fn watch_range(&mut self, first: &str, end: &str, from: u64) -> Result<u64, Refusal>
-        ensures step { ComesTo (watched self.old.standing (Range first.now end.now) from) result self.new.standing }
+        ensures step { Tells (watched self.old.standing (Range first.now end.now) from) result self.new.standing }
         ensures present { self.new.present ≡ self.old.present }
         ensures err { OnErr result (self.new ≡ self.old) }
     {
@@ -608,7 +608,7 @@ impl Store {
 
     /// A poll, without the bounds of its numbers.
     fn take_batch(&mut self, id: u64, most: u64) -> Result<Batch, Refusal>
-        ensures step { ComesTo (polled self.old.standing id most) result self.new.standing }
+        ensures step { Tells (polled self.old.standing id most) result self.new.standing }
         ensures present { self.new.present ≡ self.old.present }
         ensures err { OnErr result (self.new ≡ self.old) }
     {
@@ -622,7 +622,7 @@ impl Store {
     /// It is refused for the first of `NoWatcher`, where there is none with this number or it was cancelled, and
     /// `OutOfMemory` that holds, and then changes nothing: a poll that wanted memory gives the same batch later.
     pub fn poll(&mut self, id: u64, most: u64) -> Result<Batch, Refusal>
-        ensures step { ComesTo (polled self.old.standing id most) result self.new.standing }
+        ensures step { Tells (polled self.old.standing id most) result self.new.standing }
         ensures present { self.new.present ≡ self.old.present }
         ensures numbers { IfOk result (λ batch. EventsFit batch.events) }
         ensures err { OnErr result (self.new ≡ self.old) }

@@ -7,7 +7,7 @@ use Rattle.std.proofs.Math.ListN.{get_or-map}
 use Rattle.stm_history.specs.History.{History}
 use Rattle.stm_watch.specs.declared.watched.Watcher.{Watcher}
 use Rattle.stm_watch.specs.declared.watchers.Batch.{Batch}
-use Rattle.stm_watch.specs.Calls.{is_ready, IsNextReady, Polls, StandFor, poll, watchings}
+use Rattle.stm_watch.specs.Calls.{is_ready, IsNextReady, PollTells, StandFor, poll, watchings}
 use Rattle.stm_watch.specs.Kept.{readiness_of, watched_of}
 use Rattle.stm_watch.specs.Ready.{IsFirst}
 use Rattle.stm_watch.specs.Slots.{IsPolled, SlotPolls, PlacePolls, made_ready}
@@ -52,10 +52,10 @@ none_ready ws marks same none id = by_id (nat_eq id 0)
 
 module _ (h : History) (i most : ℕ) (old new : List (Option Watcher)) (result : Result Batch PollRefusal) (did : PlacePolls h most i old result new)
     (there : i < length old) where
-  pub place_polled : (id : ℕ) → nat_eq id 0 ≡ false → id - 1 ≡ i → Polls (poll h id most (watchings old)) result (watchings new)
+  pub place_polled : (id : ℕ) → nat_eq id 0 ≡ false → id - 1 ≡ i → PollTells (poll h id most (watchings old)) result (watchings new)
   place_polled id positive is =
       let at : slice_index_or old i None ≡ slice_index_or old i (slice_index_or old i None) = sym (read_at old i (slice_index_or old i None) there) in
-      subst (λ ws. Polls (poll h id most (watchings old)) result (watchings ws)) (ap (λ (k : ℕ). slice_set old k did.0) is ∙ sym did.1)
+      subst (λ ws. PollTells (poll h id most (watchings old)) result (watchings ws)) (ap (λ (k : ℕ). slice_set old k did.0) is ∙ sym did.1)
       (polled h id most old (slice_index_or old i None) result did.0 positive (subst (λ (k : ℕ). k < length old) (sym is) there)
       (subst (λ (k : ℕ). slice_index_or old i None ≡ slice_index_or old k (slice_index_or old i None)) (sym is) at) did.2)
 

@@ -14,7 +14,7 @@ use Rattle.stm_watch.specs.Keys.{is_any_watched}
 use Rattle.stm_watch.specs.Touch.{touch}
 use Rattle.stm_watch.specs.Pending.{after_poll}
 use Rattle.stm_watch.specs.Calls.{watchings, watcher_at, Stands, StandFor, is_ready, is_ready_at, IsNextReady, is_pending_for, IsNextPending}
-use Rattle.stm_watch.specs.Calls.{poll, poll_found, Polls, Step}
+use Rattle.stm_watch.specs.Calls.{poll, poll_found, PollTells, Step}
 use Rattle.stm_watch.specs.Slots.{SlotPolls}
 use Rattle.stm_watch.specs.declared.watchers.Batch.{Batch}
 use Rattle.stm_watch.specs.declared.refusal.PollRefusal.{PollRefusal}
@@ -126,7 +126,7 @@ found_at ws id x positive there at =
 
 polled_found : (h : History) (id most : ℕ) (ws : List (Option Watcher)) (x : Option Watcher) (result : Result Batch PollRefusal)
     (new : Option Watcher) → SlotPolls h most x result new
-    → Polls (poll_found h id most (watchings ws) (option_map (λ (w : Watcher). w.watching) x)) result (watchings (slice_set ws (id - 1) new))
+    → PollTells (poll_found h id most (watchings ws) (option_map (λ (w : Watcher). w.watching) x)) result (watchings (slice_set ws (id - 1) new))
 polled_found h id most ws None (Ok batch) new did = absurd did
 polled_found h id most ws (Some w) (Ok batch) new did =
     let next : slice_set (watchings ws) (id - 1) (Some (after_poll most h w.watching)) ≡ watchings (slice_set ws (id - 1) new) =
@@ -142,9 +142,9 @@ polled_found h id most ws (Some w) (Err OutOfMemory) new did = refl
 
 pub polled : (h : History) (id most : ℕ) (ws : List (Option Watcher)) (x : Option Watcher) (result : Result Batch PollRefusal)
     (new : Option Watcher) → nat_eq id 0 ≡ false → id - 1 < length ws → x ≡ slice_index_or ws (id - 1) x → SlotPolls h most x result new
-    → Polls (poll h id most (watchings ws)) result (watchings (slice_set ws (id - 1) new))
+    → PollTells (poll h id most (watchings ws)) result (watchings (slice_set ws (id - 1) new))
 polled h id most ws x result new positive there at did =
-    subst (λ o. Polls (poll_found h id most (watchings ws) o) result (watchings (slice_set ws (id - 1) new)))
+    subst (λ o. PollTells (poll_found h id most (watchings ws) o) result (watchings (slice_set ws (id - 1) new)))
     (sym (found_at ws id x positive there at)) (polled_found h id most ws x result new did)
 
 slot_stands : (h : History) (most : ℕ) (x : Option Watcher) (result : Result Batch PollRefusal) (new : Option Watcher) → Stands h x

@@ -47,15 +47,15 @@ abbrev pub poll : History → ℕ → ℕ → List (Option Watching) → Result 
 poll h id most ws = poll_found h id most ws (watcher_at id ws)
 
 -- A call comes to what its definition says, unless memory was wanting.
-abbrev pub Watches : Result (Step ℕ) WatchRefusal → Result ℕ WatchRefusal → List (Option Watching) → Type 0
-Watches defined (Ok id) next = defined ≡ Ok (record { answer = id; next = next })
-Watches defined (Err EmptyKey) next = defined ≡ Err EmptyKey
-Watches defined (Err OutOfMemory) next = IsOk defined
+abbrev pub WatchTells : Result (Step ℕ) WatchRefusal → Result ℕ WatchRefusal → List (Option Watching) → Type 0
+WatchTells defined (Ok id) next = defined ≡ Ok (record { answer = id; next = next })
+WatchTells defined (Err EmptyKey) next = defined ≡ Err EmptyKey
+WatchTells defined (Err OutOfMemory) next = IsOk defined
 
-abbrev pub Polls : Result (Step Batch) PollRefusal → Result Batch PollRefusal → List (Option Watching) → Type 0
-Polls defined (Ok batch) next = defined ≡ Ok (record { answer = batch; next = next })
-Polls defined (Err NoWatcher) next = defined ≡ Err NoWatcher
-Polls defined (Err PollOutOfMemory) next = IsOk defined
+abbrev pub PollTells : Result (Step Batch) PollRefusal → Result Batch PollRefusal → List (Option Watching) → Type 0
+PollTells defined (Ok batch) next = defined ≡ Ok (record { answer = batch; next = next })
+PollTells defined (Err NoWatcher) next = defined ≡ Err NoWatcher
+PollTells defined (Err PollOutOfMemory) next = IsOk defined
 
 -- ---- the watchers as they are kept, each marked where it is ready
 

@@ -3,7 +3,7 @@ ghost use Rattle.std.specs.Prelude.{◌≡◌, ◌+◌, ◌↔◌, [], ◌∷◌
 ghost use Rattle.stm_history.specs.History.{History, now, add_revision};
 ghost use Rattle.stm_keys.specs.Events.{change_of_event};
 ghost use Rattle.stm_watch.specs.Pending.{watching_from};
-ghost use Rattle.stm_watch.specs.Calls.{watch, poll, cancelled, Watches, Polls, watchings, watcher_at, StandFor, IsNextReady, IsNextPending};
+ghost use Rattle.stm_watch.specs.Calls.{watch, poll, cancelled, WatchTells, PollTells, watchings, watcher_at, StandFor, IsNextReady, IsNextPending};
 
 use crate::index::Index;
 use crate::refusal::{NoWatcher, PollRefusal, WatchRefusal};
@@ -84,7 +84,7 @@ impl Watchers {
     /// The watchers stand for the history of these keys, and do so after the call. A refusal changes nothing.
     pub fn watch_key(&mut self, key: &str, from: u64, keys: &Keys) -> Result<u64, WatchRefusal>
         requires { StandFor keys.now.history self.old }
-        ensures answer { Watches (watch keys.now.history (Key key.now) from (watchings self.old)) result (watchings self.new) }
+        ensures answer { WatchTells (watch keys.now.history (Key key.now) from (watchings self.old)) result (watchings self.new) }
         ensures stand { StandFor keys.now.history self.new }
         ensures err { OnErr result (self.new ≡ self.old) }
     {
@@ -106,7 +106,7 @@ impl Watchers {
         keys: &Keys,
     ) -> Result<u64, WatchRefusal>
         requires { StandFor keys.now.history self.old }
-        ensures answer { Watches (watch keys.now.history (Range first.now end.now) from (watchings self.old)) result (watchings self.new) }
+        ensures answer { WatchTells (watch keys.now.history (Range first.now end.now) from (watchings self.old)) result (watchings self.new) }
         ensures stand { StandFor keys.now.history self.new }
         ensures err { OnErr result (self.new ≡ self.old) }
     {
@@ -166,7 +166,7 @@ impl Watchers {
     /// memory gives the same batch later.
     pub fn poll(&mut self, id: u64, keys: &Keys, most: u64) -> Result<Batch, PollRefusal>
         requires { StandFor keys.now.history self.old }
-        ensures answer { Polls (poll keys.now.history id most (watchings self.old)) result (watchings self.new) }
+        ensures answer { PollTells (poll keys.now.history id most (watchings self.old)) result (watchings self.new) }
         ensures stand { StandFor keys.now.history self.new }
         ensures err { OnErr result (self.new ≡ self.old) }
     {

@@ -7,7 +7,7 @@ use Rattle.stm_txn.specs.declared.txn.Txn.{Txn}
 use Rattle.stm_txn.specs.declared.answer.TxnAnswer.{TxnAnswer}
 use Rattle.stm_txn.specs.Standing.{Standing, opening}
 use Rattle.stm_hall.specs.declared.refusal.FetchRefusal.{FetchRefusal}
-use Rattle.stm_hall.specs.Fetching.{fetched, IsFetched}
+use Rattle.stm_hall.specs.Fetching.{fetched, FetchTells}
 use Rattle.stm_hall.specs.declared.verdict.Verdict.{Verdict}
 use Rattle.stm_hall.specs.declared.verdict.Verdict.TheVariants.{Committed, Failed}
 use Rattle.stm_hall.specs.HallState.{HallState, made_over}
@@ -35,7 +35,7 @@ ends_in ended = map (λ e. e.end) ended
 
 -- what a fetch answered, in whichever hall it was made
 abbrev pub AnswersInSomeHall : ℕ → Txn → Result TxnAnswer FetchRefusal → Type 0
-AnswersInSomeHall seen txn result = (s : Standing) × IsFetched (fetched s seen txn) result
+AnswersInSomeHall seen txn result = (s : Standing) × FetchTells (fetched s seen txn) result
 
 -- how many commits a verdict counts
 abbrev pub committed_by : Verdict → ℕ

@@ -164,21 +164,21 @@ polled_by most h w false all =
 -- ---- what a watcher was told and what is pending for it
 
 -- What was told a watcher that began so and stands so, with what is pending for it, is all of what it was to be told since.
-pub record Tells (h : History) (told : List Event) (begun w : Watching) : Type 0 where
+pub record HasTold (h : History) (told : List Event) (begun w : Watching) : Type 0 where
   pub same : w.watched ≡ begun.watched
   pub since : begun.seen ≤ w.seen
   pub reached : w.seen ≤ max begun.seen (now h)
   pub all : told ++ events_told (pending h w) ≡ events_told (pending h begun)
 
-pub begun_tells : (h : History) (w : Watching) → Tells h [] w w
+pub begun_tells : (h : History) (w : Watching) → HasTold h [] w w
 begun_tells h w = record { same = refl; since = omega arith; reached = omega arith; all = refl }
 
 events_joined : (ts us : List Told) → events_told (ts ++ us) ≡ events_told ts ++ events_told us
 events_joined ts us = flat_map-append (λ (t : Told). t.events) ts us
 
 -- a poll tells what it gives
-pub polled_tells : (most : ℕ) (h : History) (told : List Event) (begun w : Watching) → Tells h told begun w →
-    Tells h (told ++ (batch_of most h w).events) begun (after_poll most h w)
+pub polled_tells : (most : ℕ) (h : History) (told : List Event) (begun w : Watching) → HasTold h told begun w →
+    HasTold h (told ++ (batch_of most h w).events) begun (after_poll most h w)
 polled_tells most h told begun w t =
     let upto : ℕ = (batch_of most h w).upto in
     let given : List Told = take most (pending h w) in
@@ -197,8 +197,8 @@ polled_tells most h told begun w t =
     }
 
 -- a new revision is pending alike
-grown_tells : (h : History) (changes : List Change) (told : List Event) (begun w : Watching) → Tells h told begun w →
-    Tells (add_revision h changes) told begun w
+grown_tells : (h : History) (changes : List Change) (told : List Event) (begun w : Watching) → HasTold h told begun w →
+    HasTold (add_revision h changes) told begun w
 grown_tells h changes told begun w t =
     let n : ℕ = number_of_last h.opening (changes ∷ h.revisions) in
     let more : Watching → List Told = λ x. part x.seen n (of_last h.opening x.watched changes h.revisions) in
@@ -223,7 +223,7 @@ grown_tells h changes told begun w t =
 
 -- what was told of one history goes on in another
 abbrev pub Carries : History → History → Type 0
-Carries before after = (told : List Event) (begun w : Watching) → Tells before told begun w → Tells after told begun w
+Carries before after = (told : List Event) (begun w : Watching) → HasTold before told begun w → HasTold after told begun w
 
 pub carries_changes : (h : History) (changes : List Change) → Carries h (with_changes h changes)
 carries_changes h [] told begun w t = t

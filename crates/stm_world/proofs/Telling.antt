@@ -50,7 +50,7 @@ use Rattle.stm_world.specs.World.{opened, replies_to}
 use Rattle.stm_world.specs.Headline.{logged, Headline}
 use Rattle.stm_world.specs.Telling.{made, made_by, or_earlier, begun_watching, events_in, told_by, events_to, watcher_given_up, gives_up, is_given_up, watching}
 use Rattle.stm_world.specs.Telling.{IsToldSo, WatchersAreTold}
-use Rattle.stm_world.proofs.Polling.{Tells, begun_tells, polled_tells}
+use Rattle.stm_world.proofs.Polling.{HasTold, begun_tells, polled_tells}
 use Rattle.stm_world.proofs.Truth.{Keeps, keeps_same}
 use Rattle.stm_world.proofs.CommitEntries.{grown_by}
 use Rattle.stm_world.proofs.Slots.{equal_numbers, same_number, other_number, differ}
@@ -157,7 +157,7 @@ record IsQuiet (h : History) (id : ℕ) (event : WorldEvent) (reply : Result Rep
 record IsBegun (start : ℕ) (log : List Line) (id : ℕ) (w : Watching) : Type 0 where
   begun : Watching
   is_begun : watching start id log ≡ Some begun
-  tells : Tells (store start log).history (events_to id log) begun w
+  tells : HasTold (store start log).history (events_to id log) begun w
 
 -- what the log tells of a number, by what stands there
 abbrev IsTold : ℕ → List Line → ℕ → Option Watching → Type 0
@@ -190,7 +190,7 @@ same_told start log event reply id (Some w) q is =
     record {
       begun = is.begun;
       is_begun = same_watching start log event reply id q ∙ is.is_begun;
-      tells = subst (λ (es : List Event). Tells after es is.begun w) same
+      tells = subst (λ (es : List Event). HasTold after es is.begun w) same
           ((event_keeps (λ runner. begun runner log) event reply s).1 (events_to id log) is.begun w is.tells);
     }
 
@@ -314,8 +314,8 @@ watcher_begins start log event reply w are told kept made leaves =
                   is_begun = ap (λ b. cond (b || is_given_up id log) None (or_earlier first earlier)) (kept id)
                       ∙ ap (λ b. cond b None (or_earlier first earlier)) new.kept
                       ∙ ap (λ (o : Option Watching). or_earlier o earlier) (made id ∙ ap (λ b. cond b (Some w) None) is);
-                  tells = subst (λ (h : History). Tells h (events_to id after) w w) (sym history)
-                      (subst (λ (es : List Event). Tells s.history es w w) none (begun_tells s.history w));
+                  tells = subst (λ (h : History). HasTold h (events_to id after) w w) (sym history)
+                      (subst (λ (es : List Event). HasTold s.history es w w) none (begun_tells s.history w));
                 })
             | false ↦ λ is.
                 let ne : next ≢ id = differ next id is in
@@ -369,8 +369,8 @@ polled_told start log reply id most w is right history =
     record {
       begun = is.begun;
       is_begun = is.is_begun;
-      tells = subst (λ (x : History). Tells x (events_to id log ++ told_by id (Poll id most) reply) is.begun next) (sym history)
-          (subst (λ (es : List Event). Tells h (events_to id log ++ es) is.begun next) told
+      tells = subst (λ (x : History). HasTold x (events_to id log ++ told_by id (Poll id most) reply) is.begun next) (sym history)
+          (subst (λ (es : List Event). HasTold h (events_to id log ++ es) is.begun next) told
           (polled_tells most h (events_to id log) is.begun w is.tells));
     }
 

@@ -3,7 +3,7 @@ use Rattle.stm_history.specs.History.{now}
 use Rattle.stm_txn.specs.Standing.{Standing}
 use Rattle.stm_txn.specs.Store.{StoreView}
 use Rattle.stm_hall.specs.declared.refusal.FetchRefusal.TheVariants.{Behind}
-use Rattle.stm_hall.specs.Fetching.{fetched, IsFetched}
+use Rattle.stm_hall.specs.Fetching.{fetched, FetchTells}
 use Rattle.stm_hall.proofs.FetchLemmas.{store_unchanged, revision_unchanged, tells_behind, tells_answer, tells_refused}
 use Rattle.stm_hall.proofs.calls.fetch.Goals as goal
 
@@ -13,7 +13,7 @@ returns-then-now-seen-clause-answer c =
     let s : Standing = c.args.store.now.standing in
     let is : c.revision-now.result ≡ now s.history = c.revision-now.ensures.value ∙ ap now c.keys.ensures.history in
     let below : now s.history < c.args.seen = omega (arith, is, c.if-now-seen.true) in
-    subst (λ (n : ℕ). IsFetched (fetched s c.args.seen c.args.txn.now) (Err (Behind c.args.seen n))) (sym is) (tells_behind s c.args.seen c.args.txn.now below)
+    subst (λ (n : ℕ). FetchTells (fetched s c.args.seen c.args.txn.now) (Err (Behind c.args.seen n))) (sym is) (tells_behind s c.args.seen c.args.txn.now below)
 
 pub returns-in-Ok-clause-answer : goal.returns-in-Ok-clause-answer
 returns-in-Ok-clause-answer c =

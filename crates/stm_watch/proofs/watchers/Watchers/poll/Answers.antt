@@ -1,5 +1,5 @@
 use Rattle.std.proofs.Common.{◌-◌, ◌<◌, length, refl, subst, sym, arith, ne_eqb}
-use Rattle.stm_watch.specs.Calls.{poll, Polls, StandFor, watchings}
+use Rattle.stm_watch.specs.Calls.{poll, PollTells, StandFor, watchings}
 use Rattle.stm_watch.specs.Kept.{Covers}
 use Rattle.stm_watch.proofs.Placed.{place_polled, place_stands, place_watched}
 use Rattle.stm_watch.proofs.watchers.Watchers.poll.Goals as goal
@@ -14,7 +14,7 @@ invariant_of-self c =
 pub returns-clause-answer : goal.returns-clause-answer
 returns-clause-answer c =
     let there : c.args.id - 1 < length c.self.inside.slots = omega (arith, c.if-id-eq0.false, c.if-id-len.false, c.len.ensures) in
-    subst (λ vs. Polls (poll c.args.keys.now.history c.args.id c.args.most (watchings vs)) c.poll.result (watchings c.poll.new.self)) c.self.view_is
+    subst (λ vs. PollTells (poll c.args.keys.now.history c.args.id c.args.most (watchings vs)) c.poll.result (watchings c.poll.new.self)) c.self.view_is
     (place_polled c.args.keys.now.history (c.args.id - 1) c.args.most c.self.inside.slots c.poll.new.self c.poll.result c.poll.ensures there c.args.id
     (ne_eqb c.args.id 0 c.if-id-eq0.false) refl)
 

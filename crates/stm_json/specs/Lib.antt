@@ -1,3 +1,4 @@
+pub mod Bytes
 pub mod CauseNames
 pub mod Elements
 pub mod Outcome

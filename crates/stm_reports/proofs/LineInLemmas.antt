@@ -6,7 +6,7 @@ use Rattle.serde_json.specs.Data.{Data}
 use Rattle.serde_json.specs.Read.{read}
 use Rattle.stm_json.specs.declared.cause.Cause.TheVariants.{NotJson}
 use Rattle.stm_json.specs.Outcome.{bad}
-use Rattle.stm_reports.specs.Bytes.{data_of}
+use Rattle.stm_json.specs.Bytes.{data_of}
 use Rattle.stm_reports.specs.Reading.{line_of, line_read, line_in}
 
 -- text that is the JSON of data

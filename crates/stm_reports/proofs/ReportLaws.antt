@@ -14,7 +14,8 @@ use Rattle.stm_txn_json.proofs.FaultLemmas.{fault_of, wrong_is, part_then, made}
 use Rattle.stm_reports.specs.declared.line.ReportLine.{ReportLine}
 use Rattle.stm_json.specs.declared.limits.TheConstants.{MOST_BYTES}
 use Rattle.stm_reports.specs.declared.report.Report.{Report}
-use Rattle.stm_reports.specs.Bytes.{data_of, parts_of}
+use Rattle.stm_json.specs.Bytes.{data_of}
+use Rattle.stm_reports.specs.Bytes.{parts_of}
 use Rattle.stm_reports.specs.FirstFault.{json_faults, rest_faults, lines_faults, first_fault, IsFirstFault}
 use Rattle.stm_reports.specs.Grammar.{SpellsLine, SpellsParts, SpellsReport}
 use Rattle.stm_reports.specs.Reading.{line_read, line_in, rest_of, lines_from, report_with, report_in}

@@ -1,13 +1,6 @@
--- What bytes hold.
+-- How bytes are cut into lines.
 use Rattle.std.specs.Prelude.{ℕ, suc, List, [], ◌∷◌, take, drop, Bool, Option, Some, None, if◌then◌else◌, ◌==◌}
 use Rattle.std.specs.List.{slice_split}
-use Rattle.std.specs.Str.{is_utf8}
-use Rattle.serde_json.specs.Data.{Data}
-use Rattle.serde_json.specs.Read.{read}
-
--- the data that bytes are the JSON of, in UTF-8
-abbrev pub data_of : List ℕ → Option Data
-data_of bytes = if is_utf8 bytes then read bytes else None
 
 abbrev pub is_line_feed : ℕ → Bool
 is_line_feed b = b == 10

@@ -13,7 +13,8 @@ use Rattle.stm_txn_json.specs.Faults.{Faults, first_of, wrong, at, Sort, AnyText
 use Rattle.stm_txn_json.specs.Faults.{Table, sorts_of, is_count, parts_faults, sorted_faults, worded_faults}
 use Rattle.stm_txn_json.specs.FirstFault.{any_number}
 use Rattle.stm_json.specs.declared.limits.TheConstants.{MOST_BYTES}
-use Rattle.stm_reports.specs.Bytes.{data_of, parts_of}
+use Rattle.stm_json.specs.Bytes.{data_of}
+use Rattle.stm_reports.specs.Bytes.{parts_of}
 
 -- ---- parts
 

@@ -10,7 +10,8 @@ use Rattle.stm_reports.specs.declared.line.ToldOp.{ToldOp}
 use Rattle.stm_reports.specs.declared.line.ToldOp.TheVariants.{Get, Put, Del}
 use Rattle.stm_json.specs.declared.limits.TheConstants.{MOST_BYTES}
 use Rattle.stm_reports.specs.declared.report.Report.{Report}
-use Rattle.stm_reports.specs.Bytes.{data_of, parts_of}
+use Rattle.stm_json.specs.Bytes.{data_of}
+use Rattle.stm_reports.specs.Bytes.{parts_of}
 use Rattle.stm_reports.specs.LineData.{line_data}
 
 -- the same data, each whole number held in any way, and of 64 bits with a sign

@@ -22,7 +22,8 @@ use Rattle.stm_reports.specs.declared.words.EventWord.{EventWord}
 use Rattle.stm_reports.specs.declared.words.EventWord.TheVariants as event
 use Rattle.stm_reports.specs.declared.words.StandingWord.{StandingWord}
 use Rattle.stm_reports.specs.declared.words.StandingWord.TheVariants as standing
-use Rattle.stm_reports.specs.Bytes.{data_of, parts_of}
+use Rattle.stm_json.specs.Bytes.{data_of}
+use Rattle.stm_reports.specs.Bytes.{parts_of}
 use Rattle.stm_reports.specs.Elements.{five_of, six_of}
 use Rattle.stm_reports.specs.Parts.{number_of, flag_of, fault_of, cause_of, keyed_of, value_of, trace_of, answer_of, op_of, expired_of, event_of}
 use Rattle.stm_reports.specs.Words.{named, event_words, standing_words}

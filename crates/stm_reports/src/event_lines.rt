@@ -9,11 +9,12 @@ ghost use Rattle.stm_reports.specs.Reading.{event_line_of};
 
 use crate::elements::{five, six};
 use crate::line::ReportLine;
-use crate::parts::{fault_part, flag_part, list_part, number_part, refusal_part, text_part};
+use crate::parts::{fault_part, flag_part, list_part, refusal_part};
 use crate::words::EventWord;
 use serde_json::Value as Json;
 use std::alloc::Global;
 use stm_json::{Cause, ReadError, fault, four, one, three, two};
+use stm_txn_json::{number_part, text_part};
 
 /// The number of an event, and the one number behind the word.
 fn named(alloc: Global, number: &Json, elements: &[Json]) -> Result<(u64, u64), ReadError>

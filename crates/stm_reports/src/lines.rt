@@ -9,11 +9,12 @@ ghost use Rattle.stm_reports.specs.Words.{named, standing_words};
 use crate::elements::front_word;
 use crate::event_lines::event_line;
 use crate::line::ReportLine;
-use crate::parts::{keyed, number_part};
+use crate::parts::keyed;
 use crate::words::{StandingWord, event_word, standing_word};
 use serde_json::Value as Json;
 use std::alloc::Global;
 use stm_json::{Cause, ReadError, fault, three, two};
+use stm_txn_json::number_part;
 
 fn key(alloc: Global, elements: &[Json]) -> Result<ReportLine, ReadError>
     ensures { Tells (λ l. l) result (key_of (six_of (items_view elements.now))) }

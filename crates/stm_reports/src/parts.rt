@@ -3,7 +3,7 @@ ghost use Rattle.std.specs.Prelude.{List, ℕ};
 ghost use Rattle.serde_json.specs.Data.{Data};
 ghost use Rattle.serde_json.specs.Find.{as_array};
 ghost use Rattle.serde_json.specs.View.{view, items_view};
-ghost use Rattle.stm_json.specs.Elements.{one_of, two_of, three_of, four_of, number_up_to};
+ghost use Rattle.stm_json.specs.Elements.{one_of, two_of, three_of, four_of};
 ghost use Rattle.stm_json.specs.Outcome.{Outcome, within as within_list};
 ghost use Rattle.stm_json.specs.Tells.{Tells};
 ghost use Rattle.stm_txn_json.specs.Reading.{text_of, each_from, list_of};
@@ -18,12 +18,13 @@ use crate::line::{ToldAnswer, ToldEvent, ToldOp};
 use crate::words::{fault_named, refusal_name};
 use serde_json::Value as Json;
 use std::alloc::Global;
-use stm_history::{HIGHEST_NUMBER, KeyState, Sequence, Text};
+use stm_history::{KeyState, Sequence, Text};
 use stm_json::{
     Cause, ReadError, fault, four, number_within, one, three, two, whole, within, worded_array,
 };
 use stm_meaning::{Fault, TraceItem, Value};
 use stm_txn::Expired;
+use stm_txn_json::{number_part, text_part};
 
 /// A text, of any length.
 #[tactic(auto, unfolding(stm_txn_json::specs::Reading::text_of))]
@@ -37,20 +38,6 @@ fn text(alloc: Global, value: &Json) -> Result<Text, ReadError>
         }
         None => Err(fault(alloc, Cause::Shape)),
     }
-}
-
-/// A text that is an element of an array. A fault's place is that in the array.
-pub(crate) fn text_part(alloc: Global, index: usize, value: &Json) -> Result<Text, ReadError>
-    ensures { Tells (λ t. t) result (within_list index (text_of (view value.now))) }
-{
-    within(alloc, index, text(alloc, value))
-}
-
-/// A number that is an element of an array.
-pub(crate) fn number_part(alloc: Global, index: usize, value: &Json) -> Result<u64, ReadError>
-    ensures { Tells (λ n. n) result (within_list index (number_up_to HIGHEST_NUMBER (view value.now))) }
-{
-    within(alloc, index, number_within(alloc, HIGHEST_NUMBER, value))
 }
 
 #[tactic(auto, unfolding(crate::specs::Parts::flag_of))]

@@ -29,7 +29,7 @@ use Rattle.stm_texts.specs.declared.scenario.Scenario.{Scenario}
 use Rattle.stm_history.specs.declared.revisions.TheConstants.{HIGHEST_NUMBER, HIGHEST_REVISION}
 use Rattle.stm_texts.specs.declared.events.TheConstants.{HIGHEST_LIMIT, MOST_EVENTS}
 use Rattle.stm_json.specs.declared.limits.TheConstants.{MOST_BYTES}
-use Rattle.stm_texts.specs.Bytes.{data_of}
+use Rattle.stm_json.specs.Bytes.{data_of}
 use Rattle.stm_texts.specs.Grammar.{level_text, SpellsNumbered, SpellsEvent, SpellsElements, SpellsData, SpellsScenario}
 use Rattle.stm_texts.specs.Reading.{level_named, level_of, start_of, grant_of, number_alone, step_of, keep_of, revoke_of, advance_of, txn_event}
 use Rattle.stm_texts.specs.Reading.{watcher_event, event_worded, event_of, event_after, events_from, begins, opening_of}

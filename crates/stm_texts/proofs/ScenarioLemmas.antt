@@ -8,7 +8,7 @@ use Rattle.serde_json.specs.Read.{read}
 use Rattle.stm_json.specs.declared.cause.Cause.TheVariants.{NotJson}
 use Rattle.stm_json.specs.Outcome.{bad}
 use Rattle.stm_json.specs.declared.limits.TheConstants.{MOST_BYTES}
-use Rattle.stm_texts.specs.Bytes.{data_of}
+use Rattle.stm_json.specs.Bytes.{data_of}
 use Rattle.stm_texts.specs.Reading.{scenario_of, scenario_read, scenario_in}
 
 pub scenario_in-short : (bytes : List ℕ) → length bytes ≤ MOST_BYTES → scenario_in bytes ≡ scenario_read (data_of bytes)

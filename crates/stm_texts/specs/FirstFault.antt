@@ -14,7 +14,7 @@ use Rattle.stm_txn_json.specs.Words.{same}
 use Rattle.stm_history.specs.declared.revisions.TheConstants.{HIGHEST_REVISION}
 use Rattle.stm_texts.specs.declared.events.TheConstants.{HIGHEST_LIMIT, MOST_EVENTS}
 use Rattle.stm_json.specs.declared.limits.TheConstants.{MOST_BYTES}
-use Rattle.stm_texts.specs.Bytes.{data_of}
+use Rattle.stm_json.specs.Bytes.{data_of}
 
 -- ---- events
 

@@ -12,7 +12,7 @@ use Rattle.stm_texts.specs.declared.scenario.Scenario.{Scenario}
 use Rattle.stm_history.specs.declared.revisions.TheConstants.{HIGHEST_NUMBER, HIGHEST_REVISION}
 use Rattle.stm_texts.specs.declared.events.TheConstants.{HIGHEST_LIMIT, MOST_EVENTS}
 use Rattle.stm_json.specs.declared.limits.TheConstants.{MOST_BYTES}
-use Rattle.stm_texts.specs.Bytes.{data_of}
+use Rattle.stm_json.specs.Bytes.{data_of}
 
 -- the word of a level
 abbrev pub level_text : Level → List ℕ

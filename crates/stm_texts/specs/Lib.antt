@@ -1,4 +1,3 @@
-pub mod Bytes
 pub mod FirstFault
 pub mod Grammar
 pub mod Reading

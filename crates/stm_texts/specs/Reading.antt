@@ -16,7 +16,7 @@ use Rattle.stm_json.specs.declared.cause.Cause.TheVariants.{NotJson, Shape, TooL
 use Rattle.stm_texts.specs.declared.events.TheConstants.{HIGHEST_LIMIT, MOST_EVENTS}
 use Rattle.stm_json.specs.declared.limits.TheConstants.{MOST_BYTES}
 use Rattle.stm_texts.specs.declared.scenario.Scenario.{Scenario}
-use Rattle.stm_texts.specs.Bytes.{data_of}
+use Rattle.stm_json.specs.Bytes.{data_of}
 use Rattle.stm_json.specs.Outcome.{Outcome, bad, ◌>>=◌, within}
 
 -- ---- words

@@ -44,7 +44,7 @@ FailedComparesConflict =
     AreTrue h reads → conflict_now h level reads writes ≡ Some failed → IsConflict h reads writes failed
 
 -- Where no compare of a commit at serializable snapshot fails, no key that it writes is modified above the least revision that its
--- answers carry. A key that was deleted since is absent, and so not modified.
+-- answers carry: it is absent, also where it was deleted since, or what it holds was put at that revision or before.
 abbrev pub WrittenKeysAreUnmodified : Type 0
 WrittenKeysAreUnmodified =
     (h : History) (reads : List ReadAnswer) (writes : List Write) → conflict_now h SerializableSnapshot reads writes ≡ None

@@ -20,8 +20,8 @@ pub fn failed_compares_conflict()
     ensures { FailedComparesConflict }
 {}
 
-/// Where no compare of a commit at serializable snapshot fails, no key that it writes was modified above the
-/// first revision: nobody wrote it since. (A key that was deleted since compares as absent.)
+/// Where no compare of a commit at serializable snapshot fails, each key that it writes is absent, or what it
+/// holds was put at the first revision or before.
 pub fn written_keys_are_unmodified()
     ensures { WrittenKeysAreUnmodified }
 {}

@@ -1,5 +1,5 @@
 -- True answers, and the runs on them.
-use Rattle.std.proofs.Common.{◌≡◌, ℕ, ◌+◌, ◌≤◌, List, [], ◌∷◌, ◌++◌, map, Bool, true, false, cond, Option, None, Some, refl, sym, ◌∙◌, ap, subst, arith}
+use Rattle.std.proofs.Common.{◌≡◌, ℕ, ◌+◌, ◌<◌, ◌≤◌, List, [], ◌∷◌, ◌++◌, map, Bool, true, false, cond, Option, None, Some, refl, sym, ◌∙◌, ap, subst, arith}
 use Rattle.std.specs.Prelude.{bytes_eq, option_map}
 use Rattle.std.specs.List.{AllByRecursion}
 use Rattle.std.proofs.lemmas.List.Elements.{All-from_recursion, recursion_from_All}
@@ -10,6 +10,7 @@ use Rattle.stm_history.proofs.HistoryLaws.{older_revisions_stay, last_revision_i
 use Rattle.stm_program.specs.declared.level.Level.{Level}
 use Rattle.stm_program.specs.declared.level.Level.TheVariants.{SerializableSnapshot, Serializable, RepeatableReads, ReadCommitted}
 use Rattle.stm_program.specs.declared.write.Write.{Write}
+use Rattle.stm_program.specs.Writes.{key_of}
 use Rattle.stm_program.proofs.WriteLemmas.{bytes_eq-same}
 use Rattle.stm_meaning.specs.Answer.{Answer, Lookup}
 use Rattle.stm_meaning.specs.Laws.{AgreesWith, IsContinuedBy}
@@ -23,9 +24,9 @@ use Rattle.stm_txn.specs.Outcome.{with_changes}
 use Rattle.stm_txn.proofs.Applying.{mod_compares}
 use Rattle.stm_compile.specs.Levels.{is_comparing}
 use Rattle.stm_compile.specs.Answers.{answer_in, seen_of, said, look_up, state_now, state_as_of, AreTrue, answer_now}
-use Rattle.stm_compile.specs.CommitTxn.{is_as_read}
+use Rattle.stm_compile.specs.CommitTxn.{first_carried, is_as_read, is_unmodified}
 use Rattle.stm_compile.specs.Committed.{conflict_now}
-use Rattle.stm_compile.specs.Laws.{CommitIsTheRunNow, TrueReadsAreNow, AnswersOfOneRevision, TrueAnswersStay}
+use Rattle.stm_compile.specs.Laws.{CommitIsTheRunNow, TrueReadsAreNow, WrittenKeysAreUnmodified, AnswersOfOneRevision, TrueAnswersStay}
 
 -- ---- answers stay true
 
@@ -140,3 +141,29 @@ pub commit_is_the_run_now : CommitIsTheRunNow
 commit_is_the_run_now h level reads writes program run compares t ended none =
     subst (λ (answered : Answered). IsContinuedBy answered (run_over (state_now h) program)) ended
     (answers_give_the_run (look_up reads) (state_now h) program (answers_agree (state_now h) reads (reads_are_now h level reads writes compares t none)))
+
+-- ---- keys that are written
+
+-- where no compare of the keys written fails, none of them is modified above `first`
+unmodified_writes : (h : History) (first : ℕ) (writes : List Write) (i : ℕ) → first_failed (key_now h) i (map (is_unmodified first) writes) ≡ None →
+    AllByRecursion (λ (w : Write). mod_of (key_now h (key_of w)) ≤ first) writes
+unmodified_writes h first [] i none = tt
+unmodified_writes h first (w ∷ writes) i none =
+    let parts = next_holds (holds (is_unmodified first w) (key_now h (key_of w))) (record { index = i; mod_rev = mod_of (key_now h (key_of w)) })
+    (first_failed (key_now h) (i + 1) (map (is_unmodified first) writes)) none in
+    let below : mod_of (key_now h (key_of w)) < first + 1 = (mod_compares.below (key_of w) (first + 1) (key_now h (key_of w))).0 parts.0 in
+    (omega (arith, below), unmodified_writes h first writes (i + 1) parts.1)
+
+-- none of the compares behind those of the keys read fails either, wherever they are counted from
+behind_reads : (h : History) (reads : List ReadAnswer) (others : List Compare) (i : ℕ) →
+    first_failed (key_now h) i (map is_as_read reads ++ others) ≡ None → (j : ℕ) × (first_failed (key_now h) j others ≡ None)
+behind_reads h [] others i none = (i, none)
+behind_reads h (a ∷ reads) others i none =
+    let parts = next_holds (holds (is_as_read a) (key_now h a.key)) (record { index = i; mod_rev = mod_of (key_now h a.key) })
+    (first_failed (key_now h) (i + 1) (map is_as_read reads ++ others)) none in behind_reads h reads others (i + 1) parts.1
+
+pub written_keys_are_unmodified : WrittenKeysAreUnmodified
+written_keys_are_unmodified h reads writes none =
+    let behind = behind_reads h reads (map (is_unmodified (first_carried reads)) writes) 0 none in
+    All-from_recursion (λ (w : Write). mod_of (key_now h (key_of w)) ≤ first_carried reads) writes
+    (unmodified_writes h (first_carried reads) writes behind.0 behind.1)

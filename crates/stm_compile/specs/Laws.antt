@@ -1,10 +1,11 @@
 -- The laws of commits, each carried by a function of `src/laws.rt`. Above them no proof speaks of a transaction's parts.
-use Rattle.std.specs.Prelude.{◌≡◌, ℕ, ◌<◌, Bool, true, List, length, map, None, Some, All}
+use Rattle.std.specs.Prelude.{◌≡◌, ℕ, ◌<◌, ◌≤◌, Bool, true, List, length, map, None, Some, All}
 use Rattle.stm_history.specs.declared.change.Change.{Change}
 use Rattle.stm_history.specs.declared.key_state.ReadAnswer.{ReadAnswer}
-use Rattle.stm_history.specs.History.{History, key_now}
+use Rattle.stm_history.specs.History.{History, key_now, mod_of}
 use Rattle.stm_program.specs.Syntax.{Block}
 use Rattle.stm_program.specs.declared.level.Level.{Level}
+use Rattle.stm_program.specs.declared.level.Level.TheVariants.{SerializableSnapshot}
 use Rattle.stm_program.specs.declared.write.Write.{Write}
 use Rattle.stm_program.specs.Writes.{key_of, latest_writes}
 use Rattle.stm_meaning.specs.declared.run.Run.{Run}
@@ -18,7 +19,7 @@ use Rattle.stm_compile.specs.Now.{as_change, changes_of_writes}
 use Rattle.stm_compile.specs.Levels.{is_comparing}
 use Rattle.stm_txn.specs.declared.answer.OpAnswer.TheVariants.{Get as GetAnswer}
 use Rattle.stm_compile.specs.Answers.{seen_of, said, look_up, state_now, state_as_of, AreTrue, answer_now}
-use Rattle.stm_compile.specs.CommitTxn.{commit_of, reread_keys}
+use Rattle.stm_compile.specs.CommitTxn.{first_carried, commit_of, reread_keys}
 use Rattle.stm_compile.specs.Committed.{conflict_now, committed}
 use Rattle.stm_compile.specs.Conflicts.{IsConflict}
 
@@ -51,6 +52,13 @@ abbrev pub FailedComparesConflict : Type 0
 FailedComparesConflict =
     (h : History) (level : Level) (reads : List ReadAnswer) (writes : List Write) (failed : FailedCompare) →
     AreTrue h reads → conflict_now h level reads writes ≡ Some failed → IsConflict h reads writes failed
+
+-- Where no compare of a commit at serializable snapshot fails, no key that it writes is modified above the least revision that its
+-- answers carry: it is absent, also where it was deleted since, or what it holds was put at that revision or before.
+abbrev pub WrittenKeysAreUnmodified : Type 0
+WrittenKeysAreUnmodified =
+    (h : History) (reads : List ReadAnswer) (writes : List Write) → conflict_now h SerializableSnapshot reads writes ≡ None
+    → All (λ w. mod_of (key_now h (key_of w)) ≤ first_carried reads) writes
 
 -- Where true answers all show one revision, the run on them is continued by the run on the state at that revision.
 abbrev pub AnswersOfOneRevision : Type 0

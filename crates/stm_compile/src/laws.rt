@@ -1,5 +1,6 @@
 //! The laws of commits. Each function does nothing: its contract is the law.
-ghost use Rattle.stm_compile.specs.Laws.{CommitComesTo, CommitIsTheRunNow, TrueReadsAreNow, FailedComparesConflict, AnswersOfOneRevision, TrueAnswersStay, AppliedIsEffect, FailedCommitRereads};
+ghost use Rattle.stm_compile.specs.Laws.{CommitComesTo, CommitIsTheRunNow, TrueReadsAreNow, FailedComparesConflict, WrittenKeysAreUnmodified};
+ghost use Rattle.stm_compile.specs.Laws.{AnswersOfOneRevision, TrueAnswersStay, AppliedIsEffect, FailedCommitRereads};
 
 /// The transaction of a run comes to the run's commit: `TooManyOps` exactly where it compares or writes too
 /// much, else a failed compare is told and nothing changes, else its latest writes are applied.
@@ -23,6 +24,12 @@ pub fn true_reads_are_now()
 /// answer shows, or, at serializable snapshot, of a written key that was changed above the first revision.
 pub fn failed_compares_conflict()
     ensures { FailedComparesConflict }
+{}
+
+/// Where no compare of a commit at serializable snapshot fails, each key that it writes is absent, or what it
+/// holds was put at the first revision or before.
+pub fn written_keys_are_unmodified()
+    ensures { WrittenKeysAreUnmodified }
 {}
 
 /// Where true answers all show one revision, the run on them is continued by the run on the state at that

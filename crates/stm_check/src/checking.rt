@@ -2,7 +2,7 @@
 ghost use Rattle.std.specs.Prelude.{◌≡◌, ◌+◌, ◌≤◌, length, drop, IfOk, IfSome, None};
 ghost use Rattle.stm_texts.specs.Reading.{IsOpening};
 ghost use Rattle.stm_check.specs.Judged.{IsJudged, IsJudgedFrom, IsJudgedEnd, IsWrongEvent, AreRightEvents};
-ghost use Rattle.stm_check.specs.Leases.{HasLeases};
+ghost use Rattle.stm_entries.specs.LiveLeases.{HasLeases};
 ghost use Rattle.stm_check.specs.StoreLines.{final_lines as lines_of_end};
 ghost use Rattle.stm_check.specs.Walks.{point_of};
 ghost use Rattle.stm_check.specs.Wrong.{point_after};

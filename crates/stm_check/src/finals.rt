@@ -2,19 +2,19 @@
 ghost use Rattle.std.specs.Prelude.{◌≡◌, ◌++◌, ◌+◌, ℕ, ◌↔◌, IsTrue, IfOk, IfSome, OnOk, None};
 ghost use Rattle.stm_leases.specs.Live.{Live};
 ghost use Rattle.stm_history.specs.History.{key_now};
+ghost use Rattle.stm_entries.specs.LiveLeases.{HasLeases};
 ghost use Rattle.stm_check.specs.Finals.{AreFinal, IsFinalKind};
-ghost use Rattle.stm_check.specs.Leases.{HasLeases};
 ghost use Rattle.stm_check.specs.StoreLines.{key_lines_of, key_lines, lease_lines, final_lines as lines_of_end};
 ghost use Rattle.stm_check.specs.Walks.{point_of};
 ghost use Rattle.stm_check.specs.Wrong.{IsOff};
 ghost use Rattle.stm_txn.specs.LeaseKeys.{keys_named};
 
 use crate::cause::WrongCause;
-use crate::leases::Lease;
 use crate::walk::Walk;
 use std::alloc::{AllocError, Global};
 use std::collections::BTreeMap;
 use stm_calls::present_keys;
+use stm_entries::LiveLease;
 use stm_history::Text;
 use stm_keys::Keys;
 use stm_reports::ReportLine;
@@ -52,7 +52,10 @@ fn add_keys(alloc: Global, lines: &mut Vec<ReportLine>, keys: &Keys) -> Result<(
 }
 
 /// Adds the lines of the leases, ascending by id.
-fn add_leases(lines: &mut Vec<ReportLine>, leases: &BTreeMap<u64, Lease>) -> Result<(), AllocError>
+fn add_leases(
+    lines: &mut Vec<ReportLine>,
+    leases: &BTreeMap<u64, LiveLease>,
+) -> Result<(), AllocError>
     ensures { OnOk result ((live : Live) → HasLeases leases.now live → lines.new.items ≡ lines.old.items ++ lease_lines live) }
 {
     for (id, lease) in leases {

@@ -4,7 +4,7 @@ ghost use Rattle.stm_history.specs.declared.revisions.TheConstants.{HIGHEST_REVI
 ghost use Rattle.stm_check.specs.Point.{commit_entries, entries_told, led_by, moment_after, beginning, after};
 ghost use Rattle.stm_check.specs.Replays.{StartReplays, StepReplays, Replays};
 ghost use Rattle.stm_check.specs.Wrong.{IsRight, IsWrong};
-ghost use Rattle.stm_check.specs.Leases.{HasLeases};
+ghost use Rattle.stm_entries.specs.LiveLeases.{HasLeases};
 ghost use Rattle.stm_check.specs.Walks.{point_of};
 
 use crate::calls::{replay_advance, replay_grant, replay_keep, replay_revoke, replay_txn};
@@ -12,10 +12,11 @@ use crate::cause::WrongCause;
 use crate::commits::{Told, replay_commit};
 use crate::count::{add_count, count_told};
 use crate::fits::fits;
-use crate::leases::{Lease, no_leases, note_leases};
+use crate::leases::note_leases;
 use crate::runner::{Runner, find_running, note};
 use std::alloc::{AllocError, Global};
 use std::collections::BTreeMap;
+use stm_entries::{LiveLease, no_leases};
 use stm_reports::{RefusalName, ReportLine};
 use stm_txn::Store;
 use stm_world::WorldEvent;
@@ -27,7 +28,7 @@ pub(crate) struct Walk {
     pub(crate) store: Store,
     pub(crate) entries: u64,
     pub(crate) runners: Vec<Runner>,
-    pub(crate) leases: BTreeMap<u64, Lease>,
+    pub(crate) leases: BTreeMap<u64, LiveLease>,
 }
 
 /// Whether the line of a start is right, once it can stand there: one that may send no commit is refused as `BadLimit`.

@@ -1,3 +1,5 @@
 pub mod EffectLemmas
 pub mod Replaying
 pub mod Adding
+pub mod LeaseLemmas
+pub mod ListedLeases

@@ -3,3 +3,4 @@ pub mod Alone
 pub mod Replay
 pub mod Legal
 pub mod Laws
+pub mod LiveLeases

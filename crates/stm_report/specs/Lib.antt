@@ -1,4 +1,3 @@
-pub mod Leases
 pub mod Report
 pub mod Script
 pub mod Laws

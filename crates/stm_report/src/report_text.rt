@@ -4,14 +4,15 @@ ghost use Rattle.serde_json.specs.View.{view};
 ghost use Rattle.serde_json.specs.Written.{has_float};
 ghost use Rattle.stm_history.specs.History.{key_now};
 ghost use Rattle.stm_leases.specs.Live.{Live};
-ghost use Rattle.stm_report.specs.Leases.{HasLeases};
+ghost use Rattle.stm_entries.specs.LiveLeases.{HasLeases};
 ghost use Rattle.stm_report.specs.Report.{line_text, lines_text, event_lines, line_of_key, key_lines, lease_lines, IsReport};
 
-use crate::leases::{Lease, live_leases};
+use crate::leases::live_leases;
 use serde_json::Value as Json;
 use std::alloc::{AllocError, Global};
 use std::collections::BTreeMap;
 use stm_calls::present_keys;
+use stm_entries::LiveLease;
 use stm_lines::{end_json, event_json, key_json, lease_json};
 use stm_retry::{Denied, Reply, Store, World};
 
@@ -74,7 +75,7 @@ fn push_keys(
 fn push_leases(
     alloc: Global,
     text: &mut String,
-    leases: &BTreeMap<u64, Lease>,
+    leases: &BTreeMap<u64, LiveLease>,
 ) -> Result<(), AllocError>
     ensures { OnOk result ((live : Live) → HasLeases leases.now live → string_bytes text.new ≡ string_bytes text.old ++ lines_text (lease_lines live)) }
 {

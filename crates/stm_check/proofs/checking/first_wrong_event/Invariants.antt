@@ -1,5 +1,5 @@
 use Rattle.std.proofs.Common.{◌+◌, ◌≤◌, length, drop}
-use Rattle.stm_check.specs.Leases.{HasLeases}
+use Rattle.stm_entries.specs.LiveLeases.{HasLeases}
 use Rattle.stm_check.specs.Walks.{point_of}
 use Rattle.stm_check.proofs.Walking.{HasWalked}
 use Rattle.stm_check.proofs.checking.first_wrong_event.Given as goal

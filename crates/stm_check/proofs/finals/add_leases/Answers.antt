@@ -1,7 +1,8 @@
 use Rattle.std.proofs.Common.{◌≡◌, ◌++◌, [], List, ap, ◌∙◌, map}
 use Rattle.stm_reports.specs.declared.line.ReportLine.{ReportLine}
 use Rattle.stm_check.specs.StoreLines.{lease_line}
-use Rattle.stm_check.proofs.LiveLeases.{terms, no_lease, lines_of_map}
+use Rattle.stm_entries.proofs.ListedLeases.{terms}
+use Rattle.stm_check.proofs.LiveLeases.{no_lease, lines_of_map}
 use Rattle.stm_check.proofs.finals.add_leases.Goals as goal
 
 pub returns : goal.returns

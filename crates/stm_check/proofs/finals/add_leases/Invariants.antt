@@ -1,6 +1,6 @@
 use Rattle.std.proofs.Common.{◌≡◌, ◌++◌, map}
 use Rattle.stm_check.specs.StoreLines.{lease_line}
-use Rattle.stm_check.proofs.LiveLeases.{terms}
+use Rattle.stm_entries.proofs.ListedLeases.{terms}
 use Rattle.stm_check.proofs.finals.add_leases.Given as goal
 
 -- the lines so far, and those of the leases that are left

@@ -1,7 +1,7 @@
 use Rattle.std.proofs.Common.{List, take, subst}
 use Rattle.stm_txn.specs.declared.advance.Expired.{Expired}
 use Rattle.stm_entries.specs.Replay.{replay}
-use Rattle.stm_check.specs.Leases.{HasLeases}
+use Rattle.stm_entries.specs.LiveLeases.{HasLeases}
 use Rattle.stm_check.specs.Point.{expiries}
 use Rattle.stm_check.proofs.LeaseLemmas.{expired_more}
 use Rattle.stm_check.proofs.leases.expire.Goals as goal
@@ -10,5 +10,5 @@ pub loop-lease-preserved : goal.loop-lease-preserved
 loop-lease-preserved c = λ r has.
     let es : List Expired = c.args.expired.now in
     let i = c.loop-lease.lease-index in
-    subst (HasLeases c.end.new.leases) (expired_more es i (record { id = 0; revision = 0 }) r c.loop-lease-test.true)
-    (c.end.ensures (replay (expiries (take i es)) r).live (c.loop-lease.invariant r has))
+    subst (HasLeases c.end_lease.new.leases) (expired_more es i (record { id = 0; revision = 0 }) r c.loop-lease-test.true)
+    (c.end_lease.ensures (replay (expiries (take i es)) r).live (c.loop-lease.invariant r has))

@@ -2,8 +2,9 @@ use Rattle.std.proofs.Common.{◌≡◌, ◌+◌, suc, List, take, ap, sym, subs
 use Rattle.stm_entries.specs.declared.entry.Entry.{Entry}
 use Rattle.stm_entries.specs.Replayed.{Replayed, opening}
 use Rattle.stm_entries.specs.Replay.{replay}
-use Rattle.stm_report.specs.Leases.{HasLeases}
-use Rattle.stm_report.proofs.LeaseLemmas.{no_leases, replay_next}
+use Rattle.stm_entries.specs.LiveLeases.{HasLeases}
+use Rattle.stm_entries.proofs.LeaseLemmas.{no_leases}
+use Rattle.stm_report.proofs.LeaseLemmas.{replay_next}
 use Rattle.stm_report.proofs.leases.live_leases.Goals as goal
 
 pub loop-entry-init : goal.loop-entry-init

@@ -1,6 +1,7 @@
 use Rattle.std.proofs.Common.{◌≡◌, ◌++◌, [], ap, ◌∙◌, string_bytes}
 use Rattle.stm_report.specs.Report.{lines_text, lines_of_leases}
-use Rattle.stm_report.proofs.LiveLeases.{terms, no_lease, lines_of_map}
+use Rattle.stm_entries.proofs.ListedLeases.{terms}
+use Rattle.stm_report.proofs.LiveLeases.{no_lease, lines_of_map}
 use Rattle.stm_report.proofs.report_text.push_leases.Goals as goal
 
 pub returns : goal.returns

@@ -1,6 +1,6 @@
 use Rattle.std.proofs.Common.{◌≡◌, ◌++◌, string_bytes}
 use Rattle.stm_report.specs.Report.{lines_text, lines_of_leases}
-use Rattle.stm_report.proofs.LiveLeases.{terms}
+use Rattle.stm_entries.proofs.ListedLeases.{terms}
 use Rattle.stm_report.proofs.report_text.push_leases.Given as goal
 
 -- the text so far, and the lines of the leases that are left

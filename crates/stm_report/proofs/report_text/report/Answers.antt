@@ -6,7 +6,7 @@ use Rattle.stm_entries.specs.declared.entry.Entry.{Entry}
 use Rattle.stm_entries.specs.Replayed.{Replayed, opening}
 use Rattle.stm_entries.specs.Replay.{replay}
 use Rattle.stm_calls.specs.PresentKeys.{ArePresent}
-use Rattle.stm_report.specs.Leases.{HasLeases}
+use Rattle.stm_entries.specs.LiveLeases.{HasLeases}
 use Rattle.stm_report.specs.Report.{report_text}
 use Rattle.stm_report.proofs.LeaseLemmas.{same_leases}
 use Rattle.stm_report.proofs.PresentKeys.{present_ascend}

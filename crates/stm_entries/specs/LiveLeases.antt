@@ -6,11 +6,11 @@ use Rattle.std.specs.Ordering.{nat_cmp}
 use Rattle.std.specs.FinMap as finmap
 use Rattle.stm_leases.specs.LeaseLog.{Term}
 use Rattle.stm_leases.specs.Live.{Live}
-use Rattle.stm_check.specs.declared.leases.Lease.{Lease}
+use Rattle.stm_entries.specs.declared.live_leases.LiveLease.{LiveLease}
 
-abbrev pub term_of : Lease → Term
+abbrev pub term_of : LiveLease → Term
 term_of lease = record { ttl = lease.ttl; renewed = lease.renewed }
 
 -- the map has exactly these leases, each with its term
-abbrev pub HasLeases : BTreeMap ℕ Lease → Live → Type 0
+abbrev pub HasLeases : BTreeMap ℕ LiveLease → Live → Type 0
 HasLeases leases live = (id : ℕ) → option_map term_of (tree.get nat_cmp leases id) ≡ finmap.get live id

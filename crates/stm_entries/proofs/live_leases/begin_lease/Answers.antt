@@ -1,5 +1,5 @@
-use Rattle.stm_report.proofs.LeaseLemmas.{begun}
-use Rattle.stm_report.proofs.leases.begin.Goals as goal
+use Rattle.stm_entries.proofs.LeaseLemmas.{begun}
+use Rattle.stm_entries.proofs.live_leases.begin_lease.Goals as goal
 
 pub returns : goal.returns
 returns c = begun c.args.leases.now c.insert.new.self c.args.id c.args.lease c.in_ok-insert.ensures.updates

@@ -1,5 +1,0 @@
-use Rattle.stm_check.proofs.LeaseLemmas.{begun}
-use Rattle.stm_check.proofs.leases.begin.Goals as goal
-
-pub returns : goal.returns
-returns c = begun c.args.leases.now c.insert.new.self c.args.id c.args.lease c.in_ok-insert.ensures.updates

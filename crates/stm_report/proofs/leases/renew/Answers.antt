@@ -1,6 +1,0 @@
-use Rattle.std.proofs.Common.{sym}
-use Rattle.stm_report.proofs.LeaseLemmas.{renewed}
-use Rattle.stm_report.proofs.leases.renew.Goals as goal
-
-pub returns : goal.returns
-returns c = renewed c.args.leases.now c.insert.new.self c.args.id c.args.at c.in-Some.lease.now (sym c.in-Some.ensures.value) c.in_ok-insert.ensures.updates

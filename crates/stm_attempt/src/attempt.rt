@@ -143,7 +143,7 @@ impl Attempt {
     }
 
     /// Goes on with the program as far as the answers take it: to the first key that it wants and that neither an
-    /// answer nor a prefetched one has, or to its end.
+    /// answer nor a prefetched one of its base revision has, or to its end.
     ///
     /// It is the same program at each call; the attempt keeps a copy from the first call that is not refused.
     /// Repeated with nothing supplied, the call answers the same. Want of memory is the only refusal, and leaves

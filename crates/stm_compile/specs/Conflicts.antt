@@ -1,6 +1,6 @@
 -- Conflicts: what a failed compare tells, and why it failed.
 --
--- The documentation of the Go package `clientv3/concurrency`, "STM": a commit fails where a key that was read, or at
+-- The documentation of the Go package `clientv3/concurrency`, "STM": a commit fails only where a key that was read, or at
 -- serializable snapshot one that was written, has been changed since.
 use Rattle.std.specs.Prelude.{◌≡◌, ℕ, Bool, false, true, is_some, nat_lt, ◌&&◌, ◌||◌, List, [], ◌∷◌, ◌++◌, map, Some, slice_get}
 use Rattle.stm_history.specs.declared.change.Change.{Change}

@@ -18,7 +18,7 @@ pub fn last_revision_is_now()
 
 /// Equal modification revisions of one key, at any two revisions, mean the same state (0 is absent).
 ///
-/// So a compare of modification revisions is enough to know that nothing was changed.
+/// So a compare of modification revisions is enough to know that the key is as it was.
 pub fn same_mod_means_same_state()
     ensures { SameModMeansSameState }
 {}

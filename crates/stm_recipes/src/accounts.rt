@@ -12,7 +12,7 @@ use crate::nodes::{
 use std::alloc::{AllocError, Global};
 use stm_program::{Operator, Program, Stmt};
 
-/// The program that moves an amount from one account to another. Both may be one account, which then stays as it is.
+/// The program that moves an amount from one account to another. Both may be one account, whose number then stays.
 ///
 /// Where the first account has less than the amount, the run aborts with `insufficient`. Where an account is absent or no
 /// number, it ends with the fault `NotANumber`; where the second one would have more than 64 bits hold, with `Overflow`.

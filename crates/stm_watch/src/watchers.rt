@@ -20,7 +20,7 @@ use stm_keys::{Event, Keys, Sequence, Text};
 pub struct Batch {
     /// The events, by revision, those of one revision in the order of operations. No revision is parted.
     pub events: Sequence<Event>,
-    /// The watcher has been told everything up to this revision.
+    /// The watcher has been told everything that it watches from its start on up to this revision.
     pub upto: u64,
 }
 

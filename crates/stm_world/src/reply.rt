@@ -89,7 +89,7 @@ pub enum Reply {
     Watching {
         watcher: u64,
     },
-    /// What was pending for a watcher: the revision up to which everything is told now, and the events, by
+    /// What was pending for a watcher: the revision up to which all that it watches from its start on is told now, and the events, by
     /// their revisions, those of one revision in the order of its operations.
     Batch {
         watcher: u64,

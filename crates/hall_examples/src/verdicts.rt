@@ -254,7 +254,12 @@ fn tell_prepared(alloc: Global, hall: &mut Hall, ready: &Ready) -> Result<String
 fn tell_verdict(alloc: Global, hall: &mut Hall, ready: &Ready) -> Result<String, AllocError> {
     let line = show_verdict(alloc, hall.commit(ready))?;
     let again = tell_prepared(alloc, hall, ready)?;
-    format!(in alloc; "{}; {}; {} entries", line.as_str(), again.as_str(), hall.entries().len())
+    format!(in alloc;
+        "{}; {}; {} entries",
+        line.as_str(),
+        again.as_str(),
+        hall.entries().len()
+    )
 }
 
 /// The same, in a hall of its own.

@@ -29,7 +29,7 @@ shown_alike n before key [] = refl
 shown_alike n before key (c ∷ cs) =
     ap (λ (k : List ℕ). is_some (cond (bytes_eq k key) (Some (event_of n before c)) (event_about key (map (event_of n before) cs)))) (key_shown n before c)
     ∙ either_there (bytes_eq (key_of c) key) (event_of n before c) c (event_about key (map (event_of n before) cs)) (change_of key cs)
-        (shown_alike n before key cs)
+    (shown_alike n before key cs)
 
 -- ---- the revision with a number, and those below it
 
@@ -54,19 +54,19 @@ newest opening n (c ∷ revisions) low high = ⊎_elim
       below = last_is_above opening n c revisions (omega arith) ∙ all_up_to opening n revisions (omega arith);
     })
     (λ other. ⊎_elim
-        (λ (short : number_of_last opening (c ∷ revisions) < suc n). absurd (omega arith))
-        (λ (above : suc n < number_of_last opening (c ∷ revisions)).
-            let r = newest opening n revisions low (omega arith) in record {
-              changes = r.changes;
-              older = r.older;
-              is = last_is_above opening (suc n) c revisions above ∙ r.is;
-              number = r.number;
-              events = ap (λ b. cond b (events_above opening c revisions) (events_numbered opening (suc n) revisions))
-                  (ne_eqb (number_of_last opening (c ∷ revisions)) (suc n) (λ (e : number_of_last opening (c ∷ revisions) ≡ suc n). omega arith))
-                  ∙ r.events;
-              below = last_is_above opening n c revisions (omega arith) ∙ r.below;
-            })
-        other)
+    (λ (short : number_of_last opening (c ∷ revisions) < suc n). absurd (omega arith))
+    (λ (above : suc n < number_of_last opening (c ∷ revisions)).
+    let r = newest opening n revisions low (omega arith) in record {
+      changes = r.changes;
+      older = r.older;
+      is = last_is_above opening (suc n) c revisions above ∙ r.is;
+      number = r.number;
+      events = ap (λ b. cond b (events_above opening c revisions) (events_numbered opening (suc n) revisions))
+          (ne_eqb (number_of_last opening (c ∷ revisions)) (suc n) (λ (e : number_of_last opening (c ∷ revisions) ≡ suc n). omega arith))
+          ∙ r.events;
+      below = last_is_above opening n c revisions (omega arith) ∙ r.below;
+    })
+    other)
     (cases_order (number_of_last opening (c ∷ revisions)) (suc n))
 
 -- whether the revision changes the key is told by its events
@@ -76,10 +76,10 @@ next_up : (opening since n : ℕ) (key : List ℕ) (revisions : List (List Chang
 next_up opening since n key revisions r low =
     ap (changes_above opening since key) r.is
     ∙ ap (λ b. (b && is_some (change_of key r.changes)) || changes_above opening since key r.older)
-        (lt-ltb since (number_of_last opening (r.changes ∷ r.older)) (omega (arith, r.number)))
+    (lt-ltb since (number_of_last opening (r.changes ∷ r.older)) (omega (arith, r.number)))
     ∙ ap (λ b. b || changes_above opening since key r.older)
-        (sym (shown_alike (number_of_last opening (r.changes ∷ r.older)) (λ k. key_after opening k r.older) key r.changes)
-        ∙ ap (λ es. is_some (event_about key es)) (sym r.events))
+    (sym (shown_alike (number_of_last opening (r.changes ∷ r.older)) (λ k. key_after opening k r.older) key r.changes)
+    ∙ ap (λ es. is_some (event_about key es)) (sym r.events))
     ∙ ap (λ l. is_some (event_about key (events_numbered opening (suc n) revisions)) || changes_above opening since key l) (sym r.below)
 
 either_true : (a b : Bool) → a ≡ true → (a || b) ≡ true
@@ -116,8 +116,8 @@ pub passed_at : (h : History) (floor number next : ℕ) (key : List ℕ) → suc
     ≡ changes_above h.opening floor key (revisions_up_to h.opening next h.revisions)
 passed_at h floor number next key step opened above =
     subst (λ (m : ℕ). m ≤ now h → is_some (event_about key (events_of h m)) ≡ false →
-        changes_above h.opening floor key (revisions_up_to h.opening m h.revisions)
-        ≡ changes_above h.opening floor key (revisions_up_to h.opening next h.revisions))
+    changes_above h.opening floor key (revisions_up_to h.opening m h.revisions)
+    ≡ changes_above h.opening floor key (revisions_up_to h.opening next h.revisions))
     step
     (λ reached none. passed_above h floor next key (omega arith) above reached none)
 
@@ -127,19 +127,19 @@ nothing_above : (opening since : ℕ) (key : List ℕ) (revisions : List (List C
 nothing_above opening since key [] low = refl
 nothing_above opening since key (c ∷ revisions) low =
     ap (λ b. (b && is_some (change_of key c)) || changes_above opening since key revisions)
-        (le-ltb since (number_of_last opening (c ∷ revisions)) low)
+    (le-ltb since (number_of_last opening (c ∷ revisions)) low)
     ∙ nothing_above opening since key revisions (omega arith)
 
 short_enough : (opening n : ℕ) (revisions : List (List Change)) → opening ≤ n → number_of_last opening (revisions_up_to opening n revisions) ≤ n
 short_enough opening n [] low = omega arith
 short_enough opening n (c ∷ revisions) low = ⊎_elim
     (λ (above : n < number_of_last opening (c ∷ revisions)).
-        let rest = short_enough opening n revisions low in
-        let e : length (revisions_up_to opening n (c ∷ revisions)) ≡ length (revisions_up_to opening n revisions) =
-        ap (λ (l : List (List Change)). length l) (last_is_above opening n c revisions above) in omega (arith, rest, e))
+    let rest = short_enough opening n revisions low in
+    let e : length (revisions_up_to opening n (c ∷ revisions)) ≡ length (revisions_up_to opening n revisions) =
+    ap (λ (l : List (List Change)). length l) (last_is_above opening n c revisions above) in omega (arith, rest, e))
     (λ (within : number_of_last opening (c ∷ revisions) ≤ n).
-        let e : length (revisions_up_to opening n (c ∷ revisions)) ≡ length (c ∷ revisions) =
-        ap (λ (l : List (List Change)). length l) (all_up_to opening n (c ∷ revisions) within) in omega (arith, e, within))
+    let e : length (revisions_up_to opening n (c ∷ revisions)) ≡ length (c ∷ revisions) =
+    ap (λ (l : List (List Change)). length l) (all_up_to opening n (c ∷ revisions) within) in omega (arith, e, within))
     (cases_lt n (number_of_last opening (c ∷ revisions)))
 
 -- once the number is at the floor, nothing is left
@@ -166,6 +166,6 @@ pub above_the_opening : (opening since : ℕ) (key : List ℕ) (revisions : List
 above_the_opening opening since key [] = refl
 above_the_opening opening since key (c ∷ revisions) =
     ap (λ b. (b && is_some (change_of key c)) || changes_above opening since key revisions)
-        (later_test opening since (number_of_last opening (c ∷ revisions)) (omega arith))
+    (later_test opening since (number_of_last opening (c ∷ revisions)) (omega arith))
     ∙ ap (λ b. (nat_lt (max since opening) (number_of_last opening (c ∷ revisions)) && is_some (change_of key c)) || b)
-        (above_the_opening opening since key revisions)
+    (above_the_opening opening since key revisions)

@@ -63,13 +63,7 @@ impl Log {
         ensures answers { IfOk result CanGoOn }
         ensures run { IsRunOnItsAnswers ready.now }
     {
-        commit(
-            alloc,
-            &mut self.store,
-            &mut self.entries,
-            ready,
-            prepared,
-        )
+        commit(alloc, &mut self.store, &mut self.entries, ready, prepared)
     }
 
     /// Commits an attempt that is ready.

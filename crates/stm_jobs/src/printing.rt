@@ -34,12 +34,7 @@ fn push_line(alloc: Global, text: &mut String, line: &Json) -> Result<(), AllocE
 }
 
 /// Adds the line of a count.
-fn push_count(
-    alloc: Global,
-    text: &mut String,
-    word: &str,
-    count: u64,
-) -> Result<(), AllocError>
+fn push_count(alloc: Global, text: &mut String, word: &str, count: u64) -> Result<(), AllocError>
     ensures { OnOk result (string_bytes text.new ≡ string_bytes text.old ++ line_text (count_line word.now count)) }
 {
     let line = count_json(alloc, word, count)?;

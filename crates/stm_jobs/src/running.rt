@@ -5,8 +5,8 @@ ghost use Rattle.stm_texts.specs.Reading.{IsOpening, scenario_in};
 ghost use Rattle.stm_jobs.specs.Running.{AreLinesOfRun, IsBrokenOff, Answers, Writes, Does};
 
 use crate::accepting::accept;
-use crate::printing::lines;
 use crate::opening::open_store;
+use crate::printing::lines;
 use std::alloc::Global;
 use std::sync::Wait;
 use std::thread::Threads;

@@ -106,8 +106,8 @@ pub repeated_falls : (begun : Begun) (hall : HallState) (jobs : List Job) (ends 
 repeated_falls begun hall jobs ends place same short not stands =
     let j = there jobs place (subst (λ (m : ℕ). place < m) same short) in
     not (λ index names.
-        let n = named (slice_get ends place) index names in
-        (stands j.item n.end j.is n.is).is_new index n.names)
+    let n = named (slice_get ends place) index names in
+    (stands j.item n.end j.is n.is).is_new index n.names)
 
 -- what is borne out names an entry of the hall
 commit_is_there : (job : Job) (revision : ℕ) (o : Option Entry) (entries : List Entry) (index : ℕ) → slice_get entries index ≡ o →
@@ -261,5 +261,5 @@ set_marks marks own index low = by_test (own == index) refl
         ∙ sym (ap (λ b. b || get_or marks index false) is)
     by_test false is =
         get_or-set_other marks own index true false
-            (λ (same : index ≡ own). let both : false ≡ true = sym is ∙ eq-eqb own index (sym same) in absurd (cc))
+        (λ (same : index ≡ own). let both : false ≡ true = sym is ∙ eq-eqb own index (sym same) in absurd (cc))
         ∙ sym (ap (λ b. b || get_or marks index false) is)

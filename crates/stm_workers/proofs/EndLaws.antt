@@ -45,7 +45,7 @@ pub apart : CommitsAreApart
 apart begun hall jobs ends same stand j k index first second = ⊎_elim
     (λ (equal : j ≡ k). equal)
     (λ other. ⊎_elim
-        (λ (before : j < k). absurd (later_is_new begun hall jobs ends same stand k index second j before first))
-        (λ (after : k < j). absurd (later_is_new begun hall jobs ends same stand j index first k after second))
-        other)
+    (λ (before : j < k). absurd (later_is_new begun hall jobs ends same stand k index second j before first))
+    (λ (after : k < j). absurd (later_is_new begun hall jobs ends same stand j index first k after second))
+    other)
     (cases_order j k)

@@ -55,8 +55,8 @@ compared_counts : (hall : HallState) (ready : ReadyRun) (o : Option FailedCompar
 compared_counts hall ready (Some failed) = sym (add-zero (commits_in hall.entries))
 compared_counts hall ready None =
     vouched_counts hall (first_unvouched hall.standing.history ready.level ready.answers)
-        (taken hall ready (outcome hall.standing.history (is_live_in hall.standing.live) (txn_of ready)))
-        (taken_counts hall ready (outcome hall.standing.history (is_live_in hall.standing.live) (txn_of ready)))
+    (taken hall ready (outcome hall.standing.history (is_live_in hall.standing.live) (txn_of ready)))
+    (taken_counts hall ready (outcome hall.standing.history (is_live_in hall.standing.live) (txn_of ready)))
 
 sound_counts : (hall : HallState) (o : Option Refusal) (next : Result (HallStep Verdict) CommitRefusal) → Counts hall next →
     Counts hall (unless_at_fault o next)

@@ -123,13 +123,7 @@ fn end_at(ends: &[JobEnd], place: usize) -> &JobEnd
 }
 
 /// Whether what the end at a place says of the hall is so.
-fn is_borne_out_at(
-    jobs: &[Job],
-    ends: &[JobEnd],
-    place: usize,
-    begun: Begun,
-    hall: &Hall,
-) -> bool
+fn is_borne_out_at(jobs: &[Job], ends: &[JobEnd], place: usize, begun: Begun, hall: &Hall) -> bool
     requires { (place < length jobs.now) × (place < length ends.now) }
     ensures { IsTrue result ↔ BorneOutAt begun hall.now jobs.now ends.now place }
 {

@@ -221,11 +221,7 @@ fn gather(
 }
 
 /// The table of the jobs, with a seat for each worker and one for who starts them.
-fn make_table(
-    alloc: Global,
-    jobs: usize,
-    workers: usize,
-) -> Result<(JobTable, JobSeat), AllocError>
+fn make_table(alloc: Global, jobs: usize, workers: usize) -> Result<(JobTable, JobSeat), AllocError>
     requires { workers ≤ 16 }
     ensures size { IfOk result (λ made. table_size made.0 ≡ size_of jobs (workers + 1)) }
     ensures seat { IfOk result (λ made. IsSeatAt (table_id made.0) (table_size made.0) made.1 × (seat_view made.1 ≡ newcomer (table_size made.0))) }

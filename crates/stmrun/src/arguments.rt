@@ -15,9 +15,14 @@ use stm_jobs::MOST_WORKERS;
 #[derive(Clone, Copy, Debug, PartialEq, Eq)]
 pub(crate) enum Asked<'a> {
     /// A script, by the path of its scenario; of standard input, where there is none.
-    Script { scenario: Option<&'a str> },
+    Script {
+        scenario: Option<&'a str>,
+    },
     /// A check of a report, by the paths of its scenario and of itself.
-    Check { scenario: &'a str, report: &'a str },
+    Check {
+        scenario: &'a str,
+        report: &'a str,
+    },
     /// A run of the scenario's jobs by so many threads, by the path of the scenario; of standard input, where there is none.
     Threads {
         scenario: Option<&'a str>,

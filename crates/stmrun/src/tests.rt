@@ -595,7 +595,14 @@ fn command_lines_of_threads(rt: HostRuntime) {
         scenario: None,
         workers: 4,
     };
-    asks(&rt, alloc, &[name, threads, option, four], &[], input, input);
+    asks(
+        &rt,
+        alloc,
+        &[name, threads, option, four],
+        &[],
+        input,
+        input,
+    );
     let most = Asked::Threads {
         scenario: Some("s.json"),
         workers: 16,

@@ -30,12 +30,18 @@ fn job(alloc: Global, level: Level, text: &str) -> Result<Job, Fail> {
 /// What an end is, in a few letters.
 fn name(alloc: Global, end: &JobEnd) -> Result<String, AllocError> {
     match end {
-        JobEnd::Committed { index, revision } => { format!(in alloc; "committed {index} {revision}") }
+        JobEnd::Committed { index, revision } => {
+            format!(in alloc; "committed {index} {revision}")
+        }
         JobEnd::Aborted(text) => { format!(in alloc; "aborted {}", text.as_str()) }
         JobEnd::Faulted(fault) => { format!(in alloc; "faulted {fault:?}") }
         JobEnd::Refused(JobRefusal::Store(cause)) => { format!(in alloc; "refused {cause}") }
-        JobEnd::Refused(JobRefusal::Behind { seen, now }) => { format!(in alloc; "behind {seen} {now}") }
-        JobEnd::Refused(JobRefusal::Unvouched { key }) => { format!(in alloc; "unvouched {}", key.as_str()) }
+        JobEnd::Refused(JobRefusal::Behind { seen, now }) => {
+            format!(in alloc; "behind {seen} {now}")
+        }
+        JobEnd::Refused(JobRefusal::Unvouched { key }) => {
+            format!(in alloc; "unvouched {}", key.as_str())
+        }
         JobEnd::GaveUp { key } => { format!(in alloc; "gave up {}", key.as_str()) }
     }
 }
@@ -51,7 +57,11 @@ fn ends_of<R: Threads + Wait + Sync, G: Gate + Sync>(
     let Ok(gathered) = run_workers(rt, alloc, jobs, 1, hall, gate) else {
         return Err(Fail::from("the run was broken off"));
     };
-    let mut text = format!(in alloc; "{} of {}", gathered.committed, gathered.hall.entries().len())?;
+    let mut text = format!(in alloc;
+        "{} of {}",
+        gathered.committed,
+        gathered.hall.entries().len()
+    )?;
     for end in gathered.ends.as_slice() {
         let name = name(alloc, end)?;
         text.push_str("; ")?;
@@ -108,7 +118,10 @@ fn ends_stand_at_the_places_of_their_jobs(rt: HostRuntime) -> Result<(), Fail> {
     jobs.push(job(alloc, Level::SerializableSnapshot, r#"[["del","x"]]"#)?)?;
     let hall = begun(alloc)?;
     let text = ends_of(&rt, alloc, jobs.as_slice(), hall, &NoGate)?;
-    assert_eq!(rt; text.as_str(), "2 of 3; committed 1 3; aborted no; faulted ZeroDivisor; refused LeaseNotFound; committed 2 3");
+    assert_eq!(rt;
+        text.as_str(),
+        "2 of 3; committed 1 3; aborted no; faulted ZeroDivisor; refused LeaseNotFound; committed 2 3"
+    );
     Ok(())
 }
 

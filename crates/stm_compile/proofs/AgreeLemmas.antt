@@ -129,6 +129,7 @@ known_by other (Some a) = a
 
 said_now : (h : History) (reads : List ReadAnswer) → AreOf (state_now h) reads →
     AllByRecursion (λ (a : ReadAnswer). said a ≡ seen_of (key_now h a.key)) reads
+unfolding known_by
 said_now h [] are = tt
 said_now h (a ∷ reads) are = (ap (known_by (said a)) (sym are.0), said_now h reads are.1)
 

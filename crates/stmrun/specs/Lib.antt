@@ -2,4 +2,3 @@ pub mod Asking
 pub mod Checking
 pub mod CommandLine
 pub mod Statuses
-pub mod Threading

@@ -1,4 +1,0 @@
-pub mod Ends
-pub mod Marks
-pub mod Gathered
-pub mod Rounds

@@ -1,0 +1,30 @@
+-- What `clap` tells of words, said of the command stmrun.
+use Rattle.std.proofs.Common.{◌≡◌, ℕ, List, [], Option, Some, None, Ok, Err, true, refl, subst}
+use Rattle.clap.specs.Words.{App, FailsBy, HasMatchesOf, Row, Text, fault_of, is_simple_and_free, kind_of, subcommand_of, subcommand_rows_of}
+use Rattle.clap.specs.declared.error.Error.{Error}
+use Rattle.clap.specs.declared.parser.matches.ArgMatches.{ArgMatches}
+use Rattle.stmrun.specs.declared.arguments.Asked.{Asked}
+use Rattle.stmrun.specs.declared.arguments.Asked.TheVariants.{Script, Check, Nothing}
+use Rattle.stmrun.specs.Asking.{Asks, AsksBy}
+use Rattle.stmrun.specs.CommandLine.{IsStatusOf, IsToldBy, faults_of, stmrun_app}
+
+module _ (app : App) (is : app ≡ stmrun_app) (words : List Text) where
+  pub matched : (m : ArgMatches) → HasMatchesOf app words m → subcommand_rows_of m ≡ subcommand_of stmrun_app words
+  matched m has = (subst (λ (a : App). HasMatchesOf a words m) is has refl).1
+
+  pub no_fault : (m : ArgMatches) → (is_simple_and_free app ≡ true → FailsBy (fault_of app words) (Ok m)) → faults_of words ≡ []
+  no_fault m fails = subst (λ (a : App). is_simple_and_free a ≡ true → FailsBy (fault_of a words) (Ok m)) is fails refl
+
+  pub failed : (e : Error) (status : ℕ) → (is_simple_and_free app ≡ true → FailsBy {T = ArgMatches} (fault_of app words) (Err e)) → IsToldBy (kind_of e) status
+      → IsStatusOf (faults_of words) status
+  failed e status fails told =
+      (kind_of e, subst (λ (a : App). is_simple_and_free a ≡ true → FailsBy {T = ArgMatches} (fault_of a words) (Err e)) is fails refl, told)
+
+asks_something : (rows : Option (Text × List Row)) (status : ℕ) → AsksBy rows (Nothing status) → ⊥
+asks_something None status by = by
+asks_something (Some named) status by = by
+
+pub asks : (words : List Text) (asked : Asked) → faults_of words ≡ [] → AsksBy (subcommand_of stmrun_app words) asked → Asks words asked
+asks words (Script file) none by = (none, by)
+asks words (Check scenario report) none by = (none, by)
+asks words (Nothing status) none by = absurd (asks_something (subcommand_of stmrun_app words) status by)

@@ -1,0 +1,76 @@
+//! Files of these tests' own, run and checked.
+
+use crate::files::open;
+use crate::{run_check, run_script, script_to};
+use std::fs;
+use std::test::Fail;
+use stm_report::Std;
+
+const SCENARIO: &str = "[[\"start\",\"Serializable\",1,[[\"put\",\"a\",\"1\",0]]],[\"step\",1]]";
+
+const REPORT: &str = "[1,\"started\",1]
+[2,\"committed\",1,2,1,[],[],[]]
+[\"key\",\"a\",\"1\",2,2,1,0]
+[\"end\",2,1]
+";
+
+/// Another value in the line of the key.
+const OTHER_REPORT: &str = "[1,\"started\",1]
+[2,\"committed\",1,2,1,[],[],[]]
+[\"key\",\"a\",\"2\",2,2,1,0]
+[\"end\",2,1]
+";
+
+/// A scenario file that is longer than one read has its report.
+#[test]
+fn a_long_file_is_read_whole(rt: HostRuntime) -> Result<(), Fail> {
+    let alloc = rt.alloc();
+    let mut text = String::new(alloc);
+    for _ in 0..1000usize {
+        text.push_str("          ")?;
+    }
+    text.push_str(SCENARIO)?;
+    fs::write(&rt, "long_file.json", text.as_bytes())?;
+    let mut input = Std::new(open(&rt, "long_file.json"));
+    let mut out = Std::new(Vec::new(alloc));
+    let mut err = Std::new(Vec::new(alloc));
+    let status = script_to(alloc, &mut input, &mut out, &mut err);
+    fs::remove_file(&rt, "long_file.json")?;
+    assert_eq!(rt; status, 0);
+    assert!(rt; out.device.as_slice() == REPORT.as_bytes());
+    assert!(rt; err.device.is_empty());
+    Ok(())
+}
+
+/// A file that is not there is a device fault.
+#[test]
+fn a_missing_file(rt: HostRuntime) {
+    let alloc = rt.alloc();
+    let mut input = Std::new(open(&rt, "missing_file.json"));
+    let mut out = Std::new(Vec::new(alloc));
+    let mut err = Std::new(Vec::new(alloc));
+    let status = script_to(alloc, &mut input, &mut out, &mut err);
+    assert_eq!(rt; status, 3);
+    assert!(rt; out.device.is_empty());
+    assert!(rt; err.device.as_slice() == b"stmrun: device fault\n".as_slice());
+}
+
+/// The statuses of the commands on files, the scenario before the report.
+#[test]
+fn commands_on_files(rt: HostRuntime) -> Result<(), Fail> {
+    fs::write(&rt, "commands.json", SCENARIO.as_bytes())?;
+    fs::write(&rt, "commands.report", REPORT.as_bytes())?;
+    fs::write(&rt, "commands.other", OTHER_REPORT.as_bytes())?;
+    let script = run_script(&rt, Some("commands.json"));
+    let no_script = run_script(&rt, Some("commands.report"));
+    let yes = run_check(&rt, "commands.json", "commands.report");
+    let no = run_check(&rt, "commands.json", "commands.other");
+    let turned = run_check(&rt, "commands.report", "commands.json");
+    let missing = run_check(&rt, "commands.json", "commands.none");
+    fs::remove_file(&rt, "commands.json")?;
+    fs::remove_file(&rt, "commands.report")?;
+    fs::remove_file(&rt, "commands.other")?;
+    assert_eq!(rt; (script, no_script), (0, 2));
+    assert_eq!(rt; (yes, no, turned, missing), (0, 1, 2, 3));
+    Ok(())
+}

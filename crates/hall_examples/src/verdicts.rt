@@ -26,6 +26,18 @@ fn put_of(alloc: Global, key: &str, value: &str) -> Result<Op, AllocError> {
     Ok(Op::Put { key, value, lease })
 }
 
+/// A transaction that deletes "a".
+fn deletion_of_a(alloc: Global) -> Result<Txn, AllocError> {
+    let key = Text::copy_of(alloc, "a")?;
+    let mut success = ShortList::new(alloc);
+    success.push(Op::Del { key })?;
+    Ok(Txn {
+        compares: ShortList::new(alloc),
+        success,
+        failure: ShortList::new(alloc),
+    })
+}
+
 /// Adds a put of "a" as "1".
 fn add_put(alloc: Global, txn: &mut Txn) -> Result<(), AllocError> {
     let put = put_of(alloc, "a", "1")?;
@@ -326,5 +338,17 @@ fn a_key_is_changed_above_the_revisions_before_its_change(rt: HostRuntime) -> Re
     ];
     drop(hall);
     assert_eq!(rt; changed, [true, true, false, false, false]);
+    Ok(())
+}
+
+// "a" was put at 2 and deleted at 3.
+#[test]
+fn a_deletion_is_a_change_of_its_key(rt: HostRuntime) -> Result<(), Fail> {
+    let deletion = deletion_of_a(rt.alloc())?;
+    let mut hall = hall_with_a(rt.alloc())?;
+    let _made = hall.foreign(&deletion);
+    let changed = [hall.is_changed_above("a", 2), hall.is_changed_above("a", 3)];
+    drop(hall);
+    assert_eq!(rt; changed, [true, false]);
     Ok(())
 }

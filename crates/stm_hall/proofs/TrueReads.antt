@@ -1,4 +1,4 @@
--- Where no compare of true answers fails, each of them says the value that its key has now.
+-- Where no compare of true answers fails, at a level that compares, each of them says the value that its key has now.
 use Rattle.std.proofs.Common.{◌≡◌, List, [], ◌∷◌, Bool, true, false, cond, not, Option, None, Some, refl, ◌∙◌, ap}
 use Rattle.std.specs.Prelude.{bytes_eq}
 use Rattle.std.specs.List.{find, AllByRecursion}

@@ -28,8 +28,8 @@ pub record OpensAsItsStore (s : Standing) : Type 0 where
 abbrev pub HallsOpenAsTheirStore : Type 0
 HallsOpenAsTheirStore = (s : Standing) → OpensAsItsStore s
 
--- Where no compare of true answers fails, no value is another than the store's. The answers that the runners of a world have read are
--- true, so none of their commits would be unvouched.
+-- Where no compare of a commit fails and its answers are true, none of them is unvouched: at a level that compares, no value is
+-- another than the store's. The answers that the runners of a world have read are true, so none of their commits would be unvouched.
 abbrev pub TrueReadsAreVouched : Type 0
 TrueReadsAreVouched =
     (h : History) (level : Level) (reads : List ReadAnswer) (writes : List Write) → AreTrue h reads → conflict_now h level reads writes ≡ None

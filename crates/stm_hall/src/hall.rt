@@ -147,7 +147,8 @@ impl Hall {
         self.log.store.keys().revision()
     }
 
-    /// Whether the history changes a key above a revision. It takes no memory, and a step for each revision above that.
+    /// Whether the history changes a key above a revision, by a put or a deletion. It takes no memory, and a step for each
+    /// change above that.
     pub fn is_changed_above(&self, key: &str, since: u64) -> bool
         ensures { result ≡ changes_above self.now.standing.history.opening since key.now self.now.standing.history.revisions }
     {

@@ -6,7 +6,8 @@ pub fn halls_open_as_their_store()
     ensures { HallsOpenAsTheirStore }
 {}
 
-/// Where no compare of a commit's answers fails and the answers are true, none of their values is another than the store's.
+/// Where no compare of a commit fails and its answers are true, none of them is unvouched: at a level that compares, each of
+/// their values is the store's.
 pub fn true_reads_are_vouched()
     ensures { TrueReadsAreVouched }
 {}

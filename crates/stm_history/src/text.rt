@@ -1,11 +1,12 @@
 //! A text that contracts see as its bytes.
-ghost use Rattle.std.specs.Prelude.{◌≡◌, Some, refl, nat_eq, string_bytes, IfOk};
+ghost use Rattle.std.specs.Prelude.{◌≡◌, Some, refl, nat_eq, string_bytes, IfOk, IfSome};
 ghost use Rattle.std.proofs.Common.{rules};
 ghost use Rattle.std.specs.Ordering.{nat_cmp};
 ghost use Rattle.std.specs.Hash as fed;
 ghost use Rattle.std.specs.Cmp.Rules.{comparing, hashing};
 ghost use Rattle.std.specs.Cmp.Lexicographic.{pointwise, slice_cmp};
 
+use arrayvec::ArrayString;
 use std::alloc::{AllocError, Global};
 use std::cmp::Ordering;
 use std::convert::AsStr;
@@ -13,21 +14,43 @@ use std::fmt;
 use std::hash::{Hash, Hasher};
 use std::marker::Model;
 
+/// The most bytes of a text that holds them itself.
+const SHORT: usize = 24;
+
+/// Where the bytes of a text stand. Most keys and values are short: no copy of them takes memory.
+#[derive(Debug, Drop)]
+pub(crate) enum Bytes {
+    /// In the text itself.
+    Short(ArrayString<SHORT>),
+    /// In memory of their own.
+    Long(String),
+}
+
 /// A text: a key, a value or a message.
 ///
-/// Contracts see its bytes, and never the room that it was given. It is made from a `String` and
-/// gives it back without taking memory.
+/// Contracts see its bytes, and never where they stand.
 #[derive(Debug, Drop)]
 pub struct Text {
-    string: String,
+    bytes: Bytes,
 }
 
 impl Model for Text {
-    ghost use Rattle.std.specs.Prelude.{List, ℕ, string_bytes};
+    ghost use Rattle.std.specs.Prelude.{List, ℕ};
+    ghost use Rattle.stm_history.specs.Texts.{bytes_held};
 
     ghost Value = { List ℕ };
 
-    ghost view = { λ t. string_bytes t.string };
+    ghost view = { λ t. bytes_held t.bytes };
+}
+
+/// A text's bytes in the text itself, where it is short.
+fn short_of(text: &str) -> Option<ArrayString<SHORT>>
+    ensures { IfSome result (λ short. short.bytes ≡ text.now) }
+{
+    match ArrayString::from(text) {
+        Ok(short) => Some(short),
+        Err(_) => None,
+    }
 }
 
 impl Text {
@@ -35,30 +58,32 @@ impl Text {
     pub fn new(string: String) -> Text
         ensures { result ≡ string_bytes string }
     {
-        Text { string }
+        let bytes = match short_of(string.as_str()) {
+            Some(short) => Bytes::Short(short),
+            None => Bytes::Long(string),
+        };
+        Text { bytes }
     }
 
-    /// A copy of a text, the one call here beside `clone` that takes memory.
+    /// A copy of a text. A short one takes no memory.
     pub fn copy_of(alloc: Global, text: &str) -> Result<Text, AllocError>
         ensures { IfOk result (λ t. t ≡ text.now) }
     {
-        let string = String::from_str(alloc, text)?;
-        Ok(Text { string })
+        let bytes = match short_of(text) {
+            Some(short) => Bytes::Short(short),
+            None => Bytes::Long(String::from_str(alloc, text)?),
+        };
+        Ok(Text { bytes })
     }
 
     /// The text, as a string slice.
     pub fn as_str(&self) -> &str
         ensures { result.now ≡ self.now }
     {
-        self.string.as_str()
-    }
-
-    /// The string of this text. It takes no memory.
-    pub fn into_string(self) -> String
-        ensures { string_bytes result ≡ self }
-    {
-        let Text { string } = self;
-        string
+        match &self.bytes {
+            Bytes::Short(short) => short.as_str(),
+            Bytes::Long(string) => string.as_str(),
+        }
     }
 }
 
@@ -90,8 +115,11 @@ impl Clone for Text {
     ghost is_clone = { λ t copy. copy ≡ t };
 
     fn clone(&self) -> Result<Text, AllocError> {
-        let string = self.string.clone()?;
-        Ok(Text { string })
+        let bytes = match &self.bytes {
+            Bytes::Short(short) => Bytes::Short(*short),
+            Bytes::Long(string) => Bytes::Long(string.clone()?),
+        };
+        Ok(Text { bytes })
     }
 }
 

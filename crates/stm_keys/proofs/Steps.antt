@@ -1,6 +1,6 @@
 -- One event after another: room for its key's chain, and its place there.
 use Rattle.std.proofs.Common.{◌≡◌, ℕ, ◌+◌, ◌≤◌, ◌<◌, Bool, true, false, List, [], ◌∷◌, ◌++◌, length, map, reverse, take, get_or, zero, suc, slice_get}
-use Rattle.std.proofs.Common.{option_map, Option, Some, None, refl, sym, ◌∙◌, ap, subst, cond, is_some, IfSome, arith}
+use Rattle.std.proofs.Common.{option_map, Option, Some, None, refl, sym, ◌∙◌, ap, subst, cond, is_some, IfSome, arith, Result, Ok, Err, OnOk}
 use Rattle.std.specs.Prelude.{bytes_eq}
 use Rattle.std.proofs.lemmas.Bool.{lt-ltb}
 use Rattle.std.proofs.lemmas.List.{take_all, take_more, reverse-append}
@@ -136,3 +136,8 @@ one_newest xs m x whole is =
     let split : xs ≡ take m xs ++ x ∷ [] =
     sym (take_all (m + 1) xs (omega (arith, whole))) ∙ take_more xs m 0 (omega (arith, whole)) ∙ ap (λ y. take m xs ++ y ∷ []) (sym is) in
     sym (ap (λ (l : List ℕ). slice_get l 0) (ap reverse split ∙ reverse-append (take m xs) (x ∷ [])))
+
+-- what follows from what holds where a call succeeds
+pub on_ok : {T E P Q : Type 0} (r : Result T E) → (P → Q) → OnOk r P → OnOk r Q
+on_ok (Ok value) follows holds = follows holds
+on_ok (Err cause) follows holds = tt

@@ -15,6 +15,33 @@ use stm_history::{KeyState, Sequence, Text};
 /// The chain of each key that was ever changed.
 pub(crate) type Chains = IndexMap<String, Places>;
 
+/// A hint that names no chain.
+pub(crate) const NO_HINT: usize = usize::MAX;
+
+/// The chain of a key, if it has one, and its index.
+///
+/// The chain at the hint is looked at first. No contract speaks of the hint: a wrong one costs a look-up by text.
+fn find_chain<'a>(chains: &'a Chains, key: &str, hint: usize) -> Option<(usize, &'a Places)>
+    ensures chain { option_map (λ p. p.1.now) result ≡ get_by_text chains.now key.now }
+    ensures named { IfSome result (λ p. slice_get (names_of chains.now) p.0 ≡ Some key.now) }
+    ensures within { IfSome result (λ p. p.0 < length chains.now.entries) }
+{
+    if let Some((text, chain)) = chains.get_index(hint) {
+        if text.as_str() == key {
+            return Some((hint, chain));
+        }
+    }
+    match chains.get_full(key) {
+        None => None,
+        Some((index, _, chain)) => Some((index, chain)),
+    }
+}
+
+/// Where the chain of a key stands: a hint, `NO_HINT` where it has none.
+pub(crate) fn hint_of(chains: &Chains, key: &str) -> usize {
+    chains.get_index_of(key).unwrap_or(NO_HINT)
+}
+
 /// The newest version whose place is below a count, in the chain of a key.
 fn find_version(chains: &Chains, key: &str, count: usize) -> Option<Version>
     requires { IsNonDecreasing (reverse (places_in (get_by_text chains.now key.now))) }
@@ -57,19 +84,33 @@ pub(crate) fn find_state<'a>(
     state_from(revisions, key, version)
 }
 
-/// What a key is after all these revisions.
+/// What a key is after all these revisions. Its chain is looked for at the hint first.
 pub(crate) fn find_now<'a>(
     chains: &Chains,
     revisions: &'a [Sequence<Event>],
     key: &str,
+    hint: usize,
 ) -> Option<&'a KeyState>
     requires { AreSearchable (get_by_text chains.now) revisions.now }
     ensures { option_copied result ≡ found_in (get_by_text chains.now) revisions.now (length revisions.now) key.now }
 {
-    match chains.get(key) {
+    match find_chain(chains, key, hint) {
         None => None,
-        Some(chain) => state_from(revisions, key, chain.newest()),
+        Some((_, chain)) => state_from(revisions, key, chain.newest()),
     }
+}
+
+/// An event of a key, where it has one: most often its newest. No contract says whose event it is.
+pub(crate) fn newest_event<'a>(
+    chains: &Chains,
+    revisions: &'a [Sequence<Event>],
+    key: &str,
+    hint: usize,
+) -> Option<&'a Event> {
+    let (_, chain) = find_chain(chains, key, hint)?;
+    let version = chain.newest()?;
+    let events = revisions.get(version.place)?;
+    events.as_slice().get(version.spot)
 }
 
 /// The key at an index of the chains.
@@ -97,7 +138,7 @@ pub(crate) fn find_present<'a>(
     ensures state { found_in (get_by_text chains.now) revisions.now (length revisions.now) result.0.now ≡ Some result.1.now }
 {
     let key = key_at(chains, index);
-    match find_now(chains, revisions, key) {
+    match find_now(chains, revisions, key, index) {
         Some(state) => (key, state),
         None => unreachable!(),
     }
@@ -112,47 +153,78 @@ fn add_chain(chains: &mut Chains, alloc: Global, key: &Text) -> Result<(), Alloc
     ensures present { KeepsPresent (λ k. places_in (get_by_text chains.old k)) (names_of chains.old) (names_of chains.new) }
 {
     let chain = Places::with_room(alloc)?;
-    let text = key.clone()?;
-    chains.insert(text.into_string(), chain)?;
+    let text = String::from_str(alloc, key.as_str())?;
+    chains.insert(text, chain)?;
     Ok(())
 }
 
-/// Makes room for one more place in the chain of a key.
-fn make_room_of(chains: &mut Chains, alloc: Global, key: &Text) -> Result<(), AllocError>
+/// Makes room for one more place in the chain at an index.
+fn make_room_at(chains: &mut Chains, index: usize) -> Result<(), AllocError>
+    requires { index < length chains.old.entries }
+    ensures names { names_of chains.new ≡ names_of chains.old }
+    ensures places { (k : List ℕ) → places_in (get_by_text chains.new k) ≡ places_in (get_by_text chains.old k) }
+    ensures more { (k : List ℕ) → room_in (get_by_text chains.old k) ≤ room_in (get_by_text chains.new k) }
+    ensures room { OnOk result ((key : List ℕ) → slice_get (names_of chains.old) index ≡ Some key → 0 < room_in (get_by_text chains.new key)) }
+{
+    let (_key, chain) = chains.pair_mut(index);
+    chain.make_room()
+}
+
+/// The index of a key's chain, if it has one. The chain at the hint is looked at first.
+fn find_index(chains: &Chains, key: &str, hint: usize) -> Option<usize>
+    ensures none { result ≡ None → get_by_text chains.now key.now ≡ None }
+    ensures named { IfSome result (λ index. slice_get (names_of chains.now) index ≡ Some key.now) }
+    ensures within { IfSome result (λ index. index < length chains.now.entries) }
+{
+    match find_chain(chains, key, hint) {
+        None => None,
+        Some((index, _)) => Some(index),
+    }
+}
+
+/// Makes room for one more place in the chain of a key, which is looked for at the hint first.
+fn make_room_of(
+    chains: &mut Chains,
+    alloc: Global,
+    key: &Text,
+    hint: usize,
+) -> Result<(), AllocError>
     ensures places { (k : List ℕ) → places_in (get_by_text chains.new k) ≡ places_in (get_by_text chains.old k) }
     ensures more { (k : List ℕ) → room_in (get_by_text chains.old k) ≤ room_in (get_by_text chains.new k) }
     ensures room { OnOk result (0 < room_in (get_by_text chains.new key.now)) }
     ensures present { KeepsPresent (λ k. places_in (get_by_text chains.old k)) (names_of chains.old) (names_of chains.new) }
 {
-    match chains.get_mut(key.as_str()) {
-        Some(chain) => chain.make_room(),
+    match find_index(chains, key.as_str(), hint) {
+        Some(index) => make_room_at(chains, index),
         None => add_chain(chains, alloc, key),
     }
 }
 
-/// Makes room for one more place in the chain of each event's key. Want of memory leaves every place as it was.
+/// Makes room for one more place in the chain of each event's key, which is looked for at the hint first. Want of
+/// memory leaves every place as it was.
 pub(crate) fn make_room(
     chains: &mut Chains,
     alloc: Global,
     events: &[Event],
+    hint: usize,
 ) -> Result<(), AllocError>
     ensures places { (k : List ℕ) → places_in (get_by_text chains.new k) ≡ places_in (get_by_text chains.old k) }
     ensures room { OnOk result ((k : List ℕ) → is_some (event_about k events.now) ≡ true → 0 < room_in (get_by_text chains.new k)) }
     ensures present { KeepsPresent (λ k. places_in (get_by_text chains.old k)) (names_of chains.old) (names_of chains.new) }
 {
     for event in events {
-        make_room_of(chains, alloc, event.key())?;
+        make_room_of(chains, alloc, event.key(), hint)?;
     }
     Ok(())
 }
 
-/// The index of a key that has a chain.
-fn index_of(chains: &Chains, key: &str) -> usize
+/// The index of a key that has a chain. The chain at the hint is looked at first.
+fn index_of(chains: &Chains, key: &str, hint: usize) -> usize
     requires { 0 < room_in (get_by_text chains.now key.now) }
     ensures { slice_get (names_of chains.now) result ≡ Some key.now }
 {
-    match chains.get_full(key) {
-        Some((index, _, _)) => index,
+    match find_index(chains, key, hint) {
+        Some(index) => index,
         None => unreachable!(),
     }
 }
@@ -205,7 +277,13 @@ fn take_out(chains: &mut Chains, present: &mut usize, index: usize)
 }
 
 /// Adds a version to the chain of an event's key, which has room for it, and moves the chain to where it belongs.
-fn add_version(chains: &mut Chains, present: &mut usize, event: &Event, version: Version)
+fn add_version(
+    chains: &mut Chains,
+    present: &mut usize,
+    event: &Event,
+    version: Version,
+    hint: usize,
+)
     requires room { 0 < room_in (get_by_text chains.old (key_of_event event.now)) }
     requires bound { present.old ≤ length chains.old.entries }
     ensures places { (k : List ℕ) → places_in (get_by_text chains.new k) ≡ with_place (bytes_eq (key_of_event event.now) k) (place_of version) (places_in (get_by_text chains.old k)) }
@@ -214,7 +292,7 @@ fn add_version(chains: &mut Chains, present: &mut usize, event: &Event, version:
     ensures first { (is_present : List ℕ → Bool) → StandFirst is_present present.old (names_of chains.old) →
         StandFirst (λ k. if bytes_eq (key_of_event event.now) k then is_put event.now else is_present k) present.new (names_of chains.new) }
 {
-    let index = index_of(chains, event.key().as_str());
+    let index = index_of(chains, event.key().as_str(), hint);
     push_at(chains, index, version);
     match event {
         Event::Put { .. } => bring_in(chains, present, index),
@@ -222,8 +300,14 @@ fn add_version(chains: &mut Chains, present: &mut usize, event: &Event, version:
     }
 }
 
-/// Adds a place to the chain of each event's key. Each has room for it.
-pub(crate) fn add_places(chains: &mut Chains, present: &mut usize, events: &[Event], place: usize)
+/// Adds a place to the chain of each event's key. Each has room for it, and is looked for at the hint first.
+pub(crate) fn add_places(
+    chains: &mut Chains,
+    present: &mut usize,
+    events: &[Event],
+    place: usize,
+    hint: usize,
+)
     requires room { (k : List ℕ) → is_some (event_about k events.now) ≡ true → 0 < room_in (get_by_text chains.old k) }
     requires apart { AreApart events.now }
     requires bound { present.old ≤ length chains.old.entries }
@@ -233,7 +317,7 @@ pub(crate) fn add_places(chains: &mut Chains, present: &mut usize, events: &[Eve
 {
     let mut spot: usize = 0;
     for event in events {
-        add_version(chains, present, event, Version { place, spot });
+        add_version(chains, present, event, Version { place, spot }, hint);
         spot = spot.saturating_add(1);
     }
 }

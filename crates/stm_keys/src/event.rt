@@ -2,20 +2,28 @@
 ghost use Rattle.std.specs.Prelude.{◌≡◌, option_copied};
 ghost use Rattle.stm_keys.specs.Events.{key_of_event, event_about, AreApart};
 
+use crate::shared_text::SharedText;
 use stm_history::{KeyState, Text};
 
 /// One event of a revision: etcd's `Event` of a watch response.
 #[derive(Debug, Drop, Clone)]
 pub enum Event {
     /// The key was put, and has this state since.
-    Put { key: Text, state: KeyState },
+    Put { key: SharedText, state: KeyState },
     /// The key was deleted at this revision.
-    Delete { key: Text, revision: u64 },
+    Delete { key: SharedText, revision: u64 },
 }
 
 impl Event {
     /// The key that the event is about.
     pub fn key(&self) -> &Text
+        ensures { result.now ≡ key_of_event self.now }
+    {
+        self.shared_key().text()
+    }
+
+    /// The key that the event is about, as it can be shared.
+    pub(crate) fn shared_key(&self) -> &SharedText
         ensures { result.now ≡ key_of_event self.now }
     {
         match self {

@@ -1,5 +1,5 @@
 //! The key store.
-ghost use Rattle.std.specs.Prelude.{◌≡◌, ◌+◌, ◌<◌, ◌≤◌, IfOk, OnOk, OnErr, IfSome, List, ℕ, Bool, false, length, Some, None, ◌↔◌, slice_get, option_copied, [], ◌∷◌, ◌++◌, ◌≢◌, ◌^◌, map, is_some};
+ghost use Rattle.std.specs.Prelude.{◌≡◌, ◌+◌, ◌<◌, ◌≤◌, vec_len, vec_capacity, IfOk, OnOk, OnErr, IfSome, List, ℕ, Bool, false, length, Some, None, ◌↔◌, slice_get, option_copied, [], ◌∷◌, ◌++◌, ◌≢◌, ◌^◌, map, is_some};
 ghost use Rattle.indexmap.specs.IndexMap.{get_by_text};
 ghost use Rattle.stm_history.specs.History.{History, opened_at, now, add_revision, key_at, key_now, AreRevisions, IsRevision, state_after_put};
 ghost use Rattle.stm_history.specs.Walk.{version_of};
@@ -7,9 +7,10 @@ ghost use Rattle.stm_keys.specs.Events.{event_of, events_of, event_about, AreApa
 ghost use Rattle.stm_keys.specs.Places.{places_in, with_place, StandFirst, KeepsPresent, is_left, names_of};
 ghost use Rattle.stm_keys.specs.Keys.{key_read, DeletePresent, HasSmallNumbers, ListsPresent};
 
-use crate::chains::{Chains, add_places, find_now, find_present, find_state, make_room};
+use crate::chains::{Chains, NO_HINT, add_places, find_now, find_present, find_state, hint_of, make_room, newest_event};
 use crate::event::Event;
 use crate::refusal::{ApplyRefusal, ReadRefusal};
+use crate::shared_text::SharedText;
 use indexmap::IndexMap;
 use std::alloc::{AllocError, Global};
 use std::marker::Model;
@@ -79,12 +80,27 @@ fn copy_events(alloc: Global, events: &[Event]) -> Result<Vec<Event>, AllocError
     Ok(copy)
 }
 
-/// Adds a recorded revision, and its place to the chains of its keys. Every growth comes before the first change.
+/// Makes room for one more revision. A full list grows by a half, so that little of it stands empty.
+fn make_room_in(revisions: &mut Vec<Sequence<Event>>) -> Result<(), AllocError>
+    ensures same { revisions.new.items ≡ revisions.old.items }
+    ensures room { OnOk result (vec_len revisions.new < vec_capacity revisions.new) }
+{
+    let count = revisions.len();
+    if count < revisions.capacity() {
+        return Ok(());
+    }
+    revisions.reserve_exact(count / 2 + 1)?;
+    Ok(())
+}
+
+/// Adds a recorded revision, and its place to the chains of its keys, which are looked for at the hint first. Every
+/// growth comes before the first change.
 fn add_recorded(
     revisions: &mut Vec<Sequence<Event>>,
     chains: &mut Chains,
     present: &mut usize,
     events: Vec<Event>,
+    hint: usize,
 ) -> Result<(), AllocError>
     requires apart { AreApart events.items }
     requires bound { present.old ≤ length chains.old.entries }
@@ -98,9 +114,9 @@ fn add_recorded(
     ensures same { OnErr result ((k : List ℕ) → places_in (get_by_text chains.new k) ≡ places_in (get_by_text chains.old k)) }
     ensures kept { OnErr result (KeepsPresent (λ k. places_in (get_by_text chains.old k)) (names_of chains.old) (names_of chains.new)) }
 {
-    make_room(chains, *revisions.allocator(), events.as_slice())?;
-    revisions.reserve(1)?;
-    add_places(chains, present, events.as_slice(), revisions.len());
+    make_room(chains, *revisions.allocator(), events.as_slice(), hint)?;
+    make_room_in(revisions)?;
+    add_places(chains, present, events.as_slice(), revisions.len(), hint);
     revisions.push_reserved(Sequence::of(events));
     Ok(())
 }
@@ -161,7 +177,15 @@ impl Keys {
         ensures value { option_copied result ≡ key_now self.now.history key.now }
         ensures fits { IfSome (key_now self.now.history key.now) HasSmallNumbers }
     {
-        find_now(&self.chains, self.revisions.as_slice(), key)
+        self.get_near(key, NO_HINT)
+    }
+
+    /// What a key is now. Its chain is looked for at the hint first.
+    fn get_near(&self, key: &str, hint: usize) -> Option<&KeyState>
+        ensures value { option_copied result ≡ key_now self.now.history key.now }
+        ensures fits { IfSome (key_now self.now.history key.now) HasSmallNumbers }
+    {
+        find_now(&self.chains, self.revisions.as_slice(), key, hint)
     }
 
     /// What a key was at a revision, `None` where it was absent. Revision 0 names the current one.
@@ -194,30 +218,55 @@ impl Keys {
         Ok(state_put(self.get(key), self.revision() + 1, value, lease))
     }
 
-    /// What a change shows in the next revision.
-    fn show_change(&self, change: Change) -> Event
-        ensures { result ≡ event_of (now self.now.history + 1) (key_now self.now.history) change }
+    /// A key's text as its older events have it, and a text of its own where it has none.
+    fn share_key(&self, key: Text, hint: usize) -> Result<SharedText, AllocError>
+        ensures { IfOk result (λ shared. shared ≡ key) }
+    {
+        if let Some(event) = newest_event(&self.chains, self.revisions.as_slice(), key.as_str(), hint) {
+            if event.shared_key().as_str() == key.as_str() {
+                return event.shared_key().clone();
+            }
+        }
+        SharedText::new(*self.revisions.allocator(), key)
+    }
+
+    /// What a change shows in the next revision. Its key's chain is looked for at the hint first.
+    fn show_change(&self, change: Change, hint: usize) -> Result<Event, AllocError>
+        ensures { IfOk result (λ event. event ≡ event_of (now self.now.history + 1) (key_now self.now.history) change) }
     {
         let number = self.revision() + 1;
         match change {
             Change::Put { key, value, lease } => {
-                let state = state_put(self.get(key.as_str()), number, value, lease);
-                Event::Put { key, state }
+                let state = state_put(self.get_near(key.as_str(), hint), number, value, lease);
+                let key = self.share_key(key, hint)?;
+                Ok(Event::Put { key, state })
             }
-            Change::Del { key } => Event::Delete {
-                key,
-                revision: number,
-            },
+            Change::Del { key } => {
+                let key = self.share_key(key, hint)?;
+                Ok(Event::Delete {
+                    key,
+                    revision: number,
+                })
+            }
+        }
+    }
+
+    /// Where the chain of the first changed key stands. A revision of one change, as most are, needs one look-up by
+    /// text then.
+    fn first_hint(&self, changes: &[Change]) -> usize {
+        match changes.first() {
+            Some(change) => hint_of(&self.chains, change.key().as_str()),
+            None => NO_HINT,
         }
     }
 
     /// What the changes of the next revision show, in their order. Their texts are moved.
-    fn show_changes(&self, changes: Vec<Change>) -> Result<Vec<Event>, AllocError>
+    fn show_changes(&self, changes: Vec<Change>, hint: usize) -> Result<Vec<Event>, AllocError>
         ensures { IfOk result (λ v. v.items ≡ map (event_of (now self.now.history + 1) (key_now self.now.history)) changes.items) }
     {
         let mut events = Vec::with_capacity(*self.revisions.allocator(), changes.len())?;
         for change in changes {
-            events.push(self.show_change(change))?;
+            events.push(self.show_change(change, hint)?)?;
         }
         Ok(events)
     }
@@ -239,12 +288,14 @@ impl Keys {
         if before == HIGHEST_REVISION {
             return Err(ApplyRefusal::RevisionsUsedUp);
         }
-        let events = self.show_changes(changes)?;
+        let hint = self.first_hint(changes.as_slice());
+        let events = self.show_changes(changes, hint)?;
         add_recorded(
             &mut self.revisions,
             &mut self.chains,
             &mut self.present,
             events,
+            hint,
         )?;
         Ok(before + 1)
     }

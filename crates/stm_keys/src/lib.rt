@@ -10,8 +10,10 @@ mod keys;
 pub mod laws;
 mod places;
 mod refusal;
+mod shared_text;
 
 pub use event::Event;
 pub use keys::Keys;
 pub use refusal::{ApplyRefusal, ReadRefusal};
+pub use shared_text::SharedText;
 pub use stm_history::{Change, HIGHEST_REVISION, KeyState, Sequence, Text};

@@ -57,10 +57,10 @@ impl Index {
         ensures list { IfOk result (λ list. get_by_text self.new.keys key.now ≡ Some list) }
         ensures room { HasRoom self.old → HasRoom self.new }
     {
-        let key = key.clone()?;
+        let key = String::from_str(*self.keys.allocator(), key.as_str())?;
         self.keys.reserve(1)?;
         let list = self.lists.new_list()?;
-        match self.keys.insert(key.into_string(), list) {
+        match self.keys.insert(key, list) {
             Ok(_) => Ok(list),
             Err(_) => unreachable!(),
         }

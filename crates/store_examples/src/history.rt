@@ -95,7 +95,7 @@ fn a_history_tells_what_it_is_now(rt: HostRuntime) -> Result<(), Fail> {
 
 fn come_back(alloc: Global, text: &str) -> Result<String, AllocError> {
     let text = Text::from(String::from_str(alloc, text)?);
-    Ok(text.into_string())
+    String::from_str(alloc, text.as_str())
 }
 
 #[test]

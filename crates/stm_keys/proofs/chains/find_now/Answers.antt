@@ -11,13 +11,13 @@ state_from-requires-clause-within c =
     if_read place_of n c.newest.result
     (subst (λ (o : Option ℕ). IfSome o (λ q. q < n)) (sym c.newest.ensures)
     (newest_within c.in-Some.chain.now.places n
-    (subst (λ (o : Option Places). (count : ℕ) → IfSome (newest_below count (places_in o)) (λ q. q < n)) (sym c.in-Some.ensures.value)
+    (subst (λ (o : Option Places). (count : ℕ) → IfSome (newest_below count (places_in o)) (λ q. q < n)) (sym c.in-Some.ensures.chain)
     (c.requires.within c.args.key.now))))
 
 pub returns-in-Some : goal.returns-in-Some
 returns-in-Some c =
     let n : ℕ = length c.args.revisions.now in
-    let found : get_by_text c.args.chains.now c.args.key.now ≡ Some c.in-Some.chain.now = sym c.in-Some.ensures.value in
+    let found : get_by_text c.args.chains.now c.args.key.now ≡ Some c.in-Some.chain.now = sym c.in-Some.ensures.chain in
     c.state_from.ensures
     ∙ ap (state_from c.args.revisions.now c.args.key.now) (c.newest.ensures
     ∙ sym (newest_first c.in-Some.chain.now.places n

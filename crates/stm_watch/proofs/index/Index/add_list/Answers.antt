@@ -23,8 +23,8 @@ returns-in_err-list-clause-kept c ws covers =
 pub returns-clause-kept : goal.returns-clause-kept
 returns-clause-kept c ws covers =
     let of_key : List ℕ → Option ℕ = get_by_text c.args.self.now.keys in
-    let key : List ℕ = string_bytes c.into_string.result in
-    let is : key ≡ c.args.key.now = c.into_string.ensures ∙ c.in_ok-key.ensures.cases in
+    let key : List ℕ = string_bytes c.in_ok-key.key in
+    let is : key ≡ c.args.key.now = c.in_ok-key.ensures.ok ∙ c.as_str.ensures in
     let keys : (q : List ℕ) → get_by_text c.insert.new.self q ≡ cond (bytes_eq key q) (Some c.in_ok-list.list) (of_key q) = λ q. hash_map_updates_text key
     c.reserve.new.self c.insert.new.self (Some c.in_ok-list.list) c.in-Ok.ensures.updates q
     ∙ ap (λ o. cond (bytes_eq key q) (Some c.in_ok-list.list) o) (ap (lookup (λ k. bytes_eq q (string_bytes k))) c.reserve.ensures.entries) in

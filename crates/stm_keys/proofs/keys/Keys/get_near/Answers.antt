@@ -7,7 +7,7 @@ use Rattle.stm_keys.specs.Keys.{Contents}
 use Rattle.stm_keys.specs.Places.{found_in, AreSearchable}
 use Rattle.stm_keys.proofs.Walked.{found_now, searchable}
 use Rattle.stm_keys.proofs.Numbers.{now_fits, now_small}
-use Rattle.stm_keys.proofs.keys.Keys.get.Goals as goal
+use Rattle.stm_keys.proofs.keys.Keys.get_near.Goals as goal
 
 pub find_now-requires : goal.find_now-requires
 find_now-requires c =

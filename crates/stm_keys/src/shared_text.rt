@@ -1,0 +1,66 @@
+//! A text with several owners.
+ghost use Rattle.std.specs.Prelude.{◌≡◌, Some, IfOk};
+
+use std::alloc::{AllocError, Global};
+use std::fmt;
+use std::marker::Model;
+use std::sync::Arc;
+use stm_history::Text;
+
+/// The text of a key, which all events of the key share: it stands once for all of them.
+///
+/// Contracts see its bytes.
+#[derive(Debug, Drop)]
+pub struct SharedText {
+    text: Arc<Text>,
+}
+
+impl Model for SharedText {
+    ghost use Rattle.std.specs.Prelude.{List, ℕ};
+
+    ghost Value = { List ℕ };
+
+    ghost view = { λ s. s.text.value };
+}
+
+impl SharedText {
+    /// A text that can be shared.
+    pub fn new(alloc: Global, text: Text) -> Result<SharedText, AllocError>
+        ensures { IfOk result (λ s. s ≡ text) }
+    {
+        let text = Arc::new(alloc, text)?;
+        Ok(SharedText { text })
+    }
+
+    /// The text.
+    pub fn text(&self) -> &Text
+        ensures { result.now ≡ self.now }
+    {
+        &self.text
+    }
+
+    /// The text, as a string slice.
+    pub fn as_str(&self) -> &str
+        ensures { result.now ≡ self.now }
+    {
+        self.text().as_str()
+    }
+}
+
+/// One more owner of the same text. It takes no memory.
+impl Clone for SharedText {
+    ghost is_clone = { λ s copy. copy ≡ s };
+
+    fn clone(&self) -> Result<SharedText, AllocError> {
+        let text = self.text.clone()?;
+        Ok(SharedText { text })
+    }
+}
+
+impl fmt::Display for SharedText {
+    ghost output = { Some };
+
+    fn fmt<W: fmt::Write>(&self, f: &mut fmt::Formatter<W>) -> fmt::Result {
+        fmt::Display::fmt(&self.as_str(), f)
+    }
+}

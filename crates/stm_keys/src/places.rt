@@ -14,21 +14,25 @@ pub(crate) struct Version {
     pub(crate) spot: usize,
 }
 
-/// The versions of one key, their places rising.
+/// The versions of one key, their places rising, and the newest once more: what a key is now is found without a look
+/// at the list.
 ///
 /// Contracts see the places with the newest first, and for how many more there is room.
 #[derive(Debug, Drop)]
 pub(crate) struct Places {
     versions: Vec<Version>,
+    newest: Option<Version>,
 }
 
 impl Model for Places {
-    ghost use Rattle.std.specs.Prelude.{◌-◌, reverse, map};
+    ghost use Rattle.std.specs.Prelude.{◌≡◌, ◌-◌, reverse, map, slice_get, option_map};
     ghost use Rattle.stm_keys.specs.Places.{Places as Chain, place_of};
 
     ghost Value = { Chain };
 
     ghost view = { λ p. record { places = reverse (map place_of p.versions.items); room = p.versions.cap - p.versions.len } };
+
+    ghost invariant = { λ p. option_map place_of p.newest ≡ slice_get (reverse (map place_of p.versions.items)) 0 };
 }
 
 impl Places {
@@ -40,7 +44,10 @@ impl Places {
         ensures room { IfOk result (λ chain. 0 < chain.room) }
     {
         let versions = Vec::with_capacity(alloc, 1)?;
-        Ok(Places { versions })
+        Ok(Places {
+            versions,
+            newest: None,
+        })
     }
 
     /// Makes room for one more.
@@ -59,17 +66,14 @@ impl Places {
         ensures { self.new.places ≡ place_of version ∷ self.old.places }
     {
         self.versions.push_reserved(version);
+        self.newest = Some(version);
     }
 
     /// The newest version.
     pub(crate) fn newest(&self) -> Option<Version>
         ensures { option_map place_of result ≡ slice_get self.now.places 0 }
     {
-        let count = self.versions.len();
-        if count == 0 {
-            return None;
-        }
-        Some(self.versions[count - 1])
+        self.newest
     }
 
     /// The newest version whose place is below a count, found by halves.

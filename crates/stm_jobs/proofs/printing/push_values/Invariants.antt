@@ -1,0 +1,9 @@
+use Rattle.std.proofs.Common.{◌≡◌, ◌++◌, drop, string_bytes}
+use Rattle.stm_jobs.specs.Lines.{value_lines}
+use Rattle.stm_report.specs.Report.{lines_text}
+use Rattle.stm_jobs.proofs.printing.push_values.Given as goal
+
+-- the text so far, and the lines of the keys that are left
+abbrev pub invariant-loop-i : goal.invariant-loop-i
+invariant-loop-i l =
+    string_bytes l.text ++ lines_text (value_lines (drop l.i l.state)) ≡ string_bytes l.fn.text ++ lines_text (value_lines l.state)

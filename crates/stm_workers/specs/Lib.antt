@@ -1,0 +1,4 @@
+pub mod Ends
+pub mod Marks
+pub mod Gathered
+pub mod Rounds

@@ -4,7 +4,7 @@ use Rattle.clap.specs.Words.{App, FailsBy, HasMatchesOf, Row, Text, fault_of, is
 use Rattle.clap.specs.declared.error.Error.{Error}
 use Rattle.clap.specs.declared.parser.matches.ArgMatches.{ArgMatches}
 use Rattle.stmrun.specs.declared.arguments.Asked.{Asked}
-use Rattle.stmrun.specs.declared.arguments.Asked.TheVariants.{Script, Check, Nothing}
+use Rattle.stmrun.specs.declared.arguments.Asked.TheVariants.{Script, Check, Threads, Nothing}
 use Rattle.stmrun.specs.Asking.{Asks, AsksBy}
 use Rattle.stmrun.specs.CommandLine.{IsStatusOf, IsToldBy, faults_of, stmrun_app}
 
@@ -27,4 +27,5 @@ asks_something (Some named) status by = by
 pub asks : (words : List Text) (asked : Asked) → faults_of words ≡ [] → AsksBy (subcommand_of stmrun_app words) asked → Asks words asked
 asks words (Script file) none by = (none, by)
 asks words (Check scenario report) none by = (none, by)
+asks words (Threads file workers) none by = (none, by)
 asks words (Nothing status) none by = absurd (asks_something (subcommand_of stmrun_app words) status by)

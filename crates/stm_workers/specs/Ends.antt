@@ -42,6 +42,21 @@ IsCommitOf job revision (Some (Renew id moment)) = ⊥
 IsCommitOf job revision (Some (Revoke id)) = ⊥
 IsCommitOf job revision (Some (Expire id)) = ⊥
 
+-- an entry is a commit of one of these jobs: of its program, at its level
+abbrev pub IsOfAJob : List Job → Entry → Type 0
+IsOfAJob jobs (Program program level answers output trace revision) =
+    (place : ℕ) × (job : Job) × (slice_get jobs place ≡ Some job) × (program ≡ job.program) × (level ≡ job.level)
+IsOfAJob jobs (Foreign txn) = ⊥
+IsOfAJob jobs (Grant id ttl moment) = ⊥
+IsOfAJob jobs (Renew id moment) = ⊥
+IsOfAJob jobs (Revoke id) = ⊥
+IsOfAJob jobs (Expire id) = ⊥
+
+-- what a hall has beyond the entries of another are commits of these jobs
+abbrev pub TookCommitsOf : List Job → HallState → HallState → Type 0
+TookCommitsOf jobs before after =
+    (index : ℕ) (entry : Entry) → length before.entries ≤ index → slice_get after.entries index ≡ Some entry → IsOfAJob jobs entry
+
 -- ---- ends
 
 abbrev pub is_committed : JobEnd → Bool

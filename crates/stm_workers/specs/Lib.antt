@@ -2,3 +2,4 @@ pub mod Ends
 pub mod Marks
 pub mod Gathered
 pub mod Rounds
+pub mod Causes

@@ -1,13 +1,16 @@
 //! One job of a worker, from its first attempt to its end.
-ghost use Rattle.std.specs.Prelude.{◌≡◌, ◌+◌, ◌<◌, ◌≤◌, if◌then◌else◌, [], All, length, IfOk, OnOk, OnErr};
-ghost use Rattle.stm_draw.specs.Seats.{table_id, table_size};
+ghost use Rattle.std.specs.Prelude.{◌≡◌, ◌+◌, ◌<◌, ◌≤◌, true, if◌then◌else◌, [], length, IfOk, IfSome, OnOk, OnErr};
+ghost use Rattle.stm_draw.specs.Draw.{drew};
+ghost use Rattle.stm_draw.specs.Seats.{IsSeatAt, seat_view, table_id, table_size};
 ghost use Rattle.stm_txn.specs.Numbers.{ReadFits};
 ghost use Rattle.stm_compile.specs.Levels.{is_serializable};
-ghost use Rattle.stm_attempt.specs.AttemptState.{begun, IsOf};
+ghost use Rattle.stm_attempt.specs.AttemptState.{begun};
 ghost use Rattle.stm_calls.specs.Prefetch.{MayBePrefetched};
 ghost use Rattle.stm_hall.specs.Verdicts.{CanGoOn};
-ghost use Rattle.stm_workers.specs.Rounds.{committed_by, counted_end};
+ghost use Rattle.stm_workers.specs.Rounds.{committed_by, counted_end, greatest_carried, seen_after, shown_at};
+ghost use Rattle.stm_workers.specs.Rounds.{committed_in, drawing, is_run_of_some, jobs_of, IsOfJob, IsRunOfJob};
 
+use crate::auditing::job_at;
 use crate::desk::{Desk, Round};
 use crate::gate::Gate;
 use crate::job::Job;
@@ -19,7 +22,7 @@ use std::sync::ledger::Share;
 use std::sync::{Mutex, Wait};
 use stm_attempt::{Attempt, Next, ReadAnswer, Ready, Sequence, Text};
 use stm_calls::{read_one, take_only_read};
-use stm_draw::JobTable;
+use stm_draw::{JobSeat, JobTable};
 use stm_hall::{Verdict, prepare};
 use stm_program::Level;
 
@@ -34,12 +37,13 @@ pub(crate) struct Floor<'a, R: Round, W: Wait, G: Gate> {
     pub gate: &'a G,
     ghost is_table: { (table_id table.now ≡ R.table) × (table_size table.now ≡ R.size) },
     ghost is_sized: { length jobs.now ≡ R.size.jobs },
+    ghost are_its: { jobs.now ≡ R.jobs },
 }
 
-/// The greatest revision that an answer carries, and at least this one.
+/// The greatest of a revision and those that answers carry.
 fn greatest_revision(seen: u64, answers: &[ReadAnswer]) -> u64
+    ensures greatest { result ≡ greatest_carried seen answers.now }
     ensures at_least { seen ≤ result }
-    ensures greatest { All (λ a. a.revision ≤ result) answers.now }
 {
     let mut greatest = seen;
     for answer in answers {
@@ -48,9 +52,10 @@ fn greatest_revision(seen: u64, answers: &[ReadAnswer]) -> u64
     greatest
 }
 
-/// The greatest revision that a verdict carries, and at least this one.
+/// The greatest of a revision and those that a verdict carries.
 fn greatest_of(seen: u64, verdict: &Verdict) -> u64
-    ensures { seen ≤ result }
+    ensures greatest { result ≡ seen_after seen verdict.now }
+    ensures at_least { seen ≤ result }
 {
     match verdict {
         Verdict::Committed { revision, .. } => seen.max(*revision),
@@ -61,7 +66,7 @@ fn greatest_of(seen: u64, verdict: &Verdict) -> u64
 /// The first attempt of a job. It takes no memory.
 fn first_attempt(alloc: Global, job: &Job) -> Attempt
     ensures begun { result ≡ begun job.now.level [] }
-    ensures is_its { IsOf job.now.program result }
+    ensures is_its { IsOfJob job.now result }
 {
     Attempt::new(alloc, job.level)
 }
@@ -74,7 +79,7 @@ fn next_attempt(
 ) -> Result<Attempt, AllocError>
     requires { MayBePrefetched answers }
     ensures begun { IfOk result (λ attempt. attempt ≡ begun job.now.level (if is_serializable job.now.level then answers else [])) }
-    ensures is_its { IfOk result (λ attempt. IsOf job.now.program attempt) }
+    ensures is_its { IfOk result (IsOfJob job.now) }
 {
     match job.level {
         Level::SerializableSnapshot | Level::Serializable => {
@@ -96,7 +101,7 @@ impl<'a, R: Round, W: Wait, G: Gate> Floor<'a, R, W, G> {
         gate: &'a G,
     ) -> Floor<'a, R, W, G>
         requires table { (table_id table.now ≡ R.table) × (table_size table.now ≡ R.size) }
-        requires jobs { length jobs.now ≡ R.size.jobs }
+        requires jobs { (length jobs.now ≡ R.size.jobs) × (jobs.now ≡ R.jobs) }
     {
         Floor {
             rt,
@@ -108,11 +113,15 @@ impl<'a, R: Round, W: Wait, G: Gate> Floor<'a, R, W, G> {
         }
     }
 
-    /// Fetches a key, and remembers the revision that the answer carries.
+    /// Fetches a key at a revision, 0 for the store's own, and remembers the revision that the answer carries: none of those before was
+    /// greater. Where it stops, nothing was seen.
     fn ask(&self, key: &Text, at: u64, seen: &mut u64) -> Result<ReadAnswer, Stop>
         ensures key { IfOk result (λ answer. answer.key ≡ key.now) }
         ensures in_range { IfOk result ReadFits }
+        ensures shown { IfOk result (λ answer. answer.of_rev ≡ shown_at at answer.revision) }
         ensures seen { IfOk result (λ answer. (seen.old ≤ answer.revision) × (seen.new ≡ answer.revision)) }
+        ensures stopped { OnErr result (seen.new ≡ seen.old) }
+        ensures never_falls { seen.old ≤ seen.new }
     {
         let txn = read_one(self.alloc, key.as_str(), at)?;
         // Under the lock: one key is looked up, and its value copied.
@@ -135,8 +144,10 @@ impl<'a, R: Round, W: Wait, G: Gate> Floor<'a, R, W, G> {
         attempt: &mut Attempt,
         seen: &mut u64,
     ) -> Result<Option<Ready>, Stop>
-        requires { IsOf job.now.program attempt.old }
-        ensures { OnOk result (IsOf job.now.program attempt.new) }
+        requires { IsOfJob job.now attempt.old }
+        ensures attempt { OnOk result (IsOfJob job.now attempt.new) }
+        ensures ready { IfOk result (λ found. IfSome found (λ ready. IsRunOfJob job.now ready)) }
+        ensures never_falls { seen.old ≤ seen.new }
     {
         let next = attempt.advance(&job.program)?;
         match next {
@@ -160,7 +171,10 @@ impl<'a, R: Round, W: Wait, G: Gate> Floor<'a, R, W, G> {
         attempt: &mut Attempt,
         seen: &mut u64,
     ) -> Result<Ready, Stop>
-        requires { IsOf job.now.program attempt.old }
+        requires { IsOfJob job.now attempt.old }
+        ensures attempt { OnOk result (IsOfJob job.now attempt.new) }
+        ensures ready { IfOk result (λ ready. IsRunOfJob job.now ready) }
+        ensures never_falls { seen.old ≤ seen.new }
     {
         for _ in self.rt.forever() {
             if let Some(ready) = self.go_on(place, job, attempt, seen)? {
@@ -172,7 +186,8 @@ impl<'a, R: Round, W: Wait, G: Gate> Floor<'a, R, W, G> {
 
     /// Sends one commit. What it writes and what its entry keeps is made before the lock is taken.
     fn send(&self, place: usize, share: &mut Share<R>, ready: &Ready) -> Result<Verdict, Stop>
-        requires { 0 < share.old.parts }
+        requires part { 0 < share.old.parts }
+        requires of_a_job { is_run_of_some R.jobs ready.now.program ready.now.level ≡ true }
         ensures parts { share.new.parts ≡ share.old.parts }
         ensures committed { IfOk result (λ verdict. share.new.amount ≡ share.old.amount + committed_by verdict) }
         ensures stopped { OnErr result (share.new.amount ≡ share.old.amount) }
@@ -189,7 +204,7 @@ impl<'a, R: Round, W: Wait, G: Gate> Floor<'a, R, W, G> {
         }
     }
 
-    /// One attempt of a job, and its commit.
+    /// One attempt of a job, and its commit. What the verdict carries is seen.
     fn try_once(
         &self,
         place: usize,
@@ -198,12 +213,15 @@ impl<'a, R: Round, W: Wait, G: Gate> Floor<'a, R, W, G> {
         attempt: &mut Attempt,
         seen: &mut u64,
     ) -> Result<Verdict, Stop>
-        requires program { IsOf job.now.program attempt.old }
+        requires attempt { IsOfJob job.now attempt.old }
+        requires of_a_job { is_run_of_some R.jobs job.now.program job.now.level ≡ true }
         requires part { 0 < share.old.parts }
+        ensures attempt { OnOk result (IsOfJob job.now attempt.new) }
         ensures parts { share.new.parts ≡ share.old.parts }
         ensures committed { IfOk result (λ verdict. share.new.amount ≡ share.old.amount + committed_by verdict) }
         ensures stopped { OnErr result (share.new.amount ≡ share.old.amount) }
         ensures answers { IfOk result CanGoOn }
+        ensures never_falls { seen.old ≤ seen.new }
     {
         let ready = self.evaluate(place, job, attempt, seen)?;
         let verdict = self.send(place, share, &ready)?;
@@ -219,10 +237,12 @@ impl<'a, R: Round, W: Wait, G: Gate> Floor<'a, R, W, G> {
         share: &mut Share<R>,
         seen: &mut u64,
     ) -> Result<JobEnd, Stop>
-        requires { 0 < share.old.parts }
+        requires of_a_job { is_run_of_some R.jobs job.now.program job.now.level ≡ true }
+        requires part { 0 < share.old.parts }
         ensures parts { share.new.parts ≡ share.old.parts }
         ensures counted { IfOk result (λ end. share.new.amount ≡ share.old.amount + counted_end end) }
         ensures stopped { OnErr result (share.new.amount ≡ share.old.amount) }
+        ensures never_falls { seen.old ≤ seen.new }
     {
         let mut attempt = first_attempt(self.alloc, job);
         for _ in 1..job.limit {
@@ -252,27 +272,51 @@ impl<'a, R: Round, W: Wait, G: Gate> Floor<'a, R, W, G> {
         requires part { 0 < share.old.parts }
         ensures parts { share.new.parts ≡ share.old.parts }
         ensures counted { IfOk result (λ end. share.new.amount ≡ share.old.amount + counted_end end) }
+        ensures never_falls { seen.old ≤ seen.new }
     {
-        match self.attempt(place, &self.jobs[place], share, seen) {
+        let job = job_at(self.jobs, place);
+        match self.attempt(place, job, share, seen) {
             Ok(end) => Ok(end),
             Err(stop) => stop.end(),
         }
+    }
+
+    /// Brings a job that was drawn to its end. The worker has seen no less then.
+    fn bring_to_end(
+        &self,
+        job: usize,
+        seat: JobSeat,
+        share: Share<R>,
+        seen: u64,
+        ended: Vec<EndOf>,
+    ) -> Result<Busy<R>, AllocError>
+        requires place { job < length self.now.jobs.now }
+        requires seated { IsSeatAt R.table R.size seat }
+        requires drawn { seat_view seat ≡ drew (drawing R.size (jobs_of ended.items)) job }
+        requires counted { (share.parts ≡ 1) × (share.amount ≡ committed_in ended.items) }
+        ensures { IfOk result (λ worker. seen ≤ worker.seen) }
+    {
+        let mut share = share;
+        let mut most = seen;
+        let mut ended = ended;
+        let end = self.run_job(job, &mut share, &mut most)?;
+        ended.push(EndOf { job, end })?;
+        Ok(Busy::at_work(seat, share, most, ended))
     }
 
     /// What a worker does next: it draws a job and brings it to its end, or finds none left.
     pub fn next(&self, worker: Busy<R>) -> Result<Shift<R>, AllocError> {
         let Busy {
             mut seat,
-            mut share,
-            mut seen,
-            mut ended,
+            share,
+            seen,
+            ended,
         } = worker;
         match self.table.draw(&mut seat) {
             None => Ok(Shift::Over(Idle::at_rest(seat, share, ended))),
             Some(job) => {
-                let end = self.run_job(job, &mut share, &mut seen)?;
-                ended.push(EndOf { job, end })?;
-                Ok(Shift::On(Busy::at_work(seat, share, seen, ended)))
+                let worker = self.bring_to_end(job, seat, share, seen, ended)?;
+                Ok(Shift::On(worker))
             }
         }
     }

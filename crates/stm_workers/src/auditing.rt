@@ -107,7 +107,7 @@ fn is_borne_out(hall: &Hall, begun: Begun, job: &Job, end: &JobEnd) -> bool
 }
 
 /// The job at a place.
-fn job_at(jobs: &[Job], place: usize) -> &Job
+pub(crate) fn job_at(jobs: &[Job], place: usize) -> &Job
     requires { place < length jobs.now }
     ensures { slice_get jobs.now place ≡ Some result.now }
 {

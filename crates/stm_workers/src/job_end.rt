@@ -1,7 +1,7 @@
 //! How a job ends.
+use crate::store_refusal::StoreRefusal;
 use stm_history::Text;
 use stm_meaning::Fault;
-use stm_txn::Refusal;
 
 /// The end of a job. Want of memory is none: it ends the run of all jobs.
 #[derive(Debug, Drop)]
@@ -44,8 +44,8 @@ impl JobEnd {
 /// Why a call of a job is refused. The hall is as it was.
 #[derive(Debug, Drop)]
 pub enum JobRefusal {
-    /// The store refused it. It is not for want of memory.
-    Store(Refusal),
+    /// The store refused it, and not for want of memory.
+    Store(StoreRefusal),
     /// The store's counter is below a revision that the worker has seen.
     Behind {
         /// The greatest revision that an answer carried.

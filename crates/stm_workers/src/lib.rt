@@ -17,6 +17,7 @@ pub mod laws;
 mod lost;
 mod run;
 mod stop;
+mod store_refusal;
 mod worker;
 
 pub use auditing::audit;
@@ -28,3 +29,4 @@ pub use job_end::{JobEnd, JobRefusal};
 pub use run::{MOST_WORKERS, run_workers};
 pub use stm_draw::{JobSeat, JobTable};
 pub use stm_hall::{CommitRefusal, FetchRefusal, Hall, Verdict};
+pub use store_refusal::StoreRefusal;

@@ -1,5 +1,6 @@
 //! Why the threads of a run are given up.
-ghost use Rattle.stm_workers.specs.Gathered.{OnAudit};
+ghost use Rattle.std.specs.Prelude.{◌≡◌};
+ghost use Rattle.stm_workers.specs.Causes.{cause_of};
 
 use crate::gathered::FaultCause;
 use std::alloc::AllocError;
@@ -23,9 +24,9 @@ impl From<AllocError> for Lost {
 }
 
 impl Lost {
-    /// The cause that is told. It is no audit.
+    /// The cause that is told of it. It is no audit.
     pub fn cause(self) -> FaultCause
-        ensures { OnAudit result (λ job. ⊥) }
+        ensures { result ≡ cause_of self }
     {
         match self {
             Lost::OutOfMemory => FaultCause::OutOfMemory,

@@ -1,10 +1,12 @@
 //! The run of jobs by several threads.
-ghost use Rattle.std.specs.Prelude.{◌≡◌, ◌+◌, ◌≤◌, ◌<◌, length, vec_len, count_by, IfOk, IfErr};
-ghost use Rattle.stm_draw.specs.Draw.{size_of, newcomer};
+ghost use Rattle.std.specs.Prelude.{◌≡◌, ◌≢◌, ◌+◌, ◌≤◌, ◌<◌, length, vec_len, vec_capacity, count_by, IfOk, IfErr, OnOk};
+ghost use Rattle.stm_draw.specs.Draw.{size_of, newcomer, EachOnce};
 ghost use Rattle.stm_draw.specs.Seats.{IsSeatAt, seat_view, table_id, table_size};
-ghost use Rattle.stm_workers.specs.Ends.{begun_at, commits_in, is_committed, StandsAt, AllStand};
+ghost use Rattle.stm_workers.specs.declared.lost.Lost.TheVariants.{OutOfMemory, Spawn};
+ghost use Rattle.stm_workers.specs.declared.gathered.FaultCause.TheVariants.{Spawn as NoThread};
+ghost use Rattle.stm_workers.specs.Ends.{begun_at, commits_in, is_committed, StandsAt, AllStand, TookCommitsOf};
 ghost use Rattle.stm_workers.specs.Gathered.{RanTo, OnAudit, BrokeOff};
-ghost use Rattle.stm_workers.specs.Rounds.{committed_in, ends_in, HasGoneOn};
+ghost use Rattle.stm_workers.specs.Rounds.{committed_in, ends_in, jobs_of, EachAtItsPlace, HasGoneOn};
 
 use crate::attempts::Floor;
 use crate::auditing::audit;
@@ -46,41 +48,47 @@ fn work<R: Round, W: Wait, G: Gate>(
     unreachable!()
 }
 
-/// Starts a worker.
+/// Starts a worker. What goes to its thread may: the hall behind the lock, the programs of the jobs, and what the worker has.
+#[tactic(auto, using(floor_may_be_shared, worker_may_go, idle_may_go))]
 fn start<'s, 'a: 's, E, R: Round + Send + Sync, W: Wait + Sync, G: Gate + Sync>(
     scope: &Scope<'s, E>,
     floor: &'s Floor<'a, R, W, G>,
     worker: Busy<R>,
-) -> Result<JoinHandle<Result<Idle<R>, AllocError>>, Lost> {
+) -> Result<JoinHandle<Result<Idle<R>, AllocError>>, Lost>
+    ensures { IfErr result (λ lost. lost ≡ Spawn) }
+{
     match scope.spawn(move || work(floor, worker)) {
         Ok(handle) => Ok(handle),
         Err(_) => Err(Lost::Spawn),
     }
 }
 
-/// Starts the workers. Where a thread can't be started, those that run are left to the scope, which waits for them.
+/// Starts the workers, for whose handles there is room. Where a thread can't be started, those that run are left to the scope, which waits
+/// for them.
 fn start_all<'s, 'a: 's, E, R: Round + Send + Sync, W: Wait + Sync, G: Gate + Sync>(
     scope: &Scope<'s, E>,
     floor: &'s Floor<'a, R, W, G>,
     workers: usize,
     chief: &mut Chief<R>,
-) -> Result<Vec<JoinHandle<Result<Idle<R>, AllocError>>>, Lost>
+    started: &mut Vec<JoinHandle<Result<Idle<R>, AllocError>>>,
+) -> Result<(), Lost>
     requires parts { chief.old.share.parts ≡ workers + 1 }
     requires passes { (seat_view chief.old.seat).left ≡ workers + 1 }
-    ensures { IfOk result (λ started. (vec_len started ≡ workers) × (chief.new.share.parts ≡ 1)) }
+    requires none { vec_len started.old ≡ 0 }
+    requires room { workers ≤ vec_capacity started.old }
+    ensures started { OnOk result (vec_len started.new ≡ workers) }
+    ensures parts { OnOk result (chief.new.share.parts ≡ 1) }
+    ensures fault { IfErr result (λ lost. lost ≡ Spawn) }
 {
-    let mut started = Vec::new(floor.alloc);
     for _worker in 0..workers {
         let worker = chief.equip(floor.alloc, floor.table);
         let handle = start(scope, floor, worker)?;
-        if started.push(handle).is_err() {
-            return Err(Lost::OutOfMemory);
-        }
+        started.push_reserved(handle);
     }
-    Ok(started)
+    Ok(())
 }
 
-/// Joins the workers, and takes in what they hand back.
+/// Joins the workers, and takes in what they hand back. `OutOfMemory` is its only fault: a growth was refused, in a worker or here.
 fn join_all<R: Round, W: Threads + Wait>(
     rt: &W,
     table: &JobTable,
@@ -90,6 +98,7 @@ fn join_all<R: Round, W: Threads + Wait>(
     requires table { (table_id table.now ≡ R.table) × (table_size table.now ≡ R.size) }
     requires parts { chief.share.parts + vec_len started ≡ R.size.seats }
     requires some { 0 < vec_len started }
+    ensures { IfErr result (λ lost. lost ≡ OutOfMemory) }
 {
     let mut chief = chief;
     let mut started = started;
@@ -100,7 +109,8 @@ fn join_all<R: Round, W: Threads + Wait>(
     Ok(Whole::of(chief))
 }
 
-/// Starts the workers, and joins them. All threads have ended when it returns.
+/// Starts the workers, and joins them. All threads have ended when it returns. Room for their handles is made before the first of them
+/// starts.
 fn employ<R: Round + Send + Sync, W: Threads + Wait + Sync, G: Gate + Sync>(
     floor: &Floor<'_, R, W, G>,
     workers: usize,
@@ -117,7 +127,8 @@ fn employ<R: Round + Send + Sync, W: Threads + Wait + Sync, G: Gate + Sync>(
             requires { (1 ≤ workers) × (R.size.seats ≡ workers + 1) × (chief.share.parts ≡ workers + 1) × ((seat_view chief.seat).left ≡ workers + 1) }
         {
             let mut chief = chief;
-            let started = start_all(scope, floor, workers, &mut chief)?;
+            let mut started = Vec::with_capacity(floor.alloc, workers)?;
+            start_all(scope, floor, workers, &mut chief, &mut started)?;
             join_all(floor.rt, floor.table, started, chief)
         },
     )
@@ -134,10 +145,13 @@ fn ends_of(alloc: Global, ended: Vec<EndOf>) -> Result<Vec<JobEnd>, AllocError>
     Ok(ends)
 }
 
-/// The ends in the order of their jobs.
+/// The ends of jobs that were drawn once each, in the order of the jobs: each at the place of its job. `OutOfMemory` is its only fault.
 fn in_places(alloc: Global, ended: Vec<EndOf>) -> Result<Vec<JobEnd>, Lost>
+    requires { EachOnce (length ended.items) (jobs_of ended.items) }
+    ensures places { IfOk result (λ ends. EachAtItsPlace ended.items ends.items) }
     ensures length { IfOk result (λ ends. length ends.items ≡ length ended.items) }
     ensures counted { IfOk result (λ ends. count_by is_committed ends.items ≡ committed_in ended.items) }
+    ensures fault { IfErr result (λ lost. lost ≡ OutOfMemory) }
 {
     let mut ended = ended;
     ended.sort_unstable_by_key(|ended_job| ended_job.job);
@@ -162,7 +176,9 @@ fn run_round<R: Round + Send + Sync, W: Threads + Wait + Sync, G: Gate + Sync>(
     requires table { (table_id table.now ≡ R.table) × (table_size table.now ≡ R.size) × (R.size ≡ size_of (length jobs.now) (workers + 1)) }
     requires seat { IsSeatAt R.table R.size seat × (seat_view seat ≡ newcomer R.size) }
     requires hall { hall ≡ R.before }
+    requires jobs { jobs.now ≡ R.jobs }
     ensures gone_on { HasGoneOn hall result.1 }
+    ensures takes { TookCommitsOf jobs.now hall result.1 }
     ensures places { IfOk result.0 (λ ends. length ends.items ≡ length jobs.now) }
     ensures commits { IfOk result.0 (λ ends. commits_in result.1.entries ≡ commits_in hall.entries + count_by is_committed ends.items) }
 {
@@ -201,6 +217,7 @@ fn gather(
     ensures broken { IfErr result (λ fault. fault.hall ≡ hall) }
     ensures ends { IfOk result (λ gathered. (gathered.ends.items ≡ ends.items) × (gathered.committed ≡ count_by is_committed ends.items) × AllStand begun hall jobs.now ends.items) }
     ensures cause { IfErr result (λ fault. OnAudit fault.cause (λ job. (job < length jobs.now) × (StandsAt begun hall jobs.now ends.items job → ⊥))) }
+    ensures started { IfErr result (λ fault. fault.cause ≢ NoThread) }
 {
     let committed = count_committed(ends.as_slice());
     match audit(alloc, jobs, ends.as_slice(), begun, &hall) {
@@ -249,9 +266,9 @@ fn begin(hall: &Hall) -> Begun
 /// After a commit that failed a job is attempted again, until it has sent as many commits as it may.
 ///
 /// At `Ok` each job has its end at its place, each end stands in the hall, and the hall has the entries that it had, with one commit
-/// for each job that committed. `OutOfMemory`: a growth was refused, in a worker, in the hall, or here. `Spawn`: a thread could not be
-/// started. `Audit`: the end of this job does not stand. At each of these all threads have ended, and the hall has what was committed
-/// until then. Nothing is said of which job goes first, nor that it returns.
+/// for each job that committed, and nothing else. `OutOfMemory`: a growth was refused, in a worker, in the hall, or here. `Spawn`: a thread
+/// could not be started. `Audit`: the end of this job does not stand. At each of these all threads have ended, and the hall has what was
+/// committed until then, all of it of these jobs. Nothing is said of which job goes first, nor that it returns.
 pub fn run_workers<W: Threads + Wait + Sync, G: Gate + Sync>(
     rt: &W,
     alloc: Global,

@@ -1,9 +1,11 @@
 //! Why a job goes no further.
-ghost use Rattle.std.specs.Prelude.{◌≡◌, ◌≢◌, false, IfOk};
+ghost use Rattle.std.specs.Prelude.{◌≡◌, ◌≢◌, ◌↔◌, false, IfOk, IfErr, IsTrue};
 ghost use Rattle.stm_meaning.specs.declared.run.End.TheVariants.{Done};
+ghost use Rattle.stm_txn.specs.declared.refusal.Refusal.TheVariants.{OutOfMemory as Want};
 ghost use Rattle.stm_workers.specs.Ends.{is_committed};
 
 use crate::job_end::{JobEnd, JobRefusal};
+use crate::store_refusal::StoreRefusal;
 use std::alloc::AllocError;
 use stm_hall::{CommitRefusal, FetchRefusal};
 use stm_history::Text;
@@ -31,13 +33,22 @@ impl From<AllocError> for Stop {
     }
 }
 
+/// Whether a call was refused for want of memory.
+fn is_want(cause: Refusal) -> bool
+    ensures { IsTrue result ↔ cause ≡ Want }
+{
+    cause == Refusal::OutOfMemory
+}
+
 impl Stop {
+    ghost use Rattle.stm_workers.specs.declared.stop.Stop.TheVariants.{OutOfMemory};
+
     /// A call that the store refused.
     fn of_store(cause: Refusal) -> Stop {
-        match cause {
-            Refusal::OutOfMemory => Stop::OutOfMemory,
-            _ => Stop::Refused(JobRefusal::Store(cause)),
+        if is_want(cause) {
+            return Stop::OutOfMemory;
         }
+        Stop::Refused(JobRefusal::Store(StoreRefusal::of(cause)))
     }
 
     pub fn of_fetch(refusal: FetchRefusal) -> Stop {
@@ -65,9 +76,10 @@ impl Stop {
         }
     }
 
-    /// The job's end, where it is one.
+    /// The job's end, where it is one: want of memory is none.
     pub fn end(self) -> Result<JobEnd, AllocError>
-        ensures { IfOk result (λ end. is_committed end ≡ false) }
+        ensures end { IfOk result (λ end. is_committed end ≡ false) }
+        ensures want { IfErr result (λ error. self ≡ OutOfMemory) }
     {
         match self {
             Stop::OutOfMemory => Err(AllocError),

@@ -5,3 +5,4 @@ pub mod AskLemmas
 pub mod NextLemmas
 pub mod AuditLemmas
 pub mod RunLemmas
+pub mod Sent

@@ -1,4 +1,4 @@
--- What an attempt answers: a run that is not done; and that it stays an attempt of its program.
+-- What an attempt answers: a run that is not done, or is its job's; and that it stays an attempt of its job.
 use Rattle.std.proofs.Common.{◌≡◌, ◌≢◌, ℕ, List, Some, refl, sym, ◌∙◌, ap, subst}
 use Rattle.stm_history.specs.declared.key_state.ReadAnswer.{ReadAnswer}
 use Rattle.stm_program.specs.Syntax.{ProgramTree}
@@ -9,11 +9,14 @@ use Rattle.stm_meaning.specs.declared.run.Run.{Run}
 use Rattle.stm_meaning.specs.declared.run.Answered.{Answered}
 use Rattle.stm_meaning.specs.declared.run.Answered.TheVariants.{Ended, Wants}
 use Rattle.stm_attempt.specs.declared.next.Next.{Next}
-use Rattle.stm_attempt.specs.declared.next.Next.TheVariants.{Fetch, Aborted, Faulted}
+use Rattle.stm_attempt.specs.declared.next.Next.TheVariants.{Fetch, Ready, Aborted, Faulted}
 use Rattle.stm_attempt.specs.AttemptState.{AttemptState, IsOf, begun, advanced, supplied, awaited}
 use Rattle.stm_attempt.specs.Known.{Known}
+use Rattle.stm_attempt.specs.ReadyRun.{ReadyRun, ready_run}
 use Rattle.stm_attempt.specs.Settled.{run_on, settled}
 use Rattle.stm_attempt.specs.Next.{next_at_end, next_after, next_of, key_asked}
+use Rattle.stm_workers.specs.declared.job.Job.{Job}
+use Rattle.stm_workers.specs.Rounds.{IsOfJob, IsRunOfJob}
 
 aborted_at_end : (program : ProgramTree) (level : Level) (reads : List ReadAnswer) (run aborted : Run) (end : End) → run.end ≡ end →
     next_at_end program level reads run end ≡ Aborted aborted → aborted.end ≢ DoneEnd
@@ -48,17 +51,41 @@ pub faulted_is_not_done : (program : ProgramTree) (level : Level) (known : Known
 faulted_is_not_done program level known run told =
     let reads : List ReadAnswer = settled program known in faulted_by program level reads (run_on program reads) run told
 
--- ---- an attempt of a program
+-- ---- what is ready
 
-pub advanced_is_of : (program : ProgramTree) (old new : AttemptState) → new ≡ advanced program old → IsOf program new
-advanced_is_of program old new is = subst (IsOf program) (sym is) refl
+-- what is ready has the attempt's program and level
+abbrev HasBoth : ProgramTree → Level → ReadyRun → Type 0
+HasBoth program level ready = (ready.program ≡ program) × (ready.level ≡ level)
 
-pub supplied_is_of : (program : ProgramTree) (answer : ReadAnswer) (old new : AttemptState) → new ≡ supplied answer old → IsOf program old →
-    IsOf program new
-supplied_is_of program answer old new is of = subst (IsOf program) (sym is) of
+ready_at_end : (program : ProgramTree) (level : Level) (reads : List ReadAnswer) (run : Run) (ready : ReadyRun) (end : End) →
+    next_at_end program level reads run end ≡ Ready ready → HasBoth program level ready
+ready_at_end program level reads run ready DoneEnd told =
+    let same : ready_run program level reads run ≡ ready = cc in subst (HasBoth program level) same (refl, refl)
+ready_at_end program level reads run ready (AbortedEnd text) told = absurd (cc)
+ready_at_end program level reads run ready (FaultedEnd fault) told = absurd (cc)
 
-pub begun_is_of : (program : ProgramTree) (level : Level) (answers : List ReadAnswer) (new : AttemptState) → new ≡ begun level answers → IsOf program new
-begun_is_of program level answers new is = subst (IsOf program) (sym is) tt
+ready_by : (program : ProgramTree) (level : Level) (reads : List ReadAnswer) (x : Answered) (ready : ReadyRun) →
+    next_after program level reads x ≡ Ready ready → HasBoth program level ready
+ready_by program level reads (Wants k trace) ready told = absurd (cc)
+ready_by program level reads (Ended run) ready told = ready_at_end program level reads run ready run.end told
+
+pub ready_is_of : (job : Job) (attempt : AttemptState) (ready : ReadyRun) → IsOfJob job attempt →
+    next_of job.program attempt.level attempt.known ≡ Ready ready → IsRunOfJob job ready
+ready_is_of job attempt ready of told =
+    let reads : List ReadAnswer = settled job.program attempt.known in
+    let both = ready_by job.program attempt.level reads (run_on job.program reads) ready told in
+    (both.0, both.1 ∙ of.1)
+
+-- ---- an attempt of a job
+
+pub advanced_is_of : (job : Job) (old new : AttemptState) → new ≡ advanced job.program old → IsOfJob job old → IsOfJob job new
+advanced_is_of job old new is of = subst (IsOfJob job) (sym is) (refl, of.1)
+
+pub supplied_is_of : (job : Job) (answer : ReadAnswer) (old new : AttemptState) → new ≡ supplied answer old → IsOfJob job old → IsOfJob job new
+supplied_is_of job answer old new is of = subst (IsOfJob job) (sym is) of
+
+pub begun_is_of : (job : Job) (answers : List ReadAnswer) (new : AttemptState) → new ≡ begun job.level answers → IsOfJob job new
+begun_is_of job answers new is = subst (IsOfJob job) (sym is) (tt, refl)
 
 -- the key that is fetched is the one that the attempt waits for
 pub waits_for : (attempt : AttemptState) (next : Next) (key : List ℕ) (at : ℕ) (answer : ReadAnswer) → awaited attempt ≡ key_asked next →

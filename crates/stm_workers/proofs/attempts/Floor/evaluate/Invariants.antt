@@ -1,6 +1,7 @@
-use Rattle.stm_attempt.specs.AttemptState.{IsOf}
+use Rattle.std.proofs.Common.{◌≤◌}
+use Rattle.stm_workers.specs.Rounds.{IsOfJob}
 use Rattle.stm_workers.proofs.attempts.Floor.evaluate.Given as goal
 
--- it stays an attempt of the job's program
+-- it stays an attempt of the job, and what was seen does not fall
 abbrev pub invariant-loop : goal.invariant-loop
-invariant-loop g l = IsOf l.job.program l.attempt
+invariant-loop g l = IsOfJob l.job l.attempt × (l.initial.seen ≤ l.seen)

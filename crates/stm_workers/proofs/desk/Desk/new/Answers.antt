@@ -1,10 +1,6 @@
-use Rattle.std.proofs.Common.{ℕ, ◌+◌, ap, sym, ◌∙◌, subst, arith}
-use Rattle.stm_hall.specs.HallState.{HallState}
-use Rattle.stm_workers.specs.Ends.{commits_in}
-use Rattle.stm_workers.specs.Rounds.{HasGoneOn}
 use Rattle.stm_workers.proofs.RoundLemmas.{begins}
 use Rattle.stm_workers.proofs.desk.Desk.new.Goals as goal
 
 pub invariant_of-result : goal.invariant_of-result
 invariant_of-result g c =
-    let b = begins _ c.args.hall c.args.commits.total c.requires.0 c.requires.1 in record { gone_on = b.0; counted = b.1 }
+    let b = begins _ _ c.args.hall c.args.commits.total c.requires.0 c.requires.1 in record { gone_on = b.0; takes = b.1; counted = b.2 }

@@ -18,6 +18,10 @@ value_line key value = list (string (codes "value") ∷ string key ∷ string va
 abbrev pub value_lines : List StateEntry → List Data
 value_lines entries = map (λ (e : StateEntry). value_line e.key e.value) entries
 
+-- the keys that the entries of a state are of
+abbrev pub keys_in : List StateEntry → List (List ℕ)
+keys_in entries = map (λ (e : StateEntry). e.key) entries
+
 -- how many jobs there are and how many committed, the value of each key that is present, ascending by bytes, and the revision
 abbrev pub text_of : ℕ → ℕ → List StateEntry → ℕ → List ℕ
 text_of jobs committed entries revision =
@@ -29,5 +33,5 @@ text_of jobs committed entries revision =
 -- the text is that of so many jobs, of which so many committed, and of the state that the history has come to
 abbrev pub AreLinesOf : ℕ → ℕ → History → List ℕ → Type 0
 AreLinesOf jobs committed h text =
-    (entries : List StateEntry) × IsStateOf h entries × ArePresentKeys h (map (λ (e : StateEntry). e.key) entries)
+    (entries : List StateEntry) × IsStateOf h entries × ArePresentKeys h (keys_in entries)
     × (text ≡ text_of jobs committed entries (now h))

@@ -2,6 +2,7 @@
 ghost use Rattle.std.specs.Prelude.{◌≡◌, ◌++◌, false, IfOk, OnOk, string_bytes};
 ghost use Rattle.serde_json.specs.View.{view};
 ghost use Rattle.serde_json.specs.Written.{has_float};
+ghost use Rattle.stm_meaning.specs.States.{IsAscending};
 ghost use Rattle.stm_jobs.specs.Lines.{count_line, value_line, value_lines, line_text, lines_text, AreLinesOf};
 
 use serde_json::{Value as Json, json};
@@ -49,9 +50,10 @@ fn push_value(alloc: Global, text: &mut String, key: &str, value: &str) -> Resul
     push_line(alloc, text, &line)
 }
 
-/// Adds a line for each key of the state.
+/// Adds a line for each key of the state. Its keys ascend.
 fn push_values(alloc: Global, text: &mut String, state: &State) -> Result<(), AllocError>
-    ensures { OnOk result (string_bytes text.new ≡ string_bytes text.old ++ lines_text (value_lines state.now)) }
+    ensures text { OnOk result (string_bytes text.new ≡ string_bytes text.old ++ lines_text (value_lines state.now)) }
+    ensures ascending { OnOk result (IsAscending state.now) }
 {
     for i in 0..state.len() {
         let entry = state.at(i);

@@ -1,21 +1,23 @@
 -- What workers have drawn, and the ends of what they drew.
-use Rattle.std.proofs.Common.{◌≡◌, ℕ, suc, ◌+◌, ◌<◌, List, [], ◌∷◌, ◌++◌, length, cond, refl, sym, ◌∙◌, ap, subst, arith}
-use Rattle.std.proofs.Common.{count_by}
+use Rattle.std.proofs.Common.{◌≡◌, ℕ, zero, suc, ◌+◌, ◌<◌, ◌≤◌, Bool, true, eqb, List, [], ◌∷◌, ◌++◌, length, cond, refl, sym, ◌∙◌, ap, subst, arith}
+use Rattle.std.proofs.Common.{Some, slice_get, slice_index_or, All, ⊎_elim, eq-eqb, ne_eqb, lt-ltb, le-ltb}
+use Rattle.std.proofs.lemmas.Bool.{cases_eq, cases_lt}
+use Rattle.std.proofs.Common.{count_by, sum_by}
 use Rattle.std.proofs.lemmas.List.{map-append}
 use Rattle.std.proofs.lemmas.List.Sums.{sum_by-cons, sum_by-append, sum_by_push}
-use Rattle.std.specs.List.Sorted.{IsPermutation}
-use Rattle.std.proofs.lemmas.List.Sorted.{sum_by-IsPermutation, length_permutation}
+use Rattle.std.specs.List.Sorted.{IsPermutation, IsNonDecreasingBy}
+use Rattle.std.proofs.lemmas.List.Sorted.{sum_by-IsPermutation, length_permutation, All-permutation, IsPermutation-sym, IsNonDecreasingBy-drop}
 use Rattle.stm_draw.specs.declared.view.Size.{Size}
 use Rattle.stm_draw.specs.declared.view.View.{View}
 use Rattle.stm_draw.specs.declared.table.JobSeat.{JobSeat}
 use Rattle.atomic_table.specs.Seated.{TableId}
 use Rattle.stm_draw.specs.Seats.{IsSeatAt}
-use Rattle.stm_draw.specs.Draw.{EachOnce, Knows, fresh, given, drew, joined, after_none}
+use Rattle.stm_draw.specs.Draw.{EachOnce, Knows, times, once_below, fresh, given, drew, joined, after_none}
 use Rattle.stm_draw.proofs.Counted.{as_many}
 use Rattle.stm_workers.specs.declared.job_end.JobEnd.{JobEnd}
 use Rattle.stm_workers.specs.declared.worker.EndOf.{EndOf}
 use Rattle.stm_workers.specs.Ends.{is_committed}
-use Rattle.stm_workers.specs.Rounds.{jobs_of, committed_in, ends_in, counted_end, drawing, used_up}
+use Rattle.stm_workers.specs.Rounds.{jobs_of, committed_in, ends_in, counted_end, drawing, used_up, EachAtItsPlace}
 
 -- ---- seats
 
@@ -122,3 +124,133 @@ sorted_counted ended sorted ends moved are =
     ap (λ (l : List JobEnd). count_by is_committed l) are
     ∙ ends_counted sorted
     ∙ sum_by-IsPermutation (λ (e : EndOf). cond (is_committed e.end) 1 0) ended sorted moved
+
+pub each_of_many : (n : ℕ) (ended : List EndOf) → EachOnce n (jobs_of ended) → EachOnce (length ended) (jobs_of ended)
+each_of_many n ended once = subst (λ (k : ℕ). EachOnce k (jobs_of ended)) (sym (an_end_each n ended once)) once
+
+-- ---- which place is which job's
+
+abbrev bit : Bool → ℕ
+bit b = cond b 1 0
+
+-- how often a job stands there, counted from the first
+counted_first : (x : ℕ) (e : EndOf) (es : List EndOf) → times x (jobs_of (e ∷ es)) ≡ bit (eqb e.job x) + times x (jobs_of es)
+counted_first x e es = sum_by-cons (λ (y : ℕ). cond (eqb y x) 1 0) e.job (jobs_of es)
+
+own_counted : (x : ℕ) (e : EndOf) (es : List EndOf) → e.job ≡ x → times x (jobs_of (e ∷ es)) ≡ 1 + times x (jobs_of es)
+own_counted x e es same = counted_first x e es ∙ ap (λ (b : Bool). bit b + times x (jobs_of es)) (eq-eqb e.job x same)
+
+other_counted : (x : ℕ) (e : EndOf) (es : List EndOf) → (e.job ≡ x → ⊥) → times x (jobs_of (e ∷ es)) ≡ times x (jobs_of es)
+other_counted x e es other =
+    let none : bit (eqb e.job x) ≡ 0 = ap bit (ne_eqb e.job x other) in omega (arith, counted_first x e es, none)
+
+-- a job that stands there stands somewhere
+record Found (x : ℕ) (es : List EndOf) : Type 0 where
+  pub place : ℕ
+  pub low : place < length es
+  pub is : (d : EndOf) → (slice_index_or es place d).job ≡ x
+
+found : (x : ℕ) (es : List EndOf) → 0 < times x (jobs_of es) → Found x es
+found x [] some_there = absurd (omega arith)
+found x (e ∷ es) some_there = ⊎_elim
+    (λ (same : e.job ≡ x). record { place = zero; low = omega arith; is = λ d. same })
+    (λ (other : e.job ≡ x → ⊥).
+    let r = found x es (omega (arith, some_there, other_counted x e es other)) in
+    record { place = suc r.place; low = omega (arith, r.low); is = r.is })
+    (cases_eq e.job x)
+
+-- the jobs from one number on, up to another, each once
+record AreFrom (a m : ℕ) (es : List EndOf) : Type 0 where
+  pub within : (x : ℕ) → 0 < times x (jobs_of es) → (a ≤ x) × (x < m)
+  pub once : (x : ℕ) → a ≤ x → x < m → times x (jobs_of es) ≡ 1
+
+first_is : (e : EndOf) (es : List EndOf) (a m : ℕ) → IsNonDecreasingBy (λ (f : EndOf). f.job) (e ∷ es) → AreFrom a m (e ∷ es) → e.job ≡ a
+first_is e es a m rises are = ⊎_elim
+    (λ (same : e.job ≡ a). same)
+    (λ (other : e.job ≡ a → ⊥).
+    let own = own_counted e.job e es refl in
+    let range = are.within e.job (omega (arith, own)) in
+    let there = are.once a (omega arith) (omega (arith, range.0, range.1)) in
+    let later = found a es (omega (arith, there, other_counted a e es other)) in
+    let at_most = rises 0 (suc later.place) e (omega arith) (omega (arith, later.low)) in
+    absurd (other (omega (arith, range.0, at_most, later.is e))))
+    (cases_eq e.job a)
+
+rest_are : (e : EndOf) (es : List EndOf) (a m : ℕ) → e.job ≡ a → AreFrom a m (e ∷ es) → AreFrom (suc a) m es
+rest_are e es a m first are = record { within = in_rest; once = once_in_rest }
+  where
+    range : (a ≤ e.job) × (e.job < m)
+    range = are.within e.job (let own = own_counted e.job e es refl in omega (arith, own))
+
+    none_again : times a (jobs_of es) ≡ 0
+    none_again =
+        let there = are.once a (omega arith) (omega (arith, range.1, first)) in omega (arith, there, own_counted a e es first)
+
+    above : (x : ℕ) → (e.job ≡ x → ⊥) → a ≤ x → suc a ≤ x
+    above x other low = ⊎_elim
+        (λ (same : e.job ≡ x). absurd (other same))
+        (λ (different : e.job ≡ x → ⊥). ⊎_elim
+        (λ (less : a < x). omega arith)
+        (λ (more : x ≤ a). absurd (other (omega (arith, first, more, low))))
+        (cases_lt a x))
+        (cases_eq e.job x)
+
+    in_rest : (x : ℕ) → 0 < times x (jobs_of es) → (suc a ≤ x) × (x < m)
+    in_rest x some_there = ⊎_elim
+        (λ (same : e.job ≡ x). absurd (omega (arith, some_there, none_again, ap (λ (k : ℕ). times k (jobs_of es)) (sym first ∙ same))))
+        (λ (other : e.job ≡ x → ⊥).
+        let whole = are.within x (omega (arith, some_there, other_counted x e es other)) in (above x other whole.0, whole.1))
+        (cases_eq e.job x)
+
+    once_in_rest : (x : ℕ) → suc a ≤ x → x < m → times x (jobs_of es) ≡ 1
+    once_in_rest x low high =
+        let other : e.job ≡ x → ⊥ = λ same. absurd (omega (arith, same, first, low)) in
+        sym (other_counted x e es other) ∙ are.once x (omega (arith, low)) high
+
+-- sorted by their jobs, the ends of such jobs stand one after the other
+in_order : (es : List EndOf) (a m : ℕ) → IsNonDecreasingBy (λ (e : EndOf). e.job) es → AreFrom a m es → (k : ℕ) (d : EndOf) → k < length es →
+    (slice_index_or es k d).job ≡ a + k
+in_order [] a m rises are k d low = absurd (omega arith)
+in_order (e ∷ es) a m rises are zero d low = let first = first_is e es a m rises are in omega (arith, first)
+in_order (e ∷ es) a m rises are (suc k) d low =
+    let first = first_is e es a m rises are in
+    let rest = in_order es (suc a) m (IsNonDecreasingBy-drop (λ (f : EndOf). f.job) 1 (e ∷ es) rises) (rest_are e es a m first are) k d (omega arith) in
+    omega (arith, rest)
+
+-- the jobs below a number, each once
+below_once : (n x t : ℕ) → t ≡ once_below n x → 0 < t → x < n
+below_once n x t is some_there = ⊎_elim
+    (λ (low : x < n). low)
+    (λ (high : n ≤ x). let none : once_below n x ≡ 0 = ap bit (le-ltb x n high) in absurd (omega (arith, is, none, some_there)))
+    (cases_lt x n)
+
+are_from_zero : (n : ℕ) (ended sorted : List EndOf) → EachOnce n (jobs_of ended) → IsPermutation ended sorted → AreFrom 0 n sorted
+are_from_zero n ended sorted each moved = record {
+  within = λ x some_there. (omega arith, below_once n x (times x (jobs_of sorted)) (moved_times x) some_there);
+  once = λ x low high. moved_times x ∙ ap bit (lt-ltb x n high);
+}
+  where
+    as_sum : (x : ℕ) (es : List EndOf) → times x (jobs_of es) ≡ sum_by (λ (e : EndOf). bit (eqb e.job x)) es
+    as_sum x [] = refl
+    as_sum x (e ∷ es) =
+        counted_first x e es ∙ ap (λ (n : ℕ). bit (eqb e.job x) + n) (as_sum x es) ∙ sym (sum_by-cons (λ (f : EndOf). bit (eqb f.job x)) e es)
+
+    moved_times : (x : ℕ) → times x (jobs_of sorted) ≡ once_below n x
+    moved_times x =
+        as_sum x sorted ∙ sum_by-IsPermutation (λ (e : EndOf). bit (eqb e.job x)) ended sorted moved ∙ sym (as_sum x ended) ∙ each x
+
+end_there : (es : List EndOf) (k : ℕ) (d : EndOf) → k < length es → slice_get (ends_in es) k ≡ Some (slice_index_or es k d).end
+end_there [] k d low = absurd (omega arith)
+end_there (e ∷ es) zero d low = refl
+end_there (e ∷ es) (suc k) d low = end_there es k d (omega arith)
+
+-- so each end stands at the place of its job
+pub sorted_places : (ended sorted : List EndOf) (ends : List JobEnd) → EachOnce (length ended) (jobs_of ended) → IsPermutation ended sorted →
+    IsNonDecreasingBy (λ (e : EndOf). e.job) sorted → ends ≡ ends_in sorted → EachAtItsPlace ended ends
+sorted_places ended sorted ends each moved rises are =
+    All-permutation (λ (e : EndOf). slice_get ends e.job ≡ Some e.end) sorted ended (IsPermutation-sym ended sorted moved)
+    (λ k d low.
+    let job : (slice_index_or sorted k d).job ≡ k = in_order sorted 0 (length ended) rises (are_from_zero (length ended) ended sorted each moved) k d low in
+    ap (λ (l : List JobEnd). slice_get l (slice_index_or sorted k d).job) are
+    ∙ ap (λ (n : ℕ). slice_get (ends_in sorted) n) job
+    ∙ end_there sorted k d low)

@@ -269,6 +269,7 @@ fn begin(hall: &Hall) -> Begun
 /// for each job that committed, and nothing else. `OutOfMemory`: a growth was refused, in a worker, in the hall, or here. `Spawn`: a thread
 /// could not be started. `Audit`: the end of this job does not stand. At each of these all threads have ended, and the hall has what was
 /// committed until then, all of it of these jobs. Nothing is said of which job goes first, nor that it returns.
+#[tactic(auto, using(crate::proofs::RunLemmas::ran_to, crate::proofs::RunLemmas::fault_found))]
 pub fn run_workers<W: Threads + Wait + Sync, G: Gate + Sync>(
     rt: &W,
     alloc: Global,

@@ -1,4 +1,4 @@
-use Rattle.std.proofs.Common.{sym, refl}
+use Rattle.std.proofs.Common.{refl, arith}
 use Rattle.stm_workers.proofs.AskLemmas.{fetch_only_reads, shows_key, one_read, taken_key, taken_revision, taken_shown, taken_fits}
 use Rattle.stm_workers.proofs.attempts.Floor.ask.Goals as goal
 
@@ -25,10 +25,10 @@ pub returns-in-Ok-clause-seen : goal.returns-in-Ok-clause-seen
 returns-in-Ok-clause-seen g c =
     let carried = taken_revision _ _ _ _ (shows_key _ _ _ _ _ c.in-Ok.told c.in_ok-txn.ensures c.fetch-told.ensures.answer c.in-Ok.is)
     c.in_ok-answer-in-Ok.ensures in
-    (rw (sym carried) c.in-Ok.ensures.seen, refl)
+    (omega (arith, carried, c.in-Ok.ensures.seen), refl)
 
 pub returns-in-Ok-clause-never_falls : goal.returns-in-Ok-clause-never_falls
 returns-in-Ok-clause-never_falls g c =
     let carried = taken_revision _ _ _ _ (shows_key _ _ _ _ _ c.in-Ok.told c.in_ok-txn.ensures c.fetch-told.ensures.answer c.in-Ok.is)
     c.in_ok-answer-in-Ok.ensures in
-    rw (sym carried) c.in-Ok.ensures.seen
+    omega (arith, carried, c.in-Ok.ensures.seen)

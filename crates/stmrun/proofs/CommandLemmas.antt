@@ -1,6 +1,7 @@
 -- What `clap` tells of words, said of the command stmrun.
-use Rattle.std.proofs.Common.{◌≡◌, ℕ, List, [], Option, Some, None, Ok, Err, true, refl, subst}
-use Rattle.clap.specs.Words.{App, FailsBy, HasMatchesOf, Row, Text, fault_of, is_simple_and_free, kind_of, subcommand_of, subcommand_rows_of}
+use Rattle.std.proofs.Common.{◌≡◌, ◌^◌, ◌<◌, ◌≤◌, ℕ, List, [], Option, Some, None, IfNone, IsSomeAnd, Ok, Err, true, refl, sym, subst}
+use Rattle.std.specs.Str.Parse.{IsNumeral, digits_value, without_leading_plus}
+use Rattle.clap.specs.Words.{App, FailsBy, HasMatchesOf, IsUnsignedIn, Row, Text, fault_of, is_simple_and_free, kind_of, subcommand_of, subcommand_rows_of}
 use Rattle.clap.specs.declared.error.Error.{Error}
 use Rattle.clap.specs.declared.parser.matches.ArgMatches.{ArgMatches}
 use Rattle.stmrun.specs.declared.arguments.Asked.{Asked}
@@ -29,3 +30,21 @@ asks words (Script file) none by = (none, by)
 asks words (Check scenario report) none by = (none, by)
 asks words (Threads file workers) none by = (none, by)
 asks words (Nothing status) none by = absurd (asks_something (subcommand_of stmrun_app words) status by)
+
+-- ---- the number of threads
+
+-- a text that spells no number of 64 bits spells none from 1 to 16
+pub no_number : (text : Text) → (IsNumeral 10 (without_leading_plus text) × (digits_value 10 (without_leading_plus text) < 2 ^ 64) → ⊥)
+    → IsUnsignedIn 1 16 text → ⊥
+no_number text not is = not (is.0, is.1)
+
+-- one that spells a number spells none from 1 to 16 where that is none of workers
+pub none_in_range : (text : Text) (number : ℕ) (workers : Option ℕ) → number ≡ digits_value 10 (without_leading_plus text)
+    → IfNone workers ((1 ≤ number) × (number ≤ 16) → ⊥) → IfNone workers (IsUnsignedIn 1 16 text → ⊥)
+none_in_range text number (Some n) is told = tt
+none_in_range text number None is told = λ range.
+    told (subst (λ (n : ℕ). 1 ≤ n) (sym is) range.2, subst (λ (n : ℕ). n ≤ 16) (sym is) range.3)
+
+-- what stands in the place of the number of threads is none
+pub no_workers : (o : Option Text) (text : Text) → Some text ≡ o → (IsUnsignedIn 1 16 text → ⊥) → IsSomeAnd o (IsUnsignedIn 1 16) → ⊥
+no_workers o text is not there = not (subst (λ (p : Option Text). IsSomeAnd p (IsUnsignedIn 1 16)) (sym is) there)

@@ -178,11 +178,12 @@ fn workers<'a>(alloc: Global) -> Arg<'a>
     ensures rule { rule_of result ≡ workers_rule }
     ensures local { result.global ≡ false }
 {
+    let numbers = clap::value_parser!(u64).range(1..=16);
     Arg::new(alloc, "workers")
         .long("workers")
         .value_name("N")
         .required(true)
-        .value_parser(clap::value_parser!(u64).range(1..=16))
+        .value_parser(numbers)
         .help("How many threads run the jobs, from 1 to 16")
 }
 

@@ -35,7 +35,9 @@ fn name(alloc: Global, end: &JobEnd) -> Result<String, AllocError> {
         }
         JobEnd::Aborted(text) => { format!(in alloc; "aborted {}", text.as_str()) }
         JobEnd::Faulted(fault) => { format!(in alloc; "faulted {fault:?}") }
-        JobEnd::Refused(JobRefusal::Store(cause)) => { format!(in alloc; "refused {cause}") }
+        JobEnd::Refused(JobRefusal::Store(refusal)) => {
+            format!(in alloc; "refused {}", refusal.cause)
+        }
         JobEnd::Refused(JobRefusal::Behind { seen, now }) => {
             format!(in alloc; "behind {seen} {now}")
         }

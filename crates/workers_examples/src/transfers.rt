@@ -1,5 +1,6 @@
 //! 64 transfers of 1 in a ring of eight accounts, of which each pays eight times and is paid eight times: all commit, each account ends at
 //! the 100 that it began with, and the counter at 1 + 1 + 64.
+ghost use Rattle.stm_recipes.specs.Names.{IsName};
 
 use std::alloc::{AllocError, Global};
 use std::sync::Wait;
@@ -43,9 +44,26 @@ fn opened(alloc: Global) -> Result<Store, Fail> {
     }
 }
 
-/// The job of this number.
+/// Who pays and who is paid by the job of this number: the next account in the ring.
+fn parties(number: usize) -> (&'static str, &'static str)
+    ensures { IsName result.0.now × IsName result.1.now }
+{
+    match number % 8 {
+        0 => ("a0", "a1"),
+        1 => ("a1", "a2"),
+        2 => ("a2", "a3"),
+        3 => ("a3", "a4"),
+        4 => ("a4", "a5"),
+        5 => ("a5", "a6"),
+        6 => ("a6", "a7"),
+        _ => ("a7", "a0"),
+    }
+}
+
+/// The job of this number. The other 63 jobs commit once each, and a commit of it fails only over one of theirs: so it needs 64 at most.
 fn job(alloc: Global, number: usize) -> Result<Job, AllocError> {
-    let program = transfer(alloc, ACCOUNTS[number % 8], ACCOUNTS[(number + 1) % 8], 1)?;
+    let (from, to) = parties(number);
+    let program = transfer(alloc, from, to, 1)?;
     Ok(Job {
         program,
         level: Level::Serializable,
@@ -67,10 +85,12 @@ fn jobs(alloc: Global) -> Result<Vec<Job>, AllocError> {
 fn transfers_by_four_workers_lose_nothing(rt: HostRuntime) -> Result<(), Fail> {
     let alloc = rt.alloc();
     let jobs = jobs(alloc)?;
-    let hall = Hall::new(alloc, opened(alloc)?);
+    let store = opened(alloc)?;
+    let hall = Hall::new(alloc, store);
     let Ok(gathered) = run_workers(&rt, alloc, jobs.as_slice(), 4, hall, &NoGate) else {
         return Err(Fail::from("the run was broken off"));
     };
+    assert_eq!(rt; gathered.ends.len(), 64);
     assert_eq!(rt; gathered.committed, 64);
     assert_eq!(rt; gathered.hall.entries().len(), 64);
     assert_eq!(rt; gathered.hall.revision(), 66);

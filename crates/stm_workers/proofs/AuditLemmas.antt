@@ -15,7 +15,7 @@ use Rattle.stm_workers.proofs.EndLaws.{Named, named, There, there, within}
 
 -- ---- the entry that an end names
 
-index_or_none : ℕ → Option ℕ → ℕ
+abbrev index_or_none : ℕ → Option ℕ → ℕ
 index_or_none other None = other
 index_or_none other (Some index) = index
 
@@ -77,13 +77,12 @@ none_named index (suc n) (e ∷ ends) is (suc k) less names =
 pub some_named : (index place : ℕ) (ends : List JobEnd) → is_named_before index place ends ≡ true → IsNew ends place index → ⊥
 some_named index zero ends is new = absurd (cc)
 some_named index (suc n) [] is new = absurd (cc)
-some_named index (suc n) (e ∷ ends) is new = by_first (names_entry index e) refl
+some_named index (suc n) (e ∷ ends) is new =
+    by_first (names_entry index e) refl (λ rest. some_named index n ends rest (λ k less names. new (suc k) (omega arith) names))
   where
-    by_first : (b : Bool) → names_entry index e ≡ b → ⊥
-    by_first true own = new zero (omega arith) (is_named index e own)
-    by_first false own =
-        let rest : is_named_before index n ends ≡ true = sym (ap (λ c. c || is_named_before index n ends) own) ∙ is in
-        some_named index n ends rest (λ k less names. new (suc k) (omega arith) names)
+    by_first : (b : Bool) → names_entry index e ≡ b → (is_named_before index n ends ≡ true → ⊥) → ⊥
+    by_first true own later = new zero (omega arith) (is_named index e own)
+    by_first false own later = later (sym (ap (λ c. c || is_named_before index n ends) own) ∙ is)
 
 -- ---- what two looks say of an end
 
@@ -92,7 +91,7 @@ pub both_stand : (begun : Begun) (hall : HallState) (jobs : List Job) (ends : Li
     ((place : ℕ) → BorneOutAt begun hall jobs ends place) → ((place : ℕ) → IsNewAt ends place) → AllStand begun hall jobs ends
 both_stand begun hall jobs ends borne new place job end job_is end_is = record {
   borne_out = borne place job end job_is end_is;
-  is_new = λ index names. new place index (ap (λ (o : Option JobEnd). option_and_then o entry_named) end_is ∙ names);
+  is_new = λ index names. new place index (ap (λ (o : Option JobEnd). option_and_then entry_named o) end_is ∙ names);
 }
 
 -- one that is not borne out does not
@@ -157,8 +156,8 @@ told_through A B b first second = ((λ yes. second.0 (first.0 yes)), (λ x. firs
 
 -- it is not, where a test of it fails
 pub not_told : (A : Type 0) (b : Bool) → (b ≡ true) ↔ A → b ≡ false → A → ⊥
-not_told A false test no x = let yes : false ≡ true = test.1 x in absurd (cc)
-not_told A true test no x = absurd (cc)
+not_told A false test failed x = let yes : false ≡ true = test.1 x in absurd (cc)
+not_told A true test failed x = absurd (cc)
 
 -- where all places below a number are fine, and the next one is, all below the next number are
 pub next_place : (P : ℕ → Type 0) (n : ℕ) → ((p : ℕ) → p < n → P p) → P n → (p : ℕ) → p < n + 1 → P p
@@ -183,7 +182,7 @@ pub new_there : (ends : List JobEnd) (place entries : ℕ) (end : JobEnd) (marks
     ((index : ℕ) → index < entries → get_or marks index false ≡ is_named_before index place ends) → NamesWithin ends entries →
     is_marked marks (entry_named end) ≡ false → IsNewAt ends place
 new_there ends place entries end marks is marked few unmarked index names =
-    let own : entry_named end ≡ Some index = ap (λ (o : Option JobEnd). option_and_then o entry_named) (sym is) ∙ names in
+    let own : entry_named end ≡ Some index = ap (λ (o : Option JobEnd). option_and_then entry_named o) (sym is) ∙ names in
     let here : get_or marks index false ≡ false = sym (ap (is_marked marks) own) ∙ unmarked in
     none_named index place ends (sym (marked index (few place index names)) ∙ here)
 
@@ -196,35 +195,39 @@ not_new_there ends place entries end marks is marked few was new = by_name (entr
     by_name : (o : Option ℕ) → entry_named end ≡ o → ⊥
     by_name None own = let none : false ≡ true = sym (ap (is_marked marks) own) ∙ was in absurd (cc)
     by_name (Some index) own =
-        let names : option_and_then (slice_get ends place) entry_named ≡ Some index =
-        ap (λ (o : Option JobEnd). option_and_then o entry_named) is ∙ own in
+        let names : option_and_then entry_named (slice_get ends place) ≡ Some index =
+        ap (λ (o : Option JobEnd). option_and_then entry_named o) is ∙ own in
         let here : get_or marks index false ≡ true = sym (ap (is_marked marks) own) ∙ was in
         some_named index place ends (sym (marked index (few place index names)) ∙ here) (new index names)
+
+one_further : (place : ℕ) → suc place ≡ place + 1
+one_further place = omega arith
 
 -- the marks after one end more
 pub marked_more : (ends : List JobEnd) (place entries : ℕ) (end : JobEnd) (before after : List Bool) → slice_get ends place ≡ Some end →
     length before ≡ entries → ((index : ℕ) → index < entries → get_or before index false ≡ is_named_before index place ends) →
     ((index : ℕ) → index < length before → get_or after index false ≡ (names_entry index end || get_or before index false)) →
-    (index : ℕ) → index < entries → get_or after index false ≡ is_named_before index (suc place) ends
+    (index : ℕ) → index < entries → get_or after index false ≡ is_named_before index (place + 1) ends
 marked_more ends place entries end before after is many marked adds index low =
     adds index (subst (λ (n : ℕ). index < n) (sym many) low)
     ∙ ap (λ b. names_entry index end || b) (marked index low)
     ∙ sym (one_end_more index place ends end is)
+    ∙ ap (λ (n : ℕ). is_named_before index n ends) (one_further place)
 
 -- ---- what an end says of the hall, test by test
 
 -- the first of three facts fails, or the second, or the last
 pub first_fails : (b : Bool) (A B C : Type 0) → (b ≡ true) ↔ A → b ≡ false → (false ≡ true) ↔ (A × B × C)
-first_fails b A B C test no = ((λ yes. absurd (cc)), (λ all. sym no ∙ test.1 all.0))
+first_fails b A B C test failed = ((λ yes. absurd (cc)), (λ all. sym failed ∙ test.1 all.0))
 
 pub second_fails : (b : Bool) (A B C : Type 0) → (b ≡ true) ↔ B → b ≡ false → (false ≡ true) ↔ (A × B × C)
-second_fails b A B C test no = ((λ yes. absurd (cc)), (λ all. sym no ∙ test.1 all.1))
+second_fails b A B C test failed = ((λ yes. absurd (cc)), (λ all. sym failed ∙ test.1 all.1))
 
 pub third_fails : (b : Bool) (A B C : Type 0) → (b ≡ true) ↔ C → b ≡ false → (false ≡ true) ↔ (A × B × C)
-third_fails b A B C test no = ((λ yes. absurd (cc)), (λ all. sym no ∙ test.1 all.2))
+third_fails b A B C test failed = ((λ yes. absurd (cc)), (λ all. sym failed ∙ test.1 all.2))
 
 pub level_fails : (b c : Bool) (B C : Type 0) → b ≡ c → b ≡ false → (false ≡ true) ↔ ((c ≡ true) × B × C)
-level_fails b c B C is no = ((λ yes. absurd (cc)), (λ all. sym no ∙ is ∙ all.0))
+level_fails b c B C is failed = ((λ yes. absurd (cc)), (λ all. sym failed ∙ is ∙ all.0))
 
 -- two of them hold, so the other one decides
 pub second_decides : (b c : Bool) (A C : Type 0) → b ≡ c → A → C → (b ≡ true) ↔ (A × (c ≡ true) × C)

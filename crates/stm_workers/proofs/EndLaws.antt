@@ -13,7 +13,7 @@ pub record Named (o : Option JobEnd) (index : ℕ) : Type 0 where
   pub is : o ≡ Some end
   pub names : entry_named end ≡ Some index
 
-pub named : (o : Option JobEnd) (index : ℕ) → option_and_then o entry_named ≡ Some index → Named o index
+pub named : (o : Option JobEnd) (index : ℕ) → option_and_then entry_named o ≡ Some index → Named o index
 named None index e = absurd (cc)
 named (Some end) index e = record { end = end; is = refl; names = e }
 
@@ -34,7 +34,7 @@ there (x ∷ xs) (suc k) short = let r = there xs k (omega arith) in record { it
 
 -- an end that stands names an entry that none before it has named
 later_is_new : (begun : Begun) (hall : HallState) (jobs : List Job) (ends : List JobEnd) → length ends ≡ length jobs → AllStand begun hall jobs ends
-    → (k index : ℕ) → option_and_then (slice_get ends k) entry_named ≡ Some index → IsNew ends k index
+    → (k index : ℕ) → option_and_then entry_named (slice_get ends k) ≡ Some index → IsNew ends k index
 later_is_new begun hall jobs ends same stand k index names =
     let n = named (slice_get ends k) index names in
     let j = there jobs k (subst (λ (m : ℕ). k < m) same (within ends k n.end n.is)) in

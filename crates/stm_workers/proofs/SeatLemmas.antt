@@ -250,7 +250,8 @@ pub sorted_places : (ended sorted : List EndOf) (ends : List JobEnd) → EachOnc
 sorted_places ended sorted ends each moved rises are =
     All-permutation (λ (e : EndOf). slice_get ends e.job ≡ Some e.end) sorted ended (IsPermutation-sym ended sorted moved)
     (λ k d low.
-    let job : (slice_index_or sorted k d).job ≡ k = in_order sorted 0 (length ended) rises (are_from_zero (length ended) ended sorted each moved) k d low in
+    let found = in_order sorted 0 (length ended) rises (are_from_zero (length ended) ended sorted each moved) k d low in
+    let job : (slice_index_or sorted k d).job ≡ k = omega (arith, found) in
     ap (λ (l : List JobEnd). slice_get l (slice_index_or sorted k d).job) are
     ∙ ap (λ (n : ℕ). slice_get (ends_in sorted) n) job
     ∙ end_there sorted k d low)

@@ -1,43 +1,35 @@
 -- What the threads of a run are given may go to them, and be shared by them: type by type, from the expressions of a program up to the
 -- desk and the jobs. A search that goes down from there by itself gives up at the first type that holds itself.
-use denote.RattleType.{RattleType}
 use denote.Param.Send.{IsSend, IsSync, sendable}
-use Rattle.core.specs.declared.ledger.Ledger as ledger
-use Rattle.core.proofs.ledger.Sent.{book_send, share_send}
 use Rattle.std.proofs.Crossing.{crosses}
 use Rattle.std.proofs.MapsCrossing.{String-send, String-sync}
 use Rattle.stm_program.specs.contracts.expression.Expr as Expr
 use Rattle.stm_program.specs.contracts.condition.Cond as Cond
 use Rattle.stm_program.specs.contracts.statement.Stmt as Stmt
 use Rattle.stm_program.specs.contracts.program.Program as Program
-use Rattle.stm_program.proofs.expression.Expr.TheSendSync as expression
-use Rattle.stm_program.proofs.condition.Cond.TheSendSync as condition
-use Rattle.stm_program.proofs.statement.Stmt.TheSendSync as statement
 use Rattle.stm_entries.specs.contracts.entry.Entry as Entry
 use Rattle.stm_hall.specs.contracts.hall.Hall as Hall
-use Rattle.stm_workers.specs.declared.desk.Round as round
-use Rattle.stm_workers.specs.contracts.desk.Desk as Desk
 use Rattle.stm_workers.specs.contracts.job.Job as Job
 
 -- ---- programs: what a program holds is shared by its copies, so each part is of both kinds
 
 pub expression_send : IsSend Expr.the_row
-expression_send = expression.the_send
+expression_send = search (crosses, sendable) depth 20
 
 pub expression_sync : IsSync Expr.the_row
-expression_sync = expression.the_sync
+expression_sync = search (crosses, sendable) depth 20
 
 pub condition_send : IsSend Cond.the_row
-condition_send = condition.the_send
+condition_send = search (crosses, sendable) depth 20
 
 pub condition_sync : IsSync Cond.the_row
-condition_sync = condition.the_sync
+condition_sync = search (crosses, sendable) depth 20
 
 pub statement_send : IsSend Stmt.the_row
-statement_send = statement.the_send
+statement_send = search (crosses, sendable) depth 20
 
 pub statement_sync : IsSync Stmt.the_row
-statement_sync = statement.the_sync
+statement_sync = search (crosses, sendable) depth 20
 
 pub program_send : IsSend Program.the_row
 program_send = search (statement_send, crosses, sendable) depth 20
@@ -52,10 +44,6 @@ entry_send = search (program_send, String-send, crosses, sendable) depth 20
 
 pub hall_send : IsSend Hall.the_row
 hall_send = search (entry_send, String-send, crosses, sendable) depth 20
-
-module _ (R : RattleType) (r : round.Ghosts R.Denot) (l : ledger.Ghosts R.Denot) where
-  pub desk_send : IsSend (Desk.the_row R r l)
-  desk_send = let h = hall_send in let b = book_send R l in search (hall_send, b, crosses, sendable) depth 20
 
 -- ---- what the workers look at
 

@@ -103,7 +103,7 @@ BorneOutAt begun hall jobs ends place =
 
 -- no end before this place names the entry
 abbrev pub IsNew : List JobEnd → ℕ → ℕ → Type 0
-IsNew ends place index = (k : ℕ) → k < place → option_and_then (slice_get ends k) entry_named ≡ Some index → ⊥
+IsNew ends place index = (k : ℕ) → k < place → option_and_then entry_named (slice_get ends k) ≡ Some index → ⊥
 
 -- the end of a job stands: what it says is so, and no job before it has named its entry
 pub record Stands (begun : Begun) (hall : HallState) (ends : List JobEnd) (place : ℕ) (job : Job) (end : JobEnd) : Type 0 where
@@ -123,7 +123,7 @@ AllStand begun hall jobs ends = (place : ℕ) → StandsAt begun hall jobs ends 
 -- ends at two places name two entries
 abbrev pub NameDifferentEntries : List JobEnd → Type 0
 NameDifferentEntries ends =
-    (j k index : ℕ) → option_and_then (slice_get ends j) entry_named ≡ Some index → option_and_then (slice_get ends k) entry_named ≡ Some index
+    (j k index : ℕ) → option_and_then entry_named (slice_get ends j) ≡ Some index → option_and_then entry_named (slice_get ends k) ≡ Some index
     → j ≡ k
 
 -- where all ends stand, each commit among them is an entry of its own

@@ -1,3 +1,5 @@
+pub mod Tried
+pub mod Codes
 pub mod Ends
 pub mod Marks
 pub mod Gathered

@@ -5,11 +5,11 @@ use Rattle.stm_workers.specs.Ends.{entry_named, names_entry, IsNew}
 
 -- each entry that an end names is among so many
 abbrev pub NamesWithin : List JobEnd → ℕ → Type 0
-NamesWithin ends entries = (place index : ℕ) → option_and_then (slice_get ends place) entry_named ≡ Some index → index < entries
+NamesWithin ends entries = (place index : ℕ) → option_and_then entry_named (slice_get ends place) ≡ Some index → index < entries
 
 -- the entry that the end at a place names, if it names one, is named by none before it
 abbrev pub IsNewAt : List JobEnd → ℕ → Type 0
-IsNewAt ends place = (index : ℕ) → option_and_then (slice_get ends place) entry_named ≡ Some index → IsNew ends place index
+IsNewAt ends place = (index : ℕ) → option_and_then entry_named (slice_get ends place) ≡ Some index → IsNew ends place index
 
 -- the entry, if there is one, is marked
 abbrev pub is_marked : List Bool → Option ℕ → Bool

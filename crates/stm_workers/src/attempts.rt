@@ -7,6 +7,7 @@ ghost use Rattle.stm_compile.specs.Levels.{is_serializable};
 ghost use Rattle.stm_attempt.specs.AttemptState.{begun};
 ghost use Rattle.stm_calls.specs.Prefetch.{MayBePrefetched};
 ghost use Rattle.stm_hall.specs.Verdicts.{CanGoOn};
+ghost use Rattle.stm_workers.specs.Tried.{IfEnded, IfAgain};
 ghost use Rattle.stm_workers.specs.Rounds.{committed_by, counted_end, greatest_carried, seen_after, shown_at};
 ghost use Rattle.stm_workers.specs.Rounds.{committed_in, drawing, is_run_of_some, jobs_of, IsOfJob, IsRunOfJob};
 
@@ -25,6 +26,15 @@ use stm_calls::{read_one, take_only_read};
 use stm_draw::{JobSeat, JobTable};
 use stm_hall::{Verdict, prepare};
 use stm_program::Level;
+
+/// What an attempt that was not the last one came to.
+#[derive(Drop)]
+pub(crate) enum Tried {
+    /// The job has its end.
+    Ended(JobEnd),
+    /// Its commit failed, and this is the next attempt.
+    Again(Attempt),
+}
 
 /// What all workers of a run share.
 #[derive(Drop)]
@@ -229,6 +239,60 @@ impl<'a, R: Round, W: Wait, G: Gate> Floor<'a, R, W, G> {
         Ok(verdict)
     }
 
+    /// One attempt of a job that is not its last one.
+    fn try_again(
+        &self,
+        place: usize,
+        job: &Job,
+        share: &mut Share<R>,
+        attempt: Attempt,
+        seen: &mut u64,
+    ) -> Result<Tried, Stop>
+        requires attempt { IsOfJob job.now attempt }
+        requires of_a_job { is_run_of_some R.jobs job.now.program job.now.level ≡ true }
+        requires part { 0 < share.old.parts }
+        ensures parts { share.new.parts ≡ share.old.parts }
+        ensures ended { IfOk result (IfEnded (λ end. share.new.amount ≡ share.old.amount + counted_end end)) }
+        ensures again { IfOk result (IfAgain (λ next. IsOfJob job.now next × (share.new.amount ≡ share.old.amount))) }
+        ensures stopped { OnErr result (share.new.amount ≡ share.old.amount) }
+        ensures never_falls { seen.old ≤ seen.new }
+    {
+        let mut attempt = attempt;
+        match self.try_once(place, job, share, &mut attempt, seen)? {
+            Verdict::Committed { index, revision } => {
+                Ok(Tried::Ended(JobEnd::Committed { index, revision }))
+            }
+            Verdict::Failed { answers, .. } => {
+                let next = next_attempt(self.alloc, job, answers)?;
+                Ok(Tried::Again(next))
+            }
+        }
+    }
+
+    /// The last attempt of a job.
+    fn try_last(
+        &self,
+        place: usize,
+        job: &Job,
+        share: &mut Share<R>,
+        attempt: Attempt,
+        seen: &mut u64,
+    ) -> Result<JobEnd, Stop>
+        requires attempt { IsOfJob job.now attempt }
+        requires of_a_job { is_run_of_some R.jobs job.now.program job.now.level ≡ true }
+        requires part { 0 < share.old.parts }
+        ensures parts { share.new.parts ≡ share.old.parts }
+        ensures counted { IfOk result (λ end. share.new.amount ≡ share.old.amount + counted_end end) }
+        ensures stopped { OnErr result (share.new.amount ≡ share.old.amount) }
+        ensures never_falls { seen.old ≤ seen.new }
+    {
+        let mut attempt = attempt;
+        match self.try_once(place, job, share, &mut attempt, seen)? {
+            Verdict::Committed { index, revision } => Ok(JobEnd::Committed { index, revision }),
+            Verdict::Failed { key, .. } => Ok(JobEnd::GaveUp { key }),
+        }
+    }
+
     /// Attempts a job until it ends. The last attempt that it may make is the one behind the loop.
     fn attempt(
         &self,
@@ -246,19 +310,12 @@ impl<'a, R: Round, W: Wait, G: Gate> Floor<'a, R, W, G> {
     {
         let mut attempt = first_attempt(self.alloc, job);
         for _ in 1..job.limit {
-            match self.try_once(place, job, share, &mut attempt, seen)? {
-                Verdict::Committed { index, revision } => {
-                    return Ok(JobEnd::Committed { index, revision });
-                }
-                Verdict::Failed { answers, .. } => {
-                    attempt = next_attempt(self.alloc, job, answers)?;
-                }
+            match self.try_again(place, job, share, attempt, seen)? {
+                Tried::Ended(end) => return Ok(end),
+                Tried::Again(next) => attempt = next,
             }
         }
-        match self.try_once(place, job, share, &mut attempt, seen)? {
-            Verdict::Committed { index, revision } => Ok(JobEnd::Committed { index, revision }),
-            Verdict::Failed { key, .. } => Ok(JobEnd::GaveUp { key }),
-        }
+        self.try_last(place, job, share, attempt, seen)
     }
 
     /// The end of the job at a place. Want of memory is no end.

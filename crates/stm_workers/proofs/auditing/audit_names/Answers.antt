@@ -7,9 +7,7 @@ use Rattle.stm_workers.proofs.auditing.audit_names.Goals as goal
 -- the entries that the ends name are the hall's
 pub find_repeated-requires : goal.find_repeated-requires
 find_repeated-requires c =
-    let many : length c.args.hall.now.entries ≡ c.len.result =
-    sym (c.len.ensures ∙ ap (λ (l : List Entry). length l) c.entries.ensures.entries) in
-    subst (λ (n : ℕ). NamesWithin c.args.ends.now n) many
+    subst (λ (es : List Entry). NamesWithin c.args.ends.now (length es)) (sym c.entries.ensures.entries)
     (names_within c.args.begun c.args.hall.now c.args.jobs.now c.args.ends.now c.requires.many c.requires.borne)
 
 pub returns-in-None-clause-clear : goal.returns-in-None-clause-clear

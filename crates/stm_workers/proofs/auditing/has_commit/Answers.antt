@@ -9,9 +9,9 @@ pub returns-then-index-begun : goal.returns-then-index-begun
 returns-then-index-begun c = first_of_two_fails _ _ (λ late. omega (arith, late, c.if-index-begun.true))
 
 -- it is not there
-pub returns-then-index-len : goal.returns-then-index-len
-returns-then-index-len c =
-    second_of_two_fails _ _ (nothing_behind c.args.job.now c.args.after c.args.entries.now c.args.index (omega (arith, c.len.ensures, c.if-index-len.true)))
+pub returns-then-index-entries : goal.returns-then-index-entries
+returns-then-index-entries c =
+    second_of_two_fails _ _ (nothing_behind c.args.job.now c.args.after c.args.entries.now c.args.index (omega (arith, c.if-index-entries.true)))
 
 pub returns : goal.returns
 returns c =

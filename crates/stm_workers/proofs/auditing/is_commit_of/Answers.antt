@@ -14,4 +14,4 @@ returns-then-not-is_same c =
 pub returns-then-not-is_same-2 : goal.returns-then-not-is_same-2
 returns-then-not-is_same-2 c =
     subst (λ (e : Entry). (false ≡ true) ↔ IsCommitOf c.args.job.now c.args.after (Some e)) (sym c.in-Program.is)
-    (second_fails _ _ _ _ c.is_same-2.ensures c.if-not-is_same-2.true)
+    (second_fails _ _ _ _ c.is_same-in-Program.ensures c.if-not-is_same-2.true)

@@ -9,4 +9,4 @@ invariant-loop-handle g l =
     × (0 < (seat_view l.chief.seat).past + vec_len l.started)
 
 abbrev pub decreases-loop-handle : goal.decreases-loop-handle
-decreases-loop-handle g l = goal.left-loop-handle g l
+decreases-loop-handle g l = vec_len l.started

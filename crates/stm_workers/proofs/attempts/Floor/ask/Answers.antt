@@ -5,8 +5,8 @@ use Rattle.stm_workers.proofs.attempts.Floor.ask.Goals as goal
 pub fetch-told-requires : goal.fetch-told-requires
 fetch-told-requires g c = fetch_only_reads _ _ _ c.in_ok-txn.ensures
 
-pub take_only_read-answer-requires : goal.take_only_read-answer-requires
-take_only_read-answer-requires g c =
+pub take_only_read-requires : goal.take_only_read-requires
+take_only_read-requires g c =
     one_read _ _ _ (shows_key _ _ _ _ _ c.in-Ok.told c.in_ok-txn.ensures c.fetch-told.ensures.answer c.in-Ok.is)
 
 pub returns-in-Ok-clause-key : goal.returns-in-Ok-clause-key

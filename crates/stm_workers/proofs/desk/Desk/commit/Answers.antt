@@ -2,8 +2,8 @@ use Rattle.stm_workers.proofs.RoundLemmas.{goes_further, same_count, same_takes,
 use Rattle.stm_workers.proofs.desk.Desk.commit.Goals as goal
 
 -- it was refused, and is as it was
-pub invariant_of-self-in_err-verdict : goal.invariant_of-self-in_err-verdict
-invariant_of-self-in_err-verdict g c =
+pub invariant_of-self : goal.invariant_of-self
+invariant_of-self g c =
     let old = c.args.self.now in
     record {
       gone_on = goes_further _ _ _ old.gone_on c.commit_prepared.ensures.goes_on;
@@ -12,8 +12,8 @@ invariant_of-self-in_err-verdict g c =
     }
 
 -- the book counts what the hall has more, which is of the run's jobs
-pub invariant_of-self : goal.invariant_of-self
-invariant_of-self g c =
+pub invariant_of-self-2 : goal.invariant_of-self-2
+invariant_of-self-2 g c =
     let old = c.args.self.now in
     record {
       gone_on = goes_further _ _ _ old.gone_on c.commit_prepared.ensures.goes_on;

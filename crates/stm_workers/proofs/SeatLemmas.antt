@@ -142,7 +142,9 @@ own_counted x e es same = counted_first x e es ∙ ap (λ (b : Bool). bit b + ti
 
 other_counted : (x : ℕ) (e : EndOf) (es : List EndOf) → (e.job ≡ x → ⊥) → times x (jobs_of (e ∷ es)) ≡ times x (jobs_of es)
 other_counted x e es other =
-    let none : bit (eqb e.job x) ≡ 0 = ap bit (ne_eqb e.job x other) in omega (arith, counted_first x e es, none)
+    let none : bit (eqb e.job x) ≡ 0 = ap bit (ne_eqb e.job x other) in
+    let sum : times x (jobs_of (e ∷ es)) ≡ bit (eqb e.job x) + times x (jobs_of es) = counted_first x e es in
+    omega (arith, sum, none)
 
 -- a job that stands there stands somewhere
 record Found (x : ℕ) (es : List EndOf) : Type 0 where
@@ -155,7 +157,8 @@ found x [] some_there = absurd (omega arith)
 found x (e ∷ es) some_there = ⊎_elim
     (λ (same : e.job ≡ x). record { place = zero; low = omega arith; is = λ d. same })
     (λ (other : e.job ≡ x → ⊥).
-    let r = found x es (omega (arith, some_there, other_counted x e es other)) in
+    let behind : times x (jobs_of (e ∷ es)) ≡ times x (jobs_of es) = other_counted x e es other in
+    let r : Found x es = found x es (omega (arith, some_there, behind)) in
     record { place = suc r.place; low = omega (arith, r.low); is = r.is })
     (cases_eq e.job x)
 
@@ -168,23 +171,29 @@ first_is : (e : EndOf) (es : List EndOf) (a m : ℕ) → IsNonDecreasingBy (λ (
 first_is e es a m rises are = ⊎_elim
     (λ (same : e.job ≡ a). same)
     (λ (other : e.job ≡ a → ⊥).
-    let own = own_counted e.job e es refl in
-    let range = are.within e.job (omega (arith, own)) in
-    let there = are.once a (omega arith) (omega (arith, range.0, range.1)) in
-    let later = found a es (omega (arith, there, other_counted a e es other)) in
-    let at_most = rises 0 (suc later.place) e (omega arith) (omega (arith, later.low)) in
-    absurd (other (omega (arith, range.0, at_most, later.is e))))
+    let own : times e.job (jobs_of (e ∷ es)) ≡ 1 + times e.job (jobs_of es) = own_counted e.job e es refl in
+    let range : (a ≤ e.job) × (e.job < m) = are.within e.job (omega (arith, own)) in
+    let there : times a (jobs_of (e ∷ es)) ≡ 1 = are.once a (omega arith) (omega (arith, range.0, range.1)) in
+    let behind : times a (jobs_of (e ∷ es)) ≡ times a (jobs_of es) = other_counted a e es other in
+    let later : Found a es = found a es (omega (arith, there, behind)) in
+    let is : (slice_index_or es later.place e).job ≡ a = later.is e in
+    let most : e.job ≤ (slice_index_or es later.place e).job = rises zero (suc later.place) e (omega arith) (omega (arith, later.low)) in
+    absurd (other (omega (arith, range.0, most, is))))
     (cases_eq e.job a)
 
 rest_are : (e : EndOf) (es : List EndOf) (a m : ℕ) → e.job ≡ a → AreFrom a m (e ∷ es) → AreFrom (suc a) m es
 rest_are e es a m first are = record { within = in_rest; once = once_in_rest }
   where
     range : (a ≤ e.job) × (e.job < m)
-    range = are.within e.job (let own = own_counted e.job e es refl in omega (arith, own))
+    range =
+        let own : times e.job (jobs_of (e ∷ es)) ≡ 1 + times e.job (jobs_of es) = own_counted e.job e es refl in
+        are.within e.job (omega (arith, own))
 
     none_again : times a (jobs_of es) ≡ 0
     none_again =
-        let there = are.once a (omega arith) (omega (arith, range.1, first)) in omega (arith, there, own_counted a e es first)
+        let there : times a (jobs_of (e ∷ es)) ≡ 1 = are.once a (omega arith) (omega (arith, range.1, first)) in
+        let own : times a (jobs_of (e ∷ es)) ≡ 1 + times a (jobs_of es) = own_counted a e es first in
+        omega (arith, there, own)
 
     above : (x : ℕ) → (e.job ≡ x → ⊥) → a ≤ x → suc a ≤ x
     above x other low = ⊎_elim
@@ -197,9 +206,13 @@ rest_are e es a m first are = record { within = in_rest; once = once_in_rest }
 
     in_rest : (x : ℕ) → 0 < times x (jobs_of es) → (suc a ≤ x) × (x < m)
     in_rest x some_there = ⊎_elim
-        (λ (same : e.job ≡ x). absurd (omega (arith, some_there, none_again, ap (λ (k : ℕ). times k (jobs_of es)) (sym first ∙ same))))
+        (λ (same : e.job ≡ x).
+        let here : times a (jobs_of es) ≡ times x (jobs_of es) = ap (λ (k : ℕ). times k (jobs_of es)) (sym first ∙ same) in
+        absurd (omega (arith, some_there, none_again, here)))
         (λ (other : e.job ≡ x → ⊥).
-        let whole = are.within x (omega (arith, some_there, other_counted x e es other)) in (above x other whole.0, whole.1))
+        let whole : times x (jobs_of (e ∷ es)) ≡ times x (jobs_of es) = other_counted x e es other in
+        let ranged : (a ≤ x) × (x < m) = are.within x (omega (arith, some_there, whole)) in
+        (above x other ranged.0, ranged.1))
         (cases_eq e.job x)
 
     once_in_rest : (x : ℕ) → suc a ≤ x → x < m → times x (jobs_of es) ≡ 1
@@ -211,11 +224,11 @@ rest_are e es a m first are = record { within = in_rest; once = once_in_rest }
 in_order : (es : List EndOf) (a m : ℕ) → IsNonDecreasingBy (λ (e : EndOf). e.job) es → AreFrom a m es → (k : ℕ) (d : EndOf) → k < length es →
     (slice_index_or es k d).job ≡ a + k
 in_order [] a m rises are k d low = absurd (omega arith)
-in_order (e ∷ es) a m rises are zero d low = let first = first_is e es a m rises are in omega (arith, first)
+in_order (e ∷ es) a m rises are zero d low = let none : a ≡ a + zero = omega arith in first_is e es a m rises are ∙ none
 in_order (e ∷ es) a m rises are (suc k) d low =
-    let first = first_is e es a m rises are in
-    let rest = in_order es (suc a) m (IsNonDecreasingBy-drop (λ (f : EndOf). f.job) 1 (e ∷ es) rises) (rest_are e es a m first are) k d (omega arith) in
-    omega (arith, rest)
+    let first : e.job ≡ a = first_is e es a m rises are in
+    let one : suc a + k ≡ a + suc k = omega arith in
+    in_order es (suc a) m (IsNonDecreasingBy-drop (λ (f : EndOf). f.job) 1 (e ∷ es) rises) (rest_are e es a m first are) k d (omega arith) ∙ one
 
 -- the jobs below a number, each once
 below_once : (n x t : ℕ) → t ≡ once_below n x → 0 < t → x < n

@@ -276,7 +276,7 @@ fn files_of<'a>(found: &ArgMatches<'a>) -> Option<Asked<'a>>
     Some(Asked::Check { scenario, report })
 }
 
-/// A number of workers that was read.
+/// A number that was read, where it is one of workers.
 fn workers_at(number: usize) -> Option<usize>
     ensures some { IfSome result (λ workers. (1 ≤ workers) × (workers ≤ 16) × (workers ≡ number)) }
     ensures none { IfNone result ((1 ≤ number) × (number ≤ 16) → ⊥) }
@@ -313,6 +313,7 @@ fn threads_of<'a>(found: &ArgMatches<'a>) -> Option<Asked<'a>>
 }
 
 /// What a command of this name asks for; `None` where it is no command of this program, or lacks what it has to have.
+#[tactic(auto, using(crate::proofs::CommandLemmas::whole_check, crate::proofs::CommandLemmas::whole_threads, crate::proofs::CommandLemmas::whole_other))]
 fn asked_at<'a>(name: &str, found: &ArgMatches<'a>) -> Option<Asked<'a>>
     ensures asks { IfSome result (AsksAt name.now (rows_of (found_of found.now))) }
     ensures missing { IfNone result (IsWhole (Some (name.now, rows_of (found_of found.now))) → ⊥) }

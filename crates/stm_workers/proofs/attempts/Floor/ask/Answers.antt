@@ -23,12 +23,12 @@ returns-in-Ok-clause-shown g c =
 
 pub returns-in-Ok-clause-seen : goal.returns-in-Ok-clause-seen
 returns-in-Ok-clause-seen g c =
-    let carried = taken_revision _ _ _ _ (shows_key _ _ _ _ _ c.in-Ok.told c.in_ok-txn.ensures c.fetch-told.ensures.answer c.in-Ok.is)
-    c.in_ok-answer-in-Ok.ensures in
+    let carried : c.in_ok-answer-in-Ok.answer.revision ≡ c.in-Ok.told.revision =
+    taken_revision _ _ _ _ (shows_key _ _ _ _ _ c.in-Ok.told c.in_ok-txn.ensures c.fetch-told.ensures.answer c.in-Ok.is) c.in_ok-answer-in-Ok.ensures in
     (omega (arith, carried, c.in-Ok.ensures.seen), refl)
 
 pub returns-in-Ok-clause-never_falls : goal.returns-in-Ok-clause-never_falls
 returns-in-Ok-clause-never_falls g c =
-    let carried = taken_revision _ _ _ _ (shows_key _ _ _ _ _ c.in-Ok.told c.in_ok-txn.ensures c.fetch-told.ensures.answer c.in-Ok.is)
-    c.in_ok-answer-in-Ok.ensures in
+    let carried : c.in_ok-answer-in-Ok.answer.revision ≡ c.in-Ok.told.revision =
+    taken_revision _ _ _ _ (shows_key _ _ _ _ _ c.in-Ok.told c.in_ok-txn.ensures c.fetch-told.ensures.answer c.in-Ok.is) c.in_ok-answer-in-Ok.ensures in
     omega (arith, carried, c.in-Ok.ensures.seen)

@@ -1,6 +1,6 @@
 //! What lies under the lock.
 
-ghost use Rattle.stm_workers.specs.Codes.{entries_set};
+ghost use Rattle.stm_workers.specs.Codes.{entries_set, histories_set, numbers_set, truths_set};
 ghost use Rattle.std.specs.Prelude.{◌≡◌, ◌+◌, ◌<◌, ◌≤◌, true, OnErr, IfOk};
 ghost use Rattle.stm_txn.specs.Numbers.{AnswerFits};
 ghost use Rattle.stm_hall.specs.Fetching.{OnlyReads};
@@ -65,7 +65,7 @@ fn count<R: Round>(commits: &mut Book<R>, mine: &mut Share<R>, verdict: &Verdict
 pub(crate) struct Desk<R: Round> {
     hall: Hall,
     commits: Book<R>,
-    ghost gone_on: { HasGoneOn R.before hall } by { Prim.hlevel entries_set },
+    ghost gone_on: { HasGoneOn R.before hall } by { Prim.hlevel (entries_set, histories_set, numbers_set, truths_set) },
     ghost takes: { takes_commits_of R.jobs R.before hall ≡ true },
     ghost counted: { commits_in hall.entries ≡ commits_in R.before.entries + commits.total },
 }

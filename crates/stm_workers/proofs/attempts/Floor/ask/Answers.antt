@@ -1,4 +1,4 @@
-use Rattle.std.proofs.Common.{refl, arith}
+use Rattle.std.proofs.Common.{◌≡◌, refl, arith}
 use Rattle.stm_workers.proofs.AskLemmas.{fetch_only_reads, shows_key, one_read, taken_key, taken_revision, taken_shown, taken_fits}
 use Rattle.stm_workers.proofs.attempts.Floor.ask.Goals as goal
 

@@ -1,11 +1,13 @@
 -- What `clap` tells of words, said of the command stmrun.
-use Rattle.std.proofs.Common.{◌≡◌, ℕ, List, [], Option, Some, None, Ok, Err, true, refl, subst}
-use Rattle.clap.specs.Words.{App, FailsBy, HasMatchesOf, Row, Text, fault_of, is_simple_and_free, kind_of, subcommand_of, subcommand_rows_of}
+use Rattle.std.proofs.Common.{◌≡◌, ◌∙◌, ◌^◌, ◌<◌, ◌≤◌, ℕ, List, [], ◌∷◌, Option, Some, None, IfNone, IsSomeAnd, Ok, Err, true, codes, refl, sym, ap, subst}
+use Rattle.std.proofs.Common.{⊎_elim, arith}
+use Rattle.std.specs.Str.Parse.{IsNumeral, digits_value, without_leading_plus}
+use Rattle.clap.specs.Words.{App, FailsBy, HasMatchesOf, IsUnsignedIn, Row, Text, fault_of, is_simple_and_free, kind_of, subcommand_of, subcommand_rows_of}
 use Rattle.clap.specs.declared.error.Error.{Error}
 use Rattle.clap.specs.declared.parser.matches.ArgMatches.{ArgMatches}
 use Rattle.stmrun.specs.declared.arguments.Asked.{Asked}
-use Rattle.stmrun.specs.declared.arguments.Asked.TheVariants.{Script, Check, Nothing}
-use Rattle.stmrun.specs.Asking.{Asks, AsksBy}
+use Rattle.stmrun.specs.declared.arguments.Asked.TheVariants.{Script, Check, Threads, Nothing}
+use Rattle.stmrun.specs.Asking.{Asks, AsksBy, HasFiles, HasWorkers, IsWhole}
 use Rattle.stmrun.specs.CommandLine.{IsStatusOf, IsToldBy, faults_of, stmrun_app}
 
 module _ (app : App) (is : app ≡ stmrun_app) (words : List Text) where
@@ -27,4 +29,58 @@ asks_something (Some named) status by = by
 pub asks : (words : List Text) (asked : Asked) → faults_of words ≡ [] → AsksBy (subcommand_of stmrun_app words) asked → Asks words asked
 asks words (Script file) none by = (none, by)
 asks words (Check scenario report) none by = (none, by)
+asks words (Threads file workers) none by = (none, by)
 asks words (Nothing status) none by = absurd (asks_something (subcommand_of stmrun_app words) status by)
+
+-- ---- the number of threads
+
+-- a text that spells no number of 64 bits spells none from 1 to 16
+pub no_number : (text : Text) → (IsNumeral 10 (without_leading_plus text) × (digits_value 10 (without_leading_plus text) < 2 ^ 64) → ⊥)
+    → IsUnsignedIn 1 16 text → ⊥
+no_number text not is = not (is.0, is.1)
+
+-- one that spells a number spells none from 1 to 16 where that is none of workers
+pub none_in_range : (text : Text) (number : ℕ) (workers : Option ℕ) → number ≡ digits_value 10 (without_leading_plus text)
+    → IfNone workers ((1 ≤ number) × (number ≤ 16) → ⊥) → IfNone workers (IsUnsignedIn 1 16 text → ⊥)
+none_in_range text number (Some n) is told = tt
+none_in_range text number None is told = λ range.
+    told (subst (λ (n : ℕ). 1 ≤ n) (sym is) range.2, subst (λ (n : ℕ). n ≤ 16) (sym is) range.3)
+
+-- what stands in the place of the number of threads is none
+pub no_workers : (o : Option Text) (text : Text) → Some text ≡ o → (IsUnsignedIn 1 16 text → ⊥) → IsSomeAnd o (IsUnsignedIn 1 16) → ⊥
+no_workers o text is not there = not (subst (λ (p : Option Text). IsSomeAnd p (IsUnsignedIn 1 16)) (sym is) there)
+
+-- ---- which command is missing what
+
+first_byte : Text → ℕ
+first_byte [] = 0
+first_byte (b ∷ bs) = b
+
+not_both : (name : Text) → name ≡ codes "check" → name ≡ codes "threads" → ⊥
+not_both name check threads = let same : 99 ≡ 116 = ap first_byte (sym check ∙ threads) in absurd (omega (arith, same))
+
+-- a check without one of its files is no whole command
+pub whole_check : (name : Text) (rows : List Row) (o : Option Asked) → name ≡ codes "check" → (name ≡ codes "script" → ⊥)
+    → IfNone o (HasFiles rows → ⊥) → IfNone o (IsWhole (Some (name, rows)) → ⊥)
+whole_check name rows (Some asked) is other missing = tt
+whole_check name rows None is other missing = λ whole. ⊎_elim
+    (λ script. other script)
+    (λ rest. ⊎_elim (λ check. missing check.1) (λ threads. not_both name is threads.0) rest)
+    whole
+
+-- nor is a run without its number of threads
+pub whole_threads : (name : Text) (rows : List Row) (o : Option Asked) → name ≡ codes "threads" → (name ≡ codes "script" → ⊥)
+    → IfNone o (HasWorkers rows → ⊥) → IfNone o (IsWhole (Some (name, rows)) → ⊥)
+whole_threads name rows (Some asked) is other missing = tt
+whole_threads name rows None is other missing = λ whole. ⊎_elim
+    (λ script. other script)
+    (λ rest. ⊎_elim (λ check. not_both name check.0 is) (λ threads. missing threads.1) rest)
+    whole
+
+-- nor one of another name
+pub whole_other : (name : Text) (rows : List Row) → (name ≡ codes "script" → ⊥) → (name ≡ codes "check" → ⊥) → (name ≡ codes "threads" → ⊥)
+    → IsWhole (Some (name, rows)) → ⊥
+whole_other name rows script check threads whole = ⊎_elim
+    (λ is. script is)
+    (λ rest. ⊎_elim (λ is. check is.0) (λ is. threads is.0) rest)
+    whole

@@ -1,4 +1,4 @@
--- A command line in which `clap` finds no fault names a command of stmrun, with its files.
+-- A command line in which `clap` finds no fault names a command of stmrun, with its files or its number of threads.
 use Rattle.std.proofs.Common.{◌≡◌, ◌++◌, ◌∷◌, ◌&&◌, ◌||◌, ℕ, Bool, cond, codes, true, false, not, zero, suc, refl, sym, ap, subst, inl, inr}
 use Rattle.std.proofs.Common.{List, [], length, drop, Option, Some, None, IfSome, IsSome, IsSomeAnd, is_some, option_map, option_and_then, find, fold}
 use Rattle.std.proofs.Common.{slice_get, bytes_eq, chars, encode_utf8, true≢false}
@@ -8,7 +8,10 @@ use Rattle.clap.specs.Lexer.{long_of, short_of}
 use Rattle.clap.specs.Facts.{explicit_source, unwrap_or_range}
 use Rattle.clap.specs.Takes.{is_given}
 use Rattle.clap.specs.declared.builder.range.ValueRange.{ValueRange}
-use Rattle.clap.specs.Kinds.{Kinds, check_kinds, or_else, range_kinds}
+use Rattle.clap.specs.Kinds.{Kinds, check_kinds, or_else, range_kinds, value_kinds}
+use Rattle.clap.specs.ValueTests.{accepts}
+use Rattle.clap.specs.Values.{IsUnsignedIn}
+use Rattle.clap.proofs.ValueTestLemmas.{accepts-Accepts}
 use Rattle.clap.specs.Faults.{action_fault, bundle_fault, check_fault, bundle_step_fault, entered_fault, fault_of, flag_word_fault, flags_fault}
 use Rattle.clap.specs.Faults.{level_fault, long_fault, option_fault, other_fault, positional_fault, react_fault, repeat_fault, settle_fault}
 use Rattle.clap.specs.Faults.{short_fault, step_fault, stray_fault, turn_fault, use_fault, values_fault, walk_fault, word_fault}
@@ -24,11 +27,12 @@ use Rattle.clap.specs.Walk.{with_default, with_values, without, word_met}
 use Rattle.clap.specs.declared.builder.action.ArgAction.{ArgAction}
 use Rattle.clap.specs.declared.builder.action.ArgAction.TheVariants as action
 use Rattle.clap.specs.declared.builder.value_parser.Reading.{Reading}
+use Rattle.clap.specs.declared.builder.value_parser.ValueParser.TheVariants.{Unsigned}
 use Rattle.clap.specs.declared.error.kind.ErrorKind.{ErrorKind}
 use Rattle.clap.specs.declared.error.kind.ErrorKind.TheVariants as kind
 use Rattle.clap.specs.declared.parser.matches.ValueSource.{ValueSource}
 use Rattle.clap.specs.declared.parser.matches.ValueSource.TheVariants.{CommandLine}
-use Rattle.stmrun.specs.Asking.{HasFiles, IsWhole}
+use Rattle.stmrun.specs.Asking.{HasFiles, HasWorkers, IsWhole}
 use Rattle.stmrun.specs.CommandLine.{stmrun_app}
 
 -- ---- kinds
@@ -466,24 +470,29 @@ script_shape = first_of_subs whole_app.subs
 abbrev check_shape : Shape
 check_shape = first_of_subs (drop 1 whole_app.subs)
 
+abbrev threads_shape : Shape
+threads_shape = first_of_subs (drop 2 whole_app.subs)
+
 abbrev help_shape : Shape
-help_shape = first_of_subs (drop 2 whole_app.subs)
+help_shape = first_of_subs (drop 3 whole_app.subs)
 
 abbrev IsNoHelp : Text → Type 0
 IsNoHelp name = answers_to name (codes "help", []) ≡ false
 
 -- the subcommand that a word without a fault names is not help
-abbrev picked : Bool → Bool → Bool → Option (Text × List Text)
-picked one two three =
-    cond one (Some (codes "script", [])) (cond two (Some (codes "check", [])) (cond three (Some (codes "help", [])) None))
+abbrev picked : Bool → Bool → Bool → Bool → Option (Text × List Text)
+picked one two three four =
+    cond one (Some (codes "script", []))
+    (cond two (Some (codes "check", [])) (cond three (Some (codes "threads", [])) (cond four (Some (codes "help", [])) None)))
 
-named_so : (one two three : Bool) (word : Text) (h : Held)
-    → other_fault whole_app.top (option_map (λ (s : Text × List Text). s.0) (picked one two three)) word h ≡ []
-    → IfSome (option_map (λ (s : Text × List Text). s.0) (picked one two three)) IsNoHelp
-named_so true two three word h none = refl
-named_so false true three word h none = refl
-named_so false false true word h none = absurd (some_kind _ _ none)
-named_so false false false word h none = tt
+named_so : (one two three four : Bool) (word : Text) (h : Held)
+    → other_fault whole_app.top (option_map (λ (s : Text × List Text). s.0) (picked one two three four)) word h ≡ []
+    → IfSome (option_map (λ (s : Text × List Text). s.0) (picked one two three four)) IsNoHelp
+named_so true two three four word h none = refl
+named_so false true three four word h none = refl
+named_so false false true four word h none = refl
+named_so false false false true word h none = absurd (some_kind _ _ none)
+named_so false false false false word h none = tt
 
 called : (is_trailing : Bool) (waiting : Waiting) (word : Text) (h : Held) → word_fault whole_app.top (names_of whole_app) is_trailing waiting word h ≡ []
     → is_trailing ≡ false → IfSome (subcommand_met (names_of whole_app) waiting word) IsNoHelp
@@ -491,7 +500,8 @@ called true waiting word h none first = absurd (true≢false first)
 called false (option id) word h none first = tt
 called false positional word h none first = tt
 called false idle word h none first =
-    named_so (answers_to word (codes "script", [])) (answers_to word (codes "check", [])) (answers_to word (codes "help", [])) word h none
+    named_so (answers_to word (codes "script", [])) (answers_to word (codes "check", [])) (answers_to word (codes "threads", []))
+    (answers_to word (codes "help", [])) word h none
 
 -- the word itself passes where its turn does
 word_passes : (stop : Option (Text × List Text)) (a b : Kinds) → cond (is_some stop) [] (or_else a b) ≡ [] → stop ≡ None → a ≡ []
@@ -545,25 +555,61 @@ files_given words none =
     let report = given_first AnyText (AnyText []) (codes "REPORT") rows (λ other v same may. tt) kept.0 both.1 in
     (is_there (first_of (codes "SCENARIO") rows) (AnyText []) scenario, is_there (first_of (codes "REPORT") rows) (AnyText []) report)
 
+-- ---- the number of threads
+
+-- what stands in the place of the number of threads is a number from 1 to 16; of the other places nothing is said
+abbrev IsWorkersIfThere : Text → Text → Type 0
+IsWorkersIfThere id v = bytes_eq id (codes "workers") ≡ true → IsUnsignedIn 1 16 v
+
+accepted : (b : Bool) (k : ErrorKind) → cond b [] (k ∷ []) ≡ [] → b ≡ true
+accepted true k none = refl
+accepted false k none = absurd (some_kind k [] none)
+
+-- a value without a fault passes the parser
+number_passes : (v : Text) (rest : Kinds) → or_else (value_kinds false (Unsigned 1 16) v) rest ≡ [] → IsUnsignedIn 1 16 v
+number_passes v rest none =
+    accepts-Accepts false (Unsigned 1 16) v (accepted (accepts false (Unsigned 1 16) v) kind.ValueValidation (neither _ rest none).0)
+
+threads_sets : AllSet IsWorkersIfThere threads_shape.args_override_self threads_shape.rules
+threads_sets =
+    let again = threads_shape.args_override_self in
+    let file = one_value IsWorkersIfThere again (first_of_rules threads_shape.rules) refl refl (λ v vs none same. absurd (true≢false (sym same))) in
+    let workers = one_value IsWorkersIfThere again (first_of_rules (drop 1 threads_shape.rules)) refl refl (λ v vs none same. number_passes v _ none) in
+    (file, (workers, (no_request IsWorkersIfThere again (first_of_rules (drop 2 threads_shape.rules)) refl, tt)))
+
+one_given : (one : Bool) → (not one || false) ≡ false → one ≡ true
+one_given true none = refl
+one_given false none = absurd (true≢false none)
+
+workers_given : (words : List Text) → level_fault threads_shape [] nothing_held words false [] ≡ [] → HasWorkers (rows_after threads_shape.rules [] words)
+workers_given words none =
+    let rows = rows_after threads_shape.rules [] words in
+    let kept = level_keeps IsWorkersIfThere threads_shape threads_sets words (refl, (refl, (refl, tt))) none in
+    let given = one_given (is_given (codes "workers") rows) (last_checks threads_shape rows false kept.1).1 in
+    given_first IsWorkersIfThere (IsUnsignedIn 1 16) (codes "workers") rows (λ other v same may. may same) kept.0 given
+
 -- ---- the whole command line
 
-abbrev picked_shape : Bool → Bool → Bool → Option Shape
-picked_shape one two three = cond one (Some script_shape) (cond two (Some check_shape) (cond three (Some help_shape) None))
+abbrev picked_shape : Bool → Bool → Bool → Bool → Option Shape
+picked_shape one two three four =
+    cond one (Some script_shape) (cond two (Some check_shape) (cond three (Some threads_shape) (cond four (Some help_shape) None)))
 
-chosen : (one two three : Bool) (words : List Text) → three ≡ false
-    → option_map_or (λ (s : Shape). level_fault s [] nothing_held words false []) (picked_shape one two three) [] ≡ []
-    → (not (is_some (option_map (λ (s : Shape). rows_at s words) (picked_shape one two three))) && true) ≡ false
-    → IsWhole (option_map (λ (s : Shape). rows_at s words) (picked_shape one two three))
-chosen true two three words no_help none entered_one = inl refl
-chosen false true three words no_help none entered_one = inr (refl, files_given words none)
-chosen false false true words no_help none entered_one = absurd (true≢false no_help)
-chosen false false false words no_help none entered_one = absurd (true≢false entered_one)
+chosen : (one two three four : Bool) (words : List Text) → four ≡ false
+    → option_map_or (λ (s : Shape). level_fault s [] nothing_held words false []) (picked_shape one two three four) [] ≡ []
+    → (not (is_some (option_map (λ (s : Shape). rows_at s words) (picked_shape one two three four))) && true) ≡ false
+    → IsWhole (option_map (λ (s : Shape). rows_at s words) (picked_shape one two three four))
+chosen true two three four words no_help none entered_one = inl refl
+chosen false true three four words no_help none entered_one = inr (inl (refl, files_given words none))
+chosen false false true four words no_help none entered_one = inr (inr (refl, workers_given words none))
+chosen false false false true words no_help none entered_one = absurd (true≢false no_help)
+chosen false false false false words no_help none entered_one = absurd (true≢false entered_one)
 
 named : (stop : Option (Text × List Text)) → IfSome stop (λ p. IsNoHelp p.0) → entered_fault whole_app stop ≡ []
     → (not (is_some (entered whole_app stop)) && true) ≡ false → IsWhole (entered whole_app stop)
 named None no_help none entered_one = absurd (true≢false entered_one)
 named (Some p) no_help none entered_one =
-    chosen (answers_to p.0 (label_of script_shape)) (answers_to p.0 (label_of check_shape)) (answers_to p.0 (label_of help_shape)) p.1 no_help none entered_one
+    chosen (answers_to p.0 (label_of script_shape)) (answers_to p.0 (label_of check_shape)) (answers_to p.0 (label_of threads_shape))
+    (answers_to p.0 (label_of help_shape)) p.1 no_help none entered_one
 
 pub whole_command : (words : List Text) → fault_of stmrun_app words ≡ [] → IsWhole (subcommand_of stmrun_app words)
 whole_command words none =

@@ -1,16 +1,29 @@
 -- What a command line asks for.
-use Rattle.std.specs.Prelude.{◌≡◌, ◌⊎◌, List, [], Option, None, Some, IsSome, codes, option_map}
-use Rattle.clap.specs.Words.{Text, Row, first_of, subcommand_of}
+use Rattle.std.specs.Prelude.{◌≡◌, ◌⊎◌, ℕ, ◌≤◌, List, [], Option, None, Some, IsSome, IsSomeAnd, codes, option_map}
+use Rattle.std.specs.Str.Parse.{digits_value, without_leading_plus}
+use Rattle.clap.specs.Words.{IsUnsignedIn, Text, Row, first_of, subcommand_of}
 use Rattle.stmrun.specs.declared.arguments.Asked.{Asked}
-use Rattle.stmrun.specs.declared.arguments.Asked.TheVariants.{Script, Check, Nothing}
+use Rattle.stmrun.specs.declared.arguments.Asked.TheVariants.{Script, Check, Threads, Nothing}
 use Rattle.stmrun.specs.CommandLine.{stmrun_app, faults_of, IsStatusOf}
 
+-- the text spells this number
+abbrev pub NamesNumber : Text → ℕ → Type 0
+NamesNumber text n = n ≡ digits_value 10 (without_leading_plus text)
+
+-- the text at a place is there, and spells this number
+abbrev pub NumberAt : Option Text → ℕ → Type 0
+NumberAt None n = ⊥
+NumberAt (Some text) n = NamesNumber text n
+
 -- a command of this name, with what stands in the places of its arguments, asks for a script of its file, or of standard
--- input where it names none, or for a check of its files
+-- input where it names none, for a check of its files, or for a run of its file by so many threads, from 1 to 16
 abbrev pub AsksAt : Text → List Row → Asked → Type 0
 AsksAt name rows (Script file) = (name ≡ codes "script") × (first_of (codes "FILE") rows ≡ option_map (λ path. path.now) file)
 AsksAt name rows (Check scenario report) =
     (name ≡ codes "check") × (first_of (codes "SCENARIO") rows ≡ Some scenario.now) × (first_of (codes "REPORT") rows ≡ Some report.now)
+AsksAt name rows (Threads file workers) =
+    (name ≡ codes "threads") × (first_of (codes "FILE") rows ≡ option_map (λ path. path.now) file)
+    × NumberAt (first_of (codes "workers") rows) workers × (1 ≤ workers) × (workers ≤ 16)
 AsksAt name rows (Nothing status) = ⊥
 
 -- the same, of the command that the words name
@@ -18,7 +31,7 @@ abbrev pub AsksBy : Option (Text × List Row) → Asked → Type 0
 AsksBy None asked = ⊥
 AsksBy (Some named) asked = AsksAt named.0 named.1 asked
 
--- a script, or a check with its files, where the words have no fault, and else the status of their fault
+-- a script, a check with its files, or a run by threads, where the words have no fault, and else the status of their fault
 abbrev pub Asks : List Text → Asked → Type 0
 Asks words (Nothing status) = IsStatusOf (faults_of words) status
 Asks words asked = (faults_of words ≡ []) × AsksBy (subcommand_of stmrun_app words) asked
@@ -27,7 +40,13 @@ Asks words asked = (faults_of words ≡ []) × AsksBy (subcommand_of stmrun_app 
 abbrev pub HasFiles : List Row → Type 0
 HasFiles rows = IsSome (first_of (codes "SCENARIO") rows) × IsSome (first_of (codes "REPORT") rows)
 
--- what is found of the command that the words name is that of a script, or of a check with its files
+-- a number from 1 to 16 stands in the place of the number of threads
+abbrev pub HasWorkers : List Row → Type 0
+HasWorkers rows = IsSomeAnd (first_of (codes "workers") rows) (IsUnsignedIn 1 16)
+
+-- what is found of the command that the words name is that of a script, of a check with its files, or of a run by so many threads
 abbrev pub IsWhole : Option (Text × List Row) → Type 0
 IsWhole None = ⊥
-IsWhole (Some named) = (named.0 ≡ codes "script") ⊎ ((named.0 ≡ codes "check") × HasFiles named.1)
+IsWhole (Some named) =
+    (named.0 ≡ codes "script")
+    ⊎ (((named.0 ≡ codes "check") × HasFiles named.1) ⊎ ((named.0 ≡ codes "threads") × HasWorkers named.1))

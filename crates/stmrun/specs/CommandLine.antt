@@ -1,7 +1,8 @@
 -- The command, and the status of each kind of fault that `clap` finds in a command line.
-use Rattle.std.specs.Prelude.{◌≡◌, ◌⊎◌, ℕ, List, codes, true}
+use Rattle.std.specs.Prelude.{◌≡◌, ◌⊎◌, ℕ, List, Some, codes, true}
 use Rattle.clap.specs.Words.{AddsSubcommand, App, IsAmong, Kinds, Rule, Text, app_of, fault_of, new_app, new_rule, with_rule, with_subcommand}
 use Rattle.clap.specs.declared.builder.command.Command.{Command}
+use Rattle.clap.specs.declared.builder.value_parser.ValueParser.TheVariants.{Unsigned}
 use Rattle.clap.specs.Simple.{on_top}
 use Rattle.clap.specs.declared.error.kind.ErrorKind.{ErrorKind}
 use Rattle.clap.specs.declared.error.kind.ErrorKind.TheVariants.{DisplayHelp, OutOfMemory}
@@ -16,14 +17,23 @@ script_app = with_rule (new_app (codes "script")) (new_rule (codes "FILE"))
 abbrev pub check_app : App
 check_app = with_rule (with_rule (new_app (codes "check")) (wanted (codes "SCENARIO"))) (wanted (codes "REPORT"))
 
+-- an option that has to be there, with a number from 1 to 16
+abbrev pub workers_rule : Rule
+workers_rule = record (wanted (codes "workers")) { long = Some (codes "workers"); value_names = 1; parser = Some (Unsigned 1 16) }
+
+abbrev pub threads_app : App
+threads_app = with_rule (with_rule (new_app (codes "threads")) (new_rule (codes "FILE"))) workers_rule
+
 -- a command that is added to another makes it that one with this as a subcommand, the last
 abbrev pub IsAddedAs : App → Command → Type 0
 IsAddedAs app command = (old new : Command) → AddsSubcommand old command new → app_of new ≡ with_subcommand (app_of old) app.top
 
--- stmrun: it wants a subcommand, script or check
+-- stmrun: it wants a subcommand, script, check or threads
 abbrev pub stmrun_app : App
 stmrun_app =
-    with_subcommand (with_subcommand (on_top (λ top. record top { subcommand_required = true }) (new_app (codes "stmrun"))) script_app.top) check_app.top
+    with_subcommand
+    (with_subcommand (with_subcommand (on_top (λ top. record top { subcommand_required = true }) (new_app (codes "stmrun"))) script_app.top) check_app.top)
+    threads_app.top
 
 -- 0 for help, 3 for want of memory and 2 for usage
 abbrev pub status_of_kind : ErrorKind → ℕ

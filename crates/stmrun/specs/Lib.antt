@@ -2,3 +2,4 @@ pub mod Asking
 pub mod Checking
 pub mod CommandLine
 pub mod Statuses
+pub mod Threading

@@ -1,22 +1,33 @@
 //! The command line.
-ghost use Rattle.std.specs.Prelude.{◌≡◌, ◌⊎◌, codes, false, IfOk, IfErr, IfNone, IfSome, Some, map, option_map, string_bytes};
-ghost use Rattle.clap.specs.Words.{app_of, first_of, found_of, kind_of, new_rule, rows_of, rule_of, subcommand_rows_of};
-ghost use Rattle.stmrun.specs.CommandLine.{script_app, check_app, stmrun_app, wanted, IsAddedAs, IsToldBy};
-ghost use Rattle.stmrun.specs.Asking.{Asks, AsksAt, AsksBy, HasFiles, IsWhole};
+ghost use Rattle.std.specs.Prelude.{◌≡◌, ◌≤◌, ◌⊎◌, codes, false, IfOk, IfErr, IfNone, IfSome, Some, map, option_map, string_bytes};
+ghost use Rattle.clap.specs.Words.{IsUnsignedIn, app_of, first_of, found_of, kind_of, new_rule, rows_of, rule_of, subcommand_rows_of};
+ghost use Rattle.stmrun.specs.CommandLine.{script_app, check_app, threads_app, stmrun_app, wanted, workers_rule, IsAddedAs, IsToldBy};
+ghost use Rattle.stmrun.specs.Asking.{Asks, AsksAt, AsksBy, HasFiles, HasWorkers, IsWhole, NamesNumber};
 
 use clap::error::ErrorKind;
 use clap::{Arg, ArgMatches, Command, Error};
 use std::alloc::{AllocError, Global};
 use std::rt::Env;
 use std::{env, io};
+use stm_jobs::MOST_WORKERS;
 
 /// What a command line asks for.
 #[derive(Clone, Copy, Debug, PartialEq, Eq)]
 pub(crate) enum Asked<'a> {
     /// A script, by the path of its scenario; of standard input, where there is none.
-    Script { scenario: Option<&'a str> },
+    Script {
+        scenario: Option<&'a str>,
+    },
     /// A check of a report, by the paths of its scenario and of itself.
-    Check { scenario: &'a str, report: &'a str },
+    Check {
+        scenario: &'a str,
+        report: &'a str,
+    },
+    /// A run of the scenario's jobs by so many threads, by the path of the scenario; of standard input, where there is none.
+    Threads {
+        scenario: Option<&'a str>,
+        workers: usize,
+    },
     /// Nothing more: help was printed, or the command line was refused, with this status.
     Nothing(u8),
 }
@@ -55,7 +66,8 @@ the end line:
   [\"key\",\"a\",\"1\",2,2,1,0]
   [\"end\",2,1]
 
-Statuses: 0 done or yes, 1 no, 2 bad input or usage, 3 want of memory or a failed device.";
+Statuses: 0 done or yes, 1 no, 2 bad input or usage, 3 want of memory, a failed device, or a run of threads
+that was broken off.";
 
 const SCRIPT_EXAMPLE: &str =
     "The report is printed once it is whole, and nothing of it where the scenario is bad: then the place of its
@@ -89,6 +101,26 @@ If s.json holds the example of stmrun --help and r.txt its report,
 prints yes. Where r.txt has another value in the line of key a, it prints no 3 Final.
 
 Statuses: 0 yes, 1 no, 2 bad input or usage, 3 want of memory or a failed device.";
+
+const THREADS_EXAMPLE: &str =
+    "Each start of the scenario is a job, numbered from 0. Its txn, grant, keep, revoke and advance events are
+applied to the store first, in their order; another event, and a limit of 0, is bad input. The threads
+draw jobs, run them on one store behind one lock, and a job whose commit fails is tried again until it has
+sent LIMIT commits. Printed are how many jobs there are, how many of them committed, the value of each key
+that is present, and the revision. If s.json holds
+
+  [[\"txn\",[],[[\"put\",\"a\",\"1\",0]],[]],[\"start\",\"Serializable\",1,[[\"put\",\"b\",[\"get\",\"a\"],0]]]]
+
+then stmrun threads --workers 2 s.json prints
+
+  [\"jobs\",1]
+  [\"committed\",1]
+  [\"value\",\"a\",\"1\"]
+  [\"value\",\"b\",\"1\"]
+  [\"end\",3]
+
+Which job goes first is not said, nor that the run ends. Statuses: 0 done, 2 bad input or usage, 3 want of
+memory, a failed device, no thread, or a job whose end is not what the store says (audit JOB).";
 
 /// What is said of words that are not UTF-8, in the manner of the other usage faults.
 const NOT_TEXT: &str = "error: the command line is not UTF-8
@@ -141,18 +173,51 @@ fn check_command<'a>(alloc: Global) -> Result<Command<'a>, AllocError>
         .arg(report)
 }
 
+/// The number of threads, which has to be there.
+fn workers<'a>(alloc: Global) -> Arg<'a>
+    ensures rule { rule_of result ≡ workers_rule }
+    ensures local { result.global ≡ false }
+{
+    let numbers = clap::value_parser!(u64).range(1..=16);
+    Arg::new(alloc, "workers")
+        .long("workers")
+        .value_name("N")
+        .required(true)
+        .value_parser(numbers)
+        .help("How many threads run the jobs, from 1 to 16")
+}
+
+/// The command `threads`.
+fn threads_command<'a>(alloc: Global) -> Result<Command<'a>, AllocError>
+    ensures { IfOk result (IsAddedAs threads_app) }
+{
+    let input = other_input(
+        alloc,
+        "FILE",
+        "The file of the scenario, in the place of standard input",
+    );
+    let count = workers(alloc);
+    Command::new(alloc, "threads")
+        .about("Runs the starts of a scenario as jobs, by several threads on one store")
+        .after_help(THREADS_EXAMPLE)
+        .arg(input)?
+        .arg(count)
+}
+
 /// The command.
 fn command<'a>(alloc: Global) -> Result<Command<'a>, AllocError>
     ensures { IfOk result (λ command. app_of command ≡ stmrun_app) }
 {
     let script = script_command(alloc)?;
     let check = check_command(alloc)?;
+    let threads = threads_command(alloc)?;
     Command::new(alloc, "stmrun")
         .about("Runs transactional programs over an etcd-like store, one event at a time")
         .after_help(EXAMPLE)
         .subcommand_required(true)
         .subcommand(script)?
-        .subcommand(check)
+        .subcommand(check)?
+        .subcommand(threads)
 }
 
 /// The status of a command line that is refused, or that asks for help, once its text is printed: 0 for help that was
@@ -211,7 +276,44 @@ fn files_of<'a>(found: &ArgMatches<'a>) -> Option<Asked<'a>>
     Some(Asked::Check { scenario, report })
 }
 
-/// What a command of this name asks for; `None` where it is no command of this program, or has no file.
+/// A number that was read, where it is one of workers.
+fn workers_at(number: usize) -> Option<usize>
+    ensures some { IfSome result (λ workers. (1 ≤ workers) × (workers ≤ 16) × (workers ≡ number)) }
+    ensures none { IfNone result ((1 ≤ number) × (number ≤ 16) → ⊥) }
+{
+    if number < 1 {
+        return None;
+    }
+    if number > MOST_WORKERS {
+        return None;
+    }
+    Some(number)
+}
+
+/// The number that a text spells, where it is one of workers.
+fn workers_in(text: &str) -> Option<usize>
+    ensures number { IfSome result (λ workers. (1 ≤ workers) × (workers ≤ 16) × NamesNumber text.now workers) }
+    ensures none { IfNone result (IsUnsignedIn 1 16 text.now → ⊥) }
+{
+    match text.parse::<usize>() {
+        Ok(number) => workers_at(number),
+        Err(_) => None,
+    }
+}
+
+/// What a run by threads with these arguments asks for; `None` where the number of threads is missing, or is no number of workers.
+fn threads_of<'a>(found: &ArgMatches<'a>) -> Option<Asked<'a>>
+    ensures asks { IfSome result (AsksAt (codes "threads") (rows_of (found_of found.now))) }
+    ensures missing { IfNone result (HasWorkers (rows_of (found_of found.now)) → ⊥) }
+{
+    let scenario = file_of(found, "FILE");
+    let text = file_of(found, "workers")?;
+    let workers = workers_in(text)?;
+    Some(Asked::Threads { scenario, workers })
+}
+
+/// What a command of this name asks for; `None` where it is no command of this program, or lacks what it has to have.
+#[tactic(auto, using(crate::proofs::CommandLemmas::whole_check, crate::proofs::CommandLemmas::whole_threads, crate::proofs::CommandLemmas::whole_other))]
 fn asked_at<'a>(name: &str, found: &ArgMatches<'a>) -> Option<Asked<'a>>
     ensures asks { IfSome result (AsksAt name.now (rows_of (found_of found.now))) }
     ensures missing { IfNone result (IsWhole (Some (name.now, rows_of (found_of found.now))) → ⊥) }
@@ -222,6 +324,9 @@ fn asked_at<'a>(name: &str, found: &ArgMatches<'a>) -> Option<Asked<'a>>
     }
     if name == "check" {
         return files_of(found);
+    }
+    if name == "threads" {
+        return threads_of(found);
     }
     None
 }

@@ -1,5 +1,8 @@
-//! The program: runs scenarios of transactional programs over one store and reports what happened, and checks reports.
+//! The program: runs scenarios of transactional programs over one store, by itself or by several threads, and reports what happened, and checks
+//! reports.
 #![tactic(auto)]
+
+ghost use Rattle.std.specs.Prelude.{◌≤◌};
 
 mod arguments;
 mod checking;
@@ -9,6 +12,9 @@ mod files;
 mod scripting;
 #[cfg(test)]
 mod tests;
+mod threading;
+#[cfg(test)]
+mod threading_tests;
 
 use arguments::{Asked, asked_of, read_words};
 pub use checking::check_to;
@@ -17,6 +23,7 @@ pub use scripting::script_to;
 use std::io::Read;
 use std::process::ExitCode;
 use stm_report::Std;
+pub use threading::threads_to;
 
 /// Runs the scenario of an input.
 fn run_input<R: Read + Drop>(rt: &HostRuntime, input: R) -> u8 {
@@ -43,6 +50,26 @@ fn run_check(rt: &HostRuntime, scenario: &str, report: &str) -> u8 {
     check_to(rt.alloc(), &mut scenario, &mut report, &mut out, &mut err)
 }
 
+/// Runs the jobs of an input by so many threads.
+fn run_jobs_of<R: Read + Drop>(rt: &HostRuntime, input: R, workers: usize) -> u8
+    requires { (1 ≤ workers) × (workers ≤ 16) }
+{
+    let mut input = Std::new(input);
+    let mut out = Std::new(rt.stdout());
+    let mut err = Std::new(rt.stderr());
+    threads_to(rt, rt.alloc(), &mut input, workers, &mut out, &mut err)
+}
+
+/// Runs the jobs of the scenario of a path, or of that on standard input.
+fn run_threads(rt: &HostRuntime, scenario: Option<&str>, workers: usize) -> u8
+    requires { (1 ≤ workers) × (workers ≤ 16) }
+{
+    match scenario {
+        Some(path) => run_jobs_of(rt, open(rt, path), workers),
+        None => run_jobs_of(rt, rt.reader(), workers),
+    }
+}
+
 /// Does what the command line asks for, and gives the status.
 fn run(rt: &HostRuntime) -> u8 {
     let words = match read_words(rt) {
@@ -52,6 +79,7 @@ fn run(rt: &HostRuntime) -> u8 {
     match asked_of(rt, rt.alloc(), words.as_slice()) {
         Asked::Script { scenario } => run_script(rt, scenario),
         Asked::Check { scenario, report } => run_check(rt, scenario, report),
+        Asked::Threads { scenario, workers } => run_threads(rt, scenario, workers),
         Asked::Nothing(status) => status,
     }
 }

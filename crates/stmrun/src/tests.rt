@@ -582,6 +582,52 @@ fn command_lines(rt: HostRuntime) {
     asks(&rt, alloc, &[name, check, help], &explained, shown, failed);
 }
 
+#[test]
+fn command_lines_of_threads(rt: HostRuntime) {
+    let alloc = rt.alloc();
+    let name = "stmrun".as_bytes();
+    let threads = "threads".as_bytes();
+    let option = "--workers".as_bytes();
+    let file = "s.json".as_bytes();
+    let four = "4".as_bytes();
+    let usage = Asked::Nothing(2);
+    let input = Asked::Threads {
+        scenario: None,
+        workers: 4,
+    };
+    asks(
+        &rt,
+        alloc,
+        &[name, threads, option, four],
+        &[],
+        input,
+        input,
+    );
+    let most = Asked::Threads {
+        scenario: Some("s.json"),
+        workers: 16,
+    };
+    let sixteen = "--workers=16".as_bytes();
+    asks(&rt, alloc, &[name, threads, file, sixteen], &[], most, most);
+    asks(&rt, alloc, &[name, threads, sixteen, file], &[], most, most);
+    let missing = ["Usage: stmrun", "--workers"];
+    asks(&rt, alloc, &[name, threads, file], &missing, usage, usage);
+    let wrong = ["--workers", "--help"];
+    for number in ["0", "17", "-1", "x", "", "18446744073709551617"] {
+        let line = [name, threads, option, number.as_bytes()];
+        asks(&rt, alloc, &line, &wrong, usage, usage);
+    }
+    let explained = ["--workers <N>", "[\"committed\",1]", "audit JOB"];
+    asks(
+        &rt,
+        alloc,
+        &[name, threads, "--help".as_bytes()],
+        &explained,
+        Asked::Nothing(0),
+        Asked::Nothing(3),
+    );
+}
+
 /// A check over memory has this status, and writes this to the two sinks.
 fn checks(
     rt: &impl Abort,

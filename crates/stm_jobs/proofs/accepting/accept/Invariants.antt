@@ -1,0 +1,12 @@
+use Rattle.std.proofs.Common.{◌≡◌}
+use Rattle.std.specs.Vec.Iter.{into_iter_items}
+use Rattle.stm_jobs.specs.Accepting.{sorted_of, add_events, accepted}
+use Rattle.stm_jobs.proofs.accepting.accept.Given as goal
+
+-- what is accepted of the rest, after what was sorted so far, is what is accepted of all
+abbrev pub invariant-loop-event : goal.invariant-loop-event
+invariant-loop-event l = record {
+  can_next : (goal.iterator-loop-event).can_next l.event-iterator;
+  ends : (goal.iterator-loop-event).is_finite l.event-iterator;
+  told : add_events l.place (into_iter_items l.event-iterator) (sorted_of l.sorted) ≡ accepted l.fn.scenario;
+}

@@ -1,0 +1,20 @@
+use Rattle.std.proofs.Common.{◌++◌, string_bytes, refl, arith}
+use Rattle.stm_report.specs.Report.{lines_text}
+use Rattle.stm_jobs.specs.Lines.{value_lines}
+use Rattle.stm_jobs.proofs.LineLemmas.{next_value, ascends}
+use Rattle.stm_jobs.proofs.printing.push_values.Goals as goal
+
+pub loop-i-init : goal.loop-i-init
+loop-i-init c = record { told = refl; rises = λ some. absurd (omega arith) }
+
+pub loop-i-preserved : goal.loop-i-preserved
+loop-i-preserved c = record {
+  told =
+      rw (c.in_ok-push_value.ensures, c.as_str.ensures, c.as_str-2.ensures) (next_value (string_bytes c.loop-i.text)
+      (string_bytes c.args.text.now ++ lines_text (value_lines c.args.state.now)) c.args.state.now c.loop-i.i c.at-entry.result.now c.at-entry.ensures.entry
+      c.loop-i.invariant.told);
+  rises = λ some. c.at-entry.ensures.ascending;
+}
+
+pub returns-clause-ascending : goal.returns-clause-ascending
+returns-clause-ascending c = ascends c.args.state.now c.loop-i.i (omega (arith, c.len.ensures)) c.loop-i.invariant.rises

@@ -1,0 +1,92 @@
+-- What a run of a scenario's jobs does: from the bytes of a source to what is printed in a sink.
+use Rattle.std.specs.Prelude.{◌≡◌, ℕ, List, length, map, Bool, true, false, Option, Result, Ok, Err, IfSome}
+use Rattle.std.specs.Io.KnownBytes.{Appends, Keeps}
+use Rattle.stm_devices.specs.Transfers.{WritesFront}
+use Rattle.stm_json.specs.declared.read_error.BadInput.{BadInput}
+use Rattle.stm_json.specs.Outcome.{Outcome, ◌>>=◌}
+use Rattle.stm_texts.specs.declared.scenario.Scenario.{Scenario}
+use Rattle.stm_texts.specs.Reading.{scenario_in}
+use Rattle.stm_report.specs.Script.{Devices, IsUntouched}
+use Rattle.stm_world.specs.declared.event.WorldEvent.{WorldEvent}
+use Rattle.stm_world.specs.World.{opened, world_after}
+use Rattle.stm_hall.specs.HallState.{HallState, made_over}
+use Rattle.stm_workers.specs.declared.job.Job.{Job}
+use Rattle.stm_workers.specs.declared.job_end.JobEnd.{JobEnd}
+use Rattle.stm_workers.specs.Gathered.{RanTo}
+use Rattle.stm_jobs.specs.declared.running.JobsFault.{JobsFault}
+use Rattle.stm_jobs.specs.declared.running.JobsFault.TheVariants.{OutOfMemory, Bad, Read, Write, Spawn, Audit}
+use Rattle.stm_jobs.specs.Accepting.{Sorted, task_of, accepted, opening_of}
+use Rattle.stm_jobs.specs.Lines.{AreLinesOf}
+
+-- ---- the run
+
+-- The text is printed of a run of these jobs, from a hall over the store that opens at a revision and has taken these calls: what
+-- stands in it is the hall that the run came to, and each job has its end there.
+pub record AreLinesOfRun (start : ℕ) (calls : List WorldEvent) (jobs : List Job) (text : List ℕ) : Type 0 where
+  pub ends : List JobEnd
+  pub committed : ℕ
+  pub after : HallState
+  pub ran : RanTo (made_over (world_after calls (opened start)).standing) jobs ends committed after
+  pub lines : AreLinesOf (length jobs) committed after.standing.history text
+
+-- a run that was broken off ends by one of these
+abbrev pub IsBrokenOff : JobsFault → Type 0
+IsBrokenOff OutOfMemory = Unit {0}
+IsBrokenOff Spawn = Unit {0}
+IsBrokenOff (Audit job) = Unit {0}
+IsBrokenOff (Bad fault) = ⊥
+IsBrokenOff Read = ⊥
+IsBrokenOff Write = ⊥
+
+-- a scenario of jobs was accepted, and the text is printed of a run of them
+pub record AreLinesOfScenario (s : Scenario) (text : List ℕ) : Type 0 where
+  pub sorted : Sorted
+  pub is_accepted : accepted s ≡ Ok sorted
+  pub jobs : List Job
+  pub are_its : map task_of jobs ≡ sorted.tasks
+  pub of_run : AreLinesOfRun (opening_of s) sorted.calls jobs text
+
+-- the first fault of a scenario that was read, or of reading it
+abbrev pub judged : Outcome Scenario → Outcome Sorted
+judged reading = reading >>= accepted
+
+abbrev pub IsPrintedOf : Outcome Scenario → List ℕ → Type 0
+IsPrintedOf reading text = (s : Scenario) × (reading ≡ Ok s) × AreLinesOfScenario s text
+
+-- what making the lines answers, seen by view: those of a run, or the first fault, unless the run was broken off
+abbrev pub Answers : {X : Type 0} → (X → List ℕ) → Outcome Scenario → Result X JobsFault → Type 0
+Answers view reading (Ok x) = IsPrintedOf reading (view x)
+Answers view reading (Err (Bad fault)) = judged reading ≡ Err fault
+Answers view reading (Err Read) = ⊥
+Answers view reading (Err Write) = ⊥
+Answers view reading (Err OutOfMemory) = Unit {0}
+Answers view reading (Err Spawn) = Unit {0}
+Answers view reading (Err (Audit job)) = Unit {0}
+
+-- what writing them does: what the sink held before and holds, whether it has failed then, and the answer
+abbrev pub Writes : {A : Type 0} → List ℕ → Option (List ℕ) → Option (List ℕ) → Bool → Result A JobsFault → Type 0
+Writes bytes before after failed (Ok u) = (failed ≡ false) × (text : List ℕ) × IsPrintedOf (scenario_in bytes) text × Appends before after text
+Writes bytes before after failed (Err (Bad fault)) = (failed ≡ false) × Keeps before after × (judged (scenario_in bytes) ≡ Err fault)
+Writes bytes before after failed (Err Read) = ⊥
+Writes bytes before after failed (Err Write) =
+    (failed ≡ true) × (text : List ℕ) × IsPrintedOf (scenario_in bytes) text × WritesFront before after text
+Writes bytes before after failed (Err OutOfMemory) = (failed ≡ false) × Keeps before after
+Writes bytes before after failed (Err Spawn) = (failed ≡ false) × Keeps before after
+Writes bytes before after failed (Err (Audit job)) = (failed ≡ false) × Keeps before after
+
+-- ---- the devices
+
+-- What a run did, by its answer. At the end of a good one exactly what is printed of it was written; at a bad scenario, a run that was
+-- broken off and a failed source nothing was; at a failed sink a front of the lines was.
+abbrev pub Does : {A : Type 0} → Devices → Result A JobsFault → Type 0
+Does d (Ok u) =
+    (d.source_failed ≡ false) × (d.sink_failed ≡ false)
+    × IfSome d.input (λ input. (text : List ℕ) × IsPrintedOf (scenario_in input) text × Appends d.before d.after text)
+Does d (Err (Bad fault)) = IsUntouched d × IfSome d.input (λ input. judged (scenario_in input) ≡ Err fault)
+Does d (Err Read) = (d.source_failed ≡ true) × (d.sink_failed ≡ false) × Keeps d.before d.after
+Does d (Err Write) =
+    (d.source_failed ≡ false) × (d.sink_failed ≡ true)
+    × IfSome d.input (λ input. (text : List ℕ) × IsPrintedOf (scenario_in input) text × WritesFront d.before d.after text)
+Does d (Err OutOfMemory) = IsUntouched d
+Does d (Err Spawn) = IsUntouched d
+Does d (Err (Audit job)) = IsUntouched d

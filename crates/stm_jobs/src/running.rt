@@ -1,0 +1,174 @@
+//! From the bytes of a source to what is printed of its jobs in a sink.
+ghost use Rattle.std.specs.Prelude.{◌≡◌, ◌≤◌, false, string_bytes, Ok, IfOk, IfErr};
+ghost use Rattle.stm_history.specs.declared.revisions.TheConstants.{HIGHEST_REVISION};
+ghost use Rattle.stm_texts.specs.Reading.{IsOpening, scenario_in};
+ghost use Rattle.stm_jobs.specs.Running.{AreLinesOfRun, IsBrokenOff, Answers, Writes, Does};
+
+use crate::accepting::accept;
+use crate::opening::open_store;
+use crate::printing::lines;
+use std::alloc::Global;
+use std::sync::Wait;
+use std::thread::Threads;
+use stm_devices::{ReadFault, Sink, Source, read_all, write_all};
+use stm_hall::Hall;
+use stm_json::{BadInput, ReadError};
+use stm_texts::{Scenario, read_scenario};
+use stm_workers::{FaultCause, Job, NoGate, run_workers};
+use stm_world::WorldEvent;
+use thiserror::Error;
+
+/// Why a run of a scenario's jobs failed.
+#[derive(Debug, Drop, Error)]
+pub enum JobsFault {
+    /// A growth was refused.
+    #[error("out of memory")]
+    OutOfMemory,
+    /// The input is no scenario of jobs: its first fault.
+    #[error("bad scenario {0}")]
+    Bad(BadInput),
+    /// The source failed.
+    #[error("device fault")]
+    Read,
+    /// The sink failed.
+    #[error("device fault")]
+    Write,
+    /// A thread could not be started.
+    #[error("no thread")]
+    Spawn,
+    /// The end of this job is not what the hall says.
+    #[error("audit {0}")]
+    Audit(u64),
+}
+
+/// The fault of a run that was broken off.
+fn fault_of(cause: FaultCause) -> JobsFault
+    ensures { IsBrokenOff result }
+{
+    match cause {
+        FaultCause::OutOfMemory => JobsFault::OutOfMemory,
+        FaultCause::Spawn => JobsFault::Spawn,
+        FaultCause::Audit { job } => JobsFault::Audit(job as u64),
+    }
+}
+
+/// What is printed of these jobs, run on an empty store at this revision once these calls of it were made.
+fn lines_of<R: Threads + Wait + Sync>(
+    rt: &R,
+    alloc: Global,
+    start: u64,
+    calls: &[WorldEvent],
+    jobs: &[Job],
+    workers: usize,
+) -> Result<String, JobsFault>
+    requires { (1 ≤ workers) × (workers ≤ 16) × (1 ≤ start) × (start ≤ HIGHEST_REVISION) }
+    ensures lines { IfOk result (λ text. AreLinesOfRun start calls.now jobs.now (string_bytes text)) }
+    ensures fault { IfErr result IsBrokenOff }
+{
+    let Ok(store) = open_store(alloc, start, calls) else {
+        return Err(JobsFault::OutOfMemory);
+    };
+    match run_workers(rt, alloc, jobs, workers, Hall::new(alloc, store), &NoGate) {
+        Ok(gathered) => match lines(alloc, jobs.len(), &gathered) {
+            Ok(text) => Ok(text),
+            Err(_) => Err(JobsFault::OutOfMemory),
+        },
+        Err(broken) => Err(fault_of(broken.cause)),
+    }
+}
+
+/// What is printed of a scenario's jobs.
+fn lines_of_scenario<R: Threads + Wait + Sync>(
+    rt: &R,
+    alloc: Global,
+    scenario: Scenario,
+    workers: usize,
+) -> Result<String, JobsFault>
+    requires workers { (1 ≤ workers) × (workers ≤ 16) }
+    requires opening { IsOpening scenario.opening }
+    ensures { Answers string_bytes (Ok scenario) result }
+{
+    let start = scenario.opening.unwrap_or(1);
+    match accept(alloc, scenario) {
+        Ok(sorted) => lines_of(
+            rt,
+            alloc,
+            start,
+            sorted.calls.as_slice(),
+            sorted.jobs.as_slice(),
+            workers,
+        ),
+        Err(ReadError::OutOfMemory) => Err(JobsFault::OutOfMemory),
+        Err(ReadError::Bad(fault)) => Err(JobsFault::Bad(fault)),
+    }
+}
+
+/// What is printed of the jobs of the scenario that bytes spell.
+fn lines_of_bytes<R: Threads + Wait + Sync>(
+    rt: &R,
+    alloc: Global,
+    bytes: &[u8],
+    workers: usize,
+) -> Result<String, JobsFault>
+    requires { (1 ≤ workers) × (workers ≤ 16) }
+    ensures { Answers string_bytes (scenario_in bytes.now) result }
+{
+    match read_scenario(alloc, bytes) {
+        Ok(scenario) => lines_of_scenario(rt, alloc, scenario, workers),
+        Err(ReadError::OutOfMemory) => Err(JobsFault::OutOfMemory),
+        Err(ReadError::Bad(fault)) => Err(JobsFault::Bad(fault)),
+    }
+}
+
+/// Writes what is printed of the jobs of the scenario that bytes spell, once it is whole.
+fn write_lines<R: Threads + Wait + Sync, W: Sink>(
+    rt: &R,
+    alloc: Global,
+    bytes: &[u8],
+    workers: usize,
+    sink: &mut W,
+) -> Result<(), JobsFault>
+    requires workers { (1 ≤ workers) × (workers ≤ 16) }
+    requires sink_works { W.failed sink.old ≡ false }
+    ensures { Writes bytes.now (W.held sink.old) (W.held sink.new) (W.failed sink.new) result }
+{
+    let text = match lines_of_bytes(rt, alloc, bytes, workers) {
+        Ok(text) => text,
+        Err(fault) => return Err(fault),
+    };
+    match write_all(sink, text.as_str().as_bytes()) {
+        Ok(()) => Ok(()),
+        Err(_) => Err(JobsFault::Write),
+    }
+}
+
+/// Reads a scenario of jobs from a source to its end, runs the jobs by so many threads, and writes what is printed of the run to a sink.
+///
+/// The scenario is read whole, and then judged as one of jobs, before anything runs. Nothing is written before the run has ended.
+/// Neither device has failed before. It fails as `Bad` with the first fault, as `OutOfMemory` where a growth was refused, as `Read` where the
+/// source has failed, as `Spawn` where a thread could not be started, and as `Audit` where the end of a job does not stand: then nothing was
+/// written. It fails as `Write` where the sink has failed: then a front of the lines was written. Nothing is said of whether it returns.
+pub fn run_jobs<R: Threads + Wait + Sync, S: Source, W: Sink>(
+    rt: &R,
+    alloc: Global,
+    source: &mut S,
+    workers: usize,
+    sink: &mut W,
+) -> Result<(), JobsFault>
+    requires workers { (1 ≤ workers) × (workers ≤ 16) }
+    requires source_works { S.failed source.old ≡ false }
+    requires sink_works { W.failed sink.old ≡ false }
+    ensures { Does (record {
+      input = S.left source.old;
+      before = W.held sink.old;
+      after = W.held sink.new;
+      source_failed = S.failed source.new;
+      sink_failed = W.failed sink.new;
+    }) result }
+{
+    match read_all(alloc, source) {
+        Ok(bytes) => write_lines(rt, alloc, bytes.as_slice(), workers, sink),
+        Err(ReadFault::OutOfMemory) => Err(JobsFault::OutOfMemory),
+        Err(ReadFault::Device) => Err(JobsFault::Read),
+    }
+}

@@ -1,0 +1,15 @@
+use Rattle.std.proofs.Common.{List, refl, sym, ap, ◌∙◌}
+use Rattle.stm_workers.specs.declared.worker.EndOf.{EndOf}
+use Rattle.stm_workers.specs.Rounds.{jobs_of, committed_in, drawing}
+use Rattle.stm_workers.proofs.SeatLemmas.{one_more, one_counted}
+use Rattle.stm_workers.proofs.attempts.Floor.bring_to_end.Goals as goal
+
+pub at_work-requires-clause-one_left : goal.at_work-requires-clause-one_left
+at_work-requires-clause-one_left g c =
+    one_more _ _ _ _ _ refl c.requires.drawn ∙ ap (λ (es : List EndOf). drawing _ (jobs_of es)) (sym c.in_ok-push.ensures.items)
+
+pub at_work-requires-clause-counted : goal.at_work-requires-clause-counted
+at_work-requires-clause-counted g c = (
+  c.run_job.ensures.parts ∙ c.requires.counted.0,
+  one_counted _ _ _ _ c.requires.counted.1 c.in_ok-end.ensures.counted ∙ ap (λ (es : List EndOf). committed_in es) (sym c.in_ok-push.ensures.items),
+)

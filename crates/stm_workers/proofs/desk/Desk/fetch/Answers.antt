@@ -1,0 +1,15 @@
+use Rattle.stm_workers.proofs.RoundLemmas.{same_gone, same_takes, same_count}
+use Rattle.stm_workers.proofs.desk.Desk.fetch.Goals as goal
+
+-- it is as it was
+pub invariant_of-self : goal.invariant_of-self
+invariant_of-self g c =
+    let old = c.args.self.now in
+    record {
+      gone_on = same_gone _ _ _ c.fetch.ensures.same old.gone_on;
+      takes = same_takes _ _ _ _ c.fetch.ensures.same old.takes;
+      counted = same_count _ _ _ _ c.fetch.ensures.same old.counted;
+    }
+
+pub returns-clause-answer : goal.returns-clause-answer
+returns-clause-answer g c = (_, c.fetch.ensures.answer)

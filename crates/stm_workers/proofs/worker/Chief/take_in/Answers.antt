@@ -1,0 +1,32 @@
+use Rattle.std.proofs.Common.{sym, ap}
+use Rattle.stm_workers.specs.Rounds.{jobs_of, committed_in}
+use Rattle.std.proofs.Common.{◌∙◌}
+use Rattle.stm_workers.proofs.SeatLemmas.{drawn_together, counted_together, even_together, past_together}
+use Rattle.stm_workers.proofs.worker.Chief.take_in.Goals as goal
+
+-- it is as it was
+pub invariant_of-self : goal.invariant_of-self
+invariant_of-self g c =
+    let old = c.args.self.now in
+    let same = c.in_err-append.ensures.items in
+    record {
+      seated = old.seated;
+      drawn = old.drawn ∙ sym (ap jobs_of same);
+      counted = old.counted ∙ sym (ap committed_in same);
+      even = old.even;
+    }
+
+-- its draws, its commits and its passes are more by those of the worker
+pub invariant_of-self-2 : goal.invariant_of-self-2
+invariant_of-self-2 g c =
+    let old = c.args.self.now in
+    let idle = c.args.idle in
+    record {
+      seated = (c.join.ensures.seat.0 ∙ c.requires.0, c.join.ensures.seat.1 ∙ c.requires.1);
+      drawn = drawn_together _ _ _ _ _ _ old.drawn idle.none_left c.join.ensures.view ∙ sym (ap jobs_of c.in_ok-append.ensures.items);
+      counted = counted_together _ _ _ _ _ old.counted idle.counted.1 c.merge.ensures.amount ∙ sym (ap committed_in c.in_ok-append.ensures.items);
+      even = even_together _ _ _ _ _ _ _ _ old.even idle.none_left c.join.ensures.view idle.counted.0 c.merge.ensures.parts;
+    }
+
+pub returns-clause-past : goal.returns-clause-past
+returns-clause-past g c = past_together _ _ _ _ _ c.args.idle.none_left c.join.ensures.view

@@ -1,0 +1,7 @@
+pub mod Tried
+pub mod Codes
+pub mod Ends
+pub mod Marks
+pub mod Gathered
+pub mod Rounds
+pub mod Causes

@@ -1,0 +1,231 @@
+//! The look at the ends of jobs, once nobody is at the hall.
+ghost use Rattle.std.specs.Prelude.{◌≡◌, ◌+◌, ◌<◌, ◌≤◌, ◌↔◌, ◌||◌, ℕ, true, false, length, get_or, set, slice_get, IfOk, IfSome, IfNone, IsTrue, Some};
+ghost use Rattle.stm_compile.specs.Levels.{is_comparing};
+ghost use Rattle.stm_workers.specs.Ends.{entry_named, names_entry, IsCommitOf, IsGivenUp, IsBorneOut, BorneOutAt, StandsAt, AllStand};
+ghost use Rattle.stm_workers.specs.Marks.{NamesWithin, IsNewAt, is_marked};
+
+use crate::begun::Begun;
+use crate::job::Job;
+use crate::job_end::JobEnd;
+use std::alloc::{AllocError, Global};
+use stm_entries::Entry;
+use stm_hall::Hall;
+use stm_program::Level;
+
+/// Whether an entry is a commit of this job after which the store's revision was this.
+fn is_commit_of(entry: &Entry, job: &Job, after: u64) -> bool
+    ensures { IsTrue result ↔ IsCommitOf job.now after (Some entry.now) }
+{
+    match entry {
+        Entry::Program {
+            program,
+            level,
+            revision,
+            ..
+        } => {
+            if !program.is_same(&job.program) {
+                return false;
+            }
+            if !(*level).is_same(job.level) {
+                return false;
+            }
+            *revision == after
+        }
+        _ => false,
+    }
+}
+
+/// The entry at a place.
+fn entry_at(entries: &[Entry], index: usize) -> &Entry
+    requires { index < length entries.now }
+    ensures { slice_get entries.now index ≡ Some result.now }
+{
+    &entries[index]
+}
+
+/// Whether the entry at a place is that commit, made since the run began.
+fn has_commit(entries: &[Entry], begun: Begun, job: &Job, index: usize, after: u64) -> bool
+    ensures { IsTrue result ↔ ((begun.entries ≤ index) × IsCommitOf job.now after (slice_get entries.now index)) }
+{
+    if index < begun.entries {
+        return false;
+    }
+    if index >= entries.len() {
+        return false;
+    }
+    is_commit_of(entry_at(entries, index), job, after)
+}
+
+/// Whether a commit at this level compares what was read.
+fn is_comparing(level: Level) -> bool
+    ensures { result ≡ is_comparing level }
+{
+    match level {
+        Level::SerializableSnapshot => true,
+        Level::Serializable => true,
+        Level::RepeatableReads => true,
+        Level::ReadCommitted => false,
+    }
+}
+
+/// Whether a counter has grown by at least so many since it was this.
+fn has_grown_by(now: u64, since: u64, many: u32) -> bool
+    ensures { IsTrue result ↔ since + many ≤ now }
+{
+    if now < since {
+        return false;
+    }
+    now - since >= many as u64
+}
+
+/// Whether a job may have sent its last commit over a key that others changed.
+fn may_have_given_up(hall: &Hall, begun: Begun, job: &Job, key: &str) -> bool
+    ensures { IsTrue result ↔ IsGivenUp begun hall.now job.now key.now }
+{
+    if !is_comparing(job.level) {
+        return false;
+    }
+    if !has_grown_by(hall.revision(), begun.revision, job.limit) {
+        return false;
+    }
+    hall.is_changed_above(key, begun.revision)
+}
+
+/// Whether what an end says of the hall is so.
+fn is_borne_out(hall: &Hall, begun: Begun, job: &Job, end: &JobEnd) -> bool
+    ensures { IsTrue result ↔ IsBorneOut begun hall.now job.now end.now }
+{
+    match end {
+        JobEnd::Committed { index, revision } => {
+            has_commit(hall.entries(), begun, job, *index, *revision)
+        }
+        JobEnd::GaveUp { key } => may_have_given_up(hall, begun, job, key.as_str()),
+        JobEnd::Aborted(_) => true,
+        JobEnd::Faulted(_) => true,
+        JobEnd::Refused(_) => true,
+    }
+}
+
+/// The job at a place.
+pub(crate) fn job_at(jobs: &[Job], place: usize) -> &Job
+    requires { place < length jobs.now }
+    ensures { slice_get jobs.now place ≡ Some result.now }
+{
+    &jobs[place]
+}
+
+/// The end at a place.
+fn end_at(ends: &[JobEnd], place: usize) -> &JobEnd
+    requires { place < length ends.now }
+    ensures { slice_get ends.now place ≡ Some result.now }
+{
+    &ends[place]
+}
+
+/// Whether what the end at a place says of the hall is so.
+fn is_borne_out_at(jobs: &[Job], ends: &[JobEnd], place: usize, begun: Begun, hall: &Hall) -> bool
+    requires { (place < length jobs.now) × (place < length ends.now) }
+    ensures { IsTrue result ↔ BorneOutAt begun hall.now jobs.now ends.now place }
+{
+    is_borne_out(hall, begun, job_at(jobs, place), end_at(ends, place))
+}
+
+/// The first job whose end the hall does not bear out.
+fn find_unborne(jobs: &[Job], ends: &[JobEnd], begun: Begun, hall: &Hall) -> Option<usize>
+    requires { length ends.now ≡ length jobs.now }
+    ensures clear { IfNone result ((place : ℕ) → BorneOutAt begun hall.now jobs.now ends.now place) }
+    ensures fault { IfSome result (λ place. (place < length jobs.now) × (BorneOutAt begun hall.now jobs.now ends.now place → ⊥)) }
+{
+    for place in 0..ends.len() {
+        if !is_borne_out_at(jobs, ends, place, begun, hall) {
+            return Some(place);
+        }
+    }
+    None
+}
+
+/// Marks an entry, and tells whether it was marked before.
+fn set_mark(marks: &mut Vec<bool>, index: usize) -> bool
+    requires { index < length marks.old.items }
+    ensures was { result ≡ get_or marks.old.items index false }
+    ensures marks { marks.new.items ≡ set marks.old.items index true }
+{
+    let was = marks[index];
+    marks[index] = true;
+    was
+}
+
+/// Marks the entry that an end names, and tells whether it was marked before.
+fn mark(marks: &mut Vec<bool>, end: &JobEnd) -> bool
+    requires { IfSome (entry_named end.now) (λ index. index < length marks.old.items) }
+    ensures told { result ≡ is_marked marks.old.items (entry_named end.now) }
+    ensures marks { (index : ℕ) → index < length marks.old.items → get_or marks.new.items index false ≡ (names_entry index end.now || get_or marks.old.items index false) }
+    ensures length { length marks.new.items ≡ length marks.old.items }
+{
+    match end {
+        JobEnd::Committed { index, .. } => set_mark(marks, *index),
+        JobEnd::Aborted(_) => false,
+        JobEnd::Faulted(_) => false,
+        JobEnd::Refused(_) => false,
+        JobEnd::GaveUp { .. } => false,
+    }
+}
+
+/// The first job whose end names an entry that the end of an earlier job names.
+fn find_repeated(
+    alloc: Global,
+    ends: &[JobEnd],
+    entries: usize,
+) -> Result<Option<usize>, AllocError>
+    requires { NamesWithin ends.now entries }
+    ensures clear { IfOk result (λ found. IfNone found ((place : ℕ) → IsNewAt ends.now place)) }
+    ensures fault { IfOk result (λ found. IfSome found (λ place. (place < length ends.now) × (IsNewAt ends.now place → ⊥))) }
+{
+    let mut marks = Vec::from_elem(alloc, false, entries)?;
+    for place in 0..ends.len() {
+        if mark(&mut marks, end_at(ends, place)) {
+            return Ok(Some(place));
+        }
+    }
+    Ok(None)
+}
+
+/// The audit of ends that the hall bears out: whether each names an entry of its own.
+fn audit_names(
+    alloc: Global,
+    jobs: &[Job],
+    ends: &[JobEnd],
+    begun: Begun,
+    hall: &Hall,
+) -> Result<Option<usize>, AllocError>
+    requires many { length ends.now ≡ length jobs.now }
+    requires borne { (place : ℕ) → BorneOutAt begun hall.now jobs.now ends.now place }
+    ensures clear { IfOk result (λ found. IfNone found (AllStand begun hall.now jobs.now ends.now)) }
+    ensures fault { IfOk result (λ found. IfSome found (λ place. (place < length jobs.now) × (StandsAt begun hall.now jobs.now ends.now place → ⊥))) }
+{
+    match find_repeated(alloc, ends, hall.entries().len())? {
+        None => Ok(None),
+        Some(place) => Ok(Some(place)),
+    }
+}
+
+/// A job whose end the hall does not bear out, or whose entry an earlier job has named: the first of the former, or else of the latter.
+/// `None`: each end stands.
+///
+/// There are as many ends as jobs. `AllocError`: a growth was refused.
+pub fn audit(
+    alloc: Global,
+    jobs: &[Job],
+    ends: &[JobEnd],
+    begun: Begun,
+    hall: &Hall,
+) -> Result<Option<usize>, AllocError>
+    requires { length ends.now ≡ length jobs.now }
+    ensures clear { IfOk result (λ found. IfNone found (AllStand begun hall.now jobs.now ends.now)) }
+    ensures fault { IfOk result (λ found. IfSome found (λ place. (place < length jobs.now) × (StandsAt begun hall.now jobs.now ends.now place → ⊥))) }
+{
+    match find_unborne(jobs, ends, begun, hall) {
+        Some(place) => Ok(Some(place)),
+        None => audit_names(alloc, jobs, ends, begun, hall),
+    }
+}

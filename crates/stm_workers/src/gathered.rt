@@ -1,0 +1,36 @@
+//! What a run of jobs comes to.
+use crate::job_end::JobEnd;
+use stm_hall::Hall;
+
+/// All jobs have ended.
+#[derive(Drop)]
+pub struct Gathered {
+    /// The end of each job, at its place.
+    pub ends: Vec<JobEnd>,
+    /// How many committed.
+    pub committed: usize,
+    /// The hall that was handed in, with what was committed.
+    pub hall: Hall,
+}
+
+/// The run was broken off. All threads have ended, and some jobs may have no end.
+#[derive(Drop)]
+pub struct RunFault {
+    pub cause: FaultCause,
+    /// The hall that was handed in, with what was committed until then.
+    pub hall: Hall,
+}
+
+/// Why a run of jobs is broken off.
+#[derive(Debug, Clone, Copy, PartialEq, Eq)]
+pub enum FaultCause {
+    /// A growth was refused, in a worker or in the hall.
+    OutOfMemory,
+    /// A thread could not be started.
+    Spawn,
+    /// The end of a job is not what the hall says.
+    Audit {
+        /// The job's place.
+        job: usize,
+    },
+}

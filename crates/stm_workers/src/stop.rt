@@ -1,0 +1,92 @@
+//! Why a job goes no further.
+ghost use Rattle.std.specs.Prelude.{◌≡◌, ◌≢◌, ◌↔◌, false, IfOk, IfErr, IsTrue};
+ghost use Rattle.stm_meaning.specs.declared.run.End.TheVariants.{Done};
+ghost use Rattle.stm_txn.specs.declared.refusal.Refusal.TheVariants.{OutOfMemory as Want};
+ghost use Rattle.stm_workers.specs.Ends.{is_committed};
+
+use crate::job_end::{JobEnd, JobRefusal};
+use crate::store_refusal::StoreRefusal;
+use std::alloc::AllocError;
+use stm_hall::{CommitRefusal, FetchRefusal};
+use stm_history::Text;
+use stm_meaning::{End, Fault, Run};
+use stm_txn::Refusal;
+
+/// A job that goes no further without a commit.
+#[derive(Drop)]
+pub(crate) enum Stop {
+    /// A growth was refused, which is no end.
+    OutOfMemory,
+    Aborted(Text),
+    Faulted(Fault),
+    Refused(JobRefusal),
+}
+
+impl From<AllocError> for Stop {
+    ghost use Rattle.std.specs.Prelude.{◌≡◌};
+    ghost use Rattle.stm_workers.specs.declared.stop.Stop.TheVariants.{OutOfMemory};
+
+    ghost from_gives = { λ error stop. stop ≡ OutOfMemory };
+
+    fn from(_error: AllocError) -> Stop {
+        Stop::OutOfMemory
+    }
+}
+
+/// Whether a call was refused for want of memory.
+fn is_want(cause: Refusal) -> bool
+    ensures { IsTrue result ↔ cause ≡ Want }
+{
+    cause == Refusal::OutOfMemory
+}
+
+impl Stop {
+    ghost use Rattle.stm_workers.specs.declared.stop.Stop.TheVariants.{OutOfMemory};
+
+    /// A call that the store refused.
+    fn of_store(cause: Refusal) -> Stop {
+        if is_want(cause) {
+            return Stop::OutOfMemory;
+        }
+        Stop::Refused(JobRefusal::Store(StoreRefusal::of(cause)))
+    }
+
+    pub fn of_fetch(refusal: FetchRefusal) -> Stop {
+        match refusal {
+            FetchRefusal::Behind { seen, now } => Stop::Refused(JobRefusal::Behind { seen, now }),
+            FetchRefusal::Store(cause) => Stop::of_store(cause),
+        }
+    }
+
+    pub fn of_commit(refusal: CommitRefusal) -> Stop {
+        match refusal {
+            CommitRefusal::Unvouched { key } => Stop::Refused(JobRefusal::Unvouched { key }),
+            CommitRefusal::Store(cause) => Stop::of_store(cause),
+        }
+    }
+
+    /// A run that came to an end other than its last statement.
+    pub fn of_run(run: Run) -> Stop
+        requires { run.end ≢ Done }
+    {
+        let Run { end, .. } = run;
+        match end {
+            End::Done => unreachable!(),
+            End::Aborted(text) => Stop::Aborted(text),
+            End::Faulted(fault) => Stop::Faulted(fault),
+        }
+    }
+
+    /// The job's end, where it is one: want of memory is none.
+    pub fn end(self) -> Result<JobEnd, AllocError>
+        ensures end { IfOk result (λ end. is_committed end ≡ false) }
+        ensures want { IfErr result (λ error. self ≡ OutOfMemory) }
+    {
+        match self {
+            Stop::OutOfMemory => Err(AllocError),
+            Stop::Aborted(text) => Ok(JobEnd::Aborted(text)),
+            Stop::Faulted(fault) => Ok(JobEnd::Faulted(fault)),
+            Stop::Refused(refusal) => Ok(JobEnd::Refused(refusal)),
+        }
+    }
+}

@@ -1,0 +1,23 @@
+//! Why the store refuses a call of a job.
+ghost use Rattle.std.specs.Prelude.{◌≡◌, ◌≢◌};
+ghost use Rattle.stm_txn.specs.declared.refusal.Refusal.TheVariants.{OutOfMemory};
+
+use stm_txn::Refusal;
+
+/// A refusal of the store that is not for want of memory: that ends the run of all jobs, and never a job.
+#[derive(Debug, Clone, Copy)]
+pub struct StoreRefusal {
+    /// Why the call was refused.
+    pub cause: Refusal,
+    pub ghost is_no_want: { cause ≢ OutOfMemory },
+}
+
+impl StoreRefusal {
+    /// The refusal for this cause, which is no want of memory.
+    pub fn of(cause: Refusal) -> StoreRefusal
+        requires { cause ≢ OutOfMemory }
+        ensures { result.cause ≡ cause }
+    {
+        StoreRefusal { cause }
+    }
+}

@@ -1,0 +1,17 @@
+use Rattle.std.proofs.Common.{refl, sym, subst}
+use Rattle.stmrun.specs.Asking.{NumberAt}
+use Rattle.stmrun.proofs.CommandLemmas.{no_workers}
+use Rattle.stmrun.proofs.arguments.threads_of.Goals as goal
+
+pub returns-clause-asks : goal.returns-clause-asks
+returns-clause-asks c = (
+  refl,
+  sym c.file_of-scenario.ensures,
+  subst (λ o. NumberAt o c.in_ok-workers.workers) c.in_ok-text.ensures c.in_ok-workers.ensures.number.2,
+  c.in_ok-workers.ensures.number.0,
+  c.in_ok-workers.ensures.number.1,
+)
+
+-- what stands in the place of the number is none
+pub returns-in_err-workers-clause-missing : goal.returns-in_err-workers-clause-missing
+returns-in_err-workers-clause-missing c = no_workers _ _ c.in_ok-text.ensures c.in_err-workers.ensures.none

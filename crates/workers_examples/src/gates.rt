@@ -1,0 +1,234 @@
+//! Two workers are at work at once, and no program is evaluated, and no gate passed, under the lock: job 0 is held until job 1's commit was
+//! answered, which can't be on one thread.
+ghost use Rattle.std.specs.Prelude.{◌≤◌};
+
+use serde_json::Value as Json;
+use std::alloc::{AllocError, Global};
+use std::sync::Wait;
+use std::sync::atomic::{AtomicBool, Ordering};
+use std::test::Fail;
+use std::thread;
+use std::thread::Threads;
+use stm_program::Level;
+use stm_program_json::read_program;
+use stm_txn::Store;
+use stm_workers::{Gate, Gathered, Hall, Job, JobEnd, run_workers};
+
+/// How often a job that is held looks whether it may go on.
+const MOST_TURNS: u32 = 1000000;
+
+/// What two jobs tell each other.
+#[derive(Drop)]
+struct Signs {
+    /// Job 0 stands before its commit.
+    standing: AtomicBool,
+    /// Job 1's commit was answered.
+    answered: AtomicBool,
+    /// A sign that was waited for never came.
+    serial: AtomicBool,
+}
+
+impl Signs {
+    fn new() -> Signs {
+        Signs {
+            standing: AtomicBool::new(false),
+            answered: AtomicBool::new(false),
+            serial: AtomicBool::new(false),
+        }
+    }
+
+    /// Waits for a sign, and remembers if it never came.
+    fn wait_for(&self, sign: &AtomicBool) {
+        for _ in 0..MOST_TURNS {
+            if sign.load(Ordering::SeqCst) {
+                return;
+            }
+            thread::yield_now();
+        }
+        self.serial.store(true, Ordering::SeqCst);
+    }
+
+    fn is_serial(&self) -> bool {
+        self.serial.load(Ordering::SeqCst)
+    }
+}
+
+/// Holds job 0 before its commit until job 1's commit was answered.
+#[derive(Drop)]
+struct AtCommit {
+    signs: Signs,
+}
+
+impl Gate for AtCommit {
+    fn before_fetch(&self, _job: usize) {}
+
+    fn before_commit(&self, job: usize) {
+        if job == 0 {
+            self.signs.wait_for(&self.signs.answered);
+        }
+    }
+
+    fn after_commit(&self, job: usize) {
+        if job == 1 {
+            self.signs.answered.store(true, Ordering::SeqCst);
+        }
+    }
+}
+
+/// Holds job 0 before its fetch until job 1's commit was answered.
+#[derive(Drop)]
+struct AtFetch {
+    signs: Signs,
+}
+
+impl Gate for AtFetch {
+    fn before_fetch(&self, job: usize) {
+        if job == 0 {
+            self.signs.wait_for(&self.signs.answered);
+        }
+    }
+
+    fn before_commit(&self, _job: usize) {}
+
+    fn after_commit(&self, job: usize) {
+        if job == 1 {
+            self.signs.answered.store(true, Ordering::SeqCst);
+        }
+    }
+}
+
+/// Holds job 1 before its commit until job 0 stands before its own, and job 0 there until job 1's commit was answered: so whatever job 0
+/// reads, it reads before job 1's commit, and sends its own after it.
+#[derive(Drop)]
+struct OneBetween {
+    signs: Signs,
+}
+
+impl Gate for OneBetween {
+    fn before_fetch(&self, _job: usize) {}
+
+    fn before_commit(&self, job: usize) {
+        if job == 0 {
+            self.signs.standing.store(true, Ordering::SeqCst);
+            self.signs.wait_for(&self.signs.answered);
+        } else {
+            self.signs.wait_for(&self.signs.standing);
+        }
+    }
+
+    fn after_commit(&self, job: usize) {
+        if job == 1 {
+            self.signs.answered.store(true, Ordering::SeqCst);
+        }
+    }
+}
+
+/// A job that may send one commit.
+fn job(alloc: Global, level: Level, text: &str) -> Result<Job, Fail> {
+    let value = Json::from_str(alloc, text)?;
+    let program = read_program(alloc, &value)?;
+    Ok(Job {
+        program,
+        level,
+        limit: 1,
+    })
+}
+
+/// Two jobs.
+fn jobs(alloc: Global, first: &str, second: &str) -> Result<Vec<Job>, Fail> {
+    let mut jobs = Vec::new(alloc);
+    jobs.push(job(alloc, Level::SerializableSnapshot, first)?)?;
+    jobs.push(job(alloc, Level::SerializableSnapshot, second)?)?;
+    Ok(jobs)
+}
+
+/// What two jobs came to on an empty hall.
+fn run_two<R: Threads + Wait + Sync, G: Gate + Sync>(
+    rt: &R,
+    alloc: Global,
+    jobs: &[Job],
+    workers: usize,
+    gate: &G,
+) -> Result<Gathered, Fail>
+    requires { (1 ≤ workers) × (workers ≤ 16) }
+{
+    let store = Store::new(alloc)?;
+    let hall = Hall::new(alloc, store);
+    match run_workers(rt, alloc, jobs, workers, hall, gate) {
+        Ok(gathered) => Ok(gathered),
+        Err(_) => Err(Fail::from("the run was broken off")),
+    }
+}
+
+/// What is told of a run, in a line: whether the jobs were at work at once, how many committed, and the store's revision.
+fn line(alloc: Global, signs: &Signs, gathered: &Gathered) -> Result<String, AllocError> {
+    let manner = if signs.is_serial() { "serial" } else { "at once" };
+    format!(in alloc;
+        "{manner}: {} committed, revision {}",
+        gathered.committed,
+        gathered.hall.revision()
+    )
+}
+
+const PUT_P: &str = r#"[["put","p","1",0]]"#;
+
+const PUT_Q: &str = r#"[["put","q","1",0]]"#;
+
+const READ_Q: &str = r#"[["put","p",["get","q"],0]]"#;
+
+#[test]
+fn two_workers_are_at_work_at_once(rt: HostRuntime) -> Result<(), Fail> {
+    let alloc = rt.alloc();
+    let jobs = jobs(alloc, PUT_P, PUT_Q)?;
+    let gate = AtCommit {
+        signs: Signs::new(),
+    };
+    let gathered = run_two(&rt, alloc, jobs.as_slice(), 2, &gate)?;
+    let line = line(alloc, &gate.signs, &gathered)?;
+    assert_eq!(rt; line.as_str(), "at once: 2 committed, revision 3");
+    Ok(())
+}
+
+#[test]
+fn one_worker_runs_one_job_after_another(rt: HostRuntime) -> Result<(), Fail> {
+    let alloc = rt.alloc();
+    let jobs = jobs(alloc, PUT_P, PUT_Q)?;
+    let gate = AtCommit {
+        signs: Signs::new(),
+    };
+    let gathered = run_two(&rt, alloc, jobs.as_slice(), 1, &gate)?;
+    let line = line(alloc, &gate.signs, &gathered)?;
+    assert_eq!(rt; line.as_str(), "serial: 2 committed, revision 3");
+    Ok(())
+}
+
+// Job 0 is about to fetch while job 1 commits, so no lock is held there.
+#[test]
+fn no_lock_is_held_before_a_fetch(rt: HostRuntime) -> Result<(), Fail> {
+    let alloc = rt.alloc();
+    let jobs = jobs(alloc, READ_Q, PUT_Q)?;
+    let gate = AtFetch {
+        signs: Signs::new(),
+    };
+    let gathered = run_two(&rt, alloc, jobs.as_slice(), 2, &gate)?;
+    let line = line(alloc, &gate.signs, &gathered)?;
+    assert_eq!(rt; line.as_str(), "at once: 2 committed, revision 3");
+    Ok(())
+}
+
+// Job 0 reads a key that job 1 puts before job 0's commit is sent. It may send no more.
+#[test]
+fn a_job_gives_up_over_a_key_that_another_put(rt: HostRuntime) -> Result<(), Fail> {
+    let alloc = rt.alloc();
+    let jobs = jobs(alloc, READ_Q, PUT_Q)?;
+    let gate = OneBetween {
+        signs: Signs::new(),
+    };
+    let gathered = run_two(&rt, alloc, jobs.as_slice(), 2, &gate)?;
+    let line = line(alloc, &gate.signs, &gathered)?;
+    assert_eq!(rt; line.as_str(), "at once: 1 committed, revision 2");
+    assert_eq!(rt; gathered.ends.len(), 2);
+    assert!(rt; matches!(&gathered.ends[0], JobEnd::GaveUp { key } if key.as_str() == "q"));
+    assert!(rt; gathered.ends[1].is_committed());
+    Ok(())
+}

@@ -7,7 +7,10 @@ ghost use Rattle.stm_keys.specs.Events.{event_of, events_of, event_about, AreApa
 ghost use Rattle.stm_keys.specs.Places.{places_in, with_place, StandFirst, KeepsPresent, is_left, names_of};
 ghost use Rattle.stm_keys.specs.Keys.{key_read, DeletePresent, HasSmallNumbers, ListsPresent};
 
-use crate::chains::{Chains, NO_HINT, add_places, find_now, find_present, find_state, hint_of, make_room, newest_event};
+use crate::chains::{
+    Chains, NO_HINT, add_places, find_now, find_present, find_state, hint_of, make_room,
+    newest_event,
+};
 use crate::event::Event;
 use crate::refusal::{ApplyRefusal, ReadRefusal};
 use crate::shared_text::SharedText;
@@ -222,7 +225,12 @@ impl Keys {
     fn share_key(&self, key: Text, hint: usize) -> Result<SharedText, AllocError>
         ensures { IfOk result (λ shared. shared ≡ key) }
     {
-        if let Some(event) = newest_event(&self.chains, self.revisions.as_slice(), key.as_str(), hint) {
+        if let Some(event) = newest_event(
+            &self.chains,
+            self.revisions.as_slice(),
+            key.as_str(),
+            hint,
+        ) {
             if event.shared_key().as_str() == key.as_str() {
                 return event.shared_key().clone();
             }

@@ -162,7 +162,11 @@ fn run_two<R: Threads + Wait + Sync, G: Gate + Sync>(
 
 /// What is told of a run, in a line: whether the jobs were at work at once, how many committed, and the store's revision.
 fn line(alloc: Global, signs: &Signs, gathered: &Gathered) -> Result<String, AllocError> {
-    let manner = if signs.is_serial() { "serial" } else { "at once" };
+    let manner = if signs.is_serial() {
+        "serial"
+    } else {
+        "at once"
+    };
     format!(in alloc;
         "{manner}: {} committed, revision {}",
         gathered.committed,

@@ -9,6 +9,12 @@ returns c =
     let h = c.args.gathered.now.hall.standing.history in
     let state = c.in_ok-state.state in
     let text : string_bytes c.push_count-3.new.text ≡ text_of c.args.jobs c.args.gathered.now.committed state (now h) =
-    rw (c.in_ok-push_count-3.ensures, c.in_ok-push_values.ensures.text, c.in_ok-push_count-2.ensures, c.in_ok-push_count.ensures, c.new.ensures,
-    c.revision.ensures) refl in
+    rw (
+      c.in_ok-push_count-3.ensures,
+      c.in_ok-push_values.ensures.text,
+      c.in_ok-push_count-2.ensures,
+      c.in_ok-push_count.ensures,
+      c.new.ensures,
+      c.revision.ensures,
+    ) refl in
     (state, c.in_ok-state.ensures, present_keys h state c.in_ok-push_values.ensures.ascending c.in_ok-state.ensures, text)

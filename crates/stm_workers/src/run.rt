@@ -49,7 +49,7 @@ fn work<R: Round, W: Wait, G: Gate>(
 }
 
 /// Starts a worker. What goes to its thread may: the hall behind the lock, the programs of the jobs, and what the worker has.
-#[tactic(auto, using(crate::proofs::Sent::block_send, crate::proofs::Sent::block_sync))]
+#[tactic(auto, using(crate::proofs::Sent::hall_send, crate::proofs::Sent::job_sync))]
 fn start<'s, 'a: 's, E, R: Round + Send + Sync, W: Wait + Sync, G: Gate + Sync>(
     scope: &Scope<'s, E>,
     floor: &'s Floor<'a, R, W, G>,

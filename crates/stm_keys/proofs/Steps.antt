@@ -1,9 +1,8 @@
 -- One event after another: room for its key's chain, and its place there.
-use Rattle.std.proofs.Common.{◌≡◌, ℕ, ◌+◌, ◌≤◌, ◌<◌, Bool, true, false, List, [], ◌∷◌, ◌++◌, length, map, reverse, take, get_or, zero, suc, slice_get}
-use Rattle.std.proofs.Common.{option_map, Option, Some, None, refl, sym, ◌∙◌, ap, subst, cond, is_some, IfSome, arith, Result, Ok, Err, OnOk}
+use Rattle.std.proofs.Common.{◌≡◌, ℕ, ◌+◌, ◌≤◌, ◌<◌, Bool, true, false, List, [], ◌∷◌, ◌++◌, map, zero, suc, slice_get}
+use Rattle.std.proofs.Common.{option_map, Option, Some, None, refl, sym, ◌∙◌, ap, subst, cond, is_some, IfSome, arith}
 use Rattle.std.specs.Prelude.{bytes_eq}
 use Rattle.std.proofs.lemmas.Bool.{lt-ltb}
-use Rattle.std.proofs.lemmas.List.{take_all, take_more, reverse-append}
 use Rattle.std.specs.Map.{keys_of}
 use Rattle.std.proofs.lemmas.Slice.Eq.{bytes_eq-Decides}
 use Rattle.stm_keys.specs.declared.event.Event.{Event}
@@ -126,18 +125,3 @@ pub newest_first : (places : List ℕ) (n : ℕ) → ((count : ℕ) → IfSome (
 newest_first [] n within = refl
 newest_first (p ∷ ps) n within =
     ap (λ b. cond b (Some p) (newest_below n ps)) (lt-ltb p n (newest_within (p ∷ ps) n within))
-
-pub none_newest : (xs : List ℕ) → length xs ≡ 0 → None ≡ slice_get (reverse xs) 0
-none_newest [] none = refl
-none_newest (x ∷ xs) none = absurd (omega (arith, none))
-
-pub one_newest : (xs : List ℕ) (m x : ℕ) → m + 1 ≡ length xs → x ≡ get_or xs m 0 → Some x ≡ slice_get (reverse xs) 0
-one_newest xs m x whole is =
-    let split : xs ≡ take m xs ++ x ∷ [] =
-    sym (take_all (m + 1) xs (omega (arith, whole))) ∙ take_more xs m 0 (omega (arith, whole)) ∙ ap (λ y. take m xs ++ y ∷ []) (sym is) in
-    sym (ap (λ (l : List ℕ). slice_get l 0) (ap reverse split ∙ reverse-append (take m xs) (x ∷ [])))
-
--- what follows from what holds where a call succeeds
-pub on_ok : {T E P Q : Type 0} (r : Result T E) → (P → Q) → OnOk r P → OnOk r Q
-on_ok (Ok value) follows holds = follows holds
-on_ok (Err cause) follows holds = tt

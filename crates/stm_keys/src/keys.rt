@@ -268,7 +268,7 @@ impl Keys {
         }
     }
 
-    /// What the changes of the next revision show, in their order. Their texts are moved.
+    /// What the changes of the next revision show, in their order. Their values are moved, and the text of a key that has no event yet.
     fn show_changes(&self, changes: Vec<Change>, hint: usize) -> Result<Vec<Event>, AllocError>
         ensures { IfOk result (λ v. v.items ≡ map (event_of (now self.now.history + 1) (key_now self.now.history)) changes.items) }
     {
@@ -280,7 +280,7 @@ impl Keys {
     }
 
     /// Adds one revision with these changes, in this order, and answers its number. There is a change, no key
-    /// is changed twice, and each deleted key is present. The texts of the changes become the store's.
+    /// is changed twice, and each deleted key is present. The values of the changes become the store's.
     ///
     /// `RevisionsUsedUp` is answered where the counter is at `HIGHEST_REVISION`, `OutOfMemory` where a
     /// growth was refused. A refused call changes nothing.

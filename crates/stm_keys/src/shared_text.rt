@@ -25,7 +25,7 @@ impl Model for SharedText {
 
 impl SharedText {
     /// A text that can be shared.
-    pub fn new(alloc: Global, text: Text) -> Result<SharedText, AllocError>
+    pub(crate) fn new(alloc: Global, text: Text) -> Result<SharedText, AllocError>
         ensures { IfOk result (λ s. s ≡ text) }
     {
         let text = Arc::new(alloc, text)?;

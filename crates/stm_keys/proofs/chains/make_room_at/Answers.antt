@@ -3,9 +3,10 @@ use Rattle.std.specs.Prelude.{string_bytes, bytes_eq}
 use Rattle.std.proofs.lemmas.Slice.Eq.{bytes_eq-Decides}
 use Rattle.indexmap.specs.IndexMap.{get_by_text, with_value_at}
 use Rattle.indexmap.proofs.CallerLemmas.{keys-with_value_at}
+use Rattle.indexmap.proofs.MapLemmas.{OnOk-map}
 use Rattle.stm_keys.specs.Places.{Places, places_in, room_in}
-use Rattle.stm_keys.proofs.Order.{named_at, found_at_index, found_under, written_at}
-use Rattle.stm_keys.proofs.Steps.{places_kept, room_grows, on_ok}
+use Rattle.stm_keys.proofs.Order.{named_at, found_at_index, written_at}
+use Rattle.stm_keys.proofs.Steps.{places_kept, room_grows}
 use Rattle.stm_keys.proofs.chains.make_room_at.Goals as goal
 
 pub returns-clause-names : goal.returns-clause-names
@@ -35,7 +36,7 @@ returns-clause-room c =
     let e = c.pair_mut-chain.ensures in
     let r = c.pair_mut-chain.result in
     let w : Places = c.make_room.new.self in
-    on_ok c.make_room.result (λ room key named. subst (λ (o : Option Places). 0 < room_in o)
+    OnOk-map c.make_room.result _ _ (λ room key named. subst (λ (o : Option Places). 0 < room_in o)
     (sym (written_at c.args.chains.now c.args.index r.0.now r.1.now e.unique e.value w key named key
     ∙ ap (λ b. cond b (Some w) (get_by_text c.args.chains.now key)) ((bytes_eq-Decides key key).1 refl))) room)
     c.make_room.ensures.room

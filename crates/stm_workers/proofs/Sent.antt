@@ -83,10 +83,29 @@ program_sync = let statements = Vec-sync Stmt.the_row statement_sync in search s
 
 -- ---- what an entry holds
 
-ruleset held =
-    (program_send, program_sync, level.the_field_send, level.the_field_sync, sequence.the_send, sequence.the_sync, answer.the_send, answer.the_sync,
-    answer.the_field_send, answer.the_field_sync, value.the_send, value.the_sync, value.the_field_send, value.the_field_sync, item.the_send, item.the_sync,
-    item.the_field_send, item.the_field_sync, txn.the_field_send, txn.the_field_sync, sendable)
+ruleset held = (
+  program_send,
+  program_sync,
+  level.the_field_send,
+  level.the_field_sync,
+  sequence.the_send,
+  sequence.the_sync,
+  answer.the_send,
+  answer.the_sync,
+  answer.the_field_send,
+  answer.the_field_sync,
+  value.the_send,
+  value.the_sync,
+  value.the_field_send,
+  value.the_field_sync,
+  item.the_send,
+  item.the_sync,
+  item.the_field_send,
+  item.the_field_sync,
+  txn.the_field_send,
+  txn.the_field_sync,
+  sendable,
+)
 
 pub entry_send : IsSend Entry.the_row
 entry_send = search held depth 12

@@ -100,6 +100,34 @@ fn next_attempt(
     }
 }
 
+/// What comes after the verdict on an attempt that is not the last one: the job's end, or its next attempt.
+fn after_verdict(alloc: Global, job: &Job, verdict: Verdict) -> Result<Tried, Stop>
+    requires { CanGoOn verdict }
+    ensures ended { IfOk result (IfEnded (λ end. counted_end end ≡ committed_by verdict)) }
+    ensures again { IfOk result (IfAgain (λ next. IsOfJob job.now next × (committed_by verdict ≡ 0))) }
+    ensures stopped { OnErr result (committed_by verdict ≡ 0) }
+{
+    match verdict {
+        Verdict::Committed { index, revision } => {
+            Ok(Tried::Ended(JobEnd::Committed { index, revision }))
+        }
+        Verdict::Failed { answers, .. } => {
+            let next = next_attempt(alloc, job, answers)?;
+            Ok(Tried::Again(next))
+        }
+    }
+}
+
+/// What the verdict on a last attempt makes of its job.
+fn end_of_last(verdict: Verdict) -> JobEnd
+    ensures { counted_end result ≡ committed_by verdict }
+{
+    match verdict {
+        Verdict::Committed { index, revision } => JobEnd::Committed { index, revision },
+        Verdict::Failed { key, .. } => JobEnd::GaveUp { key },
+    }
+}
+
 impl<'a, R: Round, W: Wait, G: Gate> Floor<'a, R, W, G> {
     /// What all workers of a run share.
     pub fn new(
@@ -258,15 +286,8 @@ impl<'a, R: Round, W: Wait, G: Gate> Floor<'a, R, W, G> {
         ensures never_falls { seen.old ≤ seen.new }
     {
         let mut attempt = attempt;
-        match self.try_once(place, job, share, &mut attempt, seen)? {
-            Verdict::Committed { index, revision } => {
-                Ok(Tried::Ended(JobEnd::Committed { index, revision }))
-            }
-            Verdict::Failed { answers, .. } => {
-                let next = next_attempt(self.alloc, job, answers)?;
-                Ok(Tried::Again(next))
-            }
-        }
+        let verdict = self.try_once(place, job, share, &mut attempt, seen)?;
+        after_verdict(self.alloc, job, verdict)
     }
 
     /// The last attempt of a job.
@@ -287,10 +308,8 @@ impl<'a, R: Round, W: Wait, G: Gate> Floor<'a, R, W, G> {
         ensures never_falls { seen.old ≤ seen.new }
     {
         let mut attempt = attempt;
-        match self.try_once(place, job, share, &mut attempt, seen)? {
-            Verdict::Committed { index, revision } => Ok(JobEnd::Committed { index, revision }),
-            Verdict::Failed { key, .. } => Ok(JobEnd::GaveUp { key }),
-        }
+        let verdict = self.try_once(place, job, share, &mut attempt, seen)?;
+        Ok(end_of_last(verdict))
     }
 
     /// Attempts a job until it ends. The last attempt that it may make is the one behind the loop.

@@ -1,6 +1,8 @@
 //! The leases.
-ghost use Rattle.std.specs.Prelude.{◌≡◌, ◌≢◌, ℕ, ◌-◌, ◌<◌, ◌≤◌, ◌↔◌, List, ◌∷◌, map, max, Some, None, Err, IsTrue, IsOk, IsOkUnless, OnOk, OnErr, IfOk, MatchOption, string_bytes};
+ghost use Rattle.std.specs.Prelude.{◌≡◌, ◌≢◌, ℕ, ◌-◌, ◌<◌, ◌≤◌, ◌↔◌, List, ◌∷◌, map, max, Some, None, Err, IsTrue, IsOk, IsOkUnless, OnOk, OnErr, IfOk, MatchOption, string_bytes, cond};
 ghost use Rattle.std.specs.FinMap as finmap;
+ghost use Rattle.std.specs.Str.{bytes_eq};
+ghost use Rattle.indexmap.specs.IndexMap.{get_by_text, spare};
 ghost use Rattle.stm_leases.specs.LeaseLog.{LogItem, Grant, Renew, Revoke, Expire, Term};
 
 use crate::bounds::{HIGHEST_ID, HIGHEST_TTL};
@@ -41,6 +43,18 @@ impl Model for Leases {
     ghost view = { λ s. view_of s.leases s.attached s.spare };
 
     ghost invariant = { λ s. AreKept s.leases s.attached s.keys s.due s.spare };
+}
+
+/// Takes a key out of the table. An empty table is not asked, so that its key need not be hashed.
+fn take_out(attached: &mut IndexMap<String, Attachment>, key: &str) -> Option<Attachment>
+    ensures place { result ≡ get_by_text attached.old key.now }
+    ensures updates { (q : List ℕ) → get_by_text attached.new q ≡ cond (bytes_eq key.now q) None (get_by_text attached.old q) }
+    ensures room { spare attached.old ≤ spare attached.new }
+{
+    if attached.is_empty() {
+        return None;
+    }
+    attached.swap_remove(key)
 }
 
 impl Leases {
@@ -181,7 +195,7 @@ impl Leases {
         ensures detached { self.new ≡ record self.old { attached = finmap.remove self.old.attached key.now } }
         ensures loose { lease_of self.new key.now ≡ None }
     {
-        let place = self.attached.swap_remove(key)?;
+        let place = take_out(&mut self.attached, key)?;
         self.keys.unlink(place.node);
         Some(place.lease)
     }

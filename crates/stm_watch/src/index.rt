@@ -40,10 +40,13 @@ impl Index {
         })
     }
 
-    /// The list of the watchers of a key, if there is one.
+    /// The list of the watchers of a key, if there is one. An empty table is not asked, so that its key need not be hashed.
     pub(crate) fn list_of(&self, key: &Text) -> Option<ListId>
         ensures { result ≡ get_by_text self.now.keys key.now }
     {
+        if self.keys.is_empty() {
+            return None;
+        }
         match self.keys.get(key.as_str()) {
             None => None,
             Some(list) => Some(*list),

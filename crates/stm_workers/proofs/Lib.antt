@@ -3,6 +3,7 @@ pub mod RoundLemmas
 pub mod SeatLemmas
 pub mod AskLemmas
 pub mod NextLemmas
+pub mod TriedLemmas
 pub mod AuditLemmas
 pub mod RunLemmas
 pub mod Sent

@@ -1,5 +1,5 @@
 //! One job of a worker, from its first attempt to its end.
-ghost use Rattle.std.specs.Prelude.{◌≡◌, ◌+◌, ◌<◌, ◌≤◌, true, if◌then◌else◌, [], length, IfOk, IfSome, OnOk, OnErr};
+ghost use Rattle.std.specs.Prelude.{◌≡◌, ℕ, ◌+◌, ◌<◌, ◌≤◌, true, if◌then◌else◌, [], length, IfOk, IfSome, OnOk, OnErr};
 ghost use Rattle.stm_draw.specs.Draw.{drew};
 ghost use Rattle.stm_draw.specs.Seats.{IsSeatAt, seat_view, table_id, table_size};
 ghost use Rattle.stm_txn.specs.Numbers.{ReadFits};
@@ -259,6 +259,7 @@ impl<'a, R: Round, W: Wait, G: Gate> Floor<'a, R, W, G> {
         ensures committed { IfOk result (λ verdict. share.new.amount ≡ share.old.amount + committed_by verdict) }
         ensures stopped { OnErr result (share.new.amount ≡ share.old.amount) }
         ensures answers { IfOk result CanGoOn }
+        ensures carried { IfOk result (λ verdict. (before : ℕ) × (seen.old ≤ before) × (seen.new ≡ seen_after before verdict)) }
         ensures never_falls { seen.old ≤ seen.new }
     {
         let ready = self.evaluate(place, job, attempt, seen)?;

@@ -3,9 +3,9 @@
 ghost use Rattle.stm_workers.specs.Codes.{entries_set, histories_set, numbers_set, truths_set};
 ghost use Rattle.std.specs.Prelude.{◌≡◌, ◌+◌, ◌<◌, ◌≤◌, true, OnErr, IfOk};
 ghost use Rattle.stm_txn.specs.Numbers.{AnswerFits};
-ghost use Rattle.stm_hall.specs.Fetching.{OnlyReads};
+ghost use Rattle.stm_hall.specs.Fetching.{OnlyReads, FetchTells, fetched};
 ghost use Rattle.stm_hall.specs.Prepared.{IsPreparedFor};
-ghost use Rattle.stm_hall.specs.Verdicts.{CanGoOn};
+ghost use Rattle.stm_hall.specs.Verdicts.{CanGoOn, CommitTells, verdict_of};
 ghost use Rattle.stm_workers.specs.Ends.{commits_in};
 ghost use Rattle.stm_workers.specs.Rounds.{HasGoneOn, AnswersInSomeHall, committed_by, is_run_of_some, takes_commits_of};
 
@@ -82,6 +82,8 @@ impl<R: Round> Desk<R> {
     /// Answers reads for a worker that has seen this revision, as the hall does. It changes nothing.
     pub fn fetch(&mut self, seen: u64, txn: &Txn) -> Result<TxnAnswer, FetchRefusal>
         requires { OnlyReads txn.now }
+        ensures told { FetchTells (fetched self.old.hall.standing seen txn.now) result }
+        ensures same { self.new.hall ≡ self.old.hall }
         ensures answer { AnswersInSomeHall seen txn.now result }
         ensures seen { IfOk result (λ answer. seen ≤ answer.revision) }
         ensures numbers { IfOk result AnswerFits }
@@ -100,6 +102,7 @@ impl<R: Round> Desk<R> {
         requires part { 0 < mine.old.parts }
         requires is_its { IsPreparedFor prepared ready.now }
         requires of_a_job { is_run_of_some R.jobs ready.now.program ready.now.level ≡ true }
+        ensures told { CommitTells (verdict_of self.old.hall ready.now) self.old.hall result self.new.hall }
         ensures parts { mine.new.parts ≡ mine.old.parts }
         ensures committed { IfOk result (λ verdict. mine.new.amount ≡ mine.old.amount + committed_by verdict) }
         ensures refused { OnErr result (mine.new.amount ≡ mine.old.amount) }

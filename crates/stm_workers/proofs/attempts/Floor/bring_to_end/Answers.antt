@@ -9,7 +9,10 @@ at_work-requires-clause-one_left g c =
     one_more _ _ _ _ _ refl c.requires.drawn ∙ ap (λ (es : List EndOf). drawing _ (jobs_of es)) (sym c.in_ok-push.ensures.items)
 
 pub at_work-requires-clause-counted : goal.at_work-requires-clause-counted
-at_work-requires-clause-counted g c = (
-  c.run_job.ensures.parts ∙ c.requires.counted.0,
-  one_counted _ _ _ _ c.requires.counted.1 c.in_ok-end.ensures.counted ∙ ap (λ (es : List EndOf). committed_in es) (sym c.in_ok-push.ensures.items),
-)
+at_work-requires-clause-counted g c =
+    let last : EndOf = record { job = c.args.job; end = c.in_ok-end.end } in
+    (
+      c.run_job.ensures.parts ∙ c.requires.counted.0,
+      one_counted c.args.ended.items last c.args.share.amount c.run_job.new.share.amount c.requires.counted.1 c.in_ok-end.ensures.counted
+      ∙ ap (λ (es : List EndOf). committed_in es) (sym c.in_ok-push.ensures.items),
+    )

@@ -1,3 +1,5 @@
+use Rattle.stm_workers.specs.Ends.{commits_in}
+use Rattle.stm_workers.specs.Rounds.{committed_by}
 use Rattle.stm_workers.proofs.RoundLemmas.{goes_further, same_count, same_takes, adds_up, verdict_adds, verdict_takes}
 use Rattle.stm_workers.proofs.desk.Desk.commit.Goals as goal
 
@@ -6,18 +8,21 @@ pub invariant_of-self : goal.invariant_of-self
 invariant_of-self g c =
     let old = c.args.self.now in
     record {
-      gone_on = goes_further _ _ _ old.gone_on c.commit_prepared.ensures.goes_on;
-      takes = same_takes _ _ _ _ c.in_err-verdict.ensures.verdict.1 old.takes;
-      counted = same_count _ _ _ _ c.in_err-verdict.ensures.verdict.1 old.counted;
+      gone_on = goes_further g.R.Round.before old.hall c.commit_prepared.new.self old.gone_on c.commit_prepared.ensures.goes_on;
+      takes = same_takes g.R.Round.jobs g.R.Round.before old.hall c.commit_prepared.new.self c.in_err-verdict.ensures.verdict.1 old.takes;
+      counted = same_count g.R.Round.before old.hall c.commit_prepared.new.self old.commits.total c.in_err-verdict.ensures.verdict.1 old.counted;
     }
 
 -- the book counts what the hall has more, which is of the run's jobs
 pub invariant_of-self-2 : goal.invariant_of-self-2
 invariant_of-self-2 g c =
     let old = c.args.self.now in
+    let came = c.in_ok-verdict.ensures.verdict in
     record {
-      gone_on = goes_further _ _ _ old.gone_on c.commit_prepared.ensures.goes_on;
-      takes = verdict_takes _ _ _ _ c.args.ready.now c.in_ok-verdict.verdict old.gone_on old.takes c.requires.of_a_job c.in_ok-verdict.ensures.verdict;
-      counted = adds_up _ _ _ _ _ _ (verdict_adds _ _ c.args.ready.now c.in_ok-verdict.verdict c.in_ok-verdict.ensures.verdict) old.counted
-          c.count.ensures.total;
+      gone_on = goes_further g.R.Round.before old.hall c.commit_prepared.new.self old.gone_on c.commit_prepared.ensures.goes_on;
+      takes = verdict_takes g.R.Round.jobs g.R.Round.before old.hall c.commit_prepared.new.self c.args.ready.now c.in_ok-verdict.verdict old.gone_on
+          old.takes c.requires.of_a_job came;
+      counted = adds_up (commits_in g.R.Round.before.entries) (commits_in old.hall.entries) (commits_in c.commit_prepared.new.self.entries)
+          old.commits.total c.count.new.commits.total (committed_by c.in_ok-verdict.verdict)
+          (verdict_adds old.hall c.commit_prepared.new.self c.args.ready.now c.in_ok-verdict.verdict came) old.counted c.count.ensures.total;
     }

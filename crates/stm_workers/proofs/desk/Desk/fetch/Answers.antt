@@ -6,10 +6,10 @@ pub invariant_of-self : goal.invariant_of-self
 invariant_of-self g c =
     let old = c.args.self.now in
     record {
-      gone_on = same_gone _ _ _ c.fetch.ensures.same old.gone_on;
-      takes = same_takes _ _ _ _ c.fetch.ensures.same old.takes;
-      counted = same_count _ _ _ _ c.fetch.ensures.same old.counted;
+      gone_on = same_gone g.R.Round.before old.hall c.fetch.new.self c.fetch.ensures.same old.gone_on;
+      takes = same_takes g.R.Round.jobs g.R.Round.before old.hall c.fetch.new.self c.fetch.ensures.same old.takes;
+      counted = same_count g.R.Round.before old.hall c.fetch.new.self old.commits.total c.fetch.ensures.same old.counted;
     }
 
 pub returns-clause-answer : goal.returns-clause-answer
-returns-clause-answer g c = (_, c.fetch.ensures.answer)
+returns-clause-answer g c = (c.args.self.now.hall.standing, c.fetch.ensures.answer)

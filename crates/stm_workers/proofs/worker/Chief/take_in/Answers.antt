@@ -1,6 +1,7 @@
-use Rattle.std.proofs.Common.{sym, ap}
+use Rattle.std.proofs.Common.{List, sym, ap, ◌∙◌}
+use Rattle.stm_draw.specs.Seats.{seat_view}
+use Rattle.stm_workers.specs.declared.worker.EndOf.{EndOf}
 use Rattle.stm_workers.specs.Rounds.{jobs_of, committed_in}
-use Rattle.std.proofs.Common.{◌∙◌}
 use Rattle.stm_workers.proofs.SeatLemmas.{drawn_together, counted_together, even_together, past_together}
 use Rattle.stm_workers.proofs.worker.Chief.take_in.Goals as goal
 
@@ -23,8 +24,12 @@ invariant_of-self-2 g c =
     let idle = c.args.idle in
     record {
       seated = (c.join.ensures.seat.0 ∙ c.requires.0, c.join.ensures.seat.1 ∙ c.requires.1);
-      drawn = drawn_together _ _ _ _ _ _ old.drawn idle.none_left c.join.ensures.view ∙ sym (ap jobs_of c.in_ok-append.ensures.items);
-      counted = counted_together _ _ _ _ _ old.counted idle.counted.1 c.merge.ensures.amount ∙ sym (ap committed_in c.in_ok-append.ensures.items);
+      drawn = drawn_together old.ended.items idle.ended.items (seat_view old.seat) (seat_view idle.seat) (seat_view c.join.new.seat) g.R.Round.size old.drawn
+          idle.none_left c.join.ensures.view
+          ∙ sym (ap (λ (es : List EndOf). jobs_of es) c.in_ok-append.ensures.items);
+      counted = counted_together old.ended.items idle.ended.items old.share.amount idle.share.amount c.merge.new.self.amount old.counted idle.counted.1
+          c.merge.ensures.amount
+          ∙ sym (ap (λ (es : List EndOf). committed_in es) c.in_ok-append.ensures.items);
       even = even_together _ _ _ _ _ _ _ _ old.even idle.none_left c.join.ensures.view idle.counted.0 c.merge.ensures.parts;
     }
 

@@ -1,0 +1,19 @@
+use Rattle.stm_workers.specs.Rounds.{committed_by}
+use Rattle.stm_workers.proofs.TriedLemmas.{ended_counts, again_counts, stopped_counts}
+use Rattle.stm_workers.proofs.attempts.Floor.try_again.Goals as goal
+
+-- the end counts what the verdict did
+pub returns-clause-ended : goal.returns-clause-ended
+returns-clause-ended g c =
+    ended_counts c.after_verdict.result c.args.share.now.amount c.try_once.new.share.amount (committed_by c.in_ok-verdict.verdict)
+    c.in_ok-verdict.ensures.committed c.after_verdict.ensures.ended
+
+pub returns-clause-again : goal.returns-clause-again
+returns-clause-again g c =
+    again_counts c.args.job.now c.after_verdict.result c.args.share.now.amount c.try_once.new.share.amount (committed_by c.in_ok-verdict.verdict)
+    c.in_ok-verdict.ensures.committed c.after_verdict.ensures.again
+
+pub returns-clause-stopped : goal.returns-clause-stopped
+returns-clause-stopped g c =
+    stopped_counts c.after_verdict.result c.args.share.now.amount c.try_once.new.share.amount (committed_by c.in_ok-verdict.verdict)
+    c.in_ok-verdict.ensures.committed c.after_verdict.ensures.stopped

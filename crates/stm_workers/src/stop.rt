@@ -1,5 +1,5 @@
 //! Why a job goes no further.
-ghost use Rattle.std.specs.Prelude.{◌≡◌, ◌≢◌, ◌↔◌, false, IfOk, IfErr, IsTrue};
+ghost use Rattle.std.specs.Prelude.{◌≡◌, ◌≢◌, ◌↔◌, false, IfOk, IfErr, OnOk, IsTrue};
 ghost use Rattle.stm_meaning.specs.declared.run.End.TheVariants.{Done};
 ghost use Rattle.stm_txn.specs.declared.refusal.Refusal.TheVariants.{OutOfMemory as Want};
 ghost use Rattle.stm_workers.specs.Ends.{is_committed};
@@ -81,6 +81,7 @@ impl Stop {
     pub fn end(self) -> Result<JobEnd, AllocError>
         ensures end { IfOk result (λ end. is_committed end ≡ false) }
         ensures want { IfErr result (λ error. self ≡ OutOfMemory) }
+        ensures no_want { OnOk result (self ≢ OutOfMemory) }
     {
         match self {
             Stop::OutOfMemory => Err(AllocError),

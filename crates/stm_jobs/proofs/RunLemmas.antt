@@ -1,6 +1,6 @@
 -- From the run of the jobs to what is printed of it, and from there to what the devices saw.
 use Rattle.std.proofs.Common.{◌≡◌, ℕ, List, length, map, Option, Some, None, Result, Ok, Err, IfOk, IfErr, IfSome, String, string_bytes, false}
-use Rattle.std.proofs.Common.{refl, ap, subst, ◌∙◌, take}
+use Rattle.std.proofs.Common.{refl, sym, ap, subst, ◌∙◌, take}
 use Rattle.std.specs.Io.KnownBytes.{Appends}
 use Rattle.stm_devices.specs.Transfers.{WritesFront}
 use Rattle.stm_devices.specs.declared.transfer.TheConstants.{MOST_READ}
@@ -66,10 +66,13 @@ module _ {X : Type 0} where
   answers_of view s sorted start calls jobs (Err Write) is_accepted opens called are_its printed broken = absurd broken
 
   -- of one that was not accepted, and of an input that is none: its first fault
-  pub answers_fault : (view : X → List ℕ) (reading : Outcome Scenario) (e : ReadError) → TellsFault e (judged reading)
-      → Answers view reading (Err (fault_read e))
-  answers_fault view reading error.OutOfMemory told = tt
-  answers_fault view reading (error.Bad fault) told = told
+  of_fault : (view : X → List ℕ) (reading : Outcome Scenario) (e : ReadError) → TellsFault e (judged reading) → Answers view reading (Err (fault_read e))
+  of_fault view reading error.OutOfMemory told = tt
+  of_fault view reading (error.Bad fault) told = told
+
+  pub answers_fault : (view : X → List ℕ) (reading : Outcome Scenario) (e : ReadError) (result : Result X JobsFault) → TellsFault e (judged reading)
+      → result ≡ Err (fault_read e) → Answers view reading result
+  answers_fault view reading e result told is = subst (λ (r : Result X JobsFault). Answers view reading r) (sym is) (of_fault view reading e told)
 
 -- the fault of reading is that of what was read
 pub judged_unread : (reading : Outcome Scenario) (e : ReadError) → TellsFault e reading → TellsFault e (judged reading)

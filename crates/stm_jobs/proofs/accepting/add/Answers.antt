@@ -63,8 +63,3 @@ pub returns-in-Poll : goal.returns-in-Poll
 returns-in-Poll c =
     subst (λ (e : WorldEvent). TellsFault c.fault-in-Poll.result (add_event (sorted_of c.args.sorted.now) e)) (sym c.in-Poll.is)
     (subst (λ (r : ReadError). TellsFault r of_no_shape) (sym c.fault-in-Poll.ensures) refl)
-
-pub returns-in-Cancel : goal.returns-in-Cancel
-returns-in-Cancel c =
-    subst (λ (e : WorldEvent). TellsFault c.fault-in-Cancel.result (add_event (sorted_of c.args.sorted.now) e)) (sym c.in-Cancel.is)
-    (subst (λ (r : ReadError). TellsFault r of_no_shape) (sym c.fault-in-Cancel.ensures) refl)

@@ -10,7 +10,7 @@ loop-i-init c = record { told = refl; rises = λ some. absurd (omega (arith, som
 pub loop-i-preserved : goal.loop-i-preserved
 loop-i-preserved c = record {
   told =
-      rw (c.in_ok-push_value.ensures, c.as_str.ensures, c.as_str-2.ensures) (next_value (string_bytes c.loop-i.text)
+      rw (c.in_ok-push_value.ensures, c.as_str.ensures, c.as_str-in-loop-i.ensures) (next_value (string_bytes c.loop-i.text)
       (string_bytes c.args.text.now ++ lines_text (value_lines c.args.state.now)) c.args.state.now c.loop-i.i c.at-entry.result.now c.at-entry.ensures.entry
       c.loop-i.invariant.told);
   rises = λ some. c.at-entry.ensures.ascending;
@@ -18,8 +18,8 @@ loop-i-preserved c = record {
 
 pub returns-clause-text : goal.returns-clause-text
 returns-clause-text c =
-    all_values (string_bytes c.args.text.now) (string_bytes c.loop-i.text) c.args.state.now c.loop-i.i (omega (arith, c.len.ensures))
+    all_values (string_bytes c.args.text.now) (string_bytes c.loop-i.text) c.args.state.now c.loop-i.i (omega (arith, c.len-i-end.ensures))
     c.loop-i.invariant.told
 
 pub returns-clause-ascending : goal.returns-clause-ascending
-returns-clause-ascending c = ascends c.args.state.now c.loop-i.i (omega (arith, c.len.ensures)) c.loop-i.invariant.rises
+returns-clause-ascending c = ascends c.args.state.now c.loop-i.i (omega (arith, c.len-i-end.ensures)) c.loop-i.invariant.rises

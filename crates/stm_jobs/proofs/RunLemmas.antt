@@ -1,5 +1,5 @@
 -- From the run of the jobs to what is printed of it, and from there to what the devices saw.
-use Rattle.std.proofs.Common.{◌≡◌, ℕ, List, length, map, Option, Some, None, Result, Ok, Err, IfOk, IfErr, IfSome, String, string_bytes, false}
+use Rattle.std.proofs.Common.{◌≡◌, ℕ, List, length, map, Option, Some, None, Result, Ok, Err, IfOk, IfErr, IfSome, false}
 use Rattle.std.proofs.Common.{refl, sym, ap, subst, ◌∙◌, take}
 use Rattle.std.specs.Io.KnownBytes.{Appends}
 use Rattle.stm_devices.specs.Transfers.{WritesFront}
@@ -23,7 +23,7 @@ use Rattle.stm_jobs.specs.declared.running.JobsFault.{JobsFault}
 use Rattle.stm_jobs.specs.declared.running.JobsFault.TheVariants.{OutOfMemory, Bad, Read, Write, Spawn, Audit}
 use Rattle.stm_jobs.specs.Accepting.{Sorted, task_of, accepted, opening_of}
 use Rattle.stm_jobs.specs.Lines.{AreLinesOf}
-use Rattle.stm_jobs.specs.Running.{AreLinesOfRun, AreLinesOfScenario, IsBrokenOff, IsPrintedOf, fault_read, judged, Answers, Writes, Does}
+use Rattle.stm_jobs.specs.Running.{AreLinesOfRun, IsBrokenOff, IsPrintedOf, fault_read, judged, Answers, Writes, Does}
 
 -- ---- the run
 

@@ -1,4 +1,4 @@
-use Rattle.std.proofs.Common.{◌≡◌, Ok, Err, map, refl, ap, sym, ◌∙◌, subst, string_bytes}
+use Rattle.std.proofs.Common.{Ok, Err, map, ap, ◌∙◌, string_bytes}
 use Rattle.std.proofs.lemmas.Result.{err_from_is_err_and}
 use Rattle.stm_jobs.specs.declared.running.JobsFault.{JobsFault}
 use Rattle.stm_jobs.specs.Accepting.{sorted_of, task_of}

@@ -1,5 +1,5 @@
 -- What a run of jobs comes to.
-use Rattle.std.proofs.Common.{◌≡◌, ℕ, ◌+◌, ◌<◌, true, List, length, count_by, Option, Some, None, IfSome, IfNone, Result, Ok, IfOk, refl, sym, ◌∙◌, ap, subst}
+use Rattle.std.proofs.Common.{◌≡◌, ℕ, ◌+◌, ◌<◌, true, List, length, count_by, Option, Some, None, IfSome, IfNone, Result, Ok, IfOk, sym, ◌∙◌, ap, subst}
 use Rattle.stm_hall.specs.HallState.{HallState}
 use Rattle.stm_workers.specs.declared.begun.Begun.{Begun}
 use Rattle.stm_workers.specs.declared.job.Job.{Job}

@@ -12,8 +12,7 @@ use mathlib.Core.List.{[], ◌∷◌}
 use mir.Syntax.{Sym}
 use Rattle.std.specs.declared.sync.ledger.Ledger as Ledger
 use Rattle.stm_workers.specs.declared.desk.Round as Round
-use Rattle.std.proofs.Crossing.{crosses, Arc-send, Arc-sync, Vec-send, Vec-sync}
-use Rattle.std.proofs.MapsCrossing.{String-send, String-sync, crosses as maps}
+use Rattle.std.proofs.Crossing.{Arc-send, Arc-sync, Vec-send, Vec-sync}
 use Rattle.stm_program.specs.contracts.expression.Expr as Expr
 use Rattle.stm_program.specs.contracts.condition.Cond as Cond
 use Rattle.stm_program.specs.contracts.statement.Block as Block
@@ -150,8 +149,13 @@ module _ (R : RattleType) (r : Round.Ghosts R.Denot) (l : Ledger.Ghosts R.Denot)
   pub floor_sync : (a : NamedLft) (W G : RattleType) → IsSync W → IsSync G → IsSync (Floor.the_row a R W G r l)
   floor_sync a W G waits gates =
       recorded_sync _ _ _ (Floor.the_type a R W G r l).to_one
-      (struct_sync (shape (Floor.the_type a R W G r l))
-      (search (waits, sendable) depth 8,
-      (heap.the_field_sync,
-      (search (mutex.the_sync, desk_send, sendable) depth 8,
-      (search (table.the_sync, sendable) depth 8, (search (job_sync, sendable) depth 8, (search (gates, sendable) depth 8, tt)))))))
+      (struct_sync (shape (Floor.the_type a R W G r l)) (
+        search (waits, sendable) depth 8,
+        (
+          heap.the_field_sync,
+          (
+            search (mutex.the_sync, desk_send, sendable) depth 8,
+            (search (table.the_sync, sendable) depth 8, (search (job_sync, sendable) depth 8, (search (gates, sendable) depth 8, tt))),
+          ),
+        ),
+      ))

@@ -9,7 +9,7 @@ returns-in-Ok-None-clause-ends c = (
   refl,
   c.count_committed-committed.ensures ∙ ap (λ (es : List JobEnd). count_by is_committed es) c.as_slice.ensures.value,
   all_clear c.args.begun c.args.hall c.args.jobs.now c.as_slice-2.result.now c.args.ends.items c.in-Ok-None.field-0 c.in-Ok-None.field-0-is
-  c.as_slice-2.ensures.value c.in-Ok-None.ensures.clear,
+      c.as_slice-2.ensures.value c.in-Ok-None.ensures.clear,
 )
 
 pub returns-in-Ok-Some-clause-cause : goal.returns-in-Ok-Some-clause-cause

@@ -1,4 +1,4 @@
-use Rattle.std.proofs.Common.{◌≡◌, ap, sym, ◌∙◌, count_by}
+use Rattle.std.proofs.Common.{ap, ◌∙◌, count_by}
 use Rattle.std.proofs.lemmas.Result.{IfOk-weaker}
 use Rattle.stm_draw.specs.declared.view.Size.{Size}
 use Rattle.stm_workers.specs.Ends.{is_committed}

@@ -1,4 +1,4 @@
-use Rattle.std.proofs.Common.{◌≡◌, ◌+◌, Vec, length, count_by}
+use Rattle.std.proofs.Common.{◌≡◌, ◌+◌, length, count_by}
 use Rattle.stm_workers.specs.Ends.{commits_in, is_committed}
 use Rattle.stm_workers.proofs.RunLemmas.{broke_off_early, given_up, ran_to, ran_on, fault_found, broke_on, at_ok}
 use Rattle.stm_workers.proofs.run.run_workers.Goals as goal

@@ -1,1 +1,3 @@
+pub mod AcceptLemmas
 pub mod LineLemmas
+pub mod RunLemmas

@@ -1,6 +1,7 @@
 -- Adding the lines of values one after the other, and the keys that they are of.
 use Rattle.std.proofs.Common.{◌≡◌, ℕ, zero, suc, ◌+◌, ◌<◌, ◌≤◌, ◌||◌, Bool, true, false, cond, List, [], ◌∷◌, ◌++◌, length, map, drop, slice_get}
-use Rattle.std.proofs.Common.{bytes_eq, Option, None, Some, is_some, refl, sym, ap, ◌∙◌, append_assoc, arith}
+use Rattle.std.proofs.Common.{bytes_eq, Option, None, Some, is_some, refl, sym, ap, ◌∙◌, append_assoc, append-nil, arith}
+use Rattle.std.proofs.lemmas.List.{drop_all}
 use Rattle.stm_history.specs.declared.key_state.KeyState.{KeyState}
 use Rattle.stm_history.specs.History.{History, key_now}
 use Rattle.stm_meaning.specs.declared.state.StateEntry.{StateEntry}
@@ -25,6 +26,12 @@ next_value text total es i e at so_far =
     ap (λ (fs : List StateEntry). text ++ lines_text (value_lines fs)) (next_entry es i e at)
     ∙ sym (append_assoc text line (lines_text (value_lines (drop (suc i) es)))) ∙ rw k refl in
     sym one ∙ so_far
+
+-- once no value is left
+pub all_values : (before text : List ℕ) (es : List StateEntry) (i : ℕ) → length es ≤ i
+    → text ++ lines_text (value_lines (drop i es)) ≡ before ++ lines_text (value_lines es) → text ≡ before ++ lines_text (value_lines es)
+all_values before text es i end so_far =
+    sym (append-nil text) ∙ ap (λ (fs : List StateEntry). text ++ lines_text (value_lines fs)) (sym (drop_all i es end)) ∙ so_far
 
 -- ---- the keys of a state are those that are present
 

@@ -1,7 +1,7 @@
 -- Which scenario is one of jobs: each start is a job, and each call of the store is made before them; another event has no place.
 --
 -- Our own, but for what the events are (docs/FORMATS.md, "Scenarios").
-use Rattle.std.specs.Prelude.{ℕ, suc, nat_eq, if◌then◌else◌, List, [], ◌∷◌, ◌++◌, map, Option, None, Some, Ok, unwrap_or}
+use Rattle.std.specs.Prelude.{ℕ, suc, ◌+◌, nat_eq, if◌then◌else◌, List, [], ◌∷◌, ◌++◌, map, Option, None, Some, Ok, unwrap_or}
 use Rattle.stm_json.specs.declared.cause.Cause.TheVariants.{Shape}
 use Rattle.stm_json.specs.Outcome.{Outcome, bad, ◌>>=◌, within}
 use Rattle.stm_world.specs.declared.event.WorldEvent.{WorldEvent}
@@ -25,7 +25,7 @@ abbrev pub nothing_sorted : Sorted
 nothing_sorted = record { calls = []; tasks = [] }
 
 abbrev pub sorted_of : JobScenario → Sorted
-sorted_of scenario = record { calls = scenario.calls.items; tasks = map task_of scenario.jobs.items }
+sorted_of scenario = record { calls = scenario.calls; tasks = map task_of scenario.jobs }
 
 abbrev pub add_call : Sorted → WorldEvent → Outcome Sorted
 add_call s call = Ok (record { calls = s.calls ++ call ∷ []; tasks = s.tasks })
@@ -48,10 +48,10 @@ add_event s (WatchRange first end from) = bad Shape
 add_event s (Poll watcher most) = bad Shape
 add_event s (Cancel watcher) = bad Shape
 
--- the events from the one at this place on
-abbrev pub add_events : ℕ → List WorldEvent → Sorted → Outcome Sorted
-add_events place [] s = Ok s
-add_events place (e ∷ es) s = within place (add_event s e) >>= λ next. add_events (suc place) es next
+-- the events behind so many others, of which the first one stands at this place
+abbrev pub add_events : ℕ → ℕ → List WorldEvent → Sorted → Outcome Sorted
+add_events first before [] s = Ok s
+add_events first before (e ∷ es) s = within (first + before) (add_event s e) >>= λ next. add_events first (suc before) es next
 
 -- the place of the first event: an opening stands before it
 abbrev pub shift_of : Option ℕ → ℕ
@@ -59,7 +59,7 @@ shift_of None = 0
 shift_of (Some start) = 1
 
 abbrev pub accepted : Scenario → Outcome Sorted
-accepted s = add_events (shift_of s.opening) s.events nothing_sorted
+accepted s = add_events (shift_of s.opening) 0 s.events nothing_sorted
 
 abbrev pub opening_of : Scenario → ℕ
 opening_of s = unwrap_or s.opening 1

@@ -3,6 +3,8 @@ use Rattle.std.specs.Prelude.{◌≡◌, ℕ, List, length, map, Bool, true, fal
 use Rattle.std.specs.Io.KnownBytes.{Appends, Keeps}
 use Rattle.stm_devices.specs.Transfers.{WritesFront}
 use Rattle.stm_json.specs.declared.read_error.BadInput.{BadInput}
+use Rattle.stm_json.specs.declared.read_error.ReadError.{ReadError}
+use Rattle.stm_json.specs.declared.read_error.ReadError.TheVariants.{OutOfMemory as NoRoom, Bad as BadText}
 use Rattle.stm_json.specs.Outcome.{Outcome, ◌>>=◌}
 use Rattle.stm_texts.specs.declared.scenario.Scenario.{Scenario}
 use Rattle.stm_texts.specs.Reading.{scenario_in}
@@ -12,6 +14,8 @@ use Rattle.stm_world.specs.World.{opened, world_after}
 use Rattle.stm_hall.specs.HallState.{HallState, made_over}
 use Rattle.stm_workers.specs.declared.job.Job.{Job}
 use Rattle.stm_workers.specs.declared.job_end.JobEnd.{JobEnd}
+use Rattle.stm_workers.specs.declared.gathered.FaultCause.{FaultCause}
+use Rattle.stm_workers.specs.declared.gathered.FaultCause.TheVariants.{OutOfMemory as NoMemory, Spawn as NoThread, Audit as AtFault}
 use Rattle.stm_workers.specs.Gathered.{RanTo}
 use Rattle.stm_jobs.specs.declared.running.JobsFault.{JobsFault}
 use Rattle.stm_jobs.specs.declared.running.JobsFault.TheVariants.{OutOfMemory, Bad, Read, Write, Spawn, Audit}
@@ -37,6 +41,17 @@ IsBrokenOff (Audit job) = Unit {0}
 IsBrokenOff (Bad fault) = ⊥
 IsBrokenOff Read = ⊥
 IsBrokenOff Write = ⊥
+
+-- what is told of a run that was broken off, by its cause
+abbrev pub fault_told : FaultCause → JobsFault
+fault_told NoMemory = OutOfMemory
+fault_told NoThread = Spawn
+fault_told (AtFault job) = Audit job
+
+-- what is told of an input that could not be read as a scenario of jobs
+abbrev pub fault_read : ReadError → JobsFault
+fault_read NoRoom = OutOfMemory
+fault_read (BadText fault) = Bad fault
 
 -- a scenario of jobs was accepted, and the text is printed of a run of them
 pub record AreLinesOfScenario (s : Scenario) (text : List ℕ) : Type 0 where

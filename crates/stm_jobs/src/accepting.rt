@@ -1,9 +1,10 @@
 //! Which scenario is one of jobs.
-ghost use Rattle.std.specs.Prelude.{◌≡◌, IfOk};
+ghost use Rattle.std.specs.Prelude.{◌≡◌, ◌≤◌};
 ghost use Rattle.stm_json.specs.Tells.{Tells};
 ghost use Rattle.stm_jobs.specs.Accepting.{sorted_of, shift_of, add_call, add_task, add_event, accepted};
 
 use std::alloc::Global;
+use stm_history::Sequence;
 use stm_json::{Cause, ReadError, fault, within};
 use stm_program::{Level, Program};
 use stm_texts::Scenario;
@@ -14,9 +15,9 @@ use stm_world::WorldEvent;
 #[derive(Drop)]
 pub struct JobScenario {
     /// Those that are applied to the store.
-    pub calls: Vec<WorldEvent>,
+    pub calls: Sequence<WorldEvent>,
     /// The jobs.
-    pub jobs: Vec<Job>,
+    pub jobs: Sequence<Job>,
 }
 
 /// Adds a call of the store.
@@ -73,7 +74,8 @@ fn add(alloc: Global, sorted: &mut JobScenario, event: WorldEvent) -> Result<(),
 
 /// The place of the first event in a scenario's array, whose first element may name the opening.
 fn first_place(opening: Option<u64>) -> usize
-    ensures { result ≡ shift_of opening }
+    ensures place { result ≡ shift_of opening }
+    ensures at_most { result ≤ 1 }
 {
     match opening {
         Some(_) => 1,
@@ -86,14 +88,15 @@ fn first_place(opening: Option<u64>) -> usize
 pub fn accept(alloc: Global, scenario: Scenario) -> Result<JobScenario, ReadError>
     ensures { Tells sorted_of result (accepted scenario) }
 {
-    let mut place = first_place(scenario.opening);
+    let first = first_place(scenario.opening);
     let mut sorted = JobScenario {
-        calls: Vec::new(alloc),
-        jobs: Vec::new(alloc),
+        calls: Sequence::new(alloc),
+        jobs: Sequence::new(alloc),
     };
+    let mut before = 0;
     for event in scenario.events.into_vec() {
-        within(alloc, place, add(alloc, &mut sorted, event))?;
-        place += 1;
+        within(alloc, first + before, add(alloc, &mut sorted, event))?;
+        before += 1;
     }
     Ok(sorted)
 }

@@ -2,7 +2,7 @@
 ghost use Rattle.std.specs.Prelude.{◌≡◌, ◌≤◌, false, string_bytes, Ok, IfOk, IfErr};
 ghost use Rattle.stm_history.specs.declared.revisions.TheConstants.{HIGHEST_REVISION};
 ghost use Rattle.stm_texts.specs.Reading.{IsOpening, scenario_in};
-ghost use Rattle.stm_jobs.specs.Running.{AreLinesOfRun, IsBrokenOff, Answers, Writes, Does};
+ghost use Rattle.stm_jobs.specs.Running.{AreLinesOfRun, IsBrokenOff, fault_told, Answers, Writes, Does};
 
 use crate::accepting::accept;
 use crate::opening::open_store;
@@ -41,9 +41,24 @@ pub enum JobsFault {
     Audit(u64),
 }
 
+impl From<ReadError> for JobsFault {
+    ghost use Rattle.std.specs.Prelude.{◌≡◌};
+    ghost use Rattle.stm_jobs.specs.Running.{fault_read};
+
+    ghost from_gives = { λ error fault. fault ≡ fault_read error };
+
+    fn from(error: ReadError) -> JobsFault {
+        match error {
+            ReadError::OutOfMemory => JobsFault::OutOfMemory,
+            ReadError::Bad(fault) => JobsFault::Bad(fault),
+        }
+    }
+}
+
 /// The fault of a run that was broken off.
 fn fault_of(cause: FaultCause) -> JobsFault
-    ensures { IsBrokenOff result }
+    ensures told { result ≡ fault_told cause }
+    ensures broken { IsBrokenOff result }
 {
     match cause {
         FaultCause::OutOfMemory => JobsFault::OutOfMemory,
@@ -89,18 +104,15 @@ fn lines_of_scenario<R: Threads + Wait + Sync>(
     ensures { Answers string_bytes (Ok scenario) result }
 {
     let start = scenario.opening.unwrap_or(1);
-    match accept(alloc, scenario) {
-        Ok(sorted) => lines_of(
-            rt,
-            alloc,
-            start,
-            sorted.calls.as_slice(),
-            sorted.jobs.as_slice(),
-            workers,
-        ),
-        Err(ReadError::OutOfMemory) => Err(JobsFault::OutOfMemory),
-        Err(ReadError::Bad(fault)) => Err(JobsFault::Bad(fault)),
-    }
+    let sorted = accept(alloc, scenario)?;
+    lines_of(
+        rt,
+        alloc,
+        start,
+        sorted.calls.as_slice(),
+        sorted.jobs.as_slice(),
+        workers,
+    )
 }
 
 /// What is printed of the jobs of the scenario that bytes spell.
@@ -113,11 +125,8 @@ fn lines_of_bytes<R: Threads + Wait + Sync>(
     requires { (1 ≤ workers) × (workers ≤ 16) }
     ensures { Answers string_bytes (scenario_in bytes.now) result }
 {
-    match read_scenario(alloc, bytes) {
-        Ok(scenario) => lines_of_scenario(rt, alloc, scenario, workers),
-        Err(ReadError::OutOfMemory) => Err(JobsFault::OutOfMemory),
-        Err(ReadError::Bad(fault)) => Err(JobsFault::Bad(fault)),
-    }
+    let scenario = read_scenario(alloc, bytes)?;
+    lines_of_scenario(rt, alloc, scenario, workers)
 }
 
 /// Writes what is printed of the jobs of the scenario that bytes spell, once it is whole.

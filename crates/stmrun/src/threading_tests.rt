@@ -53,7 +53,7 @@ fn leaves<R: Abort + Threads + Wait + Sync>(
 }
 
 /// Scenarios, each with what is printed of it.
-const PRINTED: [(&str, &str); 6] = [
+const PRINTED: [(&str, &str); 7] = [
     (
         "[]",
         "[\"jobs\",0]
@@ -85,6 +85,16 @@ const PRINTED: [(&str, &str); 6] = [
         "[\"jobs\",4]
 [\"committed\",1]
 [\"end\",1]
+",
+    ),
+    // A job at ReadCommitted reads a key.
+    (
+        "[[\"txn\",[],[[\"put\",\"a\",\"1\",0]],[]],[\"start\",\"ReadCommitted\",1,[[\"put\",\"b\",[\"get\",\"a\"],0]]]]",
+        "[\"jobs\",1]
+[\"committed\",1]
+[\"value\",\"a\",\"1\"]
+[\"value\",\"b\",\"1\"]
+[\"end\",3]
 ",
     ),
     // Two jobs that add one to one number: each may send as many commits as there are jobs.

@@ -1,11 +1,11 @@
-//! Two workers are at work at once, and no program is evaluated, and no gate passed, under the lock: job 0 is held until job 1's commit was
-//! answered, which can't be on one thread.
+//! Two workers are at work at once, and the lock is not held where a fetch or a commit is about to be made: job 0 is held there until
+//! job 1's commit was answered, which can't be on one thread. A job whose commit failed is attempted again.
 ghost use Rattle.std.specs.Prelude.{◌≤◌};
 
 use serde_json::Value as Json;
 use std::alloc::{AllocError, Global};
 use std::sync::Wait;
-use std::sync::atomic::{AtomicBool, Ordering};
+use std::sync::atomic::{AtomicBool, AtomicU64, Ordering};
 use std::test::Fail;
 use std::thread;
 use std::thread::Threads;
@@ -14,32 +14,41 @@ use stm_program_json::read_program;
 use stm_txn::Store;
 use stm_workers::{Gate, Gathered, Hall, Job, JobEnd, run_workers};
 
-/// How often a job that is held looks whether it may go on.
-const MOST_TURNS: u32 = 1000000;
+/// How often a job that is held looks whether it may go on, where the sign is to come.
+const MANY_TURNS: u32 = 1000000;
+
+/// The same, where it can't come.
+const FEW_TURNS: u32 = 1000;
 
 /// What two jobs tell each other.
 #[derive(Drop)]
 struct Signs {
+    /// How often a job that is held looks for a sign.
+    turns: u32,
     /// Job 0 stands before its commit.
     standing: AtomicBool,
     /// Job 1's commit was answered.
     answered: AtomicBool,
     /// A sign that was waited for never came.
     serial: AtomicBool,
+    /// How many keys job 0 has fetched.
+    fetches: AtomicU64,
 }
 
 impl Signs {
-    fn new() -> Signs {
+    fn new(turns: u32) -> Signs {
         Signs {
+            turns,
             standing: AtomicBool::new(false),
             answered: AtomicBool::new(false),
             serial: AtomicBool::new(false),
+            fetches: AtomicU64::new(0),
         }
     }
 
     /// Waits for a sign, and remembers if it never came.
     fn wait_for(&self, sign: &AtomicBool) {
-        for _ in 0..MOST_TURNS {
+        for _ in 0..self.turns {
             if sign.load(Ordering::SeqCst) {
                 return;
             }
@@ -98,14 +107,18 @@ impl Gate for AtFetch {
 }
 
 /// Holds job 1 before its commit until job 0 stands before its own, and job 0 there until job 1's commit was answered: so whatever job 0
-/// reads, it reads before job 1's commit, and sends its own after it.
+/// reads, it reads before job 1's commit, and sends its own after it. What job 0 fetches is counted.
 #[derive(Drop)]
 struct OneBetween {
     signs: Signs,
 }
 
 impl Gate for OneBetween {
-    fn before_fetch(&self, _job: usize) {}
+    fn before_fetch(&self, job: usize) {
+        if job == 0 {
+            self.signs.fetches.fetch_add(1, Ordering::SeqCst);
+        }
+    }
 
     fn before_commit(&self, job: usize) {
         if job == 0 {
@@ -123,22 +136,26 @@ impl Gate for OneBetween {
     }
 }
 
-/// A job that may send one commit.
-fn job(alloc: Global, level: Level, text: &str) -> Result<Job, Fail> {
+/// A job that may send so many commits.
+fn job(alloc: Global, text: &str, limit: u32) -> Result<Job, Fail>
+    requires { 1 ≤ limit }
+{
     let value = Json::from_str(alloc, text)?;
     let program = read_program(alloc, &value)?;
     Ok(Job {
         program,
-        level,
-        limit: 1,
+        level: Level::SerializableSnapshot,
+        limit,
     })
 }
 
-/// Two jobs.
-fn jobs(alloc: Global, first: &str, second: &str) -> Result<Vec<Job>, Fail> {
+/// Two jobs, of which each may send so many commits.
+fn jobs(alloc: Global, first: &str, second: &str, limit: u32) -> Result<Vec<Job>, Fail>
+    requires { 1 ≤ limit }
+{
     let mut jobs = Vec::new(alloc);
-    jobs.push(job(alloc, Level::SerializableSnapshot, first)?)?;
-    jobs.push(job(alloc, Level::SerializableSnapshot, second)?)?;
+    jobs.push(job(alloc, first, limit)?)?;
+    jobs.push(job(alloc, second, limit)?)?;
     Ok(jobs)
 }
 
@@ -183,9 +200,9 @@ const READ_Q: &str = r#"[["put","p",["get","q"],0]]"#;
 #[test]
 fn two_workers_are_at_work_at_once(rt: HostRuntime) -> Result<(), Fail> {
     let alloc = rt.alloc();
-    let jobs = jobs(alloc, PUT_P, PUT_Q)?;
+    let jobs = jobs(alloc, PUT_P, PUT_Q, 1)?;
     let gate = AtCommit {
-        signs: Signs::new(),
+        signs: Signs::new(MANY_TURNS),
     };
     let gathered = run_two(&rt, alloc, jobs.as_slice(), 2, &gate)?;
     let line = line(alloc, &gate.signs, &gathered)?;
@@ -196,9 +213,9 @@ fn two_workers_are_at_work_at_once(rt: HostRuntime) -> Result<(), Fail> {
 #[test]
 fn one_worker_runs_one_job_after_another(rt: HostRuntime) -> Result<(), Fail> {
     let alloc = rt.alloc();
-    let jobs = jobs(alloc, PUT_P, PUT_Q)?;
+    let jobs = jobs(alloc, PUT_P, PUT_Q, 1)?;
     let gate = AtCommit {
-        signs: Signs::new(),
+        signs: Signs::new(FEW_TURNS),
     };
     let gathered = run_two(&rt, alloc, jobs.as_slice(), 1, &gate)?;
     let line = line(alloc, &gate.signs, &gathered)?;
@@ -210,9 +227,9 @@ fn one_worker_runs_one_job_after_another(rt: HostRuntime) -> Result<(), Fail> {
 #[test]
 fn no_lock_is_held_before_a_fetch(rt: HostRuntime) -> Result<(), Fail> {
     let alloc = rt.alloc();
-    let jobs = jobs(alloc, READ_Q, PUT_Q)?;
+    let jobs = jobs(alloc, READ_Q, PUT_Q, 1)?;
     let gate = AtFetch {
-        signs: Signs::new(),
+        signs: Signs::new(MANY_TURNS),
     };
     let gathered = run_two(&rt, alloc, jobs.as_slice(), 2, &gate)?;
     let line = line(alloc, &gate.signs, &gathered)?;
@@ -220,19 +237,51 @@ fn no_lock_is_held_before_a_fetch(rt: HostRuntime) -> Result<(), Fail> {
     Ok(())
 }
 
+// With one worker nobody commits while job 0 stands before its fetch: so it is held there, and in vain.
+#[test]
+fn one_worker_waits_before_its_fetch(rt: HostRuntime) -> Result<(), Fail> {
+    let alloc = rt.alloc();
+    let jobs = jobs(alloc, READ_Q, PUT_Q, 1)?;
+    let gate = AtFetch {
+        signs: Signs::new(FEW_TURNS),
+    };
+    let gathered = run_two(&rt, alloc, jobs.as_slice(), 1, &gate)?;
+    let line = line(alloc, &gate.signs, &gathered)?;
+    assert_eq!(rt; line.as_str(), "serial: 2 committed, revision 3");
+    Ok(())
+}
+
 // Job 0 reads a key that job 1 puts before job 0's commit is sent. It may send no more.
 #[test]
 fn a_job_gives_up_over_a_key_that_another_put(rt: HostRuntime) -> Result<(), Fail> {
     let alloc = rt.alloc();
-    let jobs = jobs(alloc, READ_Q, PUT_Q)?;
+    let jobs = jobs(alloc, READ_Q, PUT_Q, 1)?;
     let gate = OneBetween {
-        signs: Signs::new(),
+        signs: Signs::new(MANY_TURNS),
     };
     let gathered = run_two(&rt, alloc, jobs.as_slice(), 2, &gate)?;
     let line = line(alloc, &gate.signs, &gathered)?;
     assert_eq!(rt; line.as_str(), "at once: 1 committed, revision 2");
-    assert_eq!(rt; gathered.ends.len(), 2);
-    assert!(rt; matches!(&gathered.ends[0], JobEnd::GaveUp { key } if key.as_str() == "q"));
-    assert!(rt; gathered.ends[1].is_committed());
+    let ends = gathered.ends.as_slice();
+    assert_eq!(rt; ends.len(), 2);
+    assert!(rt; matches!(&ends[0], JobEnd::GaveUp { key } if key.as_str() == "q"));
+    assert!(rt; ends[1].is_committed());
+    Ok(())
+}
+
+// The same, but it may send one more: that one is evaluated on the answer that came with the failed commit, so the key is fetched once.
+#[test]
+fn a_job_is_sent_again_without_a_fetch(rt: HostRuntime) -> Result<(), Fail> {
+    let alloc = rt.alloc();
+    let jobs = jobs(alloc, READ_Q, PUT_Q, 2)?;
+    let gate = OneBetween {
+        signs: Signs::new(MANY_TURNS),
+    };
+    let gathered = run_two(&rt, alloc, jobs.as_slice(), 2, &gate)?;
+    let line = line(alloc, &gate.signs, &gathered)?;
+    assert_eq!(rt; line.as_str(), "at once: 2 committed, revision 3");
+    assert_eq!(rt; gate.signs.fetches.load(Ordering::SeqCst), 1);
+    let state = gathered.hall.state()?;
+    assert!(rt; matches!(state.get("p"), Some(entry) if entry.value.as_str() == "1"));
     Ok(())
 }

@@ -21,23 +21,23 @@ returns-in-Txn c =
 
 pub returns-in-Grant : goal.returns-in-Grant
 returns-in-Grant c =
-    subst (λ (e : WorldEvent). Tells (λ _. sorted_of c.add_call-2.new.sorted) c.add_call-2.result (add_event (sorted_of c.args.sorted.now) e))
-    (sym c.in-Grant.is) c.add_call-2.ensures
+    subst (λ (e : WorldEvent). Tells (λ _. sorted_of c.add_call-in-Grant.new.sorted) c.add_call-in-Grant.result (add_event (sorted_of c.args.sorted.now) e))
+    (sym c.in-Grant.is) c.add_call-in-Grant.ensures
 
 pub returns-in-Keep : goal.returns-in-Keep
 returns-in-Keep c =
-    subst (λ (e : WorldEvent). Tells (λ _. sorted_of c.add_call-3.new.sorted) c.add_call-3.result (add_event (sorted_of c.args.sorted.now) e))
-    (sym c.in-Keep.is) c.add_call-3.ensures
+    subst (λ (e : WorldEvent). Tells (λ _. sorted_of c.add_call-in-Keep.new.sorted) c.add_call-in-Keep.result (add_event (sorted_of c.args.sorted.now) e))
+    (sym c.in-Keep.is) c.add_call-in-Keep.ensures
 
 pub returns-in-Revoke : goal.returns-in-Revoke
 returns-in-Revoke c =
-    subst (λ (e : WorldEvent). Tells (λ _. sorted_of c.add_call-4.new.sorted) c.add_call-4.result (add_event (sorted_of c.args.sorted.now) e))
-    (sym c.in-Revoke.is) c.add_call-4.ensures
+    subst (λ (e : WorldEvent). Tells (λ _. sorted_of c.add_call-in-Revoke.new.sorted) c.add_call-in-Revoke.result (add_event (sorted_of c.args.sorted.now) e))
+    (sym c.in-Revoke.is) c.add_call-in-Revoke.ensures
 
 pub returns-in-Advance : goal.returns-in-Advance
 returns-in-Advance c =
-    subst (λ (e : WorldEvent). Tells (λ _. sorted_of c.add_call-5.new.sorted) c.add_call-5.result (add_event (sorted_of c.args.sorted.now) e))
-    (sym c.in-Advance.is) c.add_call-5.ensures
+    subst (λ (e : WorldEvent). Tells (λ _. sorted_of c.add_call-in-Advance.new.sorted) c.add_call-in-Advance.result (add_event (sorted_of c.args.sorted.now) e))
+    (sym c.in-Advance.is) c.add_call-in-Advance.ensures
 
 -- ---- other events
 
@@ -51,20 +51,20 @@ returns-in-Step c =
 
 pub returns-in-WatchKey : goal.returns-in-WatchKey
 returns-in-WatchKey c =
-    subst (λ (e : WorldEvent). TellsFault c.fault-2.result (add_event (sorted_of c.args.sorted.now) e)) (sym c.in-WatchKey.is)
-    (subst (λ (r : ReadError). TellsFault r of_no_shape) (sym c.fault-2.ensures) refl)
+    subst (λ (e : WorldEvent). TellsFault c.fault-in-WatchKey.result (add_event (sorted_of c.args.sorted.now) e)) (sym c.in-WatchKey.is)
+    (subst (λ (r : ReadError). TellsFault r of_no_shape) (sym c.fault-in-WatchKey.ensures) refl)
 
 pub returns-in-WatchRange : goal.returns-in-WatchRange
 returns-in-WatchRange c =
-    subst (λ (e : WorldEvent). TellsFault c.fault-3.result (add_event (sorted_of c.args.sorted.now) e)) (sym c.in-WatchRange.is)
-    (subst (λ (r : ReadError). TellsFault r of_no_shape) (sym c.fault-3.ensures) refl)
+    subst (λ (e : WorldEvent). TellsFault c.fault-in-WatchRange.result (add_event (sorted_of c.args.sorted.now) e)) (sym c.in-WatchRange.is)
+    (subst (λ (r : ReadError). TellsFault r of_no_shape) (sym c.fault-in-WatchRange.ensures) refl)
 
 pub returns-in-Poll : goal.returns-in-Poll
 returns-in-Poll c =
-    subst (λ (e : WorldEvent). TellsFault c.fault-4.result (add_event (sorted_of c.args.sorted.now) e)) (sym c.in-Poll.is)
-    (subst (λ (r : ReadError). TellsFault r of_no_shape) (sym c.fault-4.ensures) refl)
+    subst (λ (e : WorldEvent). TellsFault c.fault-in-Poll.result (add_event (sorted_of c.args.sorted.now) e)) (sym c.in-Poll.is)
+    (subst (λ (r : ReadError). TellsFault r of_no_shape) (sym c.fault-in-Poll.ensures) refl)
 
 pub returns-in-Cancel : goal.returns-in-Cancel
 returns-in-Cancel c =
-    subst (λ (e : WorldEvent). TellsFault c.fault-5.result (add_event (sorted_of c.args.sorted.now) e)) (sym c.in-Cancel.is)
-    (subst (λ (r : ReadError). TellsFault r of_no_shape) (sym c.fault-5.ensures) refl)
+    subst (λ (e : WorldEvent). TellsFault c.fault-in-Cancel.result (add_event (sorted_of c.args.sorted.now) e)) (sym c.in-Cancel.is)
+    (subst (λ (r : ReadError). TellsFault r of_no_shape) (sym c.fault-in-Cancel.ensures) refl)

@@ -14,7 +14,7 @@ returns c =
       c.in_ok-push_values.ensures.text,
       c.in_ok-push_count-2.ensures,
       c.in_ok-push_count.ensures,
-      c.new.ensures,
+      c.new-text.ensures.bytes,
       c.revision.ensures,
     ) refl in
     (state, c.in_ok-state.ensures, present_keys h state c.in_ok-push_values.ensures.ascending c.in_ok-state.ensures, text)

@@ -1,11 +1,11 @@
 use Rattle.std.proofs.Common.{◌++◌, string_bytes, refl, arith}
 use Rattle.stm_report.specs.Report.{lines_text}
 use Rattle.stm_jobs.specs.Lines.{value_lines}
-use Rattle.stm_jobs.proofs.LineLemmas.{next_value, ascends}
+use Rattle.stm_jobs.proofs.LineLemmas.{next_value, all_values, ascends}
 use Rattle.stm_jobs.proofs.printing.push_values.Goals as goal
 
 pub loop-i-init : goal.loop-i-init
-loop-i-init c = record { told = refl; rises = λ some. absurd (omega arith) }
+loop-i-init c = record { told = refl; rises = λ some. absurd (omega (arith, some)) }
 
 pub loop-i-preserved : goal.loop-i-preserved
 loop-i-preserved c = record {
@@ -15,6 +15,11 @@ loop-i-preserved c = record {
       c.loop-i.invariant.told);
   rises = λ some. c.at-entry.ensures.ascending;
 }
+
+pub returns-clause-text : goal.returns-clause-text
+returns-clause-text c =
+    all_values (string_bytes c.args.text.now) (string_bytes c.loop-i.text) c.args.state.now c.loop-i.i (omega (arith, c.len.ensures))
+    c.loop-i.invariant.told
 
 pub returns-clause-ascending : goal.returns-clause-ascending
 returns-clause-ascending c = ascends c.args.state.now c.loop-i.i (omega (arith, c.len.ensures)) c.loop-i.invariant.rises

@@ -1,0 +1,8 @@
+use Rattle.std.proofs.Common.{string_bytes}
+use Rattle.stm_jobs.proofs.RunLemmas.{are_of_run}
+use Rattle.stm_jobs.proofs.running.lines_of.Goals as goal
+
+pub returns-in-Ok-Ok-clause-lines : goal.returns-in-Ok-Ok-clause-lines
+returns-in-Ok-Ok-clause-lines g c =
+    are_of_run c.args.start c.args.calls.now c.args.jobs.now (string_bytes c.in-Ok-Ok.text) c.in-Ok.store.standing c.in-Ok-Ok.gathered.ends.items
+    c.in-Ok-Ok.gathered.committed c.new.result c.in-Ok-Ok.gathered.hall c.in-Ok.ensures c.new.ensures c.in-Ok-Ok.ensures c.lines.ensures

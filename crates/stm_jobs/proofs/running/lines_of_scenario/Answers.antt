@@ -1,0 +1,15 @@
+use Rattle.std.proofs.Common.{◌≡◌, Ok, Err, map, refl, ap, sym, ◌∙◌, subst, string_bytes}
+use Rattle.std.proofs.lemmas.Result.{err_from_is_err_and}
+use Rattle.stm_jobs.specs.Accepting.{sorted_of, task_of}
+use Rattle.stm_jobs.proofs.RunLemmas.{answers_of, answers_fault}
+use Rattle.stm_jobs.proofs.running.lines_of_scenario.Goals as goal
+
+pub returns-in_err-sorted : goal.returns-in_err-sorted
+returns-in_err-sorted g c =
+    let p = err_from_is_err_and c.from_residual.result c.from_residual.ensures.1 in
+    rw (p.1, p.2) (answers_fault string_bytes (Ok c.args.scenario) c.in_err-sorted.field-0.0 c.in_err-sorted.ensures)
+
+pub returns : goal.returns
+returns g c =
+    answers_of string_bytes c.args.scenario (sorted_of c.in_ok-sorted.sorted) c.unwrap_or.result c.as_slice.result.now c.as_slice-2.result.now c.lines_of.result
+    c.in_ok-sorted.ensures c.unwrap_or.ensures c.as_slice.ensures (ap (map task_of) c.as_slice-2.ensures) c.lines_of.ensures.lines c.lines_of.ensures.fault

@@ -9,9 +9,9 @@ use Rattle.stm_workers.specs.declared.begun.Begun.{Begun}
 use Rattle.stm_workers.specs.declared.job.Job.{Job}
 use Rattle.stm_workers.specs.declared.job_end.JobEnd.{JobEnd}
 use Rattle.stm_workers.specs.declared.job_end.JobEnd.TheVariants.{Committed, Aborted, Faulted, Refused, GaveUp}
-use Rattle.stm_workers.specs.Ends.{entry_named, names_entry, IsCommitOf, IsBorneOut, BorneOutAt, IsNew, Stands, StandsAt, AllStand}
+use Rattle.stm_workers.specs.Ends.{entry_named, names_entry, IsCommitOf, IsBorneOut, BorneOutAt, IsNew, StandsAt, AllStand}
 use Rattle.stm_workers.specs.Marks.{NamesWithin, IsNewAt, is_marked, is_named_before}
-use Rattle.stm_workers.proofs.EndLaws.{Named, named, There, there, within}
+use Rattle.stm_workers.proofs.EndLaws.{named, there, within}
 
 -- ---- the entry that an end names
 

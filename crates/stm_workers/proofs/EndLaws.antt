@@ -5,7 +5,7 @@ use Rattle.stm_hall.specs.HallState.{HallState}
 use Rattle.stm_workers.specs.declared.begun.Begun.{Begun}
 use Rattle.stm_workers.specs.declared.job.Job.{Job}
 use Rattle.stm_workers.specs.declared.job_end.JobEnd.{JobEnd}
-use Rattle.stm_workers.specs.Ends.{entry_named, IsNew, Stands, StandsAt, AllStand, NameDifferentEntries, CommitsAreApart}
+use Rattle.stm_workers.specs.Ends.{entry_named, IsNew, Stands, AllStand, CommitsAreApart}
 
 -- an end that names an entry is an end
 pub record Named (o : Option JobEnd) (index : ℕ) : Type 0 where

@@ -10,7 +10,7 @@ use Rattle.stm_meaning.specs.declared.run.Answered.{Answered}
 use Rattle.stm_meaning.specs.declared.run.Answered.TheVariants.{Ended, Wants}
 use Rattle.stm_attempt.specs.declared.next.Next.{Next}
 use Rattle.stm_attempt.specs.declared.next.Next.TheVariants.{Fetch, Ready, Aborted, Faulted}
-use Rattle.stm_attempt.specs.AttemptState.{AttemptState, IsOf, begun, advanced, supplied, awaited}
+use Rattle.stm_attempt.specs.AttemptState.{AttemptState, begun, advanced, supplied, awaited}
 use Rattle.stm_attempt.specs.Known.{Known}
 use Rattle.stm_attempt.specs.ReadyRun.{ReadyRun, ready_run}
 use Rattle.stm_attempt.specs.Settled.{run_on, settled}

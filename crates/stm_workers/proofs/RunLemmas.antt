@@ -1,5 +1,5 @@
 -- What a run of jobs comes to.
-use Rattle.std.proofs.Common.{◌≡◌, ℕ, ◌+◌, ◌<◌, true, List, length, count_by, refl, sym, ◌∙◌, ap, subst}
+use Rattle.std.proofs.Common.{◌≡◌, ℕ, ◌+◌, ◌<◌, true, List, length, count_by, Option, Some, None, IfSome, IfNone, Result, Ok, IfOk, sym, ◌∙◌, ap, subst}
 use Rattle.stm_hall.specs.HallState.{HallState}
 use Rattle.stm_workers.specs.declared.begun.Begun.{Begun}
 use Rattle.stm_workers.specs.declared.job.Job.{Job}
@@ -84,3 +84,38 @@ round_commits hall before after amount told counted same closed shared sorted =
     closed
     ∙ ap (λ (h : HallState). commits_in h.entries + amount) (sym same)
     ∙ ap (λ (n : ℕ). commits_in hall.entries + n) (shared ∙ sym sorted)
+
+-- ---- what the audit says
+
+-- it clears the ends, which it was shown
+pub all_clear : (begun : Begun) (hall : HallState) (jobs : List Job) (shown ends : List JobEnd) (found : Option ℕ) → found ≡ None → shown ≡ ends →
+    IfNone found (AllStand begun hall jobs shown) → AllStand begun hall jobs ends
+all_clear begun hall jobs shown ends None none same clear = subst (λ (es : List JobEnd). AllStand begun hall jobs es) same clear
+all_clear begun hall jobs shown ends (Some place) none same clear = absurd (cc)
+
+-- it tells a job that is at fault
+pub one_at_fault : (begun : Begun) (hall : HallState) (jobs : List Job) (shown ends : List JobEnd) (found : Option ℕ) (job : ℕ) → found ≡ Some job →
+    shown ≡ ends → IfSome found (λ (place : ℕ). (place < length jobs) × (StandsAt begun hall jobs shown place → ⊥)) →
+    (job < length jobs) × (StandsAt begun hall jobs ends job → ⊥)
+one_at_fault begun hall jobs shown ends None job told same fault = absurd (cc)
+one_at_fault begun hall jobs shown ends (Some place) job told same fault =
+    let here : place ≡ job = cc (told) in
+    subst (λ (k : ℕ). (k < length jobs) × (StandsAt begun hall jobs ends k → ⊥)) here
+    (subst (λ (es : List JobEnd). (place < length jobs) × (StandsAt begun hall jobs es place → ⊥)) same fault)
+
+-- ---- what was gathered, in its own words
+
+-- what holds at `Ok` of an outcome holds of it
+pub at_ok : {A E : Type 0} (P : A → Type 0) (outcome : Result A E) (made : A) → outcome ≡ Ok made → IfOk outcome P → P made
+at_ok {A} {E} P outcome made is holds = subst (λ (r : Result A E). IfOk r P) is holds
+
+-- the same run, told by the hall and the ends that were gathered
+pub ran_on : (before after told : HallState) (jobs : List Job) (ends given : List JobEnd) (committed : ℕ) → told ≡ after → given ≡ ends →
+    RanTo before jobs ends committed after → RanTo before jobs given committed told
+ran_on before after told jobs ends given committed same are ran =
+    subst (λ (h : HallState). RanTo before jobs given committed h) (sym same)
+    (subst (λ (es : List JobEnd). RanTo before jobs es committed after) (sym are) ran)
+
+pub broke_on : (before after told : HallState) (jobs : List Job) (cause : FaultCause) → told ≡ after → BrokeOff before jobs cause after →
+    BrokeOff before jobs cause told
+broke_on before after told jobs cause same broke = subst (λ (h : HallState). BrokeOff before jobs cause h) (sym same) broke

@@ -1,8 +1,18 @@
 -- What the threads of a run are given may go to them, and be shared by them: type by type, from the expressions of a program up to the
 -- hall and the jobs. A search that goes down from there by itself gives up at the first type that holds itself.
-use denote.Param.Send.{IsSend, IsSync, sendable}
-use Rattle.std.proofs.Crossing.{crosses, Arc-send, Arc-sync, Vec-send, Vec-sync}
-use Rattle.std.proofs.MapsCrossing.{String-send, String-sync, crosses as maps}
+use denote.RattleType.{RattleType}
+use Rattle.std.proofs.sync.Mutex.TheSendSync as mutex
+use Rattle.std.proofs.sync.ledger.Book.TheSendSync as book
+use Rattle.stm_draw.proofs.table.JobTable.TheSendSync as table
+use denote.Ref.{NamedLft}
+use denote.Param.Send.{IsSend, IsSync, struct_send, struct_sync, recorded_send, recorded_sync, sendable}
+use denote.Struct.Declared.{shape}
+use denote.Struct.Tuple.{TupleAt, type_at}
+use mathlib.Core.List.{[], ◌∷◌}
+use mir.Syntax.{Sym}
+use Rattle.std.specs.declared.sync.ledger.Ledger as Ledger
+use Rattle.stm_workers.specs.declared.desk.Round as Round
+use Rattle.std.proofs.Crossing.{Arc-send, Arc-sync, Vec-send, Vec-sync}
 use Rattle.stm_program.specs.contracts.expression.Expr as Expr
 use Rattle.stm_program.specs.contracts.condition.Cond as Cond
 use Rattle.stm_program.specs.contracts.statement.Block as Block
@@ -24,6 +34,8 @@ use Rattle.stm_entries.specs.contracts.entry.Entry as Entry
 use Rattle.stm_hall.specs.contracts.log.Log as Log
 use Rattle.stm_hall.specs.contracts.hall.Hall as Hall
 use Rattle.stm_workers.specs.contracts.job.Job as Job
+use Rattle.stm_workers.specs.contracts.desk.Desk as Desk
+use Rattle.stm_workers.specs.contracts.attempts.Floor as Floor
 
 -- the leaves of a program
 ruleset leaves = (text.the_send, text.the_sync, sendable)
@@ -120,3 +132,30 @@ hall_send = search (log_send, heap.the_field_send, sendable) depth 12
 
 pub job_sync : IsSync Job.the_row
 job_sync = search (program_sync, level.the_field_sync, sendable) depth 12
+
+-- ---- what the workers share, and what each has
+
+-- what a closure takes with it: two values
+pub pair_send : (name : Sym) (A B : RattleType) → IsSend A → IsSend B → IsSend (TupleAt name (A ∷ B ∷ []))
+pair_send name A B a b = recorded_send _ _ _ (type_at name (A ∷ B ∷ [])).to_one (struct_send (shape (type_at name (A ∷ B ∷ []))) (a, (b, tt)))
+
+module _ (R : RattleType) (r : Round.Ghosts R.Denot) (l : Ledger.Ghosts R.Denot) where
+  -- the hall and the book of commits
+  pub desk_send : IsSend (Desk.the_row R r l)
+  desk_send =
+      recorded_send _ _ _ (Desk.the_type R r l).to_one (struct_send (shape (Desk.the_type R r l)) (hall_send, (book.the_send R l, tt)))
+
+  -- the lock, and what is only read
+  pub floor_sync : (a : NamedLft) (W G : RattleType) → IsSync W → IsSync G → IsSync (Floor.the_row a R W G r l)
+  floor_sync a W G waits gates =
+      recorded_sync _ _ _ (Floor.the_type a R W G r l).to_one
+      (struct_sync (shape (Floor.the_type a R W G r l)) (
+        search (waits, sendable) depth 8,
+        (
+          heap.the_field_sync,
+          (
+            search (mutex.the_sync, desk_send, sendable) depth 8,
+            (search (table.the_sync, sendable) depth 8, (search (job_sync, sendable) depth 8, (search (gates, sendable) depth 8, tt))),
+          ),
+        ),
+      ))

@@ -1,21 +1,16 @@
 -- What a run keeps is an equation of sets: of entries, histories, numbers and truth values.
 use Rattle.std.specs.Prelude.{List, ℕ, Bool}
-use Rattle.std.specs.Coded.{Coded, Coded-set, codes, coded_list, coded_ℕ, coded_bool}
+use Rattle.std.specs.Coded.{Coded-set, coded_list, coded_ℕ, coded_bool}
 use Rattle.stm_history.specs.History.{History}
-use Rattle.stm_program.specs.Coding.{coded_program}
+use Rattle.stm_history.specs.contracts.revisions.Revisions as revisions
 use Rattle.stm_entries.specs.declared.entry.Entry.{Entry}
-
-abbrev pub coded_entry : Coded Entry
-coded_entry = hlevel (codes, coded_program)
+use Rattle.stm_entries.specs.contracts.entry.Entry as entries
 
 pub entries_set : IsSet (List Entry)
-entries_set = Coded-set (coded_list coded_entry)
-
-abbrev pub coded_history : Coded History
-coded_history = hlevel codes
+entries_set = Coded-set (coded_list entries.the_row.coded)
 
 pub histories_set : IsSet History
-histories_set = Coded-set coded_history
+histories_set = Coded-set revisions.the_row.coded
 
 pub numbers_set : IsSet ℕ
 numbers_set = Coded-set coded_ℕ

@@ -49,7 +49,6 @@ fn work<R: Round, W: Wait, G: Gate>(
 }
 
 /// Starts a worker. What goes to its thread may: the hall behind the lock, the programs of the jobs, and what the worker has.
-#[tactic(auto, using(crate::proofs::Sent::hall_send, crate::proofs::Sent::job_sync))]
 fn start<'s, 'a: 's, E, R: Round + Send + Sync, W: Wait + Sync, G: Gate + Sync>(
     scope: &Scope<'s, E>,
     floor: &'s Floor<'a, R, W, G>,
@@ -269,7 +268,6 @@ fn begin(hall: &Hall) -> Begun
 /// for each job that committed, and nothing else. `OutOfMemory`: a growth was refused, in a worker, in the hall, or here. `Spawn`: a thread
 /// could not be started. `Audit`: the end of this job does not stand. At each of these all threads have ended, and the hall has what was
 /// committed until then, all of it of these jobs. Nothing is said of which job goes first, nor that it returns.
-#[tactic(auto, using(crate::proofs::RunLemmas::ran_to, crate::proofs::RunLemmas::fault_found))]
 pub fn run_workers<W: Threads + Wait + Sync, G: Gate + Sync>(
     rt: &W,
     alloc: Global,

@@ -1,4 +1,4 @@
-use Rattle.std.proofs.Common.{◌≡◌, ◌<◌, ℕ, List, length, Option, IfSome, IfNone, ap, subst, sym, ◌∙◌}
+use Rattle.std.proofs.Common.{◌<◌, ℕ, List, length, Option, IfSome, IfNone, subst, sym}
 use Rattle.stm_entries.specs.declared.entry.Entry.{Entry}
 use Rattle.stm_workers.specs.Marks.{NamesWithin, IsNewAt}
 use Rattle.stm_workers.proofs.AuditLemmas.{both_stand, repeated_falls, names_within}

@@ -1,4 +1,4 @@
-use Rattle.std.proofs.Common.{◌≡◌, ◌<◌, ◌≤◌, ℕ, length, arith, subst}
+use Rattle.std.proofs.Common.{ℕ, arith}
 use Rattle.stm_workers.specs.Ends.{BorneOutAt}
 use Rattle.stm_workers.proofs.AuditLemmas.{not_told, next_place, all_places}
 use Rattle.stm_workers.proofs.auditing.find_unborne.Goals as goal

@@ -1,4 +1,4 @@
-use Rattle.std.proofs.Common.{◌≡◌, ℕ, List, Option, Bool, true, ◌↔◌, sym, subst, arith}
+use Rattle.std.proofs.Common.{◌≡◌, Option, true, ◌↔◌, sym, subst, arith}
 use Rattle.stm_entries.specs.declared.entry.Entry.{Entry}
 use Rattle.stm_workers.specs.Ends.{IsCommitOf}
 use Rattle.stm_workers.proofs.AuditLemmas.{first_of_two_fails, second_of_two_fails, second_of_two_decides, nothing_behind}

@@ -1,4 +1,4 @@
-use Rattle.std.proofs.Common.{◌≡◌, Some, Bool, true, false, ◌↔◌, sym, subst}
+use Rattle.std.proofs.Common.{◌≡◌, Some, true, false, ◌↔◌, sym, subst}
 use Rattle.stm_entries.specs.declared.entry.Entry.{Entry}
 use Rattle.stm_workers.specs.Ends.{IsCommitOf}
 use Rattle.stm_workers.proofs.AuditLemmas.{first_fails, second_fails}

@@ -10,9 +10,8 @@ at_work-requires-clause-one_left g c =
 
 pub at_work-requires-clause-counted : goal.at_work-requires-clause-counted
 at_work-requires-clause-counted g c =
-    let last : EndOf = record { job = c.args.job; end = c.in_ok-end.end } in
-    (
+    let last : EndOf = record { job = c.args.job; end = c.in_ok-end.end } in (
       c.run_job.ensures.parts ∙ c.requires.counted.0,
       one_counted c.args.ended.items last c.args.share.amount c.run_job.new.share.amount c.requires.counted.1 c.in_ok-end.ensures.counted
-      ∙ ap (λ (es : List EndOf). committed_in es) (sym c.in_ok-push.ensures.items),
+          ∙ ap (λ (es : List EndOf). committed_in es) (sym c.in_ok-push.ensures.items),
     )

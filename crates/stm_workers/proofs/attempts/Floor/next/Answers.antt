@@ -1,4 +1,4 @@
-use Rattle.std.proofs.Common.{◌≡◌, ◌<◌, ℕ, sym, ap, subst, ◌∙◌}
+use Rattle.std.proofs.Common.{◌<◌, ℕ, sym, ap, subst, ◌∙◌}
 use Rattle.stm_draw.specs.declared.view.Size.{Size}
 use Rattle.stm_draw.specs.declared.view.View.{View}
 use Rattle.stm_draw.specs.Draw.{drew}

@@ -1,8 +1,11 @@
 -- What `clap` tells of words, said of the command stmrun.
 use Rattle.std.proofs.Common.{◌≡◌, ◌∙◌, ◌^◌, ◌<◌, ◌≤◌, ℕ, List, [], ◌∷◌, Option, Some, None, IfNone, IsSomeAnd, Ok, Err, true, codes, refl, sym, ap, subst}
 use Rattle.std.proofs.Common.{⊎_elim, arith}
+use Rattle.std.specs.Prelude.{ℤ, pos}
 use Rattle.std.specs.Str.Parse.{IsNumeral, digits_value, without_leading_plus}
-use Rattle.clap.specs.Words.{App, FailsBy, HasMatchesOf, IsUnsignedIn, Row, Text, fault_of, is_simple_and_free, kind_of, subcommand_of, subcommand_rows_of}
+use Rattle.clap.specs.Words.{App, FailsBy, HasMatchesOf, IsUnsignedIn, NarrowsTo, Row, Text, first_of, fault_of, is_simple_and_free, kind_of, subcommand_of, subcommand_rows_of}
+use Rattle.clap.specs.declared.builder.value_parser.ValueParser.{ValueParser}
+use Rattle.clap.specs.declared.builder.value_parser.ValueParser.TheVariants.{Unsigned}
 use Rattle.clap.specs.declared.error.Error.{Error}
 use Rattle.clap.specs.declared.parser.matches.ArgMatches.{ArgMatches}
 use Rattle.stmrun.specs.declared.arguments.Asked.{Asked}
@@ -46,13 +49,23 @@ none_in_range text number (Some n) is told = tt
 none_in_range text number None is told = λ range.
     told (subst (λ (n : ℕ). 1 ≤ n) (sym is) range.2, subst (λ (n : ℕ). n ≤ 16) (sym is) range.3)
 
+-- a parser of all numbers of 64 bits, narrowed to those from 1 to 16
+pub narrowed : (all parser : ValueParser) (low high : ℤ) → all ≡ Unsigned 0 18446744073709551615 → low ≡ pos 1 → high ≡ pos 16
+    → NarrowsTo all (Some low) (Some high) parser → parser ≡ Unsigned 1 16
+narrowed all parser low high whole from to narrows =
+    let one = subst (λ (p : ValueParser). NarrowsTo p (Some low) (Some high) parser) whole narrows in
+    let two = subst (λ (i : ℤ). NarrowsTo (Unsigned 0 18446744073709551615) (Some i) (Some high) parser) from one in
+    subst (λ (i : ℤ). NarrowsTo (Unsigned 0 18446744073709551615) (Some (pos 1)) (Some i) parser) to two
+
 -- what stands in the place of the number of threads is none
-pub no_workers : (o : Option Text) (text : Text) → Some text ≡ o → (IsUnsignedIn 1 16 text → ⊥) → IsSomeAnd o (IsUnsignedIn 1 16) → ⊥
-no_workers o text is not there = not (subst (λ (p : Option Text). IsSomeAnd p (IsUnsignedIn 1 16)) (sym is) there)
+pub no_workers : (rows : List Row) (text : Text) (asked : Option Asked) → Some text ≡ first_of (codes "workers") rows → (IsUnsignedIn 1 16 text → ⊥)
+    → IfNone asked (HasWorkers rows → ⊥)
+no_workers rows text (Some asked) is not = tt
+no_workers rows text None is not = λ there. not (subst (λ (p : Option Text). IsSomeAnd p (IsUnsignedIn 1 16)) (sym is) there)
 
 -- ---- which command is missing what
 
-first_byte : Text → ℕ
+abbrev first_byte : Text → ℕ
 first_byte [] = 0
 first_byte (b ∷ bs) = b
 

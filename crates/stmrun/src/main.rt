@@ -22,6 +22,8 @@ use files::open;
 pub use scripting::script_to;
 use std::io::Read;
 use std::process::ExitCode;
+use std::sync::Wait;
+use std::thread::Threads;
 use stm_report::Std;
 pub use threading::threads_to;
 
@@ -51,27 +53,37 @@ fn run_check(rt: &HostRuntime, scenario: &str, report: &str) -> u8 {
 }
 
 /// Runs the jobs of an input by so many threads.
-fn run_jobs_of<R: Read + Drop>(rt: &HostRuntime, input: R, workers: usize) -> u8
+fn run_jobs_of<T: Threads + Wait + Sync, R: Read + Drop>(
+    rt: &HostRuntime,
+    threads: &T,
+    input: R,
+    workers: usize,
+) -> u8
     requires { (1 ≤ workers) × (workers ≤ 16) }
 {
     let mut input = Std::new(input);
     let mut out = Std::new(rt.stdout());
     let mut err = Std::new(rt.stderr());
-    threads_to(rt, rt.alloc(), &mut input, workers, &mut out, &mut err)
+    threads_to(threads, rt.alloc(), &mut input, workers, &mut out, &mut err)
 }
 
 /// Runs the jobs of the scenario of a path, or of that on standard input.
-fn run_threads(rt: &HostRuntime, scenario: Option<&str>, workers: usize) -> u8
+fn run_threads<T: Threads + Wait + Sync>(
+    rt: &HostRuntime,
+    threads: &T,
+    scenario: Option<&str>,
+    workers: usize,
+) -> u8
     requires { (1 ≤ workers) × (workers ≤ 16) }
 {
     match scenario {
-        Some(path) => run_jobs_of(rt, open(rt, path), workers),
-        None => run_jobs_of(rt, rt.reader(), workers),
+        Some(path) => run_jobs_of(rt, threads, open(rt, path), workers),
+        None => run_jobs_of(rt, threads, rt.reader(), workers),
     }
 }
 
-/// Does what the command line asks for, and gives the status.
-fn run(rt: &HostRuntime) -> u8 {
+/// Does what the command line asks for, and gives the status. A run of jobs starts threads and waits for them.
+fn run<T: Threads + Wait + Sync>(rt: &HostRuntime, threads: &T) -> u8 {
     let words = match read_words(rt) {
         Ok(words) => words,
         Err(status) => return status,
@@ -79,11 +91,11 @@ fn run(rt: &HostRuntime) -> u8 {
     match asked_of(rt, rt.alloc(), words.as_slice()) {
         Asked::Script { scenario } => run_script(rt, scenario),
         Asked::Check { scenario, report } => run_check(rt, scenario, report),
-        Asked::Threads { scenario, workers } => run_threads(rt, scenario, workers),
+        Asked::Threads { scenario, workers } => run_threads(rt, threads, scenario, workers),
         Asked::Nothing(status) => status,
     }
 }
 
 fn main(rt: HostRuntime) -> ExitCode {
-    ExitCode::from(run(&rt))
+    ExitCode::from(run(&rt, &rt))
 }

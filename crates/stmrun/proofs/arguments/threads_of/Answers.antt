@@ -1,4 +1,5 @@
 use Rattle.std.proofs.Common.{refl, sym, subst}
+use Rattle.clap.specs.Words.{found_of, rows_of}
 use Rattle.stmrun.specs.Asking.{NumberAt}
 use Rattle.stmrun.proofs.CommandLemmas.{no_workers}
 use Rattle.stmrun.proofs.arguments.threads_of.Goals as goal
@@ -14,4 +15,6 @@ returns-clause-asks c = (
 
 -- what stands in the place of the number is none
 pub returns-in_err-workers-clause-missing : goal.returns-in_err-workers-clause-missing
-returns-in_err-workers-clause-missing c = no_workers _ _ c.in_ok-text.ensures c.in_err-workers.ensures.none
+returns-in_err-workers-clause-missing c =
+    no_workers (rows_of (found_of c.args.found.now)) c.in_ok-text.text.now c.from_residual-in_err-workers.result c.in_ok-text.ensures
+    c.in_err-workers.ensures.none

@@ -560,8 +560,18 @@ fn command_lines(rt: HostRuntime) {
         usage,
     );
     asks(&rt, alloc, &[name, script, not_text], &hint, usage, usage);
+}
 
+#[test]
+fn command_lines_of_check(rt: HostRuntime) {
+    let alloc = rt.alloc();
+    let name = "stmrun".as_bytes();
     let check = "check".as_bytes();
+    let help = "--help".as_bytes();
+    let usage = Asked::Nothing(2);
+    let shown = Asked::Nothing(0);
+    let failed = Asked::Nothing(3);
+    let hint = ["Usage: stmrun", "--help"];
     let one = "s.json".as_bytes();
     let two = "r.txt".as_bytes();
     let both = Asked::Check {

@@ -81,7 +81,8 @@ const PRINTED: [(&str, &str); 7] = [
     ),
     // A job aborts, one faults, one is refused for its lease, and one commits without a change.
     (
-        "[[\"start\",\"Serializable\",3,[[\"abort\",\"no\"]]],[\"start\",\"Serializable\",3,[[\"emit\",[\"div\",1,0]]]],[\"start\",\"Serializable\",3,[[\"put\",\"a\",\"1\",7]]],[\"start\",\"RepeatableReads\",3,[[\"del\",\"a\"]]]]",
+        "[[\"start\",\"Serializable\",3,[[\"abort\",\"no\"]]],[\"start\",\"Serializable\",3,[[\"emit\",[\"div\",1,0]]]],
+[\"start\",\"Serializable\",3,[[\"put\",\"a\",\"1\",7]]],[\"start\",\"RepeatableReads\",3,[[\"del\",\"a\"]]]]",
         "[\"jobs\",4]
 [\"committed\",1]
 [\"end\",1]
@@ -99,7 +100,9 @@ const PRINTED: [(&str, &str); 7] = [
     ),
     // Two jobs that add one to one number: each may send as many commits as there are jobs.
     (
-        "[[\"txn\",[],[[\"put\",\"n\",\"0\",0]],[]],[\"start\",\"RepeatableReads\",2,[[\"put\",\"n\",[\"text_of\",[\"add\",[\"num_of\",[\"get\",\"n\"]],1]],0]]],[\"start\",\"SerializableSnapshot\",2,[[\"put\",\"n\",[\"text_of\",[\"add\",[\"num_of\",[\"get\",\"n\"]],1]],0]]]]",
+        "[[\"txn\",[],[[\"put\",\"n\",\"0\",0]],[]],
+[\"start\",\"RepeatableReads\",2,[[\"put\",\"n\",[\"text_of\",[\"add\",[\"num_of\",[\"get\",\"n\"]],1]],0]]],
+[\"start\",\"SerializableSnapshot\",2,[[\"put\",\"n\",[\"text_of\",[\"add\",[\"num_of\",[\"get\",\"n\"]],1]],0]]]]",
         "[\"jobs\",2]
 [\"committed\",2]
 [\"value\",\"n\",\"2\"]
@@ -182,7 +185,8 @@ fn ring(alloc: Global) -> Result<String, AllocError> {
         let from = number % 8;
         let to = (number + 1) % 8;
         let job = format!(in alloc;
-            ",[\"start\",\"Serializable\",64,[[\"set\",0,[\"num_of\",[\"get\",\"a{from}\"]]],[\"if\",[\"less\",[\"var\",0],1],[[\"abort\",\"insufficient\"]],[]],[\"put\",\"a{from}\",[\"text_of\",[\"sub\",[\"var\",0],1]],0],[\"put\",\"a{to}\",[\"text_of\",[\"add\",[\"num_of\",[\"get\",\"a{to}\"]],1]],0]]]"
+            ",[\"start\",\"Serializable\",64,[[\"set\",0,[\"num_of\",[\"get\",\"a{from}\"]]],[\"if\",[\"less\",[\"var\",0],1],[[\"abort\",\"insufficient\"]],[]],
+[\"put\",\"a{from}\",[\"text_of\",[\"sub\",[\"var\",0],1]],0],[\"put\",\"a{to}\",[\"text_of\",[\"add\",[\"num_of\",[\"get\",\"a{to}\"]],1]],0]]]"
         )?;
         text.push_str(job.as_str())?;
     }

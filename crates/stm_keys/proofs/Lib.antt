@@ -8,3 +8,4 @@ pub mod Walked
 pub mod Present
 pub mod Steps
 pub mod Order
+pub mod Newest

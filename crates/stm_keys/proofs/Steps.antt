@@ -1,5 +1,5 @@
 -- One event after another: room for its key's chain, and its place there.
-use Rattle.std.proofs.Common.{◌≡◌, ℕ, ◌+◌, ◌≤◌, ◌<◌, Bool, true, false, List, [], ◌∷◌, ◌++◌, map, zero, suc, slice_get}
+use Rattle.std.proofs.Common.{◌≡◌, ℕ, ◌≤◌, ◌<◌, Bool, true, false, List, [], ◌∷◌, ◌++◌, map, zero, suc, slice_get}
 use Rattle.std.proofs.Common.{option_map, Option, Some, None, refl, sym, ◌∙◌, ap, subst, cond, is_some, IfSome, arith}
 use Rattle.std.specs.Prelude.{bytes_eq}
 use Rattle.std.proofs.lemmas.Bool.{lt-ltb}

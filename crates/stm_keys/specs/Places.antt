@@ -44,7 +44,16 @@ abbrev pub newest_below : ℕ → List ℕ → Option ℕ
 newest_below count [] = None
 newest_below count (place ∷ older) = if nat_lt place count then Some place else newest_below count older
 
--- what a key is after the revision at a place, which changed it; the oldest revision stands first
+-- the event of a key in the revision at a place, which changed it; the oldest revision stands first
+abbrev pub event_from : List (List Event) → List ℕ → Option ℕ → Option Event
+event_from recorded key None = None
+event_from recorded key (Some place) = event_about key (get_or recorded place [])
+
+-- the newest event of a key, as its chain tells it
+abbrev pub newest_event : (List ℕ → Option Places) → List (List Event) → List ℕ → Option Event
+newest_event chains recorded key = event_from recorded key (newest_below (length recorded) (places_in (chains key)))
+
+-- what a key is after the revision at a place, which changed it
 abbrev pub state_from : List (List Event) → List ℕ → Option ℕ → Option KeyState
 state_from recorded key None = None
 state_from recorded key (Some place) = after_event (event_about key (get_or recorded place [])) None

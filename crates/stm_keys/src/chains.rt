@@ -4,7 +4,7 @@ ghost use Rattle.std.specs.Prelude.{option_copied, option_map, get_or, Bool, if�
 ghost use Rattle.std.specs.List.Sorted.{IsNonDecreasing};
 ghost use Rattle.indexmap.specs.IndexMap.{get_by_text};
 ghost use Rattle.stm_keys.specs.Events.{key_of_event, event_about, is_put, AreApart};
-ghost use Rattle.stm_keys.specs.Places.{places_in, room_in, with_place, newest_below, state_from, found_in, AreSearchable, StandFirst, KeepsPresent, is_left, names_of, place_of};
+ghost use Rattle.stm_keys.specs.Places.{places_in, room_in, with_place, newest_below, event_from, newest_event, state_from, found_in, AreSearchable, StandFirst, KeepsPresent, is_left, names_of, place_of};
 
 use crate::event::{Event, find_event_at};
 use crate::places::{Places, Version};
@@ -53,6 +53,20 @@ fn find_version(chains: &Chains, key: &str, count: usize) -> Option<Version>
     }
 }
 
+/// The event of a key in the revision of a version, which changed it.
+fn event_from<'a>(
+    revisions: &'a [Sequence<Event>],
+    key: &str,
+    version: Option<Version>,
+) -> Option<&'a Event>
+    requires within { IfSome version (λ v. place_of v < length revisions.now) }
+    requires apart { (place : ℕ) → place < length revisions.now → AreApart (get_or revisions.now place []) }
+    ensures { option_copied result ≡ event_from revisions.now key.now (option_map place_of version) }
+{
+    let version = version?;
+    find_event_at(revisions[version.place].as_slice(), key, version.spot)
+}
+
 /// What a key is after the revision of a version, which changed it.
 fn state_from<'a>(
     revisions: &'a [Sequence<Event>],
@@ -63,10 +77,9 @@ fn state_from<'a>(
     requires apart { (place : ℕ) → place < length revisions.now → AreApart (get_or revisions.now place []) }
     ensures { option_copied result ≡ state_from revisions.now key.now (option_map place_of version) }
 {
-    let version = version?;
-    match find_event_at(revisions[version.place].as_slice(), key, version.spot) {
-        Some(Event::Put { state, .. }) => Some(state),
-        _ => None,
+    match event_from(revisions, key, version) {
+        Some(event) => event.state(),
+        None => None,
     }
 }
 
@@ -100,17 +113,20 @@ pub(crate) fn find_now<'a>(
     }
 }
 
-/// An event of a key, where it has one: most often its newest. No contract says whose event it is.
-pub(crate) fn newest_event<'a>(
+/// The newest event of a key, if it was ever changed. Its chain is looked for at the hint first.
+pub(crate) fn find_newest<'a>(
     chains: &Chains,
     revisions: &'a [Sequence<Event>],
     key: &str,
     hint: usize,
-) -> Option<&'a Event> {
-    let (_, chain) = find_chain(chains, key, hint)?;
-    let version = chain.newest()?;
-    let events = revisions.get(version.place)?;
-    events.as_slice().get(version.spot)
+) -> Option<&'a Event>
+    requires { AreSearchable (get_by_text chains.now) revisions.now }
+    ensures { option_copied result ≡ newest_event (get_by_text chains.now) revisions.now key.now }
+{
+    match find_chain(chains, key, hint) {
+        None => None,
+        Some((_, chain)) => event_from(revisions, key, chain.newest()),
+    }
 }
 
 /// The key at an index of the chains.

@@ -1,6 +1,6 @@
 //! What a change of a key shows to those who watch it.
-ghost use Rattle.std.specs.Prelude.{◌≡◌, option_copied};
-ghost use Rattle.stm_keys.specs.Events.{key_of_event, event_about, AreApart};
+ghost use Rattle.std.specs.Prelude.{◌≡◌, option_copied, None, Some};
+ghost use Rattle.stm_keys.specs.Events.{key_of_event, event_about, after_event, AreApart};
 
 use crate::shared_text::SharedText;
 use stm_history::{KeyState, Text};
@@ -20,6 +20,16 @@ impl Event {
         ensures { result.now ≡ key_of_event self.now }
     {
         self.shared_key().text()
+    }
+
+    /// What the key is since the event, `None` where it is absent.
+    pub(crate) fn state(&self) -> Option<&KeyState>
+        ensures { option_copied result ≡ after_event (Some self.now) None }
+    {
+        match self {
+            Event::Put { state, .. } => Some(state),
+            Event::Delete { .. } => None,
+        }
     }
 
     /// The key that the event is about, as it can be shared.

@@ -3,13 +3,13 @@ ghost use Rattle.std.specs.Prelude.{◌≡◌, ◌+◌, ◌<◌, ◌≤◌, vec_
 ghost use Rattle.indexmap.specs.IndexMap.{get_by_text};
 ghost use Rattle.stm_history.specs.History.{History, opened_at, now, add_revision, key_at, key_now, AreRevisions, IsRevision, state_after_put};
 ghost use Rattle.stm_history.specs.Walk.{version_of};
-ghost use Rattle.stm_keys.specs.Events.{event_of, events_of, event_about, AreApart};
+ghost use Rattle.stm_keys.specs.Events.{event_of, events_of, event_about, key_of_event, after_event, AreApart};
 ghost use Rattle.stm_keys.specs.Places.{places_in, with_place, StandFirst, KeepsPresent, is_left, names_of};
 ghost use Rattle.stm_keys.specs.Keys.{key_read, DeletePresent, HasSmallNumbers, ListsPresent};
 
 use crate::chains::{
-    Chains, NO_HINT, add_places, find_now, find_present, find_state, hint_of, make_room,
-    newest_event,
+    Chains, NO_HINT, add_places, find_newest, find_now, find_present, find_state, hint_of,
+    make_room,
 };
 use crate::event::Event;
 use crate::refusal::{ApplyRefusal, ReadRefusal};
@@ -69,6 +69,27 @@ fn state_put(before: Option<&KeyState>, number: u64, value: Text, lease: u64) ->
         mod_rev: number,
         version,
         lease,
+    }
+}
+
+/// What a key is since its newest event, `None` where it is absent.
+fn state_since(newest: Option<&Event>) -> Option<&KeyState>
+    ensures { option_copied result ≡ after_event (option_copied newest.entry) None }
+{
+    match newest {
+        Some(event) => event.state(),
+        None => None,
+    }
+}
+
+/// A key's text as an event of it has it, and a text of its own where it has none.
+fn share_key(alloc: Global, key: Text, event: Option<&Event>) -> Result<SharedText, AllocError>
+    requires { IfSome (option_copied event) (λ e. key_of_event e ≡ key) }
+    ensures { IfOk result (λ shared. shared ≡ key) }
+{
+    match event {
+        Some(event) => event.shared_key().clone(),
+        None => SharedText::new(alloc, key),
     }
 }
 
@@ -180,15 +201,7 @@ impl Keys {
         ensures value { option_copied result ≡ key_now self.now.history key.now }
         ensures fits { IfSome (key_now self.now.history key.now) HasSmallNumbers }
     {
-        self.get_near(key, NO_HINT)
-    }
-
-    /// What a key is now. Its chain is looked for at the hint first.
-    fn get_near(&self, key: &str, hint: usize) -> Option<&KeyState>
-        ensures value { option_copied result ≡ key_now self.now.history key.now }
-        ensures fits { IfSome (key_now self.now.history key.now) HasSmallNumbers }
-    {
-        find_now(&self.chains, self.revisions.as_slice(), key, hint)
+        find_now(&self.chains, self.revisions.as_slice(), key, NO_HINT)
     }
 
     /// What a key was at a revision, `None` where it was absent. Revision 0 names the current one.
@@ -221,36 +234,31 @@ impl Keys {
         Ok(state_put(self.get(key), self.revision() + 1, value, lease))
     }
 
-    /// A key's text as its older events have it, and a text of its own where it has none.
-    fn share_key(&self, key: Text, hint: usize) -> Result<SharedText, AllocError>
-        ensures { IfOk result (λ shared. shared ≡ key) }
+    /// The newest event of a key, if it was ever changed. Its chain is looked for at the hint first.
+    fn newest_event(&self, key: &str, hint: usize) -> Option<&Event>
+        ensures about { IfSome (option_copied result) (λ event. key_of_event event ≡ key.now) }
+        ensures value { after_event (option_copied result) None ≡ key_now self.now.history key.now }
+        ensures fits { IfSome (key_now self.now.history key.now) HasSmallNumbers }
     {
-        if let Some(event) = newest_event(
-            &self.chains,
-            self.revisions.as_slice(),
-            key.as_str(),
-            hint,
-        ) {
-            if event.shared_key().as_str() == key.as_str() {
-                return event.shared_key().clone();
-            }
-        }
-        SharedText::new(*self.revisions.allocator(), key)
+        find_newest(&self.chains, self.revisions.as_slice(), key, hint)
     }
 
     /// What a change shows in the next revision. Its key's chain is looked for at the hint first.
     fn show_change(&self, change: Change, hint: usize) -> Result<Event, AllocError>
         ensures { IfOk result (λ event. event ≡ event_of (now self.now.history + 1) (key_now self.now.history) change) }
     {
+        let alloc = *self.revisions.allocator();
         let number = self.revision() + 1;
         match change {
             Change::Put { key, value, lease } => {
-                let state = state_put(self.get_near(key.as_str(), hint), number, value, lease);
-                let key = self.share_key(key, hint)?;
+                let newest = self.newest_event(key.as_str(), hint);
+                let state = state_put(state_since(newest), number, value, lease);
+                let key = share_key(alloc, key, newest)?;
                 Ok(Event::Put { key, state })
             }
             Change::Del { key } => {
-                let key = self.share_key(key, hint)?;
+                let newest = self.newest_event(key.as_str(), hint);
+                let key = share_key(alloc, key, newest)?;
                 Ok(Event::Delete {
                     key,
                     revision: number,

@@ -1,5 +1,5 @@
 use Rattle.std.proofs.Common.{◌<◌, ◌≤◌, ◌∙◌, refl, ap, sym, subst, cond, map, Option, Some}
-use Rattle.std.specs.Prelude.{string_bytes, bytes_eq}
+use Rattle.std.specs.Prelude.{string_bytes}
 use Rattle.std.proofs.lemmas.Slice.Eq.{bytes_eq-Decides}
 use Rattle.indexmap.specs.IndexMap.{get_by_text, with_value_at}
 use Rattle.indexmap.proofs.CallerLemmas.{keys-with_value_at}

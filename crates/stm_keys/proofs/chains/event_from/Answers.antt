@@ -4,7 +4,7 @@ use Rattle.stm_keys.specs.declared.event.Event.{Event}
 use Rattle.stm_keys.specs.declared.places.Version.{Version}
 use Rattle.stm_keys.specs.Events.{AreApart}
 use Rattle.stm_keys.specs.Places.{place_of}
-use Rattle.stm_keys.proofs.chains.state_from.Goals as goal
+use Rattle.stm_keys.proofs.chains.event_from.Goals as goal
 
 pub find_event_at-requires : goal.find_event_at-requires
 find_event_at-requires c =

@@ -6,7 +6,8 @@ use Rattle.stm_keys.specs.declared.event.Event.{Event}
 use Rattle.stm_keys.specs.Events.{key_of_event, event_about, after_event}
 use Rattle.stm_keys.specs.Places.{Places, places_in, newest_below, event_from, newest_event, state_from, found_in}
 
-state_of_event : (recorded : List (List Event)) (key : List ℕ) (place : Option ℕ) → after_event (event_from recorded key place) None ≡ state_from recorded key place
+state_of_event : (recorded : List (List Event)) (key : List ℕ) (place : Option ℕ) →
+    after_event (event_from recorded key place) None ≡ state_from recorded key place
 state_of_event recorded key None = refl
 state_of_event recorded key (Some place) = refl
 

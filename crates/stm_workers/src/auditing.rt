@@ -209,7 +209,7 @@ fn audit_names(
     }
 }
 
-/// A job whose end the hall does not bear out, or whose entry an earlier job has named: the first of the former, or else of the latter.
+/// A job whose end the hall does not bear out, or whose entry an earlier job has named: one of the former, or else one of the latter.
 /// `None`: each end stands.
 ///
 /// There are as many ends as jobs. `AllocError`: a growth was refused.

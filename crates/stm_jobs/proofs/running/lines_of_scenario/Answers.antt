@@ -13,5 +13,6 @@ returns-in_err-sorted g c =
 
 pub returns : goal.returns
 returns g c =
-    answers_of string_bytes c.args.scenario (sorted_of c.in_ok-sorted.sorted) c.unwrap_or-start.result c.as_slice.result.now c.as_slice-2.result.now c.lines_of.result
-    c.in_ok-sorted.ensures c.unwrap_or-start.ensures c.as_slice.ensures (ap (map task_of) c.as_slice-2.ensures) c.lines_of.ensures.lines c.lines_of.ensures.fault
+    answers_of string_bytes c.args.scenario (sorted_of c.in_ok-sorted.sorted) c.unwrap_or-start.result c.as_slice.result.now
+    c.as_slice-2.result.now c.lines_of.result c.in_ok-sorted.ensures c.unwrap_or-start.ensures c.as_slice.ensures (ap (map task_of) c.as_slice-2.ensures)
+    c.lines_of.ensures.lines c.lines_of.ensures.fault

@@ -14,7 +14,9 @@ at_work-requires-clause-seated g c = (
 )
 
 pub at_work-requires-clause-one_left : goal.at_work-requires-clause-one_left
-at_work-requires-clause-one_left g c = newly_equipped _ _ (seat_view c.args.self.now.seat) (seat_view c.split-seat.result) c.args.self.now.seated.1 c.new.ensures.items c.split-seat.ensures.given.1
+at_work-requires-clause-one_left g c =
+    newly_equipped _ _ (seat_view c.args.self.now.seat) (seat_view c.split-seat.result) c.args.self.now.seated.1
+    c.new.ensures.items c.split-seat.ensures.given.1
 
 pub at_work-requires-clause-counted : goal.at_work-requires-clause-counted
 at_work-requires-clause-counted g c = (

@@ -87,15 +87,10 @@ fn send(
 fn without_writes(alloc: Global, txn: Txn) -> Txn
     ensures { result ≡ asking txn }
 {
-    let Txn {
-        compares,
-        failure,
-        ..
-    } = txn;
     Txn {
-        compares,
+        compares: txn.compares,
         success: ShortList::new(alloc),
-        failure,
+        failure: txn.failure,
     }
 }
 

@@ -51,19 +51,12 @@ pub(crate) fn draft_of(alloc: Global, ready: &Ready) -> Result<Draft, AllocError
 pub(crate) fn entry_from(draft: Draft, revision: u64) -> Entry
     ensures { result ≡ ProgramEntry draft.program draft.level draft.answers draft.output draft.trace revision }
 {
-    let Draft {
-        program,
-        level,
-        answers,
-        output,
-        trace,
-    } = draft;
     Entry::Program {
-        program,
-        level,
-        answers,
-        output,
-        trace,
+        program: draft.program,
+        level: draft.level,
+        answers: draft.answers,
+        output: draft.output,
+        trace: draft.trace,
         revision,
     }
 }

@@ -69,8 +69,7 @@ impl Stop {
     pub fn of_run(run: Run) -> Stop
         requires { run.end ≢ Done }
     {
-        let Run { end, .. } = run;
-        match end {
+        match run.end {
             End::Done => unreachable!(),
             End::Aborted(text) => Stop::Aborted(text),
             End::Faulted(fault) => Stop::Faulted(fault),

@@ -191,34 +191,12 @@ fn run_two<R: Threads + Wait + Sync, G: Gate + Sync>(
     gathered_of(rt, alloc, jobs.as_slice(), workers, gate)
 }
 
-/// What is told of a run, in a line: whether the jobs were at work at once, how many committed, and the store's revision.
-fn line(alloc: Global, signs: &Signs, gathered: &Gathered) -> Result<String, AllocError> {
-    let manner = if signs.is_serial() {
-        "serial"
-    } else {
-        "at once"
-    };
-    format!(in alloc;
-        "{manner}: {} committed, revision {}",
-        gathered.committed,
-        gathered.hall.revision()
-    )
-}
-
-/// Whether a job gave up over this key.
-fn gave_up_over(end: &JobEnd, told: &str) -> bool {
-    match end {
-        JobEnd::GaveUp { key } => key.as_str() == told,
-        _ => false,
+/// What job 0 gave up over.
+fn given_up_over(ends: &[JobEnd]) -> &str {
+    match ends.first() {
+        Some(JobEnd::GaveUp { key }) => key.as_str(),
+        _ => "nothing",
     }
-}
-
-/// Whether job 0 gave up over `q`, and job 1 committed.
-fn are_ends_of_a_conflict(ends: &[JobEnd]) -> bool {
-    if ends.len() != 2 {
-        return false;
-    }
-    gave_up_over(&ends[0], "q") && ends[1].is_committed()
 }
 
 /// Whether `p` is "1" now.
@@ -230,6 +208,44 @@ fn has_put_p(hall: &Hall) -> Result<bool, AllocError> {
     }
 }
 
+/// What is told of a run, in a line: whether the jobs were at work at once, how many committed, the store's revision, whether `p` is
+/// "1", and what job 0 gave up over.
+fn line(alloc: Global, signs: &Signs, gathered: &Gathered) -> Result<String, AllocError> {
+    let manner = if signs.is_serial() {
+        "serial"
+    } else {
+        "at once"
+    };
+    let put = if has_put_p(&gathered.hall)? {
+        "is 1"
+    } else {
+        "is not 1"
+    };
+    format!(in alloc;
+        "{manner}: {} committed, revision {}, p {put}, gave up over {}",
+        gathered.committed,
+        gathered.hall.revision(),
+        given_up_over(gathered.ends.as_slice())
+    )
+}
+
+/// What is told of two jobs on an empty hall, of which each may send so many commits.
+fn told_of_two<R: Threads + Wait + Sync, G: Gate + Sync>(
+    rt: &R,
+    alloc: Global,
+    texts: (&str, &str),
+    limit: u32,
+    workers: usize,
+    gate: &G,
+    signs: &Signs,
+) -> Result<String, Fail>
+    requires { (1 ≤ limit) × (1 ≤ workers) × (workers ≤ 16) }
+{
+    let gathered = run_two(rt, alloc, texts, limit, workers, gate)?;
+    let line = line(alloc, signs, &gathered)?;
+    Ok(line)
+}
+
 const PUT_P: &str = r#"[["put","p","1",0]]"#;
 
 const PUT_Q: &str = r#"[["put","q","1",0]]"#;
@@ -238,80 +254,83 @@ const READ_Q: &str = r#"[["put","p",["get","q"],0]]"#;
 
 #[test]
 fn two_workers_are_at_work_at_once(rt: HostRuntime) -> Result<(), Fail> {
-    let alloc = rt.alloc();
     let gate = AtCommit {
         signs: Signs::new(MANY_TURNS),
     };
-    let gathered = run_two(&rt, alloc, (PUT_P, PUT_Q), 1, 2, &gate)?;
-    let line = line(alloc, &gate.signs, &gathered)?;
-    assert_eq!(rt; line.as_str(), "at once: 2 committed, revision 3");
+    let told = told_of_two(&rt, rt.alloc(), (PUT_P, PUT_Q), 1, 2, &gate, &gate.signs)?;
+    assert_eq!(rt;
+        told.as_str(),
+        "at once: 2 committed, revision 3, p is 1, gave up over nothing"
+    );
     Ok(())
 }
 
 #[test]
 fn one_worker_runs_one_job_after_another(rt: HostRuntime) -> Result<(), Fail> {
-    let alloc = rt.alloc();
     let gate = AtCommit {
         signs: Signs::new(FEW_TURNS),
     };
-    let gathered = run_two(&rt, alloc, (PUT_P, PUT_Q), 1, 1, &gate)?;
-    let line = line(alloc, &gate.signs, &gathered)?;
-    assert_eq!(rt; line.as_str(), "serial: 2 committed, revision 3");
+    let told = told_of_two(&rt, rt.alloc(), (PUT_P, PUT_Q), 1, 1, &gate, &gate.signs)?;
+    assert_eq!(rt;
+        told.as_str(),
+        "serial: 2 committed, revision 3, p is 1, gave up over nothing"
+    );
     Ok(())
 }
 
-// Job 0 is about to fetch while job 1 commits, so no lock is held there.
+// Job 0 is about to fetch while job 1 commits, so no lock is held there. It reads what job 1 put.
 #[test]
 fn no_lock_is_held_before_a_fetch(rt: HostRuntime) -> Result<(), Fail> {
-    let alloc = rt.alloc();
     let gate = AtFetch {
         signs: Signs::new(MANY_TURNS),
     };
-    let gathered = run_two(&rt, alloc, (READ_Q, PUT_Q), 1, 2, &gate)?;
-    let line = line(alloc, &gate.signs, &gathered)?;
-    assert_eq!(rt; line.as_str(), "at once: 2 committed, revision 3");
+    let told = told_of_two(&rt, rt.alloc(), (READ_Q, PUT_Q), 1, 2, &gate, &gate.signs)?;
+    assert_eq!(rt;
+        told.as_str(),
+        "at once: 2 committed, revision 3, p is 1, gave up over nothing"
+    );
     Ok(())
 }
 
-// With one worker nobody commits while job 0 stands before its fetch: so it is held there, and in vain.
+// With one worker nobody commits while job 0 stands before its fetch: so it is held there, in vain, and reads an absent key.
 #[test]
 fn one_worker_waits_before_its_fetch(rt: HostRuntime) -> Result<(), Fail> {
-    let alloc = rt.alloc();
     let gate = AtFetch {
         signs: Signs::new(FEW_TURNS),
     };
-    let gathered = run_two(&rt, alloc, (READ_Q, PUT_Q), 1, 1, &gate)?;
-    let line = line(alloc, &gate.signs, &gathered)?;
-    assert_eq!(rt; line.as_str(), "serial: 2 committed, revision 3");
+    let told = told_of_two(&rt, rt.alloc(), (READ_Q, PUT_Q), 1, 1, &gate, &gate.signs)?;
+    assert_eq!(rt;
+        told.as_str(),
+        "serial: 2 committed, revision 3, p is not 1, gave up over nothing"
+    );
     Ok(())
 }
 
 // Job 0 reads a key that job 1 puts before job 0's commit is sent. It may send no more.
 #[test]
 fn a_job_gives_up_over_a_key_that_another_put(rt: HostRuntime) -> Result<(), Fail> {
-    let alloc = rt.alloc();
     let gate = OneBetween {
         signs: Signs::new(MANY_TURNS),
     };
-    let gathered = run_two(&rt, alloc, (READ_Q, PUT_Q), 1, 2, &gate)?;
-    let line = line(alloc, &gate.signs, &gathered)?;
-    assert_eq!(rt; line.as_str(), "at once: 1 committed, revision 2");
-    assert!(rt; are_ends_of_a_conflict(gathered.ends.as_slice()));
+    let told = told_of_two(&rt, rt.alloc(), (READ_Q, PUT_Q), 1, 2, &gate, &gate.signs)?;
+    assert_eq!(rt;
+        told.as_str(),
+        "at once: 1 committed, revision 2, p is not 1, gave up over q"
+    );
     Ok(())
 }
 
 // The same, but it may send one more: that one is evaluated on the answer that came with the failed commit, so the key is fetched once.
 #[test]
 fn a_job_is_sent_again_without_a_fetch(rt: HostRuntime) -> Result<(), Fail> {
-    let alloc = rt.alloc();
     let gate = OneBetween {
         signs: Signs::new(MANY_TURNS),
     };
-    let gathered = run_two(&rt, alloc, (READ_Q, PUT_Q), 2, 2, &gate)?;
-    let line = line(alloc, &gate.signs, &gathered)?;
-    assert_eq!(rt; line.as_str(), "at once: 2 committed, revision 3");
+    let told = told_of_two(&rt, rt.alloc(), (READ_Q, PUT_Q), 2, 2, &gate, &gate.signs)?;
+    assert_eq!(rt;
+        told.as_str(),
+        "at once: 2 committed, revision 3, p is 1, gave up over nothing"
+    );
     assert_eq!(rt; gate.signs.fetches.load(Ordering::SeqCst), 1);
-    let put = has_put_p(&gathered.hall)?;
-    assert!(rt; put);
     Ok(())
 }

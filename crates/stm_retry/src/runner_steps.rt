@@ -81,7 +81,8 @@ fn reply_at_end(id: u64, run: Run) -> Reply
     requires { run.end ≢ Done }
     ensures { TellsEnd id run.end result }
 {
-    match run.end {
+    let Run { end, .. } = run;
+    match end {
         End::Done => unreachable!(),
         End::Aborted(text) => Reply::Aborted { runner: id, text },
         End::Faulted(fault) => Reply::Faulted { runner: id, fault },

@@ -69,7 +69,8 @@ impl Stop {
     pub fn of_run(run: Run) -> Stop
         requires { run.end ≢ Done }
     {
-        match run.end {
+        let Run { end, .. } = run;
+        match end {
             End::Done => unreachable!(),
             End::Aborted(text) => Stop::Aborted(text),
             End::Faulted(fault) => Stop::Faulted(fault),

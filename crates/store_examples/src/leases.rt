@@ -90,14 +90,19 @@ fn take(alloc: Global, leases: &mut Leases, step: Step) -> Result<String, AllocE
 }
 
 /// Takes the steps, and tells the answers.
-fn play(alloc: Global, steps: &[Step]) -> Result<String, AllocError> {
-    let mut leases = Leases::new(alloc);
+fn take_all(alloc: Global, leases: &mut Leases, steps: &[Step]) -> Result<String, AllocError> {
     let mut told = String::new(alloc);
     for step in steps {
-        let answer = take(alloc, &mut leases, *step)?;
+        let answer = take(alloc, leases, *step)?;
         add_answer(&mut told, answer.as_str())?;
     }
     Ok(told)
+}
+
+/// The same with no lease yet.
+fn play(alloc: Global, steps: &[Step]) -> Result<String, AllocError> {
+    let mut leases = Leases::new(alloc);
+    take_all(alloc, &mut leases, steps)
 }
 
 // Two keys hang on a lease, and one of them is detached.

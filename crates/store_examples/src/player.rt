@@ -27,6 +27,8 @@ pub enum Step {
     Del(&'static str),
     /// Adds a read of the key to the failure list of the next transaction.
     ElseGet(&'static str),
+    /// Puts a copy of the next transaction in its place.
+    Copy,
     /// Runs the transaction.
     Commit,
     Grant(u64, u64),
@@ -37,6 +39,8 @@ pub enum Step {
     Events(u64),
     /// Tells a key's state, and the number of live leases.
     Look(&'static str),
+    /// Tells the counter, the number of live leases and the moment.
+    Standing,
     /// Tells whether a lease is live.
     IsLive(u64),
     /// Watches a key from a revision on.
@@ -104,8 +108,14 @@ fn show_done(alloc: Global, done: Result<(), Refusal>) -> Result<String, AllocEr
     }
 }
 
+/// Puts a copy of the next transaction in its place.
+fn copy_next(alloc: Global, player: &mut Player) -> Result<String, AllocError> {
+    player.next = player.next.clone()?;
+    Ok(String::new(alloc))
+}
+
 /// The answer to the transaction in one line, or the name of its refusal.
-pub fn commit(alloc: Global, player: &mut Player) -> Result<String, AllocError> {
+fn commit(alloc: Global, player: &mut Player) -> Result<String, AllocError> {
     let txn = mem::replace(&mut player.next, empty_txn(alloc));
     match player.store.txn(&txn) {
         Ok(answer) => show_answer(alloc, &answer),
@@ -129,7 +139,7 @@ fn revoke(alloc: Global, player: &mut Player, id: u64) -> Result<String, AllocEr
 }
 
 /// Tells the leases that an advance ended, after the refusal where it was refused.
-pub fn advance(alloc: Global, player: &mut Player, moment: u64) -> Result<String, AllocError> {
+fn advance(alloc: Global, player: &mut Player, moment: u64) -> Result<String, AllocError> {
     match player.store.advance(moment) {
         Ok(expired) => show_expired(alloc, expired.as_slice()),
         Err(refused) => {
@@ -168,6 +178,16 @@ fn look(alloc: Global, player: &Player, key: &str) -> Result<String, AllocError>
     format!(in alloc; "{key} {state} leases {}", player.store.lease_count())
 }
 
+fn standing(alloc: Global, player: &Player) -> Result<String, AllocError> {
+    let store = &player.store;
+    let counter = store.keys().revision();
+    format!(in alloc;
+        "revision {counter} leases {} moment {}",
+        store.lease_count(),
+        store.moment()
+    )
+}
+
 fn is_live(alloc: Global, player: &Player, id: u64) -> Result<String, AllocError> {
     player.store.is_live(id).to_string(alloc)
 }
@@ -202,20 +222,20 @@ fn get_of(alloc: Global, key: &str, rev: u64) -> Result<Op, AllocError> {
     })
 }
 
-pub fn put_of(alloc: Global, key: &str, value: &str, lease: u64) -> Result<Op, AllocError> {
+fn put_of(alloc: Global, key: &str, value: &str, lease: u64) -> Result<Op, AllocError> {
     let key = Text::copy_of(alloc, key)?;
     let value = Text::copy_of(alloc, value)?;
     Ok(Op::Put { key, value, lease })
 }
 
-pub fn del_of(alloc: Global, key: &str) -> Result<Op, AllocError> {
+fn del_of(alloc: Global, key: &str) -> Result<Op, AllocError> {
     Ok(Op::Del {
         key: Text::copy_of(alloc, key)?,
     })
 }
 
 /// Adds an operation to the success list of the next transaction.
-pub fn add(
+fn add(
     alloc: Global,
     player: &mut Player,
     op: Result<Op, AllocError>,
@@ -313,6 +333,7 @@ fn take(alloc: Global, player: &mut Player, step: Step) -> Result<String, AllocE
         Step::Put(key, value, lease) => add(alloc, player, put_of(alloc, key, value, lease)),
         Step::Del(key) => add(alloc, player, del_of(alloc, key)),
         Step::ElseGet(key) => add_else(alloc, player, get_of(alloc, key, 0)),
+        Step::Copy => copy_next(alloc, player),
         Step::Commit => commit(alloc, player),
         Step::Grant(id, ttl) => grant(alloc, player, id, ttl),
         Step::Keep(id) => keep(alloc, player, id),
@@ -320,6 +341,7 @@ fn take(alloc: Global, player: &mut Player, step: Step) -> Result<String, AllocE
         Step::Advance(moment) => advance(alloc, player, moment),
         Step::Events(revision) => events_of(alloc, player, revision),
         Step::Look(key) => look(alloc, player, key),
+        Step::Standing => standing(alloc, player),
         Step::IsLive(id) => is_live(alloc, player, id),
         Step::Watch(key, from) => watch(alloc, player, key, from),
         Step::WatchRange(first, end, from) => watch_range(alloc, player, first, end, from),
@@ -340,12 +362,23 @@ fn take_all(alloc: Global, player: &mut Player, steps: &[Step]) -> Result<String
     Ok(told)
 }
 
-/// A store that opens at a revision.
-pub fn open(alloc: Global, opening: u64) -> Result<Player, AllocError>
+/// A store that opens at a revision, at 1 the one that `new` gives.
+fn store_at(alloc: Global, opening: u64) -> Result<Store, AllocError>
     requires positive { 1 ≤ opening }
     requires bounded { opening ≤ HIGHEST_REVISION }
 {
-    let store = Store::with_revision(alloc, opening)?;
+    if opening == 1 {
+        return Store::new(alloc);
+    }
+    Store::with_revision(alloc, opening)
+}
+
+/// A store that opens at a revision, before its first step.
+fn open(alloc: Global, opening: u64) -> Result<Player, AllocError>
+    requires positive { 1 ≤ opening }
+    requires bounded { opening ≤ HIGHEST_REVISION }
+{
+    let store = store_at(alloc, opening)?;
     let next = empty_txn(alloc);
     Ok(Player { store, next })
 }

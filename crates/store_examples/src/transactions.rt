@@ -1,10 +1,8 @@
 //! Worked examples of the store, with ample memory. What is expected comes from the description of
 //! transactions and leases, and never from a run.
 
-use crate::player::{Player, Step, add, advance, commit, del_of, is_told, open, put_of};
-use std::alloc::{AllocError, Global};
+use crate::player::{Step, is_told};
 use std::test::Fail;
-use stm_txn::Store;
 
 #[test]
 fn compares_pick_the_branch(rt: HostRuntime) -> Result<(), Fail> {
@@ -149,49 +147,24 @@ fn due_leases_end_by_moment_and_then_by_id(rt: HostRuntime) -> Result<(), Fail> 
     is_told(&rt, rt.alloc(), 1, &steps, expected)
 }
 
-/// The counter of a new store, and the number of its live leases.
-fn told_new(alloc: Global) -> Result<String, AllocError> {
-    let store = Store::new(alloc)?;
-    format!(in alloc; "{} {}", store.keys().revision(), store.lease_count())
-}
-
 #[test]
 fn a_new_store_opens_at_one(rt: HostRuntime) -> Result<(), Fail> {
-    let told = told_new(rt.alloc())?;
-    assert_eq!(rt; told.as_str(), "1 0");
-    Ok(())
+    let steps = [Step::Standing];
+    let expected = "revision 1 leases 0 moment 0; ";
+    is_told(&rt, rt.alloc(), 1, &steps, expected)
 }
 
-/// Puts a copy of the next transaction in its place.
-fn copy_next(player: &mut Player) -> Result<(), AllocError> {
-    let copy = player.next.clone()?;
-    player.next = copy;
-    Ok(())
-}
-
-/// What a copy of a transaction comes to, which puts "a" and deletes "b", and the moment at which it ran.
-fn commit_copy(alloc: Global, player: &mut Player) -> Result<String, AllocError> {
-    add(alloc, player, put_of(alloc, "a", "1", 0))?;
-    add(alloc, player, del_of(alloc, "b"))?;
-    copy_next(player)?;
-    let answer = commit(alloc, player)?;
-    format!(in alloc; "{answer}; {}", player.store.moment())
-}
-
-fn told_copy(alloc: Global, player: &mut Player, moment: u64) -> Result<String, AllocError> {
-    let told = advance(alloc, player, moment)?;
-    let answer = commit_copy(alloc, player)?;
-    format!(in alloc; "{told}; {answer}")
-}
-
-fn play_copy(alloc: Global, moment: u64) -> Result<String, AllocError> {
-    let mut player = open(alloc, 1)?;
-    told_copy(alloc, &mut player, moment)
-}
-
+// The copy puts "a" and deletes "b", as the transaction that it was made of does.
 #[test]
 fn a_copy_of_a_transaction_is_the_same(rt: HostRuntime) -> Result<(), Fail> {
-    let told = play_copy(rt.alloc(), 5)?;
-    assert_eq!(rt; told.as_str(), "expired; true 2 put del 0; 5");
-    Ok(())
+    let steps = [
+        Step::Advance(5),
+        Step::Put("a", "1", 0),
+        Step::Del("b"),
+        Step::Copy,
+        Step::Commit,
+        Step::Standing,
+    ];
+    let expected = "expired; true 2 put del 0; revision 2 leases 0 moment 5; ";
+    is_told(&rt, rt.alloc(), 1, &steps, expected)
 }

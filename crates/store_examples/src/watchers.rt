@@ -190,16 +190,28 @@ fn take(
     }
 }
 
-/// Takes the steps on a store at revision 1, and tells the answers.
-fn play(alloc: Global, steps: &[Step]) -> Result<String, AllocError> {
-    let mut keys = Keys::new(alloc);
-    let mut watchers = Watchers::new(alloc)?;
+/// Takes the steps, and tells the answers.
+fn take_all(
+    alloc: Global,
+    keys: &mut Keys,
+    watchers: &mut Watchers,
+    steps: &[Step],
+) -> Result<String, AllocError>
+    requires { StandFor keys.old.history watchers.old }
+{
     let mut told = String::new(alloc);
     for step in steps {
-        let answer = take(alloc, &mut keys, &mut watchers, *step)?;
+        let answer = take(alloc, keys, watchers, *step)?;
         add_answer(&mut told, answer.as_str())?;
     }
     Ok(told)
+}
+
+/// The same on a store at revision 1.
+fn play(alloc: Global, steps: &[Step]) -> Result<String, AllocError> {
+    let mut watchers = Watchers::new(alloc)?;
+    let mut keys = Keys::new(alloc);
+    take_all(alloc, &mut keys, &mut watchers, steps)
 }
 
 // A watcher that starts below the counter is ready at once, and is told one revision after the other.

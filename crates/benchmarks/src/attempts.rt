@@ -3,8 +3,6 @@
 //!
 //! `bench/attempts` refuses its growths from outside, each in a run of its own: those between the first and the second line
 //! on standard error.
-#![tactic(auto)]
-
 ghost use Rattle.std.specs.Prelude.{◌≡◌, Some, IfOk, OnOk, OnErr};
 ghost use Rattle.stm_txn.specs.Numbers.{ReadFits};
 ghost use Rattle.stm_attempt.specs.AttemptState.{IsOf, advanced, awaited};
@@ -21,10 +19,11 @@ use stm_program_json::read_program;
 const PROGRAM: &str =
     r#"[["for",0,1000,1000,[["set",1,["cat","x",["text_of",["var",0]]]]]],["emit",["get","k1"]],["emit",["get","k2"]]]"#;
 
-fn main(rt: HostRuntime) -> Result<()> {
-    let value = Json::from_str(rt.alloc(), PROGRAM)?;
-    let program = read_program(rt.alloc(), &value)?;
-    run(&rt, rt.alloc(), &program)
+/// Reads the program, and takes a new attempt at it to its end.
+pub(crate) fn run(rt: &impl Eprint, alloc: Global) -> Result<()> {
+    let value = Json::from_str(alloc, PROGRAM)?;
+    let program = read_program(alloc, &value)?;
+    run_new(rt, alloc, &program)
 }
 
 /// A key was put at revision 2, with its own text as its value.
@@ -199,7 +198,7 @@ fn run_on(rt: &impl Eprint, alloc: Global, attempt: &mut Attempt, program: &Prog
 }
 
 /// Takes a new attempt to its end.
-fn run(rt: &impl Eprint, alloc: Global, program: &Program) -> Result<()> {
+fn run_new(rt: &impl Eprint, alloc: Global, program: &Program) -> Result<()> {
     let mut attempt = Attempt::new(alloc, Level::Serializable);
     let outcome = run_on(rt, alloc, &mut attempt, program);
     drop(attempt);

@@ -3,8 +3,6 @@
 //! same order.
 //!
 //! The figures go to standard error. They are of one machine at one moment: no proof is about time.
-#![tactic(auto)]
-
 ghost use Rattle.std.specs.Prelude.{◌<◌};
 
 mod expiries;
@@ -27,13 +25,14 @@ const LEASES: u64 = 100;
 /// How long each lease lives, in seconds.
 const TTL: u64 = 60;
 
-fn main(rt: HostRuntime) -> Result<()> {
-    time_round(&rt, rt.alloc(), 1_000)?;
-    time_round(&rt, rt.alloc(), 10_000)?;
-    time_round(&rt, rt.alloc(), 100_000)?;
-    time_expiries(&rt, rt.alloc(), 1_000)?;
-    time_expiries(&rt, rt.alloc(), 10_000)?;
-    time_expiries(&rt, rt.alloc(), 100_000)
+/// Times each operation, and then the expiries.
+pub(crate) fn run(rt: &(impl Clock + Eprint), alloc: Global) -> Result<()> {
+    time_round(rt, alloc, 1_000)?;
+    time_round(rt, alloc, 10_000)?;
+    time_round(rt, alloc, 100_000)?;
+    time_expiries(rt, alloc, 1_000)?;
+    time_expiries(rt, alloc, 10_000)?;
+    time_expiries(rt, alloc, 100_000)
 }
 
 /// Times the expiry of so many leases in either order, and walks over as many records.

@@ -2,8 +2,6 @@
 //!
 //! `bench/growths` refuses its growths from outside, each in a run of its own: those between the first and the second line
 //! on standard error.
-#![tactic(auto)]
-
 use anyhow::Result;
 use std::alloc::{AllocError, Global};
 use stm_txn::{Op, Refusal, ShortList, Store, Text, Txn};
@@ -17,9 +15,10 @@ const PUTS: u32 = 100;
 /// How often the last transaction is called at most.
 const CALLS: u32 = 500;
 
-fn main(rt: HostRuntime) -> Result<()> {
-    let mut store = Store::new(rt.alloc())?;
-    let outcome = fill_and_put(&rt, rt.alloc(), &mut store);
+/// Fills a new store, and puts one of its keys between two lines.
+pub(crate) fn run(rt: &impl Eprint, alloc: Global) -> Result<()> {
+    let mut store = Store::new(alloc)?;
+    let outcome = fill_and_put(rt, alloc, &mut store);
     drop(store);
     outcome
 }

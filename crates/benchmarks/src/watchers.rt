@@ -2,8 +2,6 @@
 //! one revision.
 //!
 //! The figures go to standard error. They are of one machine at one moment: no proof is about time.
-#![tactic(auto)]
-
 ghost use Rattle.std.specs.Prelude.{◌<◌};
 
 use anyhow::Result;
@@ -15,15 +13,16 @@ use stm_txn::{Op, ShortList, Store, Text, Txn};
 /// How many puts are timed.
 const PUTS: u32 = 2_000;
 
-fn main(rt: HostRuntime) -> Result<()> {
-    time_beside_keys(&rt, rt.alloc(), 10)?;
-    time_beside_keys(&rt, rt.alloc(), 1_000)?;
-    time_beside_keys(&rt, rt.alloc(), 100_000)?;
-    time_beside_ranges(&rt, rt.alloc(), 10)?;
-    time_beside_ranges(&rt, rt.alloc(), 1_000)?;
-    time_polls(&rt, rt.alloc(), 1_000)?;
-    time_polls(&rt, rt.alloc(), 10_000)?;
-    time_polls(&rt, rt.alloc(), 100_000)
+/// Times puts beside watchers of keys and of ranges, and then polls.
+pub(crate) fn run(rt: &(impl Clock + Eprint), alloc: Global) -> Result<()> {
+    time_beside_keys(rt, alloc, 10)?;
+    time_beside_keys(rt, alloc, 1_000)?;
+    time_beside_keys(rt, alloc, 100_000)?;
+    time_beside_ranges(rt, alloc, 10)?;
+    time_beside_ranges(rt, alloc, 1_000)?;
+    time_polls(rt, alloc, 1_000)?;
+    time_polls(rt, alloc, 10_000)?;
+    time_polls(rt, alloc, 100_000)
 }
 
 /// A transaction that puts one key.

@@ -123,8 +123,7 @@ fn answer_both(
     requires asked { awaited attempt.old ≡ key_asked first.now }
 {
     let second = answer(alloc, attempt, program, first, refused)?;
-    let last = answer(alloc, attempt, program, &second, refused)?;
-    Ok(last)
+    answer(alloc, attempt, program, &second, refused)
 }
 
 /// The values that were emitted.

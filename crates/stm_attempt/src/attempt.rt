@@ -6,7 +6,7 @@ ghost use Rattle.stm_attempt.specs.Known.{HaveDistinctKeys};
 ghost use Rattle.stm_attempt.specs.Fetches.{ShowOneRevision};
 
 use crate::next::Next;
-use crate::progress::{Progress, go_on};
+use crate::progress::{Progress, go_on, put};
 use std::alloc::{AllocError, Global};
 use std::marker::Model;
 use stm_compile::ReadSet;
@@ -98,7 +98,27 @@ impl Attempt {
         Ok(Attempt::begin(alloc, level, prefetched))
     }
 
-    /// The first `advance`. It works beside the attempt, so that a refused growth leaves that as it was.
+    /// The attempt is set at the start of a program, of which this is its copy. Before, it had read nothing.
+    fn set_out(&mut self, kept: Program)
+        requires { self.old.program ≡ None }
+        ensures before { begun self.old.level self.old.known.prefetched ≡ self.old }
+        ensures set { self.new ≡ record self.old { program = Some kept } }
+    {
+        self.program = Some(kept);
+        self.told = 0;
+    }
+
+    /// The attempt is as it was before its first `advance`.
+    fn start_anew(&mut self)
+        ensures { self.new ≡ begun self.old.level self.old.known.prefetched }
+    {
+        self.program = None;
+        self.reads = ReadSet::new(self.alloc);
+        self.told = 0;
+        put(&mut self.progress, Progress::Fresh);
+    }
+
+    /// The first `advance`. Where a growth is refused, the attempt is set back to what it was.
     fn first_advance(&mut self, program: &Program) -> Result<Next, AllocError>
         requires { self.old.program ≡ None }
         ensures next { IfOk result (λ next. next ≡ next_of program.now self.old.level self.old.known) }
@@ -106,21 +126,12 @@ impl Attempt {
         ensures err { OnErr result (self.new ≡ self.old) }
     {
         let kept = program.clone()?;
-        let mut reads = ReadSet::new(self.alloc);
-        let mut progress = Progress::Fresh;
-        let next = go_on(
-            self.alloc,
-            program,
-            self.level,
-            &self.prefetched,
-            &mut reads,
-            &mut progress,
-        )?;
-        self.program = Some(kept);
-        self.told = reads.len();
-        self.reads = reads;
-        self.progress = progress;
-        Ok(next)
+        self.set_out(kept);
+        let next = self.next_advance(program);
+        if next.is_err() {
+            self.start_anew();
+        }
+        next
     }
 
     /// Each later `advance`. Where a growth is refused, the prefetched answers that were taken stay behind those told.

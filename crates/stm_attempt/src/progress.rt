@@ -2,9 +2,11 @@
 ghost use Rattle.std.specs.Prelude.{◌≡◌, true, List, None, Some, IfOk, OnOk, OnErr, IsSome};
 ghost use Rattle.stm_history.specs.declared.key_state.ReadAnswer.{ReadAnswer};
 ghost use Rattle.stm_program.specs.Syntax.{ProgramTree};
+ghost use Rattle.stm_program.specs.Writes.{latest_writes};
 ghost use Rattle.stm_meaning.specs.declared.run.End.TheVariants.{Done};
 ghost use Rattle.stm_meaning.specs.declared.run.Run.{Run as FinishedRun};
-ghost use Rattle.stm_machine.specs.State.{key_asked};
+ghost use Rattle.stm_meaning.specs.declared.run.Answered.TheVariants.{Ended as EndedRun};
+ghost use Rattle.stm_machine.specs.State.{key_asked, started};
 ghost use Rattle.stm_machine.specs.Steps.{Stands};
 ghost use Rattle.stm_compile.specs.Answers.{look_up};
 ghost use Rattle.stm_attempt.specs.Known.{known_of, serving, HaveDistinctKeys};
@@ -35,6 +37,13 @@ pub(crate) enum Progress {
     Ended(Run),
 }
 
+/// Puts this in the place of what was there, which is dropped.
+pub(crate) fn put(progress: &mut Progress, next: Progress)
+    ensures { progress.new ≡ next }
+{
+    drop(mem::replace(progress, next));
+}
+
 /// Goes on with a machine to its run's end, or to a key that no prefetched answer serves. Each prefetched answer that
 /// serves is put behind the reads.
 ///
@@ -62,19 +71,25 @@ pub(crate) fn settle(
     }
 }
 
+/// The run that a machine at its end, or an ended program, holds. It takes no memory.
+fn run_of(progress: Progress) -> Run
+    requires { IsSome (run_of_progress progress) }
+    ensures { run_of_progress progress ≡ Some result }
+{
+    match progress {
+        Progress::Started(machine) => machine.into_run(),
+        Progress::Ended(run) => run,
+        Progress::Fresh => unreachable!(),
+    }
+}
+
 /// The run of a machine that stands at its end is kept in the machine's place. It takes no memory.
 fn end_run(progress: &mut Progress)
     requires { IsSome (run_of_progress progress.old) }
     ensures { (run : FinishedRun) → run_of_progress progress.old ≡ Some run → progress.new ≡ Progress.Ended run }
 {
-    match mem::replace(progress, Progress::Fresh) {
-        Progress::Started(machine) => {
-            let run = machine.into_run();
-            *progress = Progress::Ended(run);
-        }
-        Progress::Ended(run) => *progress = Progress::Ended(run),
-        Progress::Fresh => {}
-    }
+    let run = run_of(mem::replace(progress, Progress::Fresh));
+    put(progress, Progress::Ended(run));
 }
 
 /// Takes out the run that stands there. It takes no memory.
@@ -86,6 +101,29 @@ fn take_run(progress: &mut Progress) -> Run
     match mem::replace(progress, Progress::Fresh) {
         Progress::Ended(run) => run,
         _ => unreachable!(),
+    }
+}
+
+/// A run that is done, ready to commit: with its program, what that read, and its last writes. It takes no memory.
+fn ready_of(
+    program: Program,
+    level: Level,
+    answers: ReadSet,
+    writes: WriteBuffer,
+    run: Run,
+) -> Ready
+    requires come { run_on program answers ≡ EndedRun run }
+    requires done { run.end ≡ Done }
+    requires writes { writes ≡ latest_writes run.writes }
+    ensures { result ≡ ready_run program level answers run }
+{
+    Ready {
+        program,
+        level,
+        answers,
+        output: run.output,
+        trace: run.trace,
+        writes,
     }
 }
 
@@ -110,15 +148,7 @@ fn made_ready(
     let writes = WriteBuffer::of(alloc, run.writes.as_slice())?;
     let program = program.clone()?;
     let answers = reads.clone()?;
-    let run = take_run(progress);
-    Ok(Ready {
-        program,
-        level,
-        answers,
-        output: run.output,
-        trace: run.trace,
-        writes,
-    })
+    Ok(ready_of(program, level, answers, writes, take_run(progress)))
 }
 
 /// What an attempt answers at the end of its run. The run goes into the answer: where the program is run once more, it
@@ -169,6 +199,14 @@ fn has_ended(progress: &Progress) -> bool
     }
 }
 
+/// A program at its start. The one refusal is want of memory.
+fn started(alloc: Global, program: &Program) -> Result<Progress, AllocError>
+    ensures { IfOk result (λ progress. progress ≡ Progress.Started (started program.now.statements)) }
+{
+    let machine = Machine::new(alloc, program)?;
+    Ok(Progress::Started(machine))
+}
+
 /// Makes a machine for a program that has none. The one refusal is want of memory, and leaves all as it was.
 fn begin(alloc: Global, program: &Program, progress: &mut Progress) -> Result<(), AllocError>
     ensures come { (reads : List ReadAnswer) → HasCome program.now reads progress.old → HasCome program.now reads progress.new }
@@ -177,8 +215,8 @@ fn begin(alloc: Global, program: &Program, progress: &mut Progress) -> Result<()
     if has_begun(progress) {
         return Ok(());
     }
-    let machine = Machine::new(alloc, program)?;
-    *progress = Progress::Started(machine);
+    let start = started(alloc, program)?;
+    put(progress, start);
     Ok(())
 }
 

@@ -123,7 +123,9 @@ fn answer_both(
     requires asked { awaited attempt.old ≡ key_asked first.now }
 {
     let second = answer(alloc, attempt, program, first, refused)?;
-    answer(alloc, attempt, program, &second, refused)
+    let last = answer(alloc, attempt, program, &second, refused);
+    drop(second);
+    last
 }
 
 /// The values that were emitted.
@@ -170,7 +172,9 @@ fn take_to_end(
 {
     let mut refused = 0;
     let last = answer_both(alloc, attempt, program, first, &mut refused)?;
-    report(rt, alloc, &last, refused)
+    let reported = report(rt, alloc, &last, refused);
+    drop(last);
+    reported
 }
 
 /// The same behind a line.
@@ -193,7 +197,9 @@ fn run_on(rt: &impl Eprint, alloc: Global, attempt: &mut Attempt, program: &Prog
     requires { IsOf program.now attempt.old }
 {
     let first = attempt.advance(program)?;
-    begin_and_end(rt, alloc, attempt, program, &first)
+    let ended = begin_and_end(rt, alloc, attempt, program, &first);
+    drop(first);
+    ended
 }
 
 /// Takes a new attempt to its end.

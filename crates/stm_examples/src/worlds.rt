@@ -51,7 +51,9 @@ fn told_after_put(alloc: Global, world: &mut World) -> Result<String, Fail> {
 /// What a new world tells once a program of one put ran in it.
 fn told_put(alloc: Global) -> Result<String, Fail> {
     let mut world = World::new(alloc)?;
-    told_after_put(alloc, &mut world)
+    let told = told_after_put(alloc, &mut world);
+    drop(world);
+    told
 }
 
 #[test]

@@ -102,7 +102,9 @@ fn take_all(alloc: Global, leases: &mut Leases, steps: &[Step]) -> Result<String
 /// The same with no lease yet.
 fn play(alloc: Global, steps: &[Step]) -> Result<String, AllocError> {
     let mut leases = Leases::new(alloc);
-    take_all(alloc, &mut leases, steps)
+    let told = take_all(alloc, &mut leases, steps);
+    drop(leases);
+    told
 }
 
 // Two keys hang on a lease, and one of them is detached.

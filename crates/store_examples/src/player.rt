@@ -389,7 +389,9 @@ fn play(alloc: Global, opening: u64, steps: &[Step]) -> Result<String, AllocErro
     requires bounded { opening ≤ HIGHEST_REVISION }
 {
     let mut player = open(alloc, opening)?;
-    take_all(alloc, &mut player, steps)
+    let told = take_all(alloc, &mut player, steps);
+    drop(player);
+    told
 }
 
 /// Asserts what is told of the steps on a store that opens at a revision.

@@ -211,7 +211,10 @@ fn take_all(
 fn play(alloc: Global, steps: &[Step]) -> Result<String, AllocError> {
     let mut watchers = Watchers::new(alloc)?;
     let mut keys = Keys::new(alloc);
-    take_all(alloc, &mut keys, &mut watchers, steps)
+    let told = take_all(alloc, &mut keys, &mut watchers, steps);
+    drop(watchers);
+    drop(keys);
+    told
 }
 
 // A watcher that starts below the counter is ready at once, and is told one revision after the other.

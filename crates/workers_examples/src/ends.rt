@@ -129,10 +129,13 @@ fn are_ends_of_five(ends: &[JobEnd]) -> bool {
 fn ends_stand_at_the_places_of_their_jobs(rt: HostRuntime) -> Result<(), Fail> {
     let alloc = rt.alloc();
     let jobs = jobs(alloc, 5)?;
-    let gathered = run_on_begun(&rt, alloc, jobs.as_slice())?;
+    let gathered = run_on_begun(&rt, alloc, jobs.as_slice());
+    drop(jobs);
+    let gathered = gathered?;
     assert!(rt; are_ends_of_five(gathered.ends.as_slice()));
     assert_eq!(rt; gathered.committed, 2);
     assert_eq!(rt; gathered.hall.entries().len(), 3);
+    drop(gathered);
     Ok(())
 }
 
@@ -143,5 +146,6 @@ fn no_job_leaves_the_hall(rt: HostRuntime) -> Result<(), Fail> {
     assert_eq!(rt; gathered.ends.len(), 0);
     assert_eq!(rt; gathered.committed, 0);
     assert_eq!(rt; gathered.hall.entries().len(), 1);
+    drop(gathered);
     Ok(())
 }

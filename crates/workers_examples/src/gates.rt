@@ -242,8 +242,9 @@ fn told_of_two<R: Threads + Wait + Sync, G: Gate + Sync>(
     requires { (1 ≤ limit) × (1 ≤ workers) × (workers ≤ 16) }
 {
     let gathered = run_two(rt, alloc, texts, limit, workers, gate)?;
-    let line = line(alloc, signs, &gathered)?;
-    Ok(line)
+    let line = line(alloc, signs, &gathered);
+    drop(gathered);
+    Ok(line?)
 }
 
 const PUT_P: &str = r#"[["put","p","1",0]]"#;

@@ -180,7 +180,10 @@ fn hall_with_leases(alloc: Global) -> Result<Hall, Fail> {
     let mut store = Store::new(alloc)?;
     match grant_two(&mut store) {
         Ok(()) => Ok(Hall::new(alloc, store)),
-        Err(refusal) => Err(refusal.into()),
+        Err(refusal) => {
+            drop(store);
+            Err(refusal.into())
+        }
     }
 }
 

@@ -66,7 +66,10 @@ fn hall_with_a(alloc: Global) -> Result<Hall, Fail> {
     let mut store = Store::new(alloc)?;
     match put_a(alloc, &mut store) {
         Ok(()) => Ok(Hall::new(alloc, store)),
-        Err(refusal) => Err(refusal.into()),
+        Err(refusal) => {
+            drop(store);
+            Err(refusal.into())
+        }
     }
 }
 
@@ -240,6 +243,21 @@ fn supplied(
     attempt.advance(program)
 }
 
+/// The same, of an attempt that has not begun.
+fn advanced(
+    alloc: Global,
+    program: &Program,
+    attempt: &mut Attempt,
+    value: &str,
+    mod_rev: u64,
+) -> Result<Next, AllocError>
+    requires of { IsOf program.now attempt.old }
+    requires bounded { mod_rev ≤ 2 }
+{
+    let asked = attempt.advance(program)?;
+    supplied(alloc, program, attempt, asked, value, mod_rev)
+}
+
 /// The same, of an attempt of its own.
 fn attempted(
     alloc: Global,
@@ -250,8 +268,7 @@ fn attempted(
     requires { mod_rev ≤ 2 }
 {
     let mut attempt = Attempt::new(alloc, Level::Serializable);
-    let asked = attempt.advance(program)?;
-    let next = supplied(alloc, program, &mut attempt, asked, value, mod_rev);
+    let next = advanced(alloc, program, &mut attempt, value, mod_rev);
     drop(attempt);
     next
 }
@@ -294,8 +311,12 @@ fn verdict(alloc: Global, value: &str, mod_rev: u64) -> Result<String, Fail>
     requires { mod_rev ≤ 2 }
 {
     let program = emit_a(alloc)?;
-    let next = attempted(alloc, &program, value, mod_rev)?;
-    judged_next(alloc, &next)
+    let next = attempted(alloc, &program, value, mod_rev);
+    drop(program);
+    let next = next?;
+    let told = judged_next(alloc, &next);
+    drop(next);
+    told
 }
 
 #[test]

@@ -62,7 +62,10 @@ fn begun(alloc: Global) -> Result<Hall, Fail> {
     let mut hall = Hall::new(alloc, store);
     match commit_into(alloc, &mut hall) {
         Ok(()) => Ok(hall),
-        Err(fail) => Err(fail),
+        Err(fail) => {
+            drop(hall);
+            Err(fail)
+        }
     }
 }
 

@@ -1,5 +1,5 @@
 -- What a runner knows, and what its attempt relies on, from call to call.
-use Rattle.std.proofs.Common.{◌≡◌, ℕ, ◌+◌, ◌<◌, List, [], ◌∷◌, ◌++◌, length, cond, refl, sym, ap, subst}
+use Rattle.std.proofs.Common.{◌≡◌, ℕ, ◌<◌, List, [], ◌∷◌, ◌++◌, length, cond, refl, sym, ap, subst}
 use Rattle.std.specs.Prelude.{Option, None, Some, IfSome, Contains, is_some, Result, Ok, Err, OnOk, OnErr}
 use Rattle.std.proofs.lemmas.List.Elements.{All-push, All-append, All-same, All-weaker, All-contains}
 use Rattle.stm_history.specs.declared.key_state.ReadAnswer.{ReadAnswer}

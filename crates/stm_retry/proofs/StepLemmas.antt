@@ -1,7 +1,7 @@
 -- The parts of a runner's step, as the code has them at hand.
 use Rattle.std.proofs.Common.{◌≡◌, ◌≢◌, ℕ, ◌+◌, ◌<◌, List, [], ◌∷◌, ◌++◌, length, map, Option, Some, None, Result, Ok, Err, Bool, true, false, cond, refl, sym}
 use Rattle.std.proofs.Common.{◌∙◌, ap, subst, ◌⊎◌, inl, inr}
-use Rattle.std.specs.Prelude.{nat_eq, slice_get, IsOk, is_ok}
+use Rattle.std.specs.Prelude.{nat_eq, slice_get, IsOk, is_ok, IfOk, OnOk, OnErr}
 use Rattle.std.specs.declared.alloc.AllocError.{AllocError}
 use Rattle.std.proofs.lemmas.List.Elements.{All-nil, All-cons, All-head, All-tail}
 use Rattle.stm_history.specs.declared.key_state.ReadAnswer.{ReadAnswer}
@@ -288,7 +288,7 @@ same_seen None = refl
 same_seen (Some seen) = refl
 
 -- a commit of which a compare failed
-pub fail_leaves : (id : ℕ) (r q : Runner) (run : Run) (ready : ReadyRun) (s after : Standing) (entries : List Entry) (key : List ℕ) (seen modified : ℕ)
+fail_leaves : (id : ℕ) (r q : Runner) (run : Run) (ready : ReadyRun) (s after : Standing) (entries : List Entry) (key : List ℕ) (seen modified : ℕ)
     (answers : List ReadAnswer) (told : Told) → IsReady r run ready →
     HasFailed s after ready.level ready.answers (latest_writes run.writes) (outcome_of s ready run) key seen modified answers →
     told ≡ told_of_failure id r key seen modified → (may_go_on r ≡ true → q ≡ begun_again answers r) →
@@ -314,7 +314,7 @@ fail_leaves id r q run ready s after entries key seen modified answers told x y 
     (λ more. again more ∙ ap (λ (l : List ReadAnswer). begun_again l r) answers_are) y.unchanged
 
 -- a commit that the store refused
-pub refused_leaves : (id : ℕ) (r q : Runner) (run : Run) (ready : ReadyRun) (s after : Standing) (entries : List Entry) (cause : StoreRefusal) (told : Told) →
+refused_leaves : (id : ℕ) (r q : Runner) (run : Run) (ready : ReadyRun) (s after : Standing) (entries : List Entry) (cause : StoreRefusal) (told : Told) →
     IsReady r run ready → told ≡ Ends (Ended id cause) → outcome_of s ready run ≡ Err cause → after ≡ s →
     Leaves id (Ok told) (workplace s entries r) (workplace after entries q) (commit id r r.known.reads run)
 refused_leaves id r q run ready s after entries cause told x told_is refused same slots =
@@ -325,10 +325,31 @@ refused_leaves id r q run ready s after entries cause told x told_is refused sam
     ∙ sym (ap (λ (t : Told). made t after) told_is ∙ ap (λ (y : Standing). made (Ends (Ended id cause)) y) same)
 
 -- the cause of a refusal that is no want of memory
-pub cause_is : (s : Standing) (ready : ReadyRun) (run : Run) (cause : StoreRefusal) → cause ≢ OutOfMemory →
+cause_is : (s : Standing) (ready : ReadyRun) (run : Run) (cause : StoreRefusal) → cause ≢ OutOfMemory →
     (cause ≡ OutOfMemory) ⊎ (sent s ready.level ready.answers run ≡ Err cause) → outcome_of s ready run ≡ Err cause
 cause_is s ready run cause other (inl want) = absurd (other want)
 cause_is s ready run cause other (inr told) = is_refused s ready.level ready.answers run cause told
+
+-- what a commit of which a compare failed comes to, told or not for want of memory
+pub fail_comes_to : (id : ℕ) (r q : Runner) (run : Run) (ready : ReadyRun) (s after : Standing) (entries : List Entry) (key : List ℕ) (seen modified : ℕ)
+    (answers : List ReadAnswer) (outcome : Result Told AllocError) → IsReady r run ready →
+    HasFailed s after ready.level ready.answers (latest_writes run.writes) (outcome_of s ready run) key seen modified answers →
+    IfOk outcome (λ told. told ≡ told_of_failure id r key seen modified) → OnOk outcome (may_go_on r ≡ true → q ≡ begun_again answers r) →
+    OnErr outcome (q ≡ r) → Leaves id outcome (workplace s entries r) (workplace after entries q) (commit id r r.known.reads run)
+fail_comes_to id r q run ready s after entries key seen modified answers (Ok told) x y told_is again same =
+    fail_leaves id r q run ready s after entries key seen modified answers told x y told_is again
+fail_comes_to id r q run ready s after entries key seen modified answers (Err e) x y told_is again same =
+    ap (λ (n : Standing). workplace n entries q) y.unchanged ∙ ap (λ (p : Runner). workplace s entries p) same
+
+-- what a commit that the store refused comes to, told or not for want of memory
+pub refusal_comes_to : (id : ℕ) (r : Runner) (run : Run) (ready : ReadyRun) (s after : Standing) (entries : List Entry) (cause : StoreRefusal)
+    (outcome : Result Told AllocError) → IsReady r run ready → IfOk outcome (λ told. told ≡ Ends (Ended id cause)) → OnOk outcome (cause ≢ OutOfMemory) →
+    (cause ≡ OutOfMemory) ⊎ (sent s ready.level ready.answers run ≡ Err cause) → after ≡ s →
+    Leaves id outcome (workplace s entries r) (workplace after entries r) (commit id r r.known.reads run)
+refusal_comes_to id r run ready s after entries cause (Ok told) x told_is other refused same =
+    refused_leaves id r r run ready s after entries cause told x told_is (cause_is s ready run cause other refused) same
+refusal_comes_to id r run ready s after entries cause (Err e) x told_is other refused same =
+    ap (λ (n : Standing). workplace n entries r) same
 
 -- room for an entry is none yet
 pub with_room : (id : ℕ) (outcome : Result Told AllocError) (before : Workplace) (s : Standing) (entries more : List Entry) (q : Runner)

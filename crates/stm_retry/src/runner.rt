@@ -75,6 +75,13 @@ fn next_attempt(
     }
 }
 
+/// Puts the next attempt in the place of one that is over.
+fn replace_attempt(place: &mut Attempt, next: Attempt)
+    ensures { place.new ≡ next }
+{
+    *place = next;
+}
+
 impl Runner {
     /// A runner whose run has sent no commit, and may send so many. It takes no memory.
     pub(crate) fn new(alloc: Global, program: Program, level: Level, limit: u32) -> Runner
@@ -146,7 +153,8 @@ impl Runner {
         ensures ok { OnOk result (self.new.runner ≡ begun_again answers self.old.runner) }
         ensures err { OnErr result (self.new ≡ self.old) }
     {
-        self.attempt = next_attempt(alloc, self.level, answers)?;
+        let next = next_attempt(alloc, self.level, answers)?;
+        replace_attempt(&mut self.attempt, next);
         self.failures += 1;
         Ok(())
     }

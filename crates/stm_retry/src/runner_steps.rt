@@ -1,5 +1,5 @@
 //! The steps of runners.
-ghost use Rattle.std.specs.Prelude.{◌≡◌, ◌≢◌, ◌<◌, ◌≤◌, [], Some, Ok, true, false, length, All, IfOk, OnOk, OnErr};
+ghost use Rattle.std.specs.Prelude.{◌≡◌, ◌≢◌, ◌<◌, ◌≤◌, ◌∷◌, ◌++◌, [], Some, Ok, true, false, length, All, IfOk, OnOk, OnErr, vec_len, vec_capacity};
 ghost use Rattle.stm_history.specs.History.{now, key_at, mod_of};
 ghost use Rattle.stm_meaning.specs.declared.run.End.TheVariants.{Done};
 ghost use Rattle.stm_meaning.specs.declared.run.Run.{Run as ARun};
@@ -10,8 +10,9 @@ ghost use Rattle.stm_compile.specs.Levels.{is_serializable};
 ghost use Rattle.stm_compile.specs.Answers.{AreTrue};
 ghost use Rattle.stm_attempt.specs.Known.{HaveDistinctKeys};
 ghost use Rattle.stm_attempt.specs.Fetches.{ShowOneRevision};
-ghost use Rattle.stm_world.specs.declared.reply.Reply.TheVariants.{Fetched, Started, Ended};
-ghost use Rattle.stm_world.specs.Task.{answer_at};
+ghost use Rattle.stm_entries.specs.declared.entry.Entry.TheVariants.{Program as ProgramEntry};
+ghost use Rattle.stm_world.specs.declared.reply.Reply.TheVariants.{Fetched, Started, Committed, Ended};
+ghost use Rattle.stm_world.specs.Task.{answer_at, answers_told};
 ghost use Rattle.stm_world.specs.World.{Runner as LiveRunner, start_runner, step_runner, step_live, commit as commit_of, runner_at};
 ghost use Rattle.stm_retry.specs.declared.told.Told.TheVariants.{GoesOn, Ends};
 ghost use Rattle.stm_retry.specs.MachineTells.{Tells};
@@ -25,7 +26,7 @@ use crate::slots::{Slot, put_slot, take_runner};
 use crate::told::Told;
 use std::alloc::{AllocError, Global};
 use stm_attempt::{Next, Ready};
-use stm_calls::{Sent, copies_of};
+use stm_calls::{Copies, Sent, copies_of};
 use stm_history::{KeyState, ReadAnswer, Sequence, Text};
 use stm_meaning::{End, Run};
 use stm_program::{Level, Program};
@@ -81,7 +82,7 @@ fn reply_at_end(id: u64, run: Run) -> Reply
     requires { run.end ≢ Done }
     ensures { TellsEnd id run.end result }
 {
-    let Run { end, .. } = run;
+    let end = run.end;
     match end {
         End::Done => unreachable!(),
         End::Aborted(text) => Reply::Aborted { runner: id, text },
@@ -137,6 +138,52 @@ fn end_refused(id: u64, cause: StoreRefusal) -> Result<Told, AllocError>
     Ok(Told::Ends(Reply::Ended { runner: id, cause }))
 }
 
+/// Takes what a commit that succeeds takes of memory: the copies that are told of it, and room for its entry.
+fn prepare(alloc: Global, entries: &mut Vec<Entry>, ready: &Ready) -> Result<Copies, AllocError>
+    ensures output { IfOk result (λ copies. copies.output ≡ ready.now.output) }
+    ensures trace { IfOk result (λ copies. copies.trace ≡ ready.now.trace) }
+    ensures answers { IfOk result (λ copies. copies.answers ≡ answers_told ready.now.level ready.now.answers) }
+    ensures room { OnOk result (vec_len entries.new < vec_capacity entries.new) }
+    ensures same { entries.new.items ≡ entries.old.items }
+{
+    let copies = copies_of(alloc, ready)?;
+    entries.reserve(1)?;
+    Ok(copies)
+}
+
+/// The reply of a run whose commit succeeded, after which the store's revision is this.
+fn reply_committed(id: u64, revision: u64, attempts: u32, copies: Copies) -> Reply
+    ensures { result ≡ Committed id revision attempts copies.output copies.trace copies.answers }
+{
+    Reply::Committed {
+        runner: id,
+        revision,
+        attempts,
+        output: copies.output,
+        trace: copies.trace,
+        answers: copies.answers,
+    }
+}
+
+/// Ends a run whose commit succeeded: enters the commit, after which the store's revision is this, and tells it.
+fn end_committed(
+    alloc: Global,
+    entries: &mut Vec<Entry>,
+    id: u64,
+    attempts: u32,
+    ready: Ready,
+    copies: Copies,
+    revision: u64,
+) -> Told
+    requires { vec_len entries.old < vec_capacity entries.old }
+    ensures told { result ≡ Ends (Committed id revision attempts copies.output copies.trace copies.answers) }
+    ensures entered { entries.new.items ≡ entries.old.items ++
+        ProgramEntry ready.program ready.level (answers_told ready.level ready.answers) ready.output ready.trace revision ∷ [] }
+{
+    entries.push_reserved(entry_of(alloc, ready, revision));
+    Told::Ends(reply_committed(id, revision, attempts, copies))
+}
+
 /// Sends the commit of a run that is done.
 ///
 /// All that a commit which succeeds takes of memory is taken before it is sent.
@@ -154,19 +201,11 @@ fn commit(
         (workplace store.old.standing entries.old.items runner.old.runner) (workplace store.new.standing entries.new.items runner.new.runner)
         (commit_of id runner.old.runner runner.old.runner.known.reads run) }
 {
-    let copies = copies_of(alloc, &ready)?;
-    entries.reserve(1)?;
+    let copies = prepare(alloc, entries, &ready)?;
     match stm_calls::commit(alloc, store, &ready) {
         Ok(Sent::Committed { revision }) => {
-            entries.push_reserved(entry_of(alloc, ready, revision));
-            Ok(Told::Ends(Reply::Committed {
-                runner: id,
-                revision,
-                attempts: runner.attempts(),
-                output: copies.output,
-                trace: copies.trace,
-                answers: copies.answers,
-            }))
+            let attempts = runner.attempts();
+            Ok(end_committed(alloc, entries, id, attempts, ready, copies, revision))
         }
         Ok(
             Sent::Failed {
@@ -175,14 +214,8 @@ fn commit(
                 now,
                 answers,
             },
-        ) => {
-            let told = fail_commit(alloc, id, runner, key, seen, now, answers)?;
-            Ok(told)
-        }
-        Err(cause) => {
-            let told = end_refused(id, cause)?;
-            Ok(told)
-        }
+        ) => fail_commit(alloc, id, runner, key, seen, now, answers),
+        Err(cause) => end_refused(id, cause),
     }
 }
 
@@ -218,10 +251,10 @@ fn step_live(
 fn slot_after(told: &Result<Told, AllocError>, runner: Runner) -> Slot
     ensures { result ≡ slot_left told.now runner.runner }
 {
-    match told {
-        Ok(Told::Ends(_)) => Slot::over(),
-        Ok(Told::GoesOn(_)) => Slot::live(runner),
-        Err(_) => Slot::live(runner),
+    if matches!(told, Ok(Told::Ends(_))) {
+        Slot::over()
+    } else {
+        Slot::live(runner)
     }
 }
 

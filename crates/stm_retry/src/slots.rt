@@ -49,6 +49,13 @@ impl Slot {
     {
         self.runner.take()
     }
+
+    /// Puts what stands here from now on.
+    fn put(&mut self, slot: Slot)
+        ensures { self.new ≡ slot }
+    {
+        *self = slot;
+    }
 }
 
 /// Takes what stands at the place of this number, which there is.
@@ -78,5 +85,5 @@ pub(crate) fn put_slot(slots: &mut Vec<Slot>, id: u64, slot: Slot)
     requires { (0 < id) × (id ≤ vec_len slots.old) }
     ensures { slots.new.items ≡ with_slot id slot slots.old.items }
 {
-    slots[(id - 1) as usize] = slot;
+    slots[(id - 1) as usize].put(slot);
 }

@@ -268,6 +268,28 @@ impl<'a, R: Round, W: Wait, G: Gate> Floor<'a, R, W, G> {
         Ok(verdict)
     }
 
+    /// What an attempt of a job that is not its last one comes to.
+    fn try_for_next(
+        &self,
+        place: usize,
+        job: &Job,
+        share: &mut Share<R>,
+        attempt: &mut Attempt,
+        seen: &mut u64,
+    ) -> Result<Tried, Stop>
+        requires attempt { IsOfJob job.now attempt.old }
+        requires of_a_job { is_run_of_some R.jobs job.now.program job.now.level ≡ true }
+        requires part { 0 < share.old.parts }
+        ensures parts { share.new.parts ≡ share.old.parts }
+        ensures ended { IfOk result (IfEnded (λ end. share.new.amount ≡ share.old.amount + counted_end end)) }
+        ensures again { IfOk result (IfAgain (λ next. IsOfJob job.now next × (share.new.amount ≡ share.old.amount))) }
+        ensures stopped { OnErr result (share.new.amount ≡ share.old.amount) }
+        ensures never_falls { seen.old ≤ seen.new }
+    {
+        let verdict = self.try_once(place, job, share, attempt, seen)?;
+        after_verdict(self.alloc, job, verdict)
+    }
+
     /// One attempt of a job that is not its last one.
     fn try_again(
         &self,
@@ -287,8 +309,28 @@ impl<'a, R: Round, W: Wait, G: Gate> Floor<'a, R, W, G> {
         ensures never_falls { seen.old ≤ seen.new }
     {
         let mut attempt = attempt;
-        let verdict = self.try_once(place, job, share, &mut attempt, seen)?;
-        after_verdict(self.alloc, job, verdict)
+        self.try_for_next(place, job, share, &mut attempt, seen)
+    }
+
+    /// What the last attempt of a job comes to.
+    fn try_for_end(
+        &self,
+        place: usize,
+        job: &Job,
+        share: &mut Share<R>,
+        attempt: &mut Attempt,
+        seen: &mut u64,
+    ) -> Result<JobEnd, Stop>
+        requires attempt { IsOfJob job.now attempt.old }
+        requires of_a_job { is_run_of_some R.jobs job.now.program job.now.level ≡ true }
+        requires part { 0 < share.old.parts }
+        ensures parts { share.new.parts ≡ share.old.parts }
+        ensures counted { IfOk result (λ end. share.new.amount ≡ share.old.amount + counted_end end) }
+        ensures stopped { OnErr result (share.new.amount ≡ share.old.amount) }
+        ensures never_falls { seen.old ≤ seen.new }
+    {
+        let verdict = self.try_once(place, job, share, attempt, seen)?;
+        Ok(end_of_last(verdict))
     }
 
     /// The last attempt of a job.
@@ -309,8 +351,7 @@ impl<'a, R: Round, W: Wait, G: Gate> Floor<'a, R, W, G> {
         ensures never_falls { seen.old ≤ seen.new }
     {
         let mut attempt = attempt;
-        let verdict = self.try_once(place, job, share, &mut attempt, seen)?;
-        Ok(end_of_last(verdict))
+        self.try_for_end(place, job, share, &mut attempt, seen)
     }
 
     /// Attempts a job until it ends. The last attempt that it may make is the one behind the loop.

@@ -65,16 +65,22 @@ impl Stop {
         }
     }
 
-    /// A run that came to an end other than its last statement.
-    pub fn of_run(run: Run) -> Stop
-        requires { run.end ≢ Done }
+    /// An end of a run other than its last statement.
+    fn of_end(end: End) -> Stop
+        requires { end ≢ Done }
     {
-        let Run { end, .. } = run;
         match end {
             End::Done => unreachable!(),
             End::Aborted(text) => Stop::Aborted(text),
             End::Faulted(fault) => Stop::Faulted(fault),
         }
+    }
+
+    /// A run that came to an end other than its last statement.
+    pub fn of_run(run: Run) -> Stop
+        requires { run.end ≢ Done }
+    {
+        Stop::of_end(run.end)
     }
 
     /// The job's end, where it is one: want of memory is none.

@@ -1,6 +1,6 @@
 use Rattle.stm_workers.specs.Rounds.{committed_by}
 use Rattle.stm_workers.proofs.TriedLemmas.{ended_counts, again_counts, stopped_counts}
-use Rattle.stm_workers.proofs.attempts.Floor.try_again.Goals as goal
+use Rattle.stm_workers.proofs.attempts.Floor.try_for_next.Goals as goal
 
 -- the end counts what the verdict did
 pub returns-clause-ended : goal.returns-clause-ended

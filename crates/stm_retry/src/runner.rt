@@ -11,6 +11,7 @@ ghost use Rattle.stm_retry.specs.RunnerView.{task_of, AreNamed, next_for, with_a
 
 use std::alloc::{AllocError, Global};
 use std::marker::Model;
+use std::mem;
 use stm_attempt::{Attempt, Next};
 use stm_history::{ReadAnswer, Sequence};
 use stm_program::{Level, Program};
@@ -75,11 +76,11 @@ fn next_attempt(
     }
 }
 
-/// Puts the next attempt in the place of one that is over.
+/// Puts the next attempt in the place of one that is over, which is dropped.
 fn replace_attempt(place: &mut Attempt, next: Attempt)
     ensures { place.new ≡ next }
 {
-    *place = next;
+    drop(mem::replace(place, next));
 }
 
 impl Runner {

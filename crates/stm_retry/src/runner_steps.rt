@@ -214,8 +214,16 @@ fn commit(
                 now,
                 answers,
             },
-        ) => fail_commit(alloc, id, runner, key, seen, now, answers),
-        Err(cause) => end_refused(id, cause),
+        ) => {
+            drop(copies);
+            drop(ready);
+            fail_commit(alloc, id, runner, key, seen, now, answers)
+        }
+        Err(cause) => {
+            drop(copies);
+            drop(ready);
+            end_refused(id, cause)
+        }
     }
 }
 
@@ -252,6 +260,7 @@ fn slot_after(told: &Result<Told, AllocError>, runner: Runner) -> Slot
     ensures { result ≡ slot_left told.now runner.runner }
 {
     if matches!(told, Ok(Told::Ends(_))) {
+        drop(runner);
         Slot::over()
     } else {
         Slot::live(runner)

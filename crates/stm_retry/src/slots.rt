@@ -5,6 +5,7 @@ ghost use Rattle.stm_retry.specs.RunnerView.{RunnerView, slot_of};
 
 use crate::runner::Runner;
 use std::marker::Model;
+use std::mem;
 
 /// The place of a runner. It is kept when the run has ended, and then no runner stands there.
 #[derive(Debug, Drop)]
@@ -54,7 +55,7 @@ impl Slot {
     fn put(&mut self, slot: Slot)
         ensures { self.new ≡ slot }
     {
-        *self = slot;
+        drop(mem::replace(self, slot));
     }
 }
 

@@ -309,7 +309,9 @@ impl<'a, R: Round, W: Wait, G: Gate> Floor<'a, R, W, G> {
         ensures never_falls { seen.old ≤ seen.new }
     {
         let mut attempt = attempt;
-        self.try_for_next(place, job, share, &mut attempt, seen)
+        let tried = self.try_for_next(place, job, share, &mut attempt, seen);
+        drop(attempt);
+        tried
     }
 
     /// What the last attempt of a job comes to.
@@ -351,7 +353,9 @@ impl<'a, R: Round, W: Wait, G: Gate> Floor<'a, R, W, G> {
         ensures never_falls { seen.old ≤ seen.new }
     {
         let mut attempt = attempt;
-        self.try_for_end(place, job, share, &mut attempt, seen)
+        let end = self.try_for_end(place, job, share, &mut attempt, seen);
+        drop(attempt);
+        end
     }
 
     /// Attempts a job until it ends. The last attempt that it may make is the one behind the loop.

@@ -39,6 +39,7 @@ pub fn fetch(alloc: Global, store: &mut Store, key: &str, at: u64) -> Result<Rea
     let txn = read_one(alloc, key, at)?;
     match store.txn(&txn) {
         Ok(done) => {
+            drop(txn);
             let read = take_only_read(done.answers)?;
             Ok(read)
         }

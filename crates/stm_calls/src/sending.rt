@@ -102,6 +102,7 @@ pub fn commit(alloc: Global, store: &mut Store, ready: &Ready) -> Result<Sent, R
     let _keys_differ = ready.answers.as_slice();
     let txn = compile(alloc, ready.level, &ready.answers, &ready.writes)?;
     let answer = store.txn(&txn)?;
+    drop(txn);
     match answer.failed {
         None => Ok(Sent::Committed {
             revision: answer.revision,

@@ -74,9 +74,11 @@ fn send(
             let index = entries.len();
             let revision = answer.revision;
             entries.push_reserved(entry_from(prepared.draft, revision));
+            drop(prepared.txn);
             Ok(Verdict::Committed { index, revision })
         }
         Some(compare) => {
+            drop(prepared);
             let verdict = tell_failure(alloc, ready, compare, answer.answers)?;
             Ok(verdict)
         }
@@ -116,10 +118,12 @@ fn turn_down(
     let answer = store.txn(&asked)?;
     match answer.failed {
         None => {
+            drop(asked);
             let key = unvouched.key.clone()?;
             Err(CommitRefusal::Unvouched { key })
         }
         Some(compare) => {
+            drop(asked);
             let verdict = tell_failure(alloc, ready, compare, answer.answers)?;
             Ok(verdict)
         }

@@ -78,7 +78,10 @@ fn run_on_begun<R: Threads + Wait + Sync>(
     let hall = begun(alloc)?;
     match run_workers(rt, alloc, jobs, 1, hall, &NoGate) {
         Ok(gathered) => Ok(gathered),
-        Err(_) => Err(Fail::from("the run was broken off")),
+        Err(fault) => {
+            drop(fault);
+            Err(Fail::from("the run was broken off"))
+        }
     }
 }
 

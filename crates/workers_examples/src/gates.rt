@@ -172,7 +172,10 @@ fn gathered_of<R: Threads + Wait + Sync, G: Gate + Sync>(
     let store = Store::new(alloc)?;
     match run_workers(rt, alloc, jobs, workers, Hall::new(alloc, store), gate) {
         Ok(gathered) => Ok(gathered),
-        Err(_) => Err(Fail::from("the run was broken off")),
+        Err(fault) => {
+            drop(fault);
+            Err(Fail::from("the run was broken off"))
+        }
     }
 }
 

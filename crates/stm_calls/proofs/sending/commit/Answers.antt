@@ -55,8 +55,8 @@ returns-in_err-told-in-Some-clause-step c = λ run ended.
     c.from_residual-in_err-told-in-Some.result exit.0 OutOfMemory exit.1 exit.2 (inl refl, down.unchanged)
 
 -- a compare failed
-pub returns-clause-step : goal.returns-clause-step
-returns-clause-step c = λ run ended.
+pub returns-in_ok-told-in-Some-clause-step : goal.returns-in_ok-told-in-Some-clause-step
+returns-in_ok-told-in-Some-clause-step c = λ run ended.
     let ready : ReadyRun = c.args.ready.now in
     let kept : IsRunOnItsAnswers ready = subst IsRunOnItsAnswers c.ready.view_is c.ready.invariant in
     let txn_is : c.in_ok-txn.txn ≡ commit_of ready.level ready.answers ready.writes =
@@ -70,8 +70,8 @@ returns-clause-step c = λ run ended.
     (reads_in c.in_ok-answer.answer.answers)) c.ready.view_is)
 
 -- its answers may be prefetched
-pub returns-clause-answers : goal.returns-clause-answers
-returns-clause-answers c =
+pub returns-in_ok-told-in-Some-clause-answers : goal.returns-in_ok-told-in-Some-clause-answers
+returns-in_ok-told-in-Some-clause-answers c =
     let ready : ReadyRun = c.args.ready.now in
     let kept : IsRunOnItsAnswers ready = subst IsRunOnItsAnswers c.ready.view_is c.ready.invariant in
     let txn_is : c.in_ok-txn.txn ≡ commit_of ready.level ready.answers ready.writes =

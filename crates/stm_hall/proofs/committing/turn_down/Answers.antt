@@ -58,8 +58,8 @@ returns-in_err-key-in-None-clause-verdict c = λ entries start.
     (inl refl, same_hall s next entries entries start (nothing_written s next (txn_of ready) c.in_ok-answer.answer a c.in-None.is) refl)
 
 -- no compare failed
-pub returns-in-None-clause-verdict : goal.returns-in-None-clause-verdict
-returns-in-None-clause-verdict c = λ entries start.
+pub returns-in_ok-key-in-None-clause-verdict : goal.returns-in_ok-key-in-None-clause-verdict
+returns-in_ok-key-in-None-clause-verdict c = λ entries start.
     let ready : ReadyRun = c.args.ready.now in
     let kept : IsRunOnItsAnswers ready = subst IsRunOnItsAnswers c.ready.view_is c.ready.invariant in
     let s : Standing = c.args.store.now.standing in
@@ -113,8 +113,8 @@ returns-in_err-verdict-in-Some-clause-verdict c = λ entries start.
     (exit.1 ∙ ap (λ e. Err e) exit.2)
     (inl refl, same_hall s next entries entries start (asked_reread s next ready c.in_ok-answer.answer c.in-Some.compare a c.in-Some.is).unchanged refl)
 
-pub returns-clause-verdict : goal.returns-clause-verdict
-returns-clause-verdict c = λ entries start.
+pub returns-in_ok-verdict-in-Some-clause-verdict : goal.returns-in_ok-verdict-in-Some-clause-verdict
+returns-in_ok-verdict-in-Some-clause-verdict c = λ entries start.
     let ready : ReadyRun = c.args.ready.now in
     let kept : IsRunOnItsAnswers ready = subst IsRunOnItsAnswers c.ready.view_is c.ready.invariant in
     let s : Standing = c.args.store.now.standing in

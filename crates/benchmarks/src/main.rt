@@ -4,7 +4,6 @@
 mod attempts;
 mod growths;
 mod leases;
-mod store;
 mod watchers;
 
 use anyhow::{Result, bail};
@@ -17,7 +16,6 @@ enum Benchmark {
     Attempts,
     Growths,
     Leases,
-    Store,
     Watchers,
 }
 
@@ -27,7 +25,6 @@ fn named(name: &str) -> Option<Benchmark> {
         "attempts" => Some(Benchmark::Attempts),
         "growths" => Some(Benchmark::Growths),
         "leases" => Some(Benchmark::Leases),
-        "store" => Some(Benchmark::Store),
         "watchers" => Some(Benchmark::Watchers),
         _ => None,
     }
@@ -47,8 +44,7 @@ fn main(rt: HostRuntime) -> Result<()> {
         Some(Benchmark::Attempts) => attempts::run(&rt, rt.alloc()),
         Some(Benchmark::Growths) => growths::run(&rt, rt.alloc()),
         Some(Benchmark::Leases) => leases::run(&rt, rt.alloc()),
-        Some(Benchmark::Store) => store::run(&rt, rt.alloc()),
         Some(Benchmark::Watchers) => watchers::run(&rt, rt.alloc()),
-        None => bail!("name one of the benchmarks: attempts, growths, leases, store or watchers"),
+        None => bail!("name one of the benchmarks: attempts, growths, leases or watchers"),
     }
 }

@@ -1,5 +1,6 @@
 pub mod ApplyNames
 pub mod Events
+pub mod Held
 pub mod Keys
 pub mod Laws
 pub mod Places

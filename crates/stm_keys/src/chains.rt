@@ -7,10 +7,11 @@ ghost use Rattle.stm_keys.specs.Events.{key_of_event, event_about, is_put, AreAp
 ghost use Rattle.stm_keys.specs.Places.{places_in, room_in, with_place, newest_below, event_from, newest_event, state_from, found_in, AreSearchable, StandFirst, KeepsPresent, is_left, names_of, place_of};
 
 use crate::event::{Event, find_event_at};
+use crate::events::Events;
 use crate::places::{Places, Version};
 use indexmap::IndexMap;
 use std::alloc::{AllocError, Global};
-use stm_history::{KeyState, Sequence, Text};
+use stm_history::{KeyState, Text};
 
 /// The chain of each key that was ever changed.
 pub(crate) type Chains = IndexMap<String, Places>;
@@ -54,11 +55,7 @@ fn find_version(chains: &Chains, key: &str, count: usize) -> Option<Version>
 }
 
 /// The event of a key in the revision of a version, which changed it.
-fn event_from<'a>(
-    revisions: &'a [Sequence<Event>],
-    key: &str,
-    version: Option<Version>,
-) -> Option<&'a Event>
+fn event_from<'a>(revisions: &'a [Events], key: &str, version: Option<Version>) -> Option<&'a Event>
     requires within { IfSome version (λ v. place_of v < length revisions.now) }
     requires apart { (place : ℕ) → place < length revisions.now → AreApart (get_or revisions.now place []) }
     ensures { option_copied result ≡ event_from revisions.now key.now (option_map place_of version) }
@@ -69,7 +66,7 @@ fn event_from<'a>(
 
 /// What a key is after the revision of a version, which changed it.
 fn state_from<'a>(
-    revisions: &'a [Sequence<Event>],
+    revisions: &'a [Events],
     key: &str,
     version: Option<Version>,
 ) -> Option<&'a KeyState>
@@ -86,7 +83,7 @@ fn state_from<'a>(
 /// What a key is after so many revisions, of which the oldest stands first.
 pub(crate) fn find_state<'a>(
     chains: &Chains,
-    revisions: &'a [Sequence<Event>],
+    revisions: &'a [Events],
     key: &str,
     count: usize,
 ) -> Option<&'a KeyState>
@@ -100,7 +97,7 @@ pub(crate) fn find_state<'a>(
 /// What a key is after all these revisions. Its chain is looked for at the hint first.
 pub(crate) fn find_now<'a>(
     chains: &Chains,
-    revisions: &'a [Sequence<Event>],
+    revisions: &'a [Events],
     key: &str,
     hint: usize,
 ) -> Option<&'a KeyState>
@@ -116,7 +113,7 @@ pub(crate) fn find_now<'a>(
 /// The newest event of a key, if it was ever changed. Its chain is looked for at the hint first.
 pub(crate) fn find_newest<'a>(
     chains: &Chains,
-    revisions: &'a [Sequence<Event>],
+    revisions: &'a [Events],
     key: &str,
     hint: usize,
 ) -> Option<&'a Event>
@@ -143,7 +140,7 @@ fn key_at(chains: &Chains, index: usize) -> &str
 /// The key at an index, which is present, with its state.
 pub(crate) fn find_present<'a>(
     chains: &'a Chains,
-    revisions: &'a [Sequence<Event>],
+    revisions: &'a [Events],
     index: usize,
 ) -> (&'a str, &'a KeyState)
     requires searchable { AreSearchable (get_by_text chains.now) revisions.now }

@@ -12,12 +12,13 @@ use crate::chains::{
     make_room,
 };
 use crate::event::Event;
+use crate::events::Events;
 use crate::refusal::{ApplyRefusal, ReadRefusal};
 use crate::shared_text::SharedText;
 use indexmap::IndexMap;
 use std::alloc::{AllocError, Global};
 use std::marker::Model;
-use stm_history::{Change, HIGHEST_REVISION, KeyState, Sequence, Text};
+use stm_history::{Change, HIGHEST_REVISION, KeyState, Text};
 
 /// The keys of a store at every revision.
 ///
@@ -28,7 +29,7 @@ use stm_history::{Change, HIGHEST_REVISION, KeyState, Sequence, Text};
 #[derive(Debug, Drop)]
 pub struct Keys {
     opening: u64,
-    revisions: Vec<Sequence<Event>>,
+    revisions: Vec<Events>,
     chains: Chains,
     present: usize,
 }
@@ -93,6 +94,18 @@ fn share_key(alloc: Global, key: Text, event: Option<&Event>) -> Result<SharedTe
     }
 }
 
+/// The change of a list of one.
+fn take_only(changes: Vec<Change>) -> Change
+    requires { length changes.items ≡ 1 }
+    ensures { changes.items ≡ result ∷ [] }
+{
+    let mut rest = changes;
+    match rest.pop() {
+        Some(change) => change,
+        None => unreachable!(),
+    }
+}
+
 /// A copy of the events of a revision.
 fn copy_events(alloc: Global, events: &[Event]) -> Result<Vec<Event>, AllocError>
     ensures { IfOk result (λ copy. copy.items ≡ events.now) }
@@ -104,8 +117,8 @@ fn copy_events(alloc: Global, events: &[Event]) -> Result<Vec<Event>, AllocError
     Ok(copy)
 }
 
-/// Makes room for one more revision. A full list grows by a half, so that little of it stands empty.
-fn make_room_in(revisions: &mut Vec<Sequence<Event>>) -> Result<(), AllocError>
+/// Makes room for one more revision. A full list grows by a quarter, so that little of it stands empty.
+fn make_room_in(revisions: &mut Vec<Events>) -> Result<(), AllocError>
     ensures same { revisions.new.items ≡ revisions.old.items }
     ensures room { OnOk result (vec_len revisions.new < vec_capacity revisions.new) }
 {
@@ -113,26 +126,27 @@ fn make_room_in(revisions: &mut Vec<Sequence<Event>>) -> Result<(), AllocError>
     if count < revisions.capacity() {
         return Ok(());
     }
-    revisions.reserve_exact(count / 2 + 1)?;
+    revisions.reserve_exact(count / 4 + 1)?;
     Ok(())
 }
 
 /// Adds a recorded revision, and its place to the chains of its keys, which are looked for at the hint first. Every
 /// growth comes before the first change.
 fn add_recorded(
-    revisions: &mut Vec<Sequence<Event>>,
+    revisions: &mut Vec<Events>,
     chains: &mut Chains,
     present: &mut usize,
-    events: Vec<Event>,
+    events: Events,
     hint: usize,
 ) -> Result<(), AllocError>
-    requires apart { AreApart events.items }
+    requires apart { AreApart events }
     requires bound { present.old ≤ length chains.old.entries }
-    ensures recorded { OnOk result (revisions.new.items ≡ revisions.old.items ++ events.items ∷ []) }
+    ensures recorded { OnOk result (revisions.new.items ≡ revisions.old.items ++ events ∷ []) }
     ensures told { OnOk result ((k : _) → places_in (get_by_text chains.new k) ≡
-        with_place (is_some (event_about k events.items)) (length revisions.old.items) (places_in (get_by_text chains.old k))) }
+        with_place (is_some (event_about k events)) (length revisions.old.items) (places_in (get_by_text chains.old k))) }
     ensures first { OnOk result ((is_present : List ℕ → Bool) → ((k : _) → places_in (get_by_text chains.old k) ≡ [] → is_present k ≡ false) →
-        StandFirst is_present present.old (names_of chains.old) → StandFirst (λ k. is_left (event_about k events.items) (is_present k)) present.new (names_of chains.new)) }
+        StandFirst is_present present.old (names_of chains.old) →
+        StandFirst (λ k. is_left (event_about k events) (is_present k)) present.new (names_of chains.new)) }
     ensures err { OnErr result (revisions.new.items ≡ revisions.old.items) }
     ensures count { OnErr result (present.new ≡ present.old) }
     ensures same { OnErr result ((k : List ℕ) → places_in (get_by_text chains.new k) ≡ places_in (get_by_text chains.old k)) }
@@ -141,7 +155,7 @@ fn add_recorded(
     make_room(chains, *revisions.allocator(), events.as_slice(), hint)?;
     make_room_in(revisions)?;
     add_places(chains, present, events.as_slice(), revisions.len(), hint);
-    revisions.push_reserved(Sequence::of(events));
+    revisions.push_reserved(events);
     Ok(())
 }
 
@@ -276,15 +290,35 @@ impl Keys {
         }
     }
 
-    /// What the changes of the next revision show, in their order. Their values are moved, and the text of a key that has no event yet.
-    fn show_changes(&self, changes: Vec<Change>, hint: usize) -> Result<Vec<Event>, AllocError>
-        ensures { IfOk result (λ v. v.items ≡ map (event_of (now self.now.history + 1) (key_now self.now.history)) changes.items) }
+    /// What the only change of the next revision shows.
+    fn show_only(&self, changes: Vec<Change>, hint: usize) -> Result<Events, AllocError>
+        requires { length changes.items ≡ 1 }
+        ensures { IfOk result (λ events. events ≡ map (event_of (now self.now.history + 1) (key_now self.now.history)) changes.items) }
+    {
+        let event = self.show_change(take_only(changes), hint)?;
+        Ok(Events::one(event))
+    }
+
+    /// What each change of the next revision shows, in their order.
+    fn show_each(&self, changes: Vec<Change>, hint: usize) -> Result<Events, AllocError>
+        ensures { IfOk result (λ events. events ≡ map (event_of (now self.now.history + 1) (key_now self.now.history)) changes.items) }
     {
         let mut events = Vec::with_capacity(*self.revisions.allocator(), changes.len())?;
         for change in changes {
             events.push(self.show_change(change, hint)?)?;
         }
-        Ok(events)
+        Ok(Events::of(events))
+    }
+
+    /// What the changes of the next revision show, in their order. Their values are moved, and the text of a key that has no event yet.
+    fn show_changes(&self, changes: Vec<Change>, hint: usize) -> Result<Events, AllocError>
+        ensures { IfOk result (λ events. events ≡ map (event_of (now self.now.history + 1) (key_now self.now.history)) changes.items) }
+    {
+        if changes.len() == 1 {
+            self.show_only(changes, hint)
+        } else {
+            self.show_each(changes, hint)
+        }
     }
 
     /// Adds one revision with these changes, in this order, and answers its number. There is a change, no key

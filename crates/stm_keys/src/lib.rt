@@ -6,6 +6,7 @@
 
 mod chains;
 mod event;
+mod events;
 mod keys;
 pub mod laws;
 mod places;

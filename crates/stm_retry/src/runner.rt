@@ -44,15 +44,6 @@ impl Model for Runner {
     ghost invariant = { λ r. IsRunner (task_of r.program r.level r.limit) r.failures r.attempt };
 }
 
-/// The count of commits sent, of which so many have failed and one more may be sent below a limit.
-fn with_one_more(failures: u32, limit: u32) -> u32
-    requires { failures < limit }
-    ensures { result ≡ failures + 1 }
-{
-    let _above_failures = limit;
-    failures + 1
-}
-
 /// The next attempt at a level after a commit that failed.
 ///
 /// Only at the serializable levels has a failed commit read its keys again.
@@ -134,7 +125,8 @@ impl Runner {
     pub(crate) fn attempts(&self) -> u32
         ensures { result ≡ self.now.runner.failures + 1 }
     {
-        with_one_more(self.failures, self.limit)
+        let _above_failures = self.limit;
+        self.failures + 1
     }
 
     /// Begins the next attempt, for which a failed commit has read these answers.

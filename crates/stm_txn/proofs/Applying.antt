@@ -424,6 +424,12 @@ placed s next txn a is =
     place_within (key_now s.history) txn.compares a.failed
     (sym (ap (λ (x : TxnAnswer). x.failed) found.2) ∙ answered_failed s.history (is_live_in s.live) txn found.0 found.1)
 
+-- what holds of each answer that is defined holds of a result that tells it
+pub of_answer : {P : TxnAnswer → Type 0} (s next : Standing) (txn : Txn) (r : Result TxnAnswer Refusal) → Tells (transacted s txn) r next →
+    ((a : TxnAnswer) → transacted s txn ≡ Ok record { answer = a; next = next } → P a) → IfOk r P
+of_answer s next txn (Ok a) tells each = each a tells
+of_answer s next txn (Err cause) tells each = tt
+
 -- a transaction, by its branch as it is run
 refusal_of : (s : Standing) (outcome_of : Result Done Refusal) (refusal : Refusal) → IsRefusalOf outcome_of refusal → IsRefusalOf (step_of s outcome_of) refusal
 refusal_of s (Ok done) refusal is = is

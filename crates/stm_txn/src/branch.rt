@@ -130,7 +130,8 @@ pub(crate) fn run_branch(alloc: Global, keys: &Keys, ops: &[Op]) -> Result<Branc
     ensures answers { IfOk result (λ b. b.answers ≡ answers_copied keys.now.history [] ops.now) }
     ensures changes { IfOk result (λ b. b.changes.items ≡ changes_copied keys.now.history [] ops.now) }
 {
-    let mut answers = ShortList::with_capacity(alloc, ops.len())?;
+    let mut answers = ShortList::new(alloc);
+    answers.reserve(ops.len())?;
     let mut changes = Vec::new(alloc);
     for op in ops {
         answers.push(answer(keys, changes.as_slice(), op)?)?;

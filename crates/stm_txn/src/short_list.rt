@@ -49,14 +49,6 @@ impl<T: MadeWith<Global> + Drop> ShortList<T> {
         }
     }
 
-    /// The empty list with room for so many elements.
-    pub fn with_capacity(alloc: Global, count: usize) -> Result<ShortList<T>, AllocError>
-        ensures { IfOk result (λ s. s ≡ []) }
-    {
-        let items = SmallVec::with_capacity(alloc, count)?;
-        Ok(ShortList { items })
-    }
-
     /// The list of a vector's elements. It takes no memory.
     pub fn of(items: Vec<T>) -> ShortList<T>
         ensures { result ≡ items.items }
@@ -72,6 +64,14 @@ impl<T: MadeWith<Global> + Drop> ShortList<T> {
         ensures err { OnErr result (self.new ≡ self.old) }
     {
         self.items.push(item)?;
+        Ok(())
+    }
+
+    /// Makes room for so many more elements. Want of memory is the only refusal.
+    pub fn reserve(&mut self, count: usize) -> Result<(), AllocError>
+        ensures { self.new ≡ self.old }
+    {
+        self.items.reserve_exact(count)?;
         Ok(())
     }
 

@@ -359,8 +359,7 @@ impl Store {
     {
         let _counter = self.keys.revision();
         let _ids_are_in_range = self.leases.is_live(0);
-        let answer = self.transact(txn)?;
-        Ok(answer)
+        self.transact(txn)
     }
 
     /// Makes writes of distinct keys, by those that change something.

@@ -12,5 +12,5 @@ add_places-requires-clause-bound c =
 pub returns-clause-first : goal.returns-clause-first
 returns-clause-first c = λ is_present absent first.
     subst (λ (es : List Event). StandFirst (λ k. is_left (event_about k es) (is_present k)) c.add_places.new.present (names_of c.add_places.new.chains))
-    c.as_slice-2.ensures.value
+    c.as_slice-2.ensures
     (c.add_places.ensures.first is_present (c.in_ok-make_room.ensures.present.first is_present c.args.present.now absent first))

@@ -60,7 +60,7 @@ invariant_of-self-2 c =
     c.revision-before.ensures.value ∙ sym (ap (λ (v : Contents). now v.history) c.self.view_is) in
     let count : length (changes_of (reverse xs)) ≡ length (reverse xs) = length-map (reverse xs) (map change_of_event) in
     let added = pushed opening (c.revision-before.result + 1) xs c.add_recorded.new.revisions.items (get_by_text c.self.inside.chains)
-    (get_by_text c.add_recorded.new.chains) state c.args.changes.items c.in_ok-events.events.items c.self.invariant.0
+    (get_by_text c.add_recorded.new.chains) state c.args.changes.items c.in_ok-events.events c.self.invariant.0
     (omega arith)
     (omega (arith, c.revision-before.ensures.bounded, c.if-before-eq-HIGHEST_REVISION.false))
     c.requires.revision
@@ -71,7 +71,7 @@ invariant_of-self-2 c =
     let next : List ℕ → Option Places = get_by_text c.add_recorded.new.chains in
     let present : List ℕ → Bool = λ key. is_some (key_after opening key (changes_of (reverse xs))) in (
       added.0,
-      first_after opening xs c.add_recorded.new.revisions.items (get_by_text c.self.inside.chains) next c.in_ok-events.events.items c.add_recorded.new.present
+      first_after opening xs c.add_recorded.new.revisions.items (get_by_text c.self.inside.chains) next c.in_ok-events.events c.add_recorded.new.present
           (names_of c.add_recorded.new.chains) c.self.invariant.0 added.0 c.in_ok-add_recorded.ensures.recorded
           (c.in_ok-add_recorded.ensures.first present
           (λ key none. no_place_absent opening (reverse xs) (get_by_text c.self.inside.chains) key c.self.invariant.0 none) c.self.invariant.1),
@@ -86,7 +86,7 @@ returns-clause-ok c =
     c.revision-before.ensures.value ∙ sym (ap (λ (v : Contents). now v.history) c.self.view_is) in
     let count : length (changes_of (reverse xs)) ≡ length (reverse xs) = length-map (reverse xs) (map change_of_event) in
     let added = pushed opening (c.revision-before.result + 1) xs c.add_recorded.new.revisions.items (get_by_text c.self.inside.chains)
-    (get_by_text c.add_recorded.new.chains) state c.args.changes.items c.in_ok-events.events.items c.self.invariant.0
+    (get_by_text c.add_recorded.new.chains) state c.args.changes.items c.in_ok-events.events c.self.invariant.0
     (omega arith)
     (omega (arith, c.revision-before.ensures.bounded, c.if-before-eq-HIGHEST_REVISION.false))
     c.requires.revision

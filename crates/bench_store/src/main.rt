@@ -2,6 +2,8 @@
 //! and holds a long history while its bytes are counted.
 //!
 //! The figures go to standard error. They are of one machine at one moment: no proof is about time.
+#![tactic(auto)]
+
 ghost use Rattle.std.specs.Prelude.{◌<◌};
 
 use anyhow::Result;
@@ -19,16 +21,15 @@ const REVISIONS: u32 = 100_000;
 /// How many keys are put in turn before reads are timed.
 const KEYS: u32 = 8;
 
-/// Holds the revisions, and then times the puts and the reads.
-pub(crate) fn run(rt: &(impl Clock + Eprint), alloc: Global) -> Result<()> {
-    hold_revisions(rt, alloc, REVISIONS)?;
-    time_puts(rt, alloc, 8)?;
-    time_puts(rt, alloc, 2_000)?;
-    time_puts(rt, alloc, 100_000)?;
-    time_reads(rt, alloc, 1_000)?;
-    time_reads(rt, alloc, 10_000)?;
-    time_reads(rt, alloc, 100_000)?;
-    time_reads(rt, alloc, 1_000_000)
+fn main(rt: HostRuntime) -> Result<()> {
+    hold_revisions(&rt, rt.alloc(), REVISIONS)?;
+    time_puts(&rt, rt.alloc(), 8)?;
+    time_puts(&rt, rt.alloc(), 2_000)?;
+    time_puts(&rt, rt.alloc(), 100_000)?;
+    time_reads(&rt, rt.alloc(), 1_000)?;
+    time_reads(&rt, rt.alloc(), 10_000)?;
+    time_reads(&rt, rt.alloc(), 100_000)?;
+    time_reads(&rt, rt.alloc(), 1_000_000)
 }
 
 /// A transaction that puts one key.
@@ -50,7 +51,8 @@ fn put_of(alloc: Global, number: u32) -> Result<Txn, AllocError> {
 
 fn put(alloc: Global, store: &mut Store, number: u32) -> Result<()> {
     let txn = put_of(alloc, number)?;
-    store.txn(&txn)?;
+    let answer = store.txn(&txn)?;
+    drop(answer);
     Ok(())
 }
 

@@ -1,7 +1,7 @@
 use Rattle.std.proofs.Common.{◌≡◌, ◌+◌, map}
 use Rattle.stm_history.specs.History.{now, key_now}
 use Rattle.stm_keys.specs.Events.{event_of}
-use Rattle.stm_keys.proofs.keys.Keys.show_changes.Given as goal
+use Rattle.stm_keys.proofs.keys.Keys.show_each.Given as goal
 
 -- the events of the changes so far
 abbrev pub invariant-loop-change : goal.invariant-loop-change

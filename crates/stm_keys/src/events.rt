@@ -1,0 +1,63 @@
+//! The events of one revision.
+ghost use Rattle.std.specs.Prelude.{◌≡◌, [], ◌∷◌};
+
+use crate::event::Event;
+use std::marker::Model;
+use std::slice;
+
+/// Where the events of a revision stand. Most revisions have one.
+#[derive(Debug, Drop)]
+pub(crate) enum Held {
+    /// In the revision itself.
+    One(Event),
+    /// In memory of their own.
+    More(Vec<Event>),
+}
+
+/// The events of a revision, in the order of operations. One made by `one` takes no memory of its own.
+///
+/// Contracts see them in order, and never where they stand.
+#[derive(Debug, Drop)]
+pub(crate) struct Events {
+    held: Held,
+}
+
+impl Model for Events {
+    ghost use Rattle.std.specs.Prelude.{List};
+    ghost use Rattle.stm_keys.specs.declared.event.Event.{Event};
+    ghost use Rattle.stm_keys.specs.Held.{events_held};
+
+    ghost Value = { List Event };
+
+    ghost view = { λ e. events_held e.held };
+}
+
+impl Events {
+    /// One event.
+    pub(crate) fn one(event: Event) -> Events
+        ensures { result ≡ event ∷ [] }
+    {
+        Events {
+            held: Held::One(event),
+        }
+    }
+
+    /// The events of a list.
+    pub(crate) fn of(events: Vec<Event>) -> Events
+        ensures { result ≡ events.items }
+    {
+        Events {
+            held: Held::More(events),
+        }
+    }
+
+    /// The events in order.
+    pub(crate) fn as_slice(&self) -> &[Event]
+        ensures { result.now ≡ self.now }
+    {
+        match &self.held {
+            Held::One(event) => slice::from_ref(event),
+            Held::More(events) => events.as_slice(),
+        }
+    }
+}

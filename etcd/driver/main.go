@@ -1,0 +1,97 @@
+// Plays a scenario on a real etcd, through the transactional memory of etcd's Go client, and writes the report.
+package main
+
+import (
+	"context"
+	"fmt"
+	"io"
+	"os"
+	"os/signal"
+	"runtime"
+	"syscall"
+
+	"google.golang.org/grpc/grpclog"
+)
+
+// The statuses are those of stmrun.
+const (
+	statusDone   = 0
+	statusBad    = 2
+	statusDevice = 3
+)
+
+const usage = `Usage: etcd/run [SCENARIO]
+
+Plays the scenario of the file, or of standard input, on a real etcd that it starts and ends, and prints the report.
+`
+
+func main() {
+	// The process that starts etcd must outlive it, and so must the thread.
+	runtime.LockOSThread()
+	grpclog.SetLoggerV2(grpclog.NewLoggerV2(io.Discard, io.Discard, io.Discard))
+	os.Exit(answer(os.Args[1:]))
+}
+
+func say(err error) {
+	fmt.Fprintln(os.Stderr, "etcd/run:", err)
+}
+
+func answer(arguments []string) int {
+	if len(arguments) == 1 && (arguments[0] == "-h" || arguments[0] == "--help") {
+		fmt.Print(usage)
+		return statusDone
+	}
+	if len(arguments) > 1 || len(arguments) == 1 && len(arguments[0]) > 0 && arguments[0][0] == '-' {
+		fmt.Fprint(os.Stderr, usage)
+		return statusBad
+	}
+	text, err := readInput(arguments)
+	if err != nil {
+		say(err)
+		return statusDevice
+	}
+	read, err := readScenario(text)
+	if err == nil {
+		err = checkReach(read)
+	}
+	if err != nil {
+		say(err)
+		return statusBad
+	}
+	return report(read)
+}
+
+// readInput reads the file or standard input, and of it no more than tells that it is too long.
+func readInput(arguments []string) ([]byte, error) {
+	input := os.Stdin
+	if len(arguments) == 1 {
+		file, err := os.Open(arguments[0])
+		if err != nil {
+			return nil, err
+		}
+		defer file.Close()
+		input = file
+	}
+	return io.ReadAll(io.LimitReader(input, longestInput+1))
+}
+
+// report plays the scenario and writes the report once it is whole.
+func report(read *scenario) int {
+	ctx, stop := signal.NotifyContext(context.Background(), os.Interrupt, syscall.SIGTERM, syscall.SIGHUP)
+	defer stop()
+	etcd, client, err := startServer(ctx)
+	if err != nil {
+		say(err)
+		return statusDevice
+	}
+	defer etcd.stop()
+	lines, err := play(ctx, client, read)
+	if err == nil {
+		_, err = os.Stdout.Write(lines)
+	}
+	if err != nil {
+		say(err)
+		return statusDevice
+	}
+	return statusDone
+}

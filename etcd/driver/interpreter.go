@@ -46,6 +46,8 @@ type session struct {
 	writes    []string // the keys that are written, in the order of first writes
 	isRead    map[string]bool
 	isWritten map[string]bool
+	// asksOfWritten says that the program asked for the revision of a key that it had written.
+	asksOfWritten bool
 }
 
 func newSession(stm concurrency.STM) *session {
@@ -188,6 +190,7 @@ func (s *session) rev(key value) (value, error) {
 		return value{}, err
 	}
 	s.noteRead(name)
+	s.asksOfWritten = s.asksOfWritten || s.isWritten[name]
 	revision := s.stm.Rev(name)
 	s.trace = append(s.trace, line{"rev", name, revision})
 	return numberOf(revision), nil

@@ -8,6 +8,7 @@ import (
 	"os"
 	"os/signal"
 	"runtime"
+	"strings"
 	"syscall"
 
 	"google.golang.org/grpc/grpclog"
@@ -20,13 +21,19 @@ const (
 	statusDevice = 3
 )
 
-const usage = `Usage: etcd/run [SCENARIO]
+const usage = `Usage: etcd/run [--notes] [SCENARIO]
 
 Plays the scenario of the file, or of standard input, on a real etcd that it starts and ends, and prints the report.
+
+  --notes  puts a line ["asked",N,RUNNER] on standard error where, at event N for the first time, a runner asked for
+           the revision of a key that it had written: the Go client then goes its own way
+
+Statuses: 0 done, 2 bad input or usage, or what a real etcd cannot be driven to, 3 etcd or a device failed,
+70 the driver could not be built.
 `
 
 func main() {
-	// The process that starts etcd must outlive it, and so must the thread.
+	// etcd ends with the thread that started it, so that is to be the process's first one, which lives as long as the process.
 	runtime.LockOSThread()
 	grpclog.SetLoggerV2(grpclog.NewLoggerV2(io.Discard, io.Discard, io.Discard))
 	os.Exit(answer(os.Args[1:]))
@@ -41,7 +48,11 @@ func answer(arguments []string) int {
 		fmt.Print(usage)
 		return statusDone
 	}
-	if len(arguments) > 1 || len(arguments) == 1 && len(arguments[0]) > 0 && arguments[0][0] == '-' {
+	var notes io.Writer
+	if len(arguments) > 0 && arguments[0] == "--notes" {
+		notes, arguments = os.Stderr, arguments[1:]
+	}
+	if len(arguments) > 1 || len(arguments) == 1 && strings.HasPrefix(arguments[0], "-") {
 		fmt.Fprint(os.Stderr, usage)
 		return statusBad
 	}
@@ -58,7 +69,7 @@ func answer(arguments []string) int {
 		say(err)
 		return statusBad
 	}
-	return report(read)
+	return report(read, notes)
 }
 
 // readInput reads the file or standard input, and of it no more than tells that it is too long.
@@ -76,7 +87,7 @@ func readInput(arguments []string) ([]byte, error) {
 }
 
 // report plays the scenario and writes the report once it is whole.
-func report(read *scenario) int {
+func report(read *scenario, notes io.Writer) int {
 	ctx, stop := signal.NotifyContext(context.Background(), os.Interrupt, syscall.SIGTERM, syscall.SIGHUP)
 	defer stop()
 	etcd, client, err := startServer(ctx)
@@ -85,7 +96,12 @@ func report(read *scenario) int {
 		return statusDevice
 	}
 	defer etcd.stop()
-	lines, err := play(ctx, client, read)
+	go func() {
+		// What still waits for an etcd that has ended is not to wait any longer.
+		<-etcd.ended
+		stop()
+	}()
+	lines, err := play(ctx, client, read, notes)
 	if err == nil {
 		_, err = os.Stdout.Write(lines)
 	}

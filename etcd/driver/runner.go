@@ -18,6 +18,7 @@ type runner struct {
 	program  []*node
 	commits  int64
 	hasEnded bool
+	hasAsked bool     // of some attempt it was noted that it asked for the revision of a key that it had written
 	session  *session // the attempt; the driver looks at it only while the runner stands at the gate or has ended
 	answers  line     // what was fetched, as ReadCommitted tells it
 	arrivals chan arrival
@@ -114,6 +115,7 @@ func (e *stepEvent) take(w *world) (line, error) {
 	}
 	r := w.runners[e.runner-1]
 	came := <-r.arrivals
+	r.note(w)
 	if came.sent == nil {
 		r.hasEnded = true
 		return r.endLine(came.err)
@@ -122,6 +124,16 @@ func (e *stepEvent) take(w *world) (line, error) {
 		return r.fetch(w, came.sent)
 	}
 	return r.commit(w, came.sent)
+}
+
+// note tells once, where notes are wanted, that the runner asked for the revision of a key that it had written: the client's ways then are its own.
+func (r *runner) note(w *world) {
+	if r.session.asksOfWritten && !r.hasAsked {
+		r.hasAsked = true
+		if w.notes != nil {
+			fmt.Fprintf(w.notes, "[\"asked\",%d,%d]\n", w.event, r.number)
+		}
+	}
 }
 
 // endLine tells the end by the program.

@@ -4,6 +4,7 @@ import (
 	"bytes"
 	"context"
 	"fmt"
+	"io"
 	"sort"
 
 	"go.etcd.io/etcd/clientv3"
@@ -20,6 +21,8 @@ type world struct {
 	revision int64 // the last one that an answer of etcd's carried
 	changes  []change
 	entries  int64
+	event    int       // the number of the event that is taken
+	notes    io.Writer // nil where none are wanted
 }
 
 // advanceTo keeps the revision that an answer carries, and the keys that it changed where it is a new one.
@@ -31,18 +34,19 @@ func (w *world) advanceTo(revision int64, keys []string) {
 }
 
 // play takes all events of a scenario in a new etcd, and writes the report.
-func play(ctx context.Context, client *clientv3.Client, s *scenario) ([]byte, error) {
-	w := &world{context: ctx, client: client, leases: map[int64]*term{}}
+func play(ctx context.Context, client *clientv3.Client, s *scenario, notes io.Writer) ([]byte, error) {
+	w := &world{context: ctx, client: client, leases: map[int64]*term{}, notes: notes}
 	if err := w.open(s.begin); err != nil {
 		return nil, err
 	}
 	var report bytes.Buffer
 	for i, one := range s.events {
+		w.event = i + 1
 		told, err := one.take(w)
 		if err != nil {
-			return nil, fmt.Errorf("event %d: %v", i+1, err)
+			return nil, fmt.Errorf("event %d: %v", w.event, err)
 		}
-		append(line{int64(i + 1)}, told...).write(&report)
+		append(line{int64(w.event)}, told...).write(&report)
 		report.WriteByte('\n')
 	}
 	last, err := w.lastLines()

@@ -15,11 +15,12 @@ THEMES = [
 
 
 class Programs:
-    """Draws programs. Where they are strict, none asks for the revision of a key that it writes."""
+    """Draws programs. Where they are strict, none asks for the revision of a key that it writes; else many do."""
 
     def __init__(self, draw, strict):
         self.draw = draw
-        keys = KEYS[: draw.randint(2, len(KEYS))]
+        keys = KEYS[: draw.choice([2, 3, 3, 4, len(KEYS)])]
+        self.strict = strict
         self.asked = self.written = self.read = keys
         if strict:
             cut = draw.randint(1, len(keys) - 1)
@@ -29,7 +30,12 @@ class Programs:
         return self.block(self.draw.randint(2, 6), 0)
 
     def block(self, length, depth):
-        return [self.statement(depth) for _ in range(length)]
+        statements = []
+        for _ in range(length):
+            statements.append(self.statement(depth))
+            if not self.strict and statements[-1][0] in ("put", "del") and self.draw.random() < 0.3:
+                statements.append(["emit", ["rev", statements[-1][1]]])
+        return statements
 
     def statement(self, depth):
         draw = self.draw
@@ -129,7 +135,7 @@ class Scenarios:
         draw = self.draw
         limit = 0 if draw.random() < 0.02 else draw.randint(1, 4)
         if limit > 0:
-            self.left.append(draw.randint(2, 4 + limit))
+            self.left.append(draw.randint(2, 3 + limit))
         if not hasattr(self, "last") or draw.random() < 0.6:
             self.last = self.programs.program()
         return ["start", draw.choice(LEVELS), limit, self.last]
@@ -193,7 +199,10 @@ class Scenarios:
         return ["watch_range", *draw.choice([("a", "c"), ("a", "z"), ("s/", "s0"), ("n/", "n0"), ("\u00e9", "\u00ea")]), start]
 
     def poll(self):
-        return ["poll", self.draw.randint(1, self.watchers + 1), self.draw.choice([0, 1, 1, 2, 100])]
+        """A poll, now and then of a watcher that is not there; a watch where there is none yet."""
+        if not self.watchers:
+            return self.watch()
+        return ["poll", self.draw.randint(1, self.watchers + (self.draw.random() < 0.1)), self.draw.choice([0, 1, 1, 2, 100])]
 
     def cancel(self):
         return ["cancel", self.draw.randint(1, self.watchers + 1)]

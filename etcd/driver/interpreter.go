@@ -37,21 +37,24 @@ func (f faulted) Error() string { return string(f) }
 
 // session is one attempt at a program over etcd's own transactional memory.
 type session struct {
-	stm       concurrency.STM
-	variables [16]value
-	turns     int
-	outputs   line
-	trace     line
-	reads     []string // the keys that are looked up, in the order of first look-ups
-	writes    []string // the keys that are written, in the order of first writes
-	isRead    map[string]bool
-	isWritten map[string]bool
-	// asksOfWritten says that the program asked for the revision of a key that it had written.
-	asksOfWritten bool
+	stm        concurrency.STM
+	variables  [16]value
+	turns      int
+	outputs    line
+	trace      line
+	reads      []string // the keys that are looked up, in the order of first look-ups
+	writes     []string // the keys that are written, in the order of first writes
+	isRead     map[string]bool
+	isWritten  map[string]bool
+	readBefore map[string]bool // what the attempt before read, so that its failed commit read it again
+	// isApart says that the program asked for the revision of a key that it had written, where etcd's client does otherwise than stmrun.
+	isApart bool
 }
 
-func newSession(stm concurrency.STM) *session {
-	return &session{stm: stm, outputs: line{}, trace: line{}, isRead: map[string]bool{}, isWritten: map[string]bool{}}
+func newSession(stm concurrency.STM, readBefore map[string]bool) *session {
+	return &session{
+		stm: stm, outputs: line{}, trace: line{}, isRead: map[string]bool{}, isWritten: map[string]bool{}, readBefore: readBefore,
+	}
 }
 
 // run runs a list of statements; its error is the end by an abort or a fault.
@@ -189,8 +192,11 @@ func (s *session) rev(key value) (value, error) {
 	if err != nil {
 		return value{}, err
 	}
+	if s.isWritten[name] && !s.isRead[name] {
+		// Such a key is fetched: as the first read it fixes no base, and what a failed commit read of it is not taken.
+		s.isApart = s.isApart || len(s.reads) == 0 || s.readBefore[name]
+	}
 	s.noteRead(name)
-	s.asksOfWritten = s.asksOfWritten || s.isWritten[name]
 	revision := s.stm.Rev(name)
 	s.trace = append(s.trace, line{"rev", name, revision})
 	return numberOf(revision), nil

@@ -25,8 +25,9 @@ const usage = `Usage: etcd/run [--notes] [SCENARIO]
 
 Plays the scenario of the file, or of standard input, on a real etcd that it starts and ends, and prints the report.
 
-  --notes  puts a line ["asked",N,RUNNER] on standard error where, at event N for the first time, a runner asked for
-           the revision of a key that it had written: the Go client then goes its own way
+  --notes  puts a line ["asked",N,RUNNER] on standard error for each attempt at a serializable level in which, at event N
+           for the first time, the program asked for the revision of a key that it had written and not read, as its first
+           read or after an attempt that read the key: there the Go client does otherwise than stmrun
 
 Statuses: 0 done, 2 bad input or usage, or what a real etcd cannot be driven to, 3 etcd or a device failed,
 70 the driver could not be built.

@@ -18,7 +18,7 @@ type runner struct {
 	program  []*node
 	commits  int64
 	hasEnded bool
-	hasAsked bool     // of some attempt it was noted that it asked for the revision of a key that it had written
+	noted    *session // the last attempt of which a note was made
 	session  *session // the attempt; the driver looks at it only while the runner stands at the gate or has ended
 	answers  line     // what was fetched, as ReadCommitted tells it
 	arrivals chan arrival
@@ -79,7 +79,11 @@ func (r *runner) start(ctx context.Context) {
 	client := clientv3.NewCtxClient(ctx)
 	client.KV = gate{runner: r}
 	apply := func(stm concurrency.STM) error {
-		r.session, r.answers = newSession(stm), line{}
+		var readBefore map[string]bool
+		if r.session != nil {
+			readBefore = r.session.isRead
+		}
+		r.session, r.answers = newSession(stm, readBefore), line{}
 		return r.session.run(r.program)
 	}
 	go func() {
@@ -126,13 +130,12 @@ func (e *stepEvent) take(w *world) (line, error) {
 	return r.commit(w, came.sent)
 }
 
-// note tells once, where notes are wanted, that the runner asked for the revision of a key that it had written: the client's ways then are its own.
+// note tells once of an attempt, where notes are wanted, that etcd's client does otherwise than stmrun in it.
 func (r *runner) note(w *world) {
-	if r.session.asksOfWritten && !r.hasAsked {
-		r.hasAsked = true
-		if w.notes != nil {
-			fmt.Fprintf(w.notes, "[\"asked\",%d,%d]\n", w.event, r.number)
-		}
+	isSerializable := r.level == concurrency.SerializableSnapshot || r.level == concurrency.Serializable
+	if w.notes != nil && isSerializable && r.session.isApart && r.noted != r.session {
+		r.noted = r.session
+		fmt.Fprintf(w.notes, "[\"asked\",%d,%d]\n", w.event, r.number)
 	}
 }
 

@@ -1,0 +1,182 @@
+package main
+
+import (
+	"math"
+
+	"go.etcd.io/etcd/clientv3"
+	"go.etcd.io/etcd/clientv3/concurrency"
+)
+
+const (
+	mostEvents    = 100000
+	highestBegin  = math.MaxInt64 - 1
+	mostCommits   = math.MaxUint32
+	mostLeaseTime = 9000000000
+)
+
+// event is one of a scenario: taking it gives its line of the report.
+type event interface {
+	take(w *world) (line, error)
+}
+
+type startEvent struct {
+	level   concurrency.Isolation
+	limit   int64
+	program []*node
+}
+type stepEvent struct{ runner int64 }
+type txnEvent struct {
+	compares        []clientv3.Cmp
+	then, otherwise []clientv3.Op
+}
+type grantEvent struct{ id, ttl int64 }
+type keepEvent struct{ id int64 }
+type revokeEvent struct{ id int64 }
+type advanceEvent struct{ now int64 }
+type watchEvent struct {
+	first string
+	end   string // "" for the one key
+	from  int64
+}
+type pollEvent struct{ watcher, most int64 }
+type cancelEvent struct{ watcher int64 }
+
+// scenario is where the store opens, and the events with their places in the text.
+type scenario struct {
+	begin  int64
+	events []event
+	places []string
+}
+
+var levels = map[string]concurrency.Isolation{
+	"SerializableSnapshot": concurrency.SerializableSnapshot,
+	"Serializable":         concurrency.Serializable,
+	"RepeatableReads":      concurrency.RepeatableReads,
+	"ReadCommitted":        concurrency.ReadCommitted,
+}
+
+var eventLengths = map[string]int{
+	"start": 4, "step": 2, "txn": 4, "grant": 3, "keep": 2, "revoke": 2, "advance": 2,
+	"watch_key": 3, "watch_range": 4, "poll": 3, "cancel": 2,
+}
+
+// readScenario reads a scenario, or tells its first fault.
+func readScenario(text []byte) (*scenario, error) {
+	value, err := readValue(text)
+	if err != nil {
+		return nil, err
+	}
+	elements, err := arrayIn(value, "")
+	if err != nil {
+		return nil, err
+	}
+	read := &scenario{begin: 1}
+	for i, element := range elements {
+		place := within("", i)
+		if i == 0 && beginsWith(element, "begin") {
+			if read.begin, err = readBegin(element, place); err != nil {
+				return nil, err
+			}
+			continue
+		}
+		if len(read.events) == mostEvents {
+			return nil, &fault{place, "TooMany"}
+		}
+		one, err := readEvent(element, place)
+		if err != nil {
+			return nil, err
+		}
+		read.events = append(read.events, one)
+		read.places = append(read.places, place)
+	}
+	return read, nil
+}
+
+func beginsWith(value interface{}, word string) bool {
+	elements, isArray := value.([]interface{})
+	return isArray && len(elements) > 0 && elements[0] == word
+}
+
+func readBegin(value interface{}, place string) (int64, error) {
+	_, elements, err := wordIn(value, place, map[string]int{"begin": 2})
+	if err != nil {
+		return 0, err
+	}
+	return numberIn(elements[1], within(place, 1), 1, highestBegin)
+}
+
+func readEvent(value interface{}, place string) (event, error) {
+	word, elements, err := wordIn(value, place, eventLengths)
+	if err != nil {
+		return nil, err
+	}
+	switch word {
+	case "start":
+		return readStart(elements, place)
+	case "txn":
+		return readTxn(elements, place)
+	case "watch_key", "watch_range":
+		return readWatch(elements, place)
+	}
+	return readNumbers(word, elements, place)
+}
+
+func readStart(elements []interface{}, place string) (event, error) {
+	name, isText := elements[1].(string)
+	level, isLevel := levels[name]
+	if !isText || !isLevel {
+		return nil, &fault{within(place, 1), "Shape"}
+	}
+	limit, err := numberIn(elements[2], within(place, 2), 0, mostCommits)
+	if err != nil {
+		return nil, err
+	}
+	program, err := readProgram(elements[3], within(place, 3))
+	return &startEvent{level, limit, program}, err
+}
+
+func readWatch(elements []interface{}, place string) (event, error) {
+	read := &watchEvent{}
+	var err error
+	if read.first, err = textIn(elements[1], within(place, 1)); err != nil {
+		return nil, err
+	}
+	if len(elements) == 4 {
+		if read.end, err = textIn(elements[2], within(place, 2)); err != nil {
+			return nil, err
+		}
+		if read.end <= read.first {
+			read.end = noKeys
+		}
+	}
+	last := len(elements) - 1
+	read.from, err = countIn(elements[last], within(place, last))
+	return read, err
+}
+
+// readNumbers reads an event that has numbers alone.
+func readNumbers(word string, elements []interface{}, place string) (event, error) {
+	numbers := [2]int64{}
+	for i, element := range elements[1:] {
+		number, err := countIn(element, within(place, i+1))
+		if err != nil {
+			return nil, err
+		}
+		numbers[i] = number
+	}
+	switch word {
+	case "step":
+		return &stepEvent{numbers[0]}, nil
+	case "grant":
+		return &grantEvent{numbers[0], numbers[1]}, nil
+	case "keep":
+		return &keepEvent{numbers[0]}, nil
+	case "revoke":
+		return &revokeEvent{numbers[0]}, nil
+	case "advance":
+		return &advanceEvent{numbers[0]}, nil
+	case "poll":
+		return &pollEvent{numbers[0], numbers[1]}, nil
+	}
+	return &cancelEvent{numbers[0]}, nil
+}

@@ -3,7 +3,7 @@ use Rattle.std.proofs.Common.{◌≡◌, ◌≢◌, ◌↔◌, ℕ, ◌+◌, ◌
 use Rattle.std.proofs.Common.{refl, sym, ◌∙◌, ap, subst}
 use Rattle.std.proofs.lemmas.List.{drop_all}
 use Rattle.std.proofs.lemmas.Option.{same_Some}
-use Rattle.std.specs.Prelude.{Result, IsTrue, IfOk, OnOk}
+use Rattle.std.specs.Prelude.{Result, IsTrue, IfOk, OnOk, MatchOption}
 use Rattle.std.specs.declared.alloc.AllocError.{AllocError}
 use Rattle.stm_history.specs.declared.change.Change.{Change}
 use Rattle.stm_leases.specs.Live.{is_live_in}
@@ -26,6 +26,7 @@ use Rattle.stm_meaning.specs.declared.run.End.TheVariants.{Done as DoneEnd}
 use Rattle.stm_meaning.specs.declared.run.Run.{Run}
 use Rattle.stm_meaning.specs.declared.run.Answered.{Answered}
 use Rattle.stm_meaning.specs.declared.run.Answered.TheVariants.{Ended, Wants}
+use Rattle.stm_meaning.specs.Answer.{Lookup}
 use Rattle.stm_meaning.specs.Meaning.{run_over}
 use Rattle.stm_txn.specs.declared.refusal.Refusal.{Refusal}
 use Rattle.stm_txn.specs.Outcome.{Done}
@@ -42,7 +43,7 @@ use Rattle.stm_reports.specs.declared.line.ToldAnswer.{ToldAnswer}
 use Rattle.stm_check.specs.declared.runner.Runner.{Runner}
 use Rattle.stm_check.specs.Point.{reads_in, led_by}
 use Rattle.stm_check.specs.Replays.{AreTrulyTold, AnswersFit, keys_told, IsRightCommit, StepReplays}
-use Rattle.stm_check.specs.Runs.{run_in, IsRunTold, IsFound, revision_reached, with_writes}
+use Rattle.stm_check.specs.Runs.{run_in, IsRunTold, IsRunOn, IsFound, revision_reached, with_writes}
 
 -- ---- runs
 
@@ -79,7 +80,7 @@ found_now RepeatableReads h program (Ended run) level is = record { is_run = is;
 found_now RepeatableReads h program (Wants key trace) level is = λ run told. never_wants key trace run (sym is ∙ told.is_run)
 found_now ReadCommitted h program answered level is = absurd (cc)
 
--- at ReadCommitted an answer that is not true leaves no run, nor do answers that the run did not look up
+-- at ReadCommitted an answer that is not true leaves no run
 pub not_true : (level : Level) (h : History) (program : ProgramTree) (answers : List ToldAnswer) → is_comparing level ≡ false →
     (AreTrulyTold h answers → ⊥) → IsFound level h program answers None
 not_true SerializableSnapshot h program answers level untrue = absurd (cc)
@@ -102,15 +103,28 @@ wants_more Serializable h program answers key trace level is = absurd (cc)
 wants_more RepeatableReads h program answers key trace level is = absurd (cc)
 wants_more ReadCommitted h program answers key trace level is = λ run told. never_wants key trace run (sym is ∙ told.is_run)
 
-pub other_keys : (level : Level) (h : History) (program : ProgramTree) (answers : List ToldAnswer) (run : Run) → is_comparing level ≡ false →
-    run_over (look_up (reads_in h answers)) program.statements ≡ Ended run → (keys_told answers ≡ run.reads → ⊥) → IsFound level h program answers None
-other_keys SerializableSnapshot h program answers run level is differ = absurd (cc)
-other_keys Serializable h program answers run level is differ = absurd (cc)
-other_keys RepeatableReads h program answers run level is differ = absurd (cc)
-other_keys ReadCommitted h program answers run level is differ = λ other told.
-    let same : Some run ≡ Some other = ap run_in (sym is ∙ told.is_run) in
-    let one : run ≡ other = cc in
-    differ (told.answers_fit.0 ∙ ap (λ (r : Run). r.reads) (sym one))
+-- the run that came to its end, where its keys were compared
+pub on_keys : (look : Lookup) (program : ProgramTree) (answers : List ToldAnswer) (answered : Answered) (run : Run) (o : Option Run) →
+    run_over look program.statements ≡ answered → run_in answered ≡ Some run →
+    MatchOption o (keys_told answers ≡ run.reads → ⊥) (λ same. (same ≡ run) × (keys_told answers ≡ run.reads)) → IsRunOn look program answers o
+on_keys look program answers answered run None is ended differ = λ other told keys.
+    let one : run ≡ other = same_Some run other (sym ended ∙ ap run_in (sym is ∙ told)) in
+    differ (keys ∙ ap (λ (r : Run). r.reads) (sym one))
+on_keys look program answers answered run (Some same) is ended found =
+    (is ∙ ended_is answered same (ended ∙ ap Some (sym found.0)), found.1 ∙ ap (λ (r : Run). r.reads) (sym found.0))
+
+none_on : (level : Level) (h : History) (program : ProgramTree) (answers : List ToldAnswer) → is_comparing level ≡ false →
+    IsRunOn (look_up (reads_in h answers)) program answers None → IsFound level h program answers None
+none_on SerializableSnapshot h program answers level none = absurd (cc)
+none_on Serializable h program answers level none = absurd (cc)
+none_on RepeatableReads h program answers level none = absurd (cc)
+none_on ReadCommitted h program answers level none = λ run told. none run told.is_run told.answers_fit.0
+
+-- the run on the answers, which are true, is the one that is found at ReadCommitted
+pub found_by_keys : (level : Level) (h : History) (program : ProgramTree) (answers : List ToldAnswer) (o : Option Run) → is_comparing level ≡ false →
+    AreTrulyTold h answers → IsRunOn (look_up (reads_in h answers)) program answers o → IsFound level h program answers o
+found_by_keys level h program answers (Some run) is truth on = found_on level h program answers run is truth on.0 on.1
+found_by_keys level h program answers None is truth none = none_on level h program answers is none
 
 -- ---- the commit
 
@@ -226,27 +240,28 @@ other_run b s r run revision attempts output trace answers told test is = (
       sym is ∙ test.1 (taken.is_done, taken.emits, taken.sees)),
 )
 
--- the commit of the run
-pub run_taken : (b : Bool) (s : Standing) (r : Runner) (run : Run) (reached : Option ℕ) (revision attempts : ℕ) (output : List Value)
-    (trace : List TraceItem) (answers : List ToldAnswer) → IsRunTold r.level s.history r.program answers run →
-    (attempts ≡ r.conflicts + 1) × (attempts ≤ r.limit) → (run.end ≡ DoneEnd) × (run.output ≡ output) × (run.trace ≡ trace) →
-    reached ≡ revision_reached (applied_run (without_moment s) run) → (IsTrue b ↔ reached ≡ Some revision) →
-    (IsTrue b ↔ IsRightCommit s r revision attempts output trace answers)
-run_taken b s r run reached revision attempts output trace answers told next done is test = (
-  (λ t. right_commit s r run revision attempts output trace answers told (record {
-    is_done = done.0;
-    emits = done.1;
-    sees = done.2;
-    reached = sym is ∙ test.0 t;
-    attempt = next.0;
-    may_be_sent = next.1;
-  })),
+-- the commit of the run, where a test looks at all of what the line tells
+pub run_right : (b : Bool) (s : Standing) (r : Runner) (run : Run) (revision attempts : ℕ) (output : List Value) (trace : List TraceItem)
+    (answers : List ToldAnswer) → IsRunTold r.level s.history r.program answers run → (attempts ≡ r.conflicts + 1) × (attempts ≤ r.limit) →
+    (IsTrue b ↔ ((run.end ≡ DoneEnd) × (run.output ≡ output) × (run.trace ≡ trace))
+    × (revision_reached (applied_run (without_moment s) run) ≡ Some revision)) → (IsTrue b ↔ IsRightCommit s r revision attempts output trace answers)
+run_right b s r run revision attempts output trace answers told next test = (
+  (λ t.
+      let taken = test.0 t in
+      right_commit s r run revision attempts output trace answers told (record {
+        is_done = taken.0.0;
+        emits = taken.0.1;
+        sees = taken.0.2;
+        reached = taken.1;
+        attempt = next.0;
+        may_be_sent = next.1;
+      })),
   (λ right.
       let has = commit_run s r revision attempts output trace answers right in
       let same : has.0 ≡ run = told_once r.level s.history r.program answers has.0 run has.1 told in
       let taken : IsTakenAs s r run revision attempts output trace =
       subst (λ (x : Run). IsTakenAs s r x revision attempts output trace) same has.2 in
-      test.1 (is ∙ taken.reached)),
+      test.1 ((taken.is_done, taken.emits, taken.sees), taken.reached)),
 )
 
 -- ---- the writes

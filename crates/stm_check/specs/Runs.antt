@@ -6,6 +6,7 @@ use Rattle.stm_program.specs.declared.level.Level.{Level}
 use Rattle.stm_meaning.specs.declared.run.Run.{Run}
 use Rattle.stm_meaning.specs.declared.run.Answered.{Answered}
 use Rattle.stm_meaning.specs.declared.run.Answered.TheVariants.{Ended, Wants}
+use Rattle.stm_meaning.specs.Answer.{Lookup}
 use Rattle.stm_meaning.specs.Meaning.{run_over}
 use Rattle.stm_txn.specs.declared.refusal.Refusal.{Refusal}
 use Rattle.stm_txn.specs.Outcome.{Done}
@@ -14,7 +15,7 @@ use Rattle.stm_entries.specs.Alone.{seen_at, applied_run, history_left}
 use Rattle.stm_entries.specs.Replayed.{without_moment}
 use Rattle.stm_reports.specs.declared.line.ToldAnswer.{ToldAnswer}
 use Rattle.stm_check.specs.Point.{reads_in}
-use Rattle.stm_check.specs.Replays.{AnswersFit}
+use Rattle.stm_check.specs.Replays.{AnswersFit, keys_told}
 
 -- ---- the run
 
@@ -32,6 +33,11 @@ pub record IsRunTold (level : Level) (h : History) (program : ProgramTree) (answ
 abbrev pub IsFound : Level → History → ProgramTree → List ToldAnswer → Option Run → Type 0
 IsFound level h program answers (Some run) = IsRunTold level h program answers run
 IsFound level h program answers None = (run : Run) → ¬ IsRunTold level h program answers run
+
+-- the run on these look-ups is this one, and it looked up the keys of these answers, or there is no such run
+abbrev pub IsRunOn : Lookup → ProgramTree → List ToldAnswer → Option Run → Type 0
+IsRunOn look program answers (Some run) = (run_over look program.statements ≡ Ended run) × (keys_told answers ≡ run.reads)
+IsRunOn look program answers None = (run : Run) → run_over look program.statements ≡ Ended run → keys_told answers ≡ run.reads → ⊥
 
 -- ---- its writes
 

@@ -1,25 +1,26 @@
 //! Whether a line tells the commit that the replay of a runner's program is.
-ghost use Rattle.std.specs.Prelude.{◌≡◌, ◌≢◌, ◌↔◌, ◌+◌, ◌≤◌, [], ◌∷◌, true, false, map, None, Some, IsTrue, IfOk, OnOk};
+ghost use Rattle.std.specs.Prelude.{◌≡◌, ◌≢◌, ◌↔◌, ◌+◌, ◌≤◌, [], ◌∷◌, true, false, map, None, Some, IsTrue, IfOk, OnOk, MatchOption};
 ghost use Rattle.stm_txn.specs.declared.refusal.Refusal.TheVariants.{OutOfMemory};
+ghost use Rattle.stm_compile.specs.Answers.{look_up};
 ghost use Rattle.stm_compile.specs.Now.{as_change};
 ghost use Rattle.stm_meaning.specs.declared.run.End.TheVariants.{Done as DoneEnd};
 ghost use Rattle.stm_txn.specs.Numbers.{StatesFit};
 ghost use Rattle.stm_compile.specs.Levels.{is_comparing};
 ghost use Rattle.stm_entries.specs.Alone.{applied_run};
 ghost use Rattle.stm_entries.specs.Replayed.{without_moment};
-ghost use Rattle.stm_entries.specs.declared.entry.Entry.TheVariants.{Program};
+ghost use Rattle.stm_entries.specs.declared.entry.Entry.TheVariants.{Program as ProgramEntry};
 ghost use Rattle.stm_check.specs.Point.{reads_in, led_by};
 ghost use Rattle.stm_check.specs.Replays.{keys_told, IsRightCommit};
-ghost use Rattle.stm_check.specs.Runs.{run_in, IsFound, revision_reached, with_writes};
+ghost use Rattle.stm_check.specs.Runs.{run_in, IsRunOn, IsFound, revision_reached, with_writes};
 
 use crate::lookups::{KeysNow, are_truly_told, reads_told};
 use crate::runner::Runner;
 use std::alloc::{AllocError, Global};
-use stm_compile::WriteBuffer;
+use stm_compile::{ReadSet, WriteBuffer};
 use stm_history::Text;
 use stm_keys::Keys;
 use stm_meaning::{Answered, End, Run, TraceItem, Value, run_answered};
-use stm_program::{Level, Write};
+use stm_program::{Level, Program, Write};
 use stm_reports::ToldAnswer;
 use stm_told::{are_same_traces, are_same_values};
 use stm_txn::{Change, Refusal, Store};
@@ -102,6 +103,32 @@ fn run_now(
     Ok(ended_run(answered))
 }
 
+/// The run, where the keys that it looked up are those of these answers.
+fn run_of_keys(run: Run, answers: &[ToldAnswer]) -> Option<Run>
+    ensures { MatchOption result (keys_told answers.now ≡ run.reads → ⊥) (λ same. (same ≡ run) × (keys_told answers.now ≡ run.reads)) }
+{
+    if are_of_keys(answers, run.reads.as_slice()) {
+        Some(run)
+    } else {
+        None
+    }
+}
+
+/// The run on these reads, where it looked up the keys of these answers.
+fn run_on_reads(
+    alloc: Global,
+    program: &Program,
+    reads: &ReadSet,
+    answers: &[ToldAnswer],
+) -> Result<Option<Run>, AllocError>
+    ensures { IfOk result (IsRunOn (look_up reads.now) program.now answers.now) }
+{
+    match ended_run(run_answered(alloc, program, reads)?) {
+        None => Ok(None),
+        Some(run) => Ok(run_of_keys(run, answers)),
+    }
+}
+
 /// The run on the answers that are told, where they are true and are those that the run looked up.
 fn run_on_told(
     alloc: Global,
@@ -117,13 +144,9 @@ fn run_on_told(
         return Ok(None);
     }
     let reads = reads_told(alloc, keys, answers)?;
-    let Some(run) = ended_run(run_answered(alloc, &runner.program, &reads)?) else {
-        return Ok(None);
-    };
-    if !are_of_keys(answers, run.reads.as_slice()) {
-        return Ok(None);
-    }
-    Ok(Some(run))
+    let run = run_on_reads(alloc, &runner.program, &reads, answers);
+    drop(reads);
+    run
 }
 
 /// The run of a runner's program at this point, where the answers that are told are those of its level.
@@ -219,6 +242,24 @@ fn is_reached(reached: Option<u64>, revision: u64) -> bool
     }
 }
 
+/// Applies a run, and tells whether the line of a commit tells it.
+fn replay_run(
+    alloc: Global,
+    store: &mut Store,
+    run: &Run,
+    told: Told<'_>,
+) -> Result<bool, AllocError>
+    ensures right { IfOk result (λ b. IsTrue b ↔ ((run.now.end ≡ DoneEnd) × (run.now.output ≡ told.entry.output.now) × (run.now.trace ≡ told.entry.trace.now))
+        × (revision_reached (applied_run (without_moment store.old.standing) run.now) ≡ Some told.entry.revision)) }
+    ensures next { IfOk result (λ b. IsTrue b → store.new.standing ≡ with_writes store.old.standing run.now) }
+{
+    if !is_told_run(run, told) {
+        return Ok(false);
+    }
+    let reached = apply_writes(alloc, store, run)?;
+    Ok(is_reached(reached, told.revision))
+}
+
 /// Applies the commit of a runner, and tells whether a line tells it.
 pub(crate) fn replay_commit(
     alloc: Global,
@@ -229,7 +270,7 @@ pub(crate) fn replay_commit(
     ensures right { IfOk result (λ b. IsTrue b ↔ IsRightCommit store.old.standing runner.now told.entry.revision told.entry.attempts
         told.entry.output.now told.entry.trace.now told.entry.answers.now) }
     ensures next { IfOk result (λ b. IsTrue b → store.new.standing
-        ≡ led_by (Program runner.now.program runner.now.level (reads_in store.old.standing.history told.entry.answers.now)
+        ≡ led_by (ProgramEntry runner.now.program runner.now.level (reads_in store.old.standing.history told.entry.answers.now)
         told.entry.output.now told.entry.trace.now told.entry.revision ∷ []) store.old.standing store.old.standing.moment) }
 {
     if !is_next_attempt(runner, told.attempts) {
@@ -238,9 +279,7 @@ pub(crate) fn replay_commit(
     let Some(run) = run_told(alloc, store.keys(), runner, told.answers)? else {
         return Ok(false);
     };
-    if !is_told_run(&run, told) {
-        return Ok(false);
-    }
-    let reached = apply_writes(alloc, store, &run)?;
-    Ok(is_reached(reached, told.revision))
+    let right = replay_run(alloc, store, &run, told);
+    drop(run);
+    right
 }

@@ -3,12 +3,13 @@ ghost use Rattle.std.specs.Prelude.{◌≡◌, [], ◌∷◌, false, IfOk};
 ghost use Rattle.serde_json.specs.View.{view};
 ghost use Rattle.serde_json.specs.Data.{string};
 ghost use Rattle.serde_json.specs.Written.{has_float};
-ghost use Rattle.stm_world.specs.declared.reply.Reply.TheVariants.{Txn, Advanced, Batch};
+ghost use Rattle.stm_world.specs.declared.reply.Reply.TheVariants.{Txn, Revoked, Advanced, Batch};
 ghost use Rattle.stm_lines.specs.Lines.{list, whole, reply_line, event_line, IsOfRunner, IsOfCommit};
 
+use crate::parts::Parts;
 use crate::runners::{Commit, committed_json, conflict_json, fetched_json, gave_up_json};
-use crate::spelled::array;
-use serde_json::{Value as Json, json};
+use crate::spelled::with_list;
+use serde_json::Value as Json;
 use std::alloc::{AllocError, Global};
 use stm_keys::Event;
 use stm_txn::{Expired, TxnAnswer};
@@ -18,7 +19,7 @@ use stm_world::{Denied, Reply};
 fn named_json(alloc: Global, number: u64, word: &str, id: u64) -> Result<Json, AllocError>
     ensures { IfOk result (λ v. view v ≡ list (whole number ∷ string word.now ∷ whole id ∷ [])) }
 {
-    json!(in alloc; [number, word, id])
+    Ok(Parts::numbered(alloc, number, word)?.whole(id)?.array())
 }
 
 /// The line of a runner's end, with what tells why.
@@ -31,15 +32,25 @@ fn told_json(
 ) -> Result<Json, AllocError>
     ensures { IfOk result (λ v. view v ≡ list (whole number ∷ string word.now ∷ whole runner ∷ string text.now ∷ [])) }
 {
-    json!(in alloc; [number, word, runner, text])
+    let parts = Parts::numbered(alloc, number, word)?;
+    Ok(parts.whole(runner)?.word(text)?.array())
 }
 
 /// The line of another client's transaction.
 fn txn_json(alloc: Global, number: u64, answer: &TxnAnswer) -> Result<Json, AllocError>
     ensures { IfOk result (λ v. view v ≡ reply_line number (Txn answer.now)) }
 {
-    let answers = array(alloc, answer.answers.as_slice())?;
-    json!(in alloc; [number, "txn", answer.succeeded, answer.revision, answers])
+    let parts = Parts::numbered(alloc, number, "txn")?;
+    let parts = parts.flag(answer.succeeded)?.whole(answer.revision)?;
+    Ok(with_list(alloc, parts, answer.answers.as_slice())?.array())
+}
+
+/// The line of a revocation.
+fn revoked_json(alloc: Global, number: u64, id: u64, revision: u64) -> Result<Json, AllocError>
+    ensures { IfOk result (λ v. view v ≡ reply_line number (Revoked id revision)) }
+{
+    let parts = Parts::numbered(alloc, number, "revoked")?;
+    Ok(parts.whole(id)?.whole(revision)?.array())
 }
 
 /// The line of an advance.
@@ -51,8 +62,8 @@ fn advanced_json(
 ) -> Result<Json, AllocError>
     ensures { IfOk result (λ v. view v ≡ reply_line number (Advanced now expired.now)) }
 {
-    let expired = array(alloc, expired)?;
-    json!(in alloc; [number, "advanced", now, expired])
+    let parts = Parts::numbered(alloc, number, "advanced")?.whole(now)?;
+    Ok(with_list(alloc, parts, expired)?.array())
 }
 
 /// The line of what a watcher was given.
@@ -65,8 +76,9 @@ fn batch_json(
 ) -> Result<Json, AllocError>
     ensures { IfOk result (λ v. view v ≡ reply_line number (Batch watcher upto events.now)) }
 {
-    let events = array(alloc, events)?;
-    json!(in alloc; [number, "batch", watcher, upto, events])
+    let parts = Parts::numbered(alloc, number, "batch")?;
+    let parts = parts.whole(watcher)?.whole(upto)?;
+    Ok(with_list(alloc, parts, events)?.array())
 }
 
 /// The line of a commit that the store took, or that failed.
@@ -148,7 +160,7 @@ fn reply_json(alloc: Global, number: u64, reply: &Reply) -> Result<Json, AllocEr
         Reply::Txn { answer } => txn_json(alloc, number, answer),
         Reply::Granted { id } => named_json(alloc, number, "granted", *id),
         Reply::Kept { id } => named_json(alloc, number, "kept", *id),
-        Reply::Revoked { id, revision } => { json!(in alloc; [number, "revoked", *id, *revision]) }
+        Reply::Revoked { id, revision } => revoked_json(alloc, number, *id, *revision),
         Reply::Advanced { now, expired } => {
             advanced_json(alloc, number, *now, expired.as_slice())
         }
@@ -167,9 +179,9 @@ fn reply_json(alloc: Global, number: u64, reply: &Reply) -> Result<Json, AllocEr
 fn refused_json(alloc: Global, number: u64, denied: &Denied) -> Result<Json, AllocError>
     ensures { IfOk result (λ v. view v ≡ event_line number (Err denied.now)) }
 {
-    let cause = denied.cause.name();
-    let expired = array(alloc, denied.expired.as_slice())?;
-    json!(in alloc; [number, "refused", cause, expired])
+    let parts = Parts::numbered(alloc, number, "refused")?;
+    let parts = parts.word(denied.cause.name())?;
+    Ok(with_list(alloc, parts, denied.expired.as_slice())?.array())
 }
 
 /// The line of the event with this number, by the reply to it. It fails where a growth was refused.

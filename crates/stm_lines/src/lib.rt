@@ -5,6 +5,7 @@
 
 mod events;
 mod operations;
+mod parts;
 mod runners;
 mod spelled;
 mod standing;

@@ -4,8 +4,9 @@ ghost use Rattle.serde_json.specs.View.{view};
 ghost use Rattle.stm_world.specs.declared.reply.Reply.TheVariants.{Fetched, Committed, Conflict, GaveUp};
 ghost use Rattle.stm_lines.specs.Lines.{reply_line};
 
-use crate::spelled::array;
-use serde_json::{Value as Json, json};
+use crate::parts::Parts;
+use crate::spelled::with_list;
+use serde_json::Value as Json;
 use std::alloc::{AllocError, Global};
 use stm_history::ReadAnswer;
 use stm_meaning::{TraceItem, Value};
@@ -22,7 +23,9 @@ pub(crate) fn fetched_json(
 ) -> Result<Json, AllocError>
     ensures { IfOk result (λ v. view v ≡ reply_line number (Fetched runner key.now mod_rev of_rev revision)) }
 {
-    json!(in alloc; [number, "fetched", runner, key, mod_rev, of_rev, revision])
+    let parts = Parts::numbered(alloc, number, "fetched")?;
+    let parts = parts.whole(runner)?.word(key)?.whole(mod_rev)?;
+    Ok(parts.whole(of_rev)?.whole(revision)?.array())
 }
 
 /// What a commit tells.
@@ -45,10 +48,12 @@ pub(crate) fn committed_json(
     ensures { IfOk result (λ v. view v ≡ reply_line number (Committed commit.entry.runner commit.entry.revision commit.entry.attempts
         commit.entry.output.now commit.entry.trace.now commit.entry.answers.now)) }
 {
-    let output = array(alloc, commit.output)?;
-    let trace = array(alloc, commit.trace)?;
-    let answers = array(alloc, commit.answers)?;
-    json!(in alloc; [number, "committed", commit.runner, commit.revision, commit.attempts, output, trace, answers])
+    let parts = Parts::numbered(alloc, number, "committed")?;
+    let parts = parts.whole(commit.runner)?.whole(commit.revision)?;
+    let parts = parts.whole(commit.attempts as u64)?;
+    let parts = with_list(alloc, parts, commit.output)?;
+    let parts = with_list(alloc, parts, commit.trace)?;
+    Ok(with_list(alloc, parts, commit.answers)?.array())
 }
 
 /// The line of a failed commit after which the run goes on.
@@ -62,7 +67,9 @@ pub(crate) fn conflict_json(
 ) -> Result<Json, AllocError>
     ensures { IfOk result (λ v. view v ≡ reply_line number (Conflict runner key.now seen now)) }
 {
-    json!(in alloc; [number, "conflict", runner, key, seen, now])
+    let parts = Parts::numbered(alloc, number, "conflict")?;
+    let parts = parts.whole(runner)?.word(key)?;
+    Ok(parts.whole(seen)?.whole(now)?.array())
 }
 
 /// The line of the last commit that a run may send, which failed.
@@ -77,5 +84,7 @@ pub(crate) fn gave_up_json(
 ) -> Result<Json, AllocError>
     ensures { IfOk result (λ v. view v ≡ reply_line number (GaveUp runner attempts key.now seen now)) }
 {
-    json!(in alloc; [number, "gaveup", runner, attempts, key, seen, now])
+    let parts = Parts::numbered(alloc, number, "gaveup")?;
+    let parts = parts.whole(runner)?.whole(attempts as u64)?.word(key)?;
+    Ok(parts.whole(seen)?.whole(now)?.array())
 }

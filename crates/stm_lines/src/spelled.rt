@@ -1,12 +1,14 @@
 //! What stands in the lists of a report's lines, as JSON.
-ghost use Rattle.std.specs.Prelude.{◌≡◌, IfOk, map};
+ghost use Rattle.std.specs.Prelude.{◌≡◌, ◌++◌, [], ◌∷◌, map, IfOk};
 ghost use Rattle.serde_json.specs.Data.{Data};
 ghost use Rattle.serde_json.specs.View.{view};
 ghost use Rattle.stm_history.specs.History.{mod_of};
-ghost use Rattle.stm_keys.specs.declared.event.Event.TheVariants.{Put as PutEvent};
-ghost use Rattle.stm_lines.specs.Lines.{list, value_data, trace_data, answer_data, value_or_null, expired_data, event_data};
+ghost use Rattle.stm_meaning.specs.declared.trace_item.TraceItem.TheVariants.{Get, Rev};
+ghost use Rattle.stm_keys.specs.declared.event.Event.TheVariants.{Put as PutEvent, Delete as DeleteEvent};
+ghost use Rattle.stm_lines.specs.Lines.{list, value_data, trace_data, answer_data, expired_data, event_data};
 
-use serde_json::{Value as Json, json};
+use crate::parts::Parts;
+use serde_json::Value as Json;
 use std::alloc::{AllocError, Global};
 use stm_history::{KeyState, ReadAnswer};
 use stm_keys::Event;
@@ -23,16 +25,35 @@ pub(crate) trait Spelled {
         ensures { IfOk result (λ v. view v ≡ spelled self.now) };
 }
 
+/// One item more among the parts of an array.
+fn with_item<T: Spelled>(alloc: Global, parts: Parts, item: &T) -> Result<Parts, AllocError>
+    ensures { IfOk result (λ longer. map view longer.values.items ≡ map view parts.values.items ++ T.spelled item.now ∷ []) }
+{
+    let item = item.to_json(alloc)?;
+    parts.part(item)
+}
+
 /// A list as a JSON array.
-pub(crate) fn array<T: Spelled>(alloc: Global, items: &[T]) -> Result<Json, AllocError>
+fn array<T: Spelled>(alloc: Global, items: &[T]) -> Result<Json, AllocError>
     ensures { IfOk result (λ v. view v ≡ list (map T.spelled items.now)) }
 {
-    let mut elements = Vec::new(alloc);
+    let mut parts = Parts::none(alloc);
     for item in items {
-        let element = item.to_json(alloc)?;
-        elements.push(element)?;
+        parts = with_item(alloc, parts, item)?;
     }
-    Ok(Json::Array(elements))
+    Ok(parts.array())
+}
+
+/// A list more among the parts of an array.
+pub(crate) fn with_list<T: Spelled>(
+    alloc: Global,
+    parts: Parts,
+    items: &[T],
+) -> Result<Parts, AllocError>
+    ensures { IfOk result (λ longer. map view longer.values.items ≡ map view parts.values.items ++ list (map T.spelled items.now) ∷ []) }
+{
+    let list = array(alloc, items)?;
+    parts.part(list)
 }
 
 impl Spelled for Value {
@@ -40,10 +61,29 @@ impl Spelled for Value {
 
     fn to_json(&self, alloc: Global) -> Result<Json, AllocError> {
         match self {
-            Value::Text(text) => json!(in alloc; text.as_str()),
+            Value::Text(text) => Json::try_from_str(alloc, text.as_str()),
             Value::Number(number) => Ok(Json::from(*number)),
         }
     }
+}
+
+/// What a `get` gave.
+fn get_json(alloc: Global, key: &str, value: &str) -> Result<Json, AllocError>
+    ensures { IfOk result (λ v. view v ≡ trace_data (Get key.now value.now)) }
+{
+    Ok(Parts::worded(alloc, "get")?.word(key)?.word(value)?.array())
+}
+
+/// What a `rev` gave.
+fn rev_json(alloc: Global, key: &str, mod_rev: u64) -> Result<Json, AllocError>
+    ensures { IfOk result (λ v. view v ≡ trace_data (Rev key.now mod_rev)) }
+{
+    Ok(
+        Parts::worded(alloc, "rev")?
+            .word(key)?
+            .whole(mod_rev)?
+            .array(),
+    )
 }
 
 impl Spelled for TraceItem {
@@ -51,19 +91,9 @@ impl Spelled for TraceItem {
 
     fn to_json(&self, alloc: Global) -> Result<Json, AllocError> {
         match self {
-            TraceItem::Get { key, value } => json!(in alloc; ["get", key.as_str(), value.as_str()]),
-            TraceItem::Rev { key, mod_rev } => json!(in alloc; ["rev", key.as_str(), *mod_rev]),
+            TraceItem::Get { key, value } => get_json(alloc, key.as_str(), value.as_str()),
+            TraceItem::Rev { key, mod_rev } => rev_json(alloc, key.as_str(), *mod_rev),
         }
-    }
-}
-
-/// The value of a key, null where it is absent.
-fn value_json(alloc: Global, kv: &Option<KeyState>) -> Result<Json, AllocError>
-    ensures { IfOk result (λ v. view v ≡ value_or_null kv.now) }
-{
-    match kv {
-        None => Ok(Json::Null),
-        Some(state) => json!(in alloc; state.value.as_str()),
     }
 }
 
@@ -81,9 +111,8 @@ impl Spelled for ReadAnswer {
     ghost spelled = { answer_data };
 
     fn to_json(&self, alloc: Global) -> Result<Json, AllocError> {
-        let value = value_json(alloc, &self.kv)?;
-        let revision = mod_rev(&self.kv);
-        json!(in alloc; [self.key.as_str(), value, revision, self.of_rev])
+        let parts = Parts::worded(alloc, self.key.as_str())?.value(&self.kv)?;
+        Ok(parts.whole(mod_rev(&self.kv))?.whole(self.of_rev)?.array())
     }
 }
 
@@ -91,7 +120,8 @@ impl Spelled for Expired {
     ghost spelled = { expired_data };
 
     fn to_json(&self, alloc: Global) -> Result<Json, AllocError> {
-        json!(in alloc; [self.id, self.revision])
+        let parts = Parts::none(alloc);
+        Ok(parts.whole(self.id)?.whole(self.revision)?.array())
     }
 }
 
@@ -99,8 +129,20 @@ impl Spelled for Expired {
 fn put_json(alloc: Global, key: &str, state: &KeyState) -> Result<Json, AllocError>
     ensures { IfOk result (λ v. view v ≡ event_data (PutEvent key.now state.now)) }
 {
-    let value = state.value.as_str();
-    json!(in alloc; ["PUT", key, value, state.create_rev, state.mod_rev, state.version, state.lease])
+    Ok(
+        Parts::worded(alloc, "PUT")?
+            .word(key)?
+            .state(state)?
+            .array(),
+    )
+}
+
+/// What a watcher is shown of a deletion.
+fn delete_json(alloc: Global, key: &str, revision: u64) -> Result<Json, AllocError>
+    ensures { IfOk result (λ v. view v ≡ event_data (DeleteEvent key.now revision)) }
+{
+    let parts = Parts::worded(alloc, "DELETE")?;
+    Ok(parts.word(key)?.whole(revision)?.array())
 }
 
 impl Spelled for Event {
@@ -109,9 +151,7 @@ impl Spelled for Event {
     fn to_json(&self, alloc: Global) -> Result<Json, AllocError> {
         match self {
             Event::Put { key, state } => put_json(alloc, key.as_str(), state),
-            Event::Delete { key, revision } => {
-                json!(in alloc; ["DELETE", key.as_str(), *revision])
-            }
+            Event::Delete { key, revision } => delete_json(alloc, key.as_str(), *revision),
         }
     }
 }

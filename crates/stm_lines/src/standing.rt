@@ -3,7 +3,8 @@ ghost use Rattle.std.specs.Prelude.{◌≡◌, IfOk};
 ghost use Rattle.serde_json.specs.View.{view};
 ghost use Rattle.stm_lines.specs.Lines.{key_line, lease_line, end_line};
 
-use serde_json::{Value as Json, json};
+use crate::parts::Parts;
+use serde_json::Value as Json;
 use std::alloc::{AllocError, Global};
 use stm_history::KeyState;
 
@@ -11,8 +12,12 @@ use stm_history::KeyState;
 pub fn key_json(alloc: Global, key: &str, state: &KeyState) -> Result<Json, AllocError>
     ensures { IfOk result (λ v. view v ≡ key_line key.now state.now) }
 {
-    let value = state.value.as_str();
-    json!(in alloc; ["key", key, value, state.create_rev, state.mod_rev, state.version, state.lease])
+    Ok(
+        Parts::worded(alloc, "key")?
+            .word(key)?
+            .state(state)?
+            .array(),
+    )
 }
 
 /// The line of a live lease: how many seconds it lives without a renewal, and the moment, in seconds, when it was
@@ -20,12 +25,14 @@ pub fn key_json(alloc: Global, key: &str, state: &KeyState) -> Result<Json, Allo
 pub fn lease_json(alloc: Global, id: u64, ttl: u64, renewed: u64) -> Result<Json, AllocError>
     ensures { IfOk result (λ v. view v ≡ lease_line id (record { ttl = ttl; renewed = renewed })) }
 {
-    json!(in alloc; ["lease", id, ttl, renewed])
+    let parts = Parts::worded(alloc, "lease")?;
+    Ok(parts.whole(id)?.whole(ttl)?.whole(renewed)?.array())
 }
 
 /// The last line: the store's revision, and how many entries were made. It fails where a growth was refused.
 pub fn end_json(alloc: Global, revision: u64, entries: u64) -> Result<Json, AllocError>
     ensures { IfOk result (λ v. view v ≡ end_line revision entries) }
 {
-    json!(in alloc; ["end", revision, entries])
+    let parts = Parts::worded(alloc, "end")?;
+    Ok(parts.whole(revision)?.whole(entries)?.array())
 }

@@ -5,6 +5,7 @@ pub mod Elements
 pub mod Parts
 pub mod Bytes
 pub mod Reading
+pub mod Rests
 pub mod Grammar
 pub mod FirstFault
 pub use Rattle.stm_json.specs.Outcome

@@ -6,6 +6,7 @@ ghost use Rattle.stm_reports.specs.Elements.{five_of, six_of};
 ghost use Rattle.stm_reports.specs.Reading.{named_of, fetched_of, committed_of, conflict_of, gave_up_of, aborted_of, faulted_of, ended_of, txn_of};
 ghost use Rattle.stm_reports.specs.Reading.{revoked_of, advanced_of, batch_of, refused_of, started_of, granted_of, kept_of, watching_of, cancelled_of};
 ghost use Rattle.stm_reports.specs.Reading.{event_line_of};
+ghost use Rattle.stm_reports.specs.Rests.{fetched_rest, conflict_rest, gave_up_rest};
 
 use crate::elements::{five, six};
 use crate::line::ReportLine;
@@ -63,15 +64,18 @@ fn cancelled(alloc: Global, number: &Json, elements: &[Json]) -> Result<ReportLi
     Ok(ReportLine::Cancelled { number, id })
 }
 
-/// The line of a fetch.
-fn fetched(alloc: Global, number: &Json, elements: &[Json]) -> Result<ReportLine, ReadError>
-    ensures { Tells (λ l. l) result (fetched_of (view number.now) (five_of (items_view elements.now))) }
+/// The line of a fetch, from its key on.
+fn fetched_key(
+    alloc: Global,
+    number: u64,
+    runner: u64,
+    key: &Json,
+    mod_rev: &Json,
+    of_rev: &Json,
+    revision: &Json,
+) -> Result<ReportLine, ReadError>
+    ensures { Tells (λ l. l) result (fetched_rest number runner (view key.now) (view mod_rev.now) (view of_rev.now) (view revision.now)) }
 {
-    let Some((runner, key, mod_rev, of_rev, revision)) = five(elements) else {
-        return Err(fault(alloc, Cause::Shape));
-    };
-    let number = number_part(alloc, 0, number)?;
-    let runner = number_part(alloc, 2, runner)?;
     let key = text_part(alloc, 3, key)?;
     let mod_rev = number_part(alloc, 4, mod_rev)?;
     let of_rev = number_part(alloc, 5, of_rev)?;
@@ -84,6 +88,18 @@ fn fetched(alloc: Global, number: &Json, elements: &[Json]) -> Result<ReportLine
         of_rev,
         revision,
     })
+}
+
+/// The line of a fetch.
+fn fetched(alloc: Global, number: &Json, elements: &[Json]) -> Result<ReportLine, ReadError>
+    ensures { Tells (λ l. l) result (fetched_of (view number.now) (five_of (items_view elements.now))) }
+{
+    let Some((runner, key, mod_rev, of_rev, revision)) = five(elements) else {
+        return Err(fault(alloc, Cause::Shape));
+    };
+    let number = number_part(alloc, 0, number)?;
+    let runner = number_part(alloc, 2, runner)?;
+    fetched_key(alloc, number, runner, key, mod_rev, of_rev, revision)
 }
 
 /// The line of a commit.
@@ -111,6 +127,29 @@ fn committed(alloc: Global, number: &Json, elements: &[Json]) -> Result<ReportLi
     })
 }
 
+/// The line of a failed commit, from its key on.
+fn conflict_key(
+    alloc: Global,
+    number: u64,
+    runner: u64,
+    key: &Json,
+    seen: &Json,
+    now: &Json,
+) -> Result<ReportLine, ReadError>
+    ensures { Tells (λ l. l) result (conflict_rest number runner (view key.now) (view seen.now) (view now.now)) }
+{
+    let key = text_part(alloc, 3, key)?;
+    let seen = number_part(alloc, 4, seen)?;
+    let now = number_part(alloc, 5, now)?;
+    Ok(ReportLine::Conflict {
+        number,
+        runner,
+        key,
+        seen,
+        now,
+    })
+}
+
 /// The line of a failed commit after which the run goes on.
 fn conflict(alloc: Global, number: &Json, elements: &[Json]) -> Result<ReportLine, ReadError>
     ensures { Tells (λ l. l) result (conflict_of (view number.now) (four_of (items_view elements.now))) }
@@ -120,12 +159,28 @@ fn conflict(alloc: Global, number: &Json, elements: &[Json]) -> Result<ReportLin
     };
     let number = number_part(alloc, 0, number)?;
     let runner = number_part(alloc, 2, runner)?;
-    let key = text_part(alloc, 3, key)?;
-    let seen = number_part(alloc, 4, seen)?;
-    let now = number_part(alloc, 5, now)?;
-    Ok(ReportLine::Conflict {
+    conflict_key(alloc, number, runner, key, seen, now)
+}
+
+/// The line of the last commit that failed, from its key on.
+fn gave_up_key(
+    alloc: Global,
+    number: u64,
+    runner: u64,
+    attempts: u64,
+    key: &Json,
+    seen: &Json,
+    now: &Json,
+) -> Result<ReportLine, ReadError>
+    ensures { Tells (λ l. l) result (gave_up_rest number runner attempts (view key.now) (view seen.now) (view now.now)) }
+{
+    let key = text_part(alloc, 4, key)?;
+    let seen = number_part(alloc, 5, seen)?;
+    let now = number_part(alloc, 6, now)?;
+    Ok(ReportLine::GaveUp {
         number,
         runner,
+        attempts,
         key,
         seen,
         now,
@@ -142,17 +197,7 @@ fn gave_up(alloc: Global, number: &Json, elements: &[Json]) -> Result<ReportLine
     let number = number_part(alloc, 0, number)?;
     let runner = number_part(alloc, 2, runner)?;
     let attempts = number_part(alloc, 3, attempts)?;
-    let key = text_part(alloc, 4, key)?;
-    let seen = number_part(alloc, 5, seen)?;
-    let now = number_part(alloc, 6, now)?;
-    Ok(ReportLine::GaveUp {
-        number,
-        runner,
-        attempts,
-        key,
-        seen,
-        now,
-    })
+    gave_up_key(alloc, number, runner, attempts, key, seen, now)
 }
 
 /// The line of a program that aborted.

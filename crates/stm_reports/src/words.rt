@@ -1,5 +1,5 @@
 //! The words that lines are told apart by, and the names of faults and refusals.
-ghost use Rattle.std.specs.Prelude.{◌≡◌};
+ghost use Rattle.std.specs.Prelude.{◌≡◌, map};
 ghost use Rattle.stm_reports.specs.Words.{named, event_words, standing_words, fault_words, other_words, refusal_named};
 
 use crate::causes::RefusalName;
@@ -55,130 +55,109 @@ pub enum StandingWord {
     End,
 }
 
+/// What a word stands for in a table, if it stands there.
+fn found<W: Copy>(rows: &[(&str, W)], word: &str) -> Option<W>
+    ensures { result ≡ named (map (λ row. (row.0.now, row.1)) rows.now) word.now }
+{
+    match rows {
+        [] => None,
+        [row, rest @ ..] => {
+            if word == row.0 {
+                Some(row.1)
+            } else {
+                found(rest, word)
+            }
+        }
+    }
+}
+
+/// The words of the lines of events.
+static EVENT_WORDS: [(&str, EventWord); 17] = [
+    ("started", EventWord::Started),
+    ("fetched", EventWord::Fetched),
+    ("committed", EventWord::Committed),
+    ("conflict", EventWord::Conflict),
+    ("gaveup", EventWord::GaveUp),
+    ("aborted", EventWord::Aborted),
+    ("faulted", EventWord::Faulted),
+    ("ended", EventWord::Ended),
+    ("txn", EventWord::Txn),
+    ("granted", EventWord::Granted),
+    ("kept", EventWord::Kept),
+    ("revoked", EventWord::Revoked),
+    ("advanced", EventWord::Advanced),
+    ("watching", EventWord::Watching),
+    ("cancelled", EventWord::Cancelled),
+    ("batch", EventWord::Batch),
+    ("refused", EventWord::Refused),
+];
+
 /// Which event's line begins with a word, if any does.
 pub(crate) fn event_word(word: &str) -> Option<EventWord>
     ensures { result ≡ named event_words word.now }
 {
-    if word == "started" {
-        Some(EventWord::Started)
-    } else if word == "fetched" {
-        Some(EventWord::Fetched)
-    } else if word == "committed" {
-        Some(EventWord::Committed)
-    } else if word == "conflict" {
-        Some(EventWord::Conflict)
-    } else if word == "gaveup" {
-        Some(EventWord::GaveUp)
-    } else if word == "aborted" {
-        Some(EventWord::Aborted)
-    } else if word == "faulted" {
-        Some(EventWord::Faulted)
-    } else if word == "ended" {
-        Some(EventWord::Ended)
-    } else if word == "txn" {
-        Some(EventWord::Txn)
-    } else if word == "granted" {
-        Some(EventWord::Granted)
-    } else if word == "kept" {
-        Some(EventWord::Kept)
-    } else if word == "revoked" {
-        Some(EventWord::Revoked)
-    } else if word == "advanced" {
-        Some(EventWord::Advanced)
-    } else if word == "watching" {
-        Some(EventWord::Watching)
-    } else if word == "cancelled" {
-        Some(EventWord::Cancelled)
-    } else if word == "batch" {
-        Some(EventWord::Batch)
-    } else if word == "refused" {
-        Some(EventWord::Refused)
-    } else {
-        None
-    }
+    found(&EVENT_WORDS, word)
 }
+
+/// The words of the lines of the end.
+static STANDING_WORDS: [(&str, StandingWord); 3] = [
+    ("key", StandingWord::Key),
+    ("lease", StandingWord::Lease),
+    ("end", StandingWord::End),
+];
 
 /// Which line of the end begins with a word, if any does.
 pub(crate) fn standing_word(word: &str) -> Option<StandingWord>
     ensures { result ≡ named standing_words word.now }
 {
-    if word == "key" {
-        Some(StandingWord::Key)
-    } else if word == "lease" {
-        Some(StandingWord::Lease)
-    } else if word == "end" {
-        Some(StandingWord::End)
-    } else {
-        None
-    }
+    found(&STANDING_WORDS, word)
 }
+
+/// The names of faults.
+static FAULT_NAMES: [(&str, Fault); 8] = [
+    ("Kind", Fault::Kind),
+    ("Overflow", Fault::Overflow),
+    ("ZeroDivisor", Fault::ZeroDivisor),
+    ("NotANumber", Fault::NotANumber),
+    ("LoopTooLong", Fault::LoopTooLong),
+    ("TurnLimit", Fault::TurnLimit),
+    ("TextTooLong", Fault::TextTooLong),
+    ("EmptyKey", Fault::EmptyKey),
+];
 
 /// The fault of a name, if there is one.
 pub(crate) fn fault_named(word: &str) -> Option<Fault>
     ensures { result ≡ named fault_words word.now }
 {
-    if word == "Kind" {
-        Some(Fault::Kind)
-    } else if word == "Overflow" {
-        Some(Fault::Overflow)
-    } else if word == "ZeroDivisor" {
-        Some(Fault::ZeroDivisor)
-    } else if word == "NotANumber" {
-        Some(Fault::NotANumber)
-    } else if word == "LoopTooLong" {
-        Some(Fault::LoopTooLong)
-    } else if word == "TurnLimit" {
-        Some(Fault::TurnLimit)
-    } else if word == "TextTooLong" {
-        Some(Fault::TextTooLong)
-    } else if word == "EmptyKey" {
-        Some(Fault::EmptyKey)
-    } else {
-        None
-    }
+    found(&FAULT_NAMES, word)
 }
+
+/// The names of the refusals that are no faults.
+static OTHER_NAMES: [(&str, RefusalName); 17] = [
+    ("OutOfMemory", RefusalName::OutOfMemory),
+    ("BadProgram", RefusalName::BadProgram),
+    ("FutureRevision", RefusalName::FutureRevision),
+    ("Compacted", RefusalName::Compacted),
+    ("RevisionsUsedUp", RefusalName::RevisionsUsedUp),
+    ("LeaseExists", RefusalName::LeaseExists),
+    ("TtlOutOfRange", RefusalName::TtlOutOfRange),
+    ("LeaseIdOutOfRange", RefusalName::LeaseIdOutOfRange),
+    ("LeaseNotFound", RefusalName::LeaseNotFound),
+    ("NoWatcher", RefusalName::NoWatcher),
+    ("TooManyOps", RefusalName::TooManyOps),
+    ("DuplicateKey", RefusalName::DuplicateKey),
+    ("TimeGoesBack", RefusalName::TimeGoesBack),
+    ("BadLimit", RefusalName::BadLimit),
+    ("NoRunner", RefusalName::NoRunner),
+    ("Behind", RefusalName::Behind),
+    ("Unvouched", RefusalName::Unvouched),
+];
 
 /// The refusal of a name that is no fault's, if there is one.
 fn other_refusal(word: &str) -> Option<RefusalName>
     ensures { result ≡ named other_words word.now }
 {
-    if word == "OutOfMemory" {
-        Some(RefusalName::OutOfMemory)
-    } else if word == "BadProgram" {
-        Some(RefusalName::BadProgram)
-    } else if word == "FutureRevision" {
-        Some(RefusalName::FutureRevision)
-    } else if word == "Compacted" {
-        Some(RefusalName::Compacted)
-    } else if word == "RevisionsUsedUp" {
-        Some(RefusalName::RevisionsUsedUp)
-    } else if word == "LeaseExists" {
-        Some(RefusalName::LeaseExists)
-    } else if word == "TtlOutOfRange" {
-        Some(RefusalName::TtlOutOfRange)
-    } else if word == "LeaseIdOutOfRange" {
-        Some(RefusalName::LeaseIdOutOfRange)
-    } else if word == "LeaseNotFound" {
-        Some(RefusalName::LeaseNotFound)
-    } else if word == "NoWatcher" {
-        Some(RefusalName::NoWatcher)
-    } else if word == "TooManyOps" {
-        Some(RefusalName::TooManyOps)
-    } else if word == "DuplicateKey" {
-        Some(RefusalName::DuplicateKey)
-    } else if word == "TimeGoesBack" {
-        Some(RefusalName::TimeGoesBack)
-    } else if word == "BadLimit" {
-        Some(RefusalName::BadLimit)
-    } else if word == "NoRunner" {
-        Some(RefusalName::NoRunner)
-    } else if word == "Behind" {
-        Some(RefusalName::Behind)
-    } else if word == "Unvouched" {
-        Some(RefusalName::Unvouched)
-    } else {
-        None
-    }
+    found(&OTHER_NAMES, word)
 }
 
 /// The refusal of a name, if there is one.

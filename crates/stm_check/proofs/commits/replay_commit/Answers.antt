@@ -1,9 +1,10 @@
 use Rattle.std.proofs.Common.{Option, subst}
+use Rattle.std.proofs.lemmas.Result.{IfOk-weaker}
 use Rattle.stm_history.specs.History.{History}
 use Rattle.stm_meaning.specs.declared.run.Run.{Run}
 use Rattle.stm_txn.specs.Standing.{Standing}
 use Rattle.stm_check.specs.Runs.{IsRunTold, IsFound}
-use Rattle.stm_check.proofs.CommitLemmas.{run_taken}
+use Rattle.stm_check.proofs.CommitLemmas.{run_right}
 use Rattle.stm_check.proofs.commits.replay_commit.Goals as goal
 
 pub returns-clause-right : goal.returns-clause-right
@@ -16,6 +17,5 @@ returns-clause-right c =
     subst (λ (h : History). IsFound r.level h r.program told.answers.now c.in_ok-run.field-0) c.keys.ensures.history c.in_ok-run.ensures in
     let is_told : IsRunTold r.level s.history r.program told.answers.now run =
     subst (λ (o : Option Run). IsFound r.level s.history r.program told.answers.now o) c.in-Some.is found in
-    run_taken c.is_reached.result s r run c.in_ok-reached.reached told.revision told.attempts told.output.now told.trace.now told.answers.now is_told
-    (c.is_next_attempt.ensures.0 c.if-not-is_next_attempt.false) (c.is_told_run.ensures.0 c.if-not-is_told_run.false)
-    c.in_ok-reached.ensures.revision c.is_reached.ensures
+    IfOk-weaker c.replay_run-right.result _ _ (λ b test. run_right b s r run told.revision told.attempts told.output.now told.trace.now told.answers.now is_told
+    (c.is_next_attempt.ensures.0 c.if-not-is_next_attempt.false) test) c.replay_run-right.ensures.right

@@ -1,17 +1,18 @@
-use Rattle.std.proofs.Common.{◌∙◌, sym, ap}
+use Rattle.std.proofs.Common.{subst}
+use Rattle.std.proofs.lemmas.Result.{IfOk-weaker}
 use Rattle.stm_meaning.specs.Answer.{Lookup}
-use Rattle.stm_meaning.specs.Meaning.{run_over}
 use Rattle.stm_check.specs.Point.{reads_in}
+use Rattle.stm_check.specs.Runs.{IsRunOn}
 use Rattle.stm_check.proofs.LookupLemmas.{same_look_up}
-use Rattle.stm_check.proofs.CommitLemmas.{ended_is, other_keys, never}
+use Rattle.stm_check.proofs.CommitLemmas.{found_by_keys}
 use Rattle.stm_check.proofs.commits.run_on_told.Goals as goal
 
-pub returns-then-not-are_of_keys : goal.returns-then-not-are_of_keys
-returns-then-not-are_of_keys c =
+pub returns : goal.returns
+returns c =
     let h = c.args.keys.now.history in
     let answers = c.args.answers.now in
     let program = c.args.runner.now.program in
-    other_keys c.args.runner.now.level h program answers c.in-Some.run' c.requires.level
-    (ap (λ (look : Lookup). run_over look program.statements) (sym (same_look_up c.in_ok-reads.reads (reads_in h answers) c.in_ok-reads.ensures))
-    ∙ sym c.in_ok-run_answered.ensures ∙ ended_is c.in_ok-run_answered.field-0 c.in-Some.run' (sym c.in-Some.ensures))
-    (λ same. never (c.if-not-are_of_keys.ensures.1 (same ∙ sym c.as_slice.ensures)))
+    IfOk-weaker c.run_on_reads-run.result _ _ (λ found on. found_by_keys c.args.runner.now.level h program answers found c.requires.level
+    (c.are_truly_told.ensures.0 c.if-not-are_truly_told.false)
+    (subst (λ (look : Lookup). IsRunOn look program answers found) (same_look_up c.in_ok-reads.reads (reads_in h answers) c.in_ok-reads.ensures) on))
+    c.run_on_reads-run.ensures

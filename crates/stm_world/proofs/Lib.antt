@@ -18,5 +18,10 @@ pub mod SoundSteps
 pub mod Sound
 pub mod ReadsNow
 pub mod Headlines
+pub mod Lines
+pub mod Doomed
+pub mod LowRevisions
+pub mod MovingOn
+pub mod Failures
 pub mod Telling
 pub mod WorkedExamples

@@ -8,5 +8,6 @@ pub mod World
 pub mod Sound
 pub mod ReadsNow
 pub mod Headline
+pub mod Doomed
 pub mod WrongLogs
 pub mod Telling

@@ -1,5 +1,6 @@
 //! The laws of worlds. Each function does nothing: its contract is the law.
 ghost use Rattle.stm_world.specs.Asked.{AnswersAreTheReads};
+ghost use Rattle.stm_world.specs.Doomed.{FailuresAreConflicts, FailuresMoveOn, StopsAreOfOneState};
 ghost use Rattle.stm_world.specs.Headline.{Headline, OneState, ReadOnce};
 ghost use Rattle.stm_world.specs.Sound.{WorldsAreSound};
 ghost use Rattle.stm_world.specs.Telling.{WatchersAreTold};
@@ -21,6 +22,27 @@ pub fn headline()
 /// fault is that run's end, and the trace so far is a beginning of its trace.
 pub fn answers_are_of_one_state()
     ensures { OneState }
+{}
+
+/// Over every list of events, each conflict and each give-up that is told names a key with a real conflict: the
+/// attempt has read the key, or was to write it at serializable snapshot; what is told as seen is what was seen of
+/// it, the history changes it above the revision that it was seen at, and the other number is its modification
+/// revision now.
+pub fn failures_are_conflicts()
+    ensures { FailuresAreConflicts }
+{}
+
+/// Over every list of events, a run whose commits failed so many times has seen the store's revision grow by as
+/// many since its start: a commit fails only where somebody else has got on.
+pub fn failures_move_on()
+    ensures { FailuresMoveOn }
+{}
+
+/// Over every list of events, each abort and each fault that is told at a serializable level is the end of the
+/// program run alone on the state of the store at one revision, of which all that the attempt has read is true:
+/// also where its commit would have failed.
+pub fn stops_are_of_one_state()
+    ensures { StopsAreOfOneState }
 {}
 
 /// No attempt reads a key twice, at any level.

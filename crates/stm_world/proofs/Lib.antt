@@ -16,6 +16,7 @@ pub mod Calls
 pub mod WatchCalls
 pub mod SoundSteps
 pub mod Sound
+pub mod Appending
 pub mod ReadsNow
 pub mod Headlines
 pub mod Lines

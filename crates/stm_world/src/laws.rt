@@ -1,4 +1,5 @@
 //! The laws of worlds. Each function does nothing: its contract is the law.
+ghost use Rattle.stm_world.specs.Appended.{EventsAppend};
 ghost use Rattle.stm_world.specs.Asked.{AnswersAreTheReads};
 ghost use Rattle.stm_world.specs.Doomed.{FailuresAreConflicts, FailuresMoveOn, StopsAreOfOneState};
 ghost use Rattle.stm_world.specs.Headline.{Headline, OneState, ReadOnce};
@@ -65,6 +66,12 @@ pub fn wrong_logs_are_none()
 /// In a sound world the revision that a runner's next fetch names is one that the store has reached.
 pub fn worlds_are_sound()
     ensures { WorldsAreSound }
+{}
+
+/// From any sound world, also one that has run before, events only append entries: those are legal, each at its
+/// point, from the store as it was, and replay to the store as it is.
+pub fn events_append()
+    ensures { EventsAppend }
 {}
 
 /// Where a program's run ends on answers each of which was added when the run wanted its key, the keys of the

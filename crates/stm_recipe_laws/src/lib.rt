@@ -2,4 +2,5 @@
 //! such as those that a run of a world appends.
 #![tactic(auto)]
 
+pub mod accounts;
 pub mod slots;

@@ -9,8 +9,10 @@ ghost use Rattle.stm_entries.specs.Legal.{AreLegal};
 ghost use Rattle.stm_calls.specs.StateOf.{IsStateOf};
 ghost use Rattle.stm_world.specs.declared.refusal.Refusal.TheVariants.{Store as OfStore, BadLimit};
 ghost use Rattle.stm_world.specs.declared.reply.Reply.TheVariants.{Started};
+ghost use Rattle.stm_world.specs.Appended.{HasAppended};
 ghost use Rattle.stm_world.specs.Headline.{Holds, logged};
 ghost use Rattle.stm_world.specs.ReadsNow.{ReadsAreNow};
+ghost use Rattle.stm_world.specs.Sound.{IsSound};
 ghost use Rattle.stm_world.specs.World.{opened, start_runner, world_after, replies_to};
 ghost use Rattle.stm_retry.specs.Tells.{Tells, ran_out, expired_of, IsRunStop};
 
@@ -171,19 +173,30 @@ impl World {
         Ok(replies)
     }
 
+    /// Does nothing: each world is sound.
+    fn know_sound(&self)
+        ensures { IsSound self.now }
+    {
+        let _machine = &self.machine;
+    }
+
     /// Takes these events in their order, and tells their replies.
     ///
     /// Room for all replies is made first. The run stops at the first event that is refused as `OutOfMemory`,
     /// before the first one where that room was refused: `done` events were taken, and the world is as it was
     /// before the stopped event, or that is an advance that was cut short after the leases in `expired`.
     ///
-    /// In a new world the replies and the store are what the headline says of them.
+    /// In a new world the replies and the store are what the headline says of them. In any world, also one that has
+    /// run before, entries are only added behind those that are there: they are legal, each at its point, from the store
+    /// as it was, and replay to the store as it is.
     pub fn run(&mut self, events: &[WorldEvent]) -> Result<Vec<Result<Reply, Denied>>, RunStop>
         ensures replies { IfOk result (λ replies. replies.items ≡ replies_to events.now self.old) }
         ensures ok { OnOk result (self.new ≡ world_after events.now self.old) }
         ensures stopped { IfErr result (λ stop. IsRunStop events.now stop.done stop.expired self.old self.new) }
         ensures headline { IfOk result (λ replies. (start : ℕ) → self.old ≡ opened start → Holds start (logged events.now replies.items []) self.new) }
+        ensures appended { OnOk result (HasAppended self.old self.new) }
     {
+        self.know_sound();
         let replies = self.take_all(events)?;
         Ok(replies)
     }

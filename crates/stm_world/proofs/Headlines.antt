@@ -253,7 +253,7 @@ pub record Follows (start : ℕ) (log : List Line) (w : World) : Type 0 where
   pub standing : w.standing ≡ store start log
   pub at : FollowsAt start log w.runners w.entries
 
-step_follows : (start : ℕ) (log : List Line) (event : WorldEvent) (w : World) → CommitLaws → Follows start log w → FollowsStep start log event (step event w)
+pub step_follows : (start : ℕ) (log : List Line) (event : WorldEvent) (w : World) → CommitLaws → Follows start log w → FollowsStep start log event (step event w)
 step_follows start log event w laws f =
     subst (λ (s : Standing). FollowsStep start log event (step event (record { standing = s; runners = w.runners; entries = w.entries }))) (sym f.standing)
     (event_follows start log w.runners w.entries event laws f.at)
@@ -265,7 +265,7 @@ run_follows start (e ∷ es) log w laws f =
     let s : FollowsStep start log e (step e w) = step_follows start log e w laws f in
     run_follows start es (with_line e (step e w).reply log) (step e w).next laws (record { standing = s.standing; at = s.follows })
 
-opened_follows : (start : ℕ) → Follows start [] (opened start)
+pub opened_follows : (start : ℕ) → Follows start [] (opened start)
 opened_follows start = record {
   standing = refl;
   at = record {

@@ -16,7 +16,13 @@ pub mod Calls
 pub mod WatchCalls
 pub mod SoundSteps
 pub mod Sound
+pub mod Appending
 pub mod ReadsNow
 pub mod Headlines
+pub mod Lines
+pub mod Doomed
+pub mod LowRevisions
+pub mod MovingOn
+pub mod Failures
 pub mod Telling
 pub mod WorkedExamples

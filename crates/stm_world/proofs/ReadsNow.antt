@@ -1,5 +1,5 @@
 -- In a sound world a commit of which no compare fails has read what the store has.
-use Rattle.std.proofs.Common.{◌≡◌, ℕ, Option, Some}
+use Rattle.std.proofs.Common.{◌≡◌, ℕ, Some}
 use Rattle.stm_program.specs.Writes.{latest_writes}
 use Rattle.stm_compile.proofs.AgreeLemmas.{true_reads_are_now}
 use Rattle.stm_world.specs.declared.event.WorldEvent.{WorldEvent}

@@ -6,7 +6,9 @@ pub mod Log
 pub mod Right
 pub mod World
 pub mod Sound
+pub mod Appended
 pub mod ReadsNow
 pub mod Headline
+pub mod Doomed
 pub mod WrongLogs
 pub mod Telling

@@ -2,7 +2,7 @@
 --
 -- The Go package `concurrency`, "STM": a commit compares the modification revisions of what was read. That these stand for the
 -- values, since what a runner knows is true, is our own; a hall, to which any caller commits, has to look at the values too.
-use Rattle.std.specs.Prelude.{◌≡◌, Bool, true, Option, None, Some}
+use Rattle.std.specs.Prelude.{◌≡◌, true, None, Some}
 use Rattle.stm_program.specs.Writes.{latest_writes}
 use Rattle.stm_meaning.specs.declared.run.Run.{Run}
 use Rattle.stm_meaning.specs.declared.run.Answered.TheVariants.{Ended as EndedRun}

@@ -1,5 +1,7 @@
 //! The laws of worlds. Each function does nothing: its contract is the law.
+ghost use Rattle.stm_world.specs.Appended.{EventsAppend};
 ghost use Rattle.stm_world.specs.Asked.{AnswersAreTheReads};
+ghost use Rattle.stm_world.specs.Doomed.{FailuresAreConflicts, FailuresMoveOn, StopsAreOfOneState};
 ghost use Rattle.stm_world.specs.Headline.{Headline, OneState, ReadOnce};
 ghost use Rattle.stm_world.specs.Sound.{WorldsAreSound};
 ghost use Rattle.stm_world.specs.Telling.{WatchersAreTold};
@@ -23,6 +25,27 @@ pub fn answers_are_of_one_state()
     ensures { OneState }
 {}
 
+/// Over every list of events, each conflict and each give-up that is told names a key with a real conflict: the
+/// attempt has read the key, or was to write it at serializable snapshot; what is told as seen is what was seen of
+/// it, the history changes it above the revision that it was seen at, and the other number is its modification
+/// revision now.
+pub fn failures_are_conflicts()
+    ensures { FailuresAreConflicts }
+{}
+
+/// Over every list of events, a run whose commits failed so many times has seen the store's revision grow by as
+/// many since its start: a commit fails only where somebody else has got on.
+pub fn failures_move_on()
+    ensures { FailuresMoveOn }
+{}
+
+/// Over every list of events, each abort and each fault that is told at a serializable level is the end of the
+/// program run alone on the state of the store at one revision, of which all that the attempt has read is true:
+/// also where its commit would have failed.
+pub fn stops_are_of_one_state()
+    ensures { StopsAreOfOneState }
+{}
+
 /// No attempt reads a key twice, at any level.
 pub fn keys_are_read_once()
     ensures { ReadOnce }
@@ -43,6 +66,12 @@ pub fn wrong_logs_are_none()
 /// In a sound world the revision that a runner's next fetch names is one that the store has reached.
 pub fn worlds_are_sound()
     ensures { WorldsAreSound }
+{}
+
+/// From any sound world, also one that has run before, events only append entries: those are legal, each at its
+/// point, from the store as it was, and replay to the store as it is.
+pub fn events_append()
+    ensures { EventsAppend }
 {}
 
 /// Where a program's run ends on answers each of which was added when the run wanted its key, the keys of the

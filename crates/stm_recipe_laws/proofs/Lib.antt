@@ -1,0 +1,5 @@
+pub mod CommitLemmas
+pub mod KeyLemmas
+pub mod SlotLemmas
+pub mod SumLemmas
+pub mod AccountLemmas

@@ -1,0 +1,220 @@
+-- Events only append entries.
+use Rattle.std.proofs.Common.{◌≡◌, ℕ, ◌+◌, List, [], ◌∷◌, ◌++◌, length, Option, Some, None, Bool, true, false, cond, refl, sym, ◌∙◌, ap, subst}
+use Rattle.std.proofs.lemmas.List.{append-nil}
+use Rattle.std.specs.Prelude.{nat_eq, nat_lt, slice_get, Result, Ok, Err}
+use Rattle.stm_history.specs.declared.key_state.ReadAnswer.{ReadAnswer}
+use Rattle.stm_history.specs.History.{History, now, key_at, mod_of}
+use Rattle.stm_leases.specs.Live.{is_live_in}
+use Rattle.stm_program.specs.Writes.{latest_writes}
+use Rattle.stm_meaning.specs.declared.run.End.{End}
+use Rattle.stm_meaning.specs.declared.run.End.TheVariants.{Done as DoneEnd, Aborted as AbortedEnd, Faulted as FaultedEnd}
+use Rattle.stm_meaning.specs.declared.run.Run.{Run}
+use Rattle.stm_meaning.specs.declared.run.Answered.{Answered}
+use Rattle.stm_meaning.specs.declared.run.Answered.TheVariants.{Ended as EndedRun, Wants}
+use Rattle.stm_txn.specs.declared.answer.FailedCompare.{FailedCompare}
+use Rattle.stm_txn.specs.declared.refusal.Refusal.{Refusal as StoreRefusal}
+use Rattle.stm_txn.specs.Outcome.{Done}
+use Rattle.stm_txn.specs.Commits.{revision_read}
+use Rattle.stm_txn.specs.Standing.{Standing, transacted, granted, kept_alive, revoked, advanced, Advance as StoreAdvance}
+use Rattle.stm_txn.specs.Standing.{watched, polled, cancelled}
+use Rattle.stm_watch.specs.declared.watched.Watched.TheVariants.{Key, Range}
+use Rattle.stm_compile.specs.Committed.{committed}
+use Rattle.stm_compile.specs.Conflicts.{Seen, seen_by}
+use Rattle.stm_attempt.specs.Settled.{run_on}
+use Rattle.stm_attempt.specs.Fetches.{at_of}
+use Rattle.stm_entries.specs.declared.entry.Entry.{Entry}
+use Rattle.stm_entries.specs.declared.entry.Entry.TheVariants.{Grant as GrantEntry, Renew, Revoke as RevokeEntry}
+use Rattle.stm_entries.specs.Replayed.{Replayed, without_moment}
+use Rattle.stm_entries.specs.Replay.{replay}
+use Rattle.stm_entries.specs.Legal.{AreLegal}
+use Rattle.stm_entries.proofs.Replaying.{replay_goes_on, all_legal}
+use Rattle.stm_world.specs.declared.event.WorldEvent.{WorldEvent}
+use Rattle.stm_world.specs.declared.event.WorldEvent.TheVariants.{Start, Step, Txn, Grant, Keep, Revoke, Advance}
+use Rattle.stm_world.specs.declared.event.WorldEvent.TheVariants.{WatchKey, WatchRange, Poll, Cancel}
+use Rattle.stm_world.specs.declared.reply.Reply.{Reply}
+use Rattle.stm_world.specs.declared.reply.Reply.TheVariants.{Started, Fetched, Conflict, GaveUp, Aborted, Faulted, Ended}
+use Rattle.stm_world.specs.declared.refusal.Refusal.TheVariants.{BadLimit}
+use Rattle.stm_world.specs.Told.{store_after_call}
+use Rattle.stm_world.specs.Task.{Task, answer_at, after_fetch, after_conflict}
+use Rattle.stm_world.specs.World.{World, Runner, Slot, Over, Live, runner_at, with_slot, refused, replied, begin, start_runner, fetch, entry_of}
+use Rattle.stm_world.specs.World.{seen_in, decided, commit_told, commit, finish, step_on, step_live, step_runner, if_taken, if_changed}
+use Rattle.stm_world.specs.World.{expiries, step}
+use Rattle.stm_world.specs.Sound.{IsSound}
+use Rattle.stm_world.proofs.Entered.{EntriesFollow, nothing_follows}
+use Rattle.stm_world.proofs.Calls.{txn_follows, grant_follows, keep_follows, revoke_follows, advance_follows}
+use Rattle.stm_world.proofs.WatchCalls.{watch_follows, poll_follows, cancel_follows}
+use Rattle.stm_world.proofs.CommitEntries.{Takes, taken, commit_follows_entry}
+use Rattle.std.proofs.Common.{append_assoc}
+use Rattle.std.proofs.lemmas.List.{append-nil}
+use Rattle.stm_compile.specs.Answers.{AreTrue}
+use Rattle.stm_compile.proofs.AgreeLemmas.{commit_is_the_run_now}
+use Rattle.stm_entries.proofs.Replaying.{replay_goes_on, all_legal}
+use Rattle.stm_world.specs.declared.reply.Reply.{Reply}
+use Rattle.stm_world.specs.declared.refusal.Denied.{Denied}
+use Rattle.stm_world.specs.Told.{denied, reply_to, advance_reply, batch_reply}
+use Rattle.stm_world.specs.declared.refusal.Refusal.TheVariants.{NoRunner}
+use Rattle.stm_world.specs.declared.reply.Reply.TheVariants.{Txn as TxnDone, Granted, Kept, Revoked, Watching, Cancelled}
+use Rattle.stm_world.specs.World.{Stepped, world_after}
+use Rattle.stm_world.specs.Appended.{HasAppended, EventsAppend}
+use Rattle.stm_world.proofs.SoundSteps.{world_with}
+use Rattle.stm_world.proofs.Sound.{step_is_sound}
+
+-- ---- one event ----
+
+-- entries behind those of a world, which follow from what its store was to what it is
+record Appends (w : World) (s : Stepped) : Type 0 where
+  more : List Entry
+  entries : s.next.entries ≡ w.entries ++ more
+  follows : EntriesFollow w.standing s.next.standing more
+
+-- nothing changed but places of runners
+stays : (w : World) (reply : Result Reply Denied) (runners : List Slot) →
+    Appends w (record { reply = reply; next = world_with w.standing runners w.entries })
+stays w reply runners = record { more = []; entries = sym (append-nil w.entries); follows = nothing_follows w.standing }
+
+called_appends : (w : World) (reply : Result Reply Denied) (after : Standing) (more : List Entry) → EntriesFollow w.standing after more →
+    Appends w (record { reply = reply; next = world_with after w.runners (w.entries ++ more) })
+called_appends w reply after more follows = record { more = more; entries = refl; follows = follows }
+
+watch_appends : (w : World) (reply : Result Reply Denied) (after : Standing) → EntriesFollow w.standing after [] →
+    Appends w (record { reply = reply; next = world_with after w.runners w.entries })
+watch_appends w reply after follows = record { more = []; entries = sym (append-nil w.entries); follows = follows }
+
+start_by : (w : World) (task : Task) (none : Bool) →
+    Appends w (cond none (refused BadLimit w) (record {
+      reply = Ok (Started (length w.runners + 1));
+      next = world_with w.standing (w.runners ++ Live (begin task) ∷ []) w.entries;
+    }))
+start_by w task true = stays w (denied BadLimit) w.runners
+start_by w task false = stays w (Ok (Started (length w.runners + 1))) (w.runners ++ Live (begin task) ∷ [])
+
+start_appends : (w : World) (task : Task) → Appends w (start_runner task w)
+unfolding start_runner
+start_appends w task = start_by w task (nat_eq task.limit 0)
+
+fetch_appends : (w : World) (id : ℕ) (r : Runner) (key : List ℕ) (of_rev : ℕ) → Appends w (fetch id r key of_rev w)
+unfolding fetch
+fetch_appends w id r key of_rev =
+    let h : History = w.standing.history in
+    stays w (Ok (Fetched id key (mod_of (key_at h key of_rev)) of_rev (now h)))
+    (with_slot id (Live (record r { known = after_fetch r.task (answer_at h key of_rev) r.known })) w.runners)
+
+fail_by : (w : World) (id : ℕ) (r : Runner) (seen : Seen) (modified : ℕ) (more : Bool) →
+    Appends w (cond more
+    (replied (Conflict id seen.key seen.mod_rev modified) id
+    (Live (record { task = r.task; failures = r.failures + 1; known = after_conflict r.task w.standing.history r.known })) w)
+    (replied (GaveUp id (r.failures + 1) seen.key seen.mod_rev modified) id Over w))
+fail_by w id r seen modified true =
+    stays w (Ok (Conflict id seen.key seen.mod_rev modified))
+    (with_slot id (Live (record { task = r.task; failures = r.failures + 1; known = after_conflict r.task w.standing.history r.known })) w.runners)
+fail_by w id r seen modified false = stays w (Ok (GaveUp id (r.failures + 1) seen.key seen.mod_rev modified)) (with_slot id Over w.runners)
+
+ended_appends : (w : World) (id : ℕ) (reply : Reply) → Appends w (replied reply id Over w)
+ended_appends w id reply = stays w (Ok reply) (with_slot id Over w.runners)
+
+-- a runner of a world whose run is done on true answers
+record IsDone (w : World) (r : Runner) (run : Run) : Type 0 where
+  truth : AreTrue w.standing.history r.known.reads
+  is_run : run_on r.task.program r.known.reads ≡ EndedRun run
+  is_done : run.end ≡ DoneEnd
+
+decided_appends : (w : World) (id : ℕ) (r : Runner) (run : Run) (done : Done) (o : Option FailedCompare) → IsDone w r run →
+    committed w.standing.history (is_live_in w.standing.live) r.task.level r.known.reads run ≡ Ok done → done.answer.failed ≡ o →
+    Appends w (decided id r r.known.reads run done o w)
+decided_appends w id r run done None x comes_to none =
+    let reads : List ReadAnswer = r.known.reads in
+    let takes : Takes w.standing r.task reads run done =
+    record { truth = x.truth; is_run = x.is_run; is_done = x.is_done; comes_to = comes_to; succeeds = none } in
+    record {
+      more = entry_of r.task reads run (now done.history) ∷ [];
+      entries = refl;
+      follows = commit_follows_entry w.standing r.task reads run done takes (taken w.standing r.task reads run done commit_is_the_run_now takes);
+    }
+decided_appends w id r run done (Some failed) x comes_to some =
+    fail_by w id r (seen_in (slice_get (seen_by r.known.reads (latest_writes run.writes)) failed.index)) failed.mod_rev
+    (nat_lt (r.failures + 1) r.task.limit)
+
+commit_by : (w : World) (id : ℕ) (r : Runner) (run : Run) (o : Result Done StoreRefusal) → IsDone w r run →
+    committed w.standing.history (is_live_in w.standing.live) r.task.level r.known.reads run ≡ o → Appends w (commit_told id r r.known.reads run o w)
+commit_by w id r run (Ok done) x is = decided_appends w id r run done done.answer.failed x is refl
+commit_by w id r run (Err cause) x is = ended_appends w id (Ended id cause)
+
+commit_appends : (w : World) (id : ℕ) (r : Runner) (run : Run) → IsDone w r run → Appends w (commit id r r.known.reads run w)
+unfolding commit
+commit_appends w id r run x =
+    commit_by w id r run (committed w.standing.history (is_live_in w.standing.live) r.task.level r.known.reads run) x refl
+
+finish_appends : (w : World) (id : ℕ) (r : Runner) (run : Run) (end : End) → AreTrue w.standing.history r.known.reads →
+    run_on r.task.program r.known.reads ≡ EndedRun run → run.end ≡ end → Appends w (finish id r r.known.reads run end w)
+finish_appends w id r run DoneEnd truth is_run ended = commit_appends w id r run (record { truth = truth; is_run = is_run; is_done = ended })
+finish_appends w id r run (AbortedEnd text) truth is_run ended = ended_appends w id (Aborted id text)
+finish_appends w id r run (FaultedEnd fault) truth is_run ended = ended_appends w id (Faulted id fault)
+
+answered_appends : (w : World) (id : ℕ) (r : Runner) (answered : Answered) → AreTrue w.standing.history r.known.reads →
+    run_on r.task.program r.known.reads ≡ answered → Appends w (step_on id r r.known.reads answered w)
+answered_appends w id r (Wants key trace) truth is = fetch_appends w id r key (revision_read w.standing.history (at_of r.task.level r.known.reads))
+answered_appends w id r (EndedRun run) truth is = finish_appends w id r run run.end truth is refl
+
+live_appends : (w : World) (id : ℕ) (r : Runner) → AreTrue w.standing.history r.known.reads → Appends w (step_live id r w)
+unfolding step_live
+live_appends w id r truth = answered_appends w id r (run_on r.task.program r.known.reads) truth refl
+
+runner_by : (w : World) (id : ℕ) (o : Option Runner) → IsSound w → runner_at id w.runners ≡ o → Appends w (step_runner id o w)
+runner_by w id None sound found = stays w (denied NoRunner) w.runners
+runner_by w id (Some r) sound found = live_appends w id r (sound.truth id r found).0
+
+event_appends : (event : WorldEvent) (w : World) → IsSound w → Appends w (step event w)
+event_appends (Start program level limit) w sound = start_appends w (record { program = program; level = level; limit = limit })
+event_appends (Step id) w sound = runner_by w id (runner_at id w.runners) sound refl
+event_appends (Txn txn) w sound =
+    let s : Standing = w.standing in
+    let next : Standing = store_after_call s (transacted s txn) in
+    called_appends w (reply_to TxnDone (transacted s txn)) next (if_changed s next txn) (txn_follows s txn)
+event_appends (Grant lease ttl) w sound =
+    let s : Standing = w.standing in
+    let o = granted s lease ttl in
+    called_appends w (reply_to (λ _. Granted lease) o) (store_after_call s o) (if_taken o (GrantEntry lease ttl s.moment)) (grant_follows s lease ttl)
+event_appends (Keep lease) w sound =
+    let s : Standing = w.standing in
+    let o = kept_alive s lease in
+    called_appends w (reply_to (λ _. Kept lease) o) (store_after_call s o) (if_taken o (Renew lease s.moment)) (keep_follows s lease)
+event_appends (Revoke lease) w sound =
+    let s : Standing = w.standing in
+    let o = revoked s lease in
+    called_appends w (reply_to (Revoked lease) o) (store_after_call s o) (if_taken o (RevokeEntry lease)) (revoke_follows s lease)
+event_appends (Advance moment) w sound =
+    let done : StoreAdvance = advanced w.standing moment in
+    called_appends w (advance_reply moment done.expired done.cause) done.leaves (expiries done.expired) (advance_follows w.standing moment)
+event_appends (WatchKey key from) w sound =
+    let o = watched w.standing (Key key) from in
+    watch_appends w (reply_to Watching o) (store_after_call w.standing o) (watch_follows w.standing (Key key) from)
+event_appends (WatchRange first end from) w sound =
+    let o = watched w.standing (Range first end) from in
+    watch_appends w (reply_to Watching o) (store_after_call w.standing o) (watch_follows w.standing (Range first end) from)
+event_appends (Poll watcher most) w sound =
+    let o = polled w.standing watcher most in
+    watch_appends w (reply_to (batch_reply watcher) o) (store_after_call w.standing o) (poll_follows w.standing watcher most)
+event_appends (Cancel watcher) w sound =
+    let o = cancelled w.standing watcher in
+    watch_appends w (reply_to (λ _. Cancelled watcher) o) (store_after_call w.standing o) (cancel_follows w.standing watcher)
+
+-- ---- all events ----
+
+append_twice : (a b c : World) → HasAppended a b → HasAppended b c → HasAppended a c
+append_twice a b c first second = record {
+  more = first.more ++ second.more;
+  entries = second.entries ∙ ap (λ (es : List Entry). es ++ second.more) first.entries ∙ append_assoc a.entries first.more second.more;
+  legal = all_legal first.more second.more (without_moment a.standing) first.legal
+      (subst (λ (r : Replayed). AreLegal second.more r) (sym first.replays) second.legal);
+  replays = replay_goes_on first.more second.more (without_moment a.standing) ∙ ap (replay second.more) first.replays ∙ second.replays;
+}
+
+step_appends : (event : WorldEvent) (w : World) → IsSound w → HasAppended w (step event w).next
+step_appends event w sound =
+    let a : Appends w (step event w) = event_appends event w sound in
+    record { more = a.more; entries = a.entries; legal = a.follows.legal; replays = a.follows.replays }
+
+pub events_append : EventsAppend
+events_append [] w sound = record { more = []; entries = sym (append-nil w.entries); legal = tt; replays = refl }
+events_append (e ∷ es) w sound =
+    append_twice w (step e w).next (world_after es (step e w).next) (step_appends e w sound) (events_append es (step e w).next (step_is_sound e w sound))

@@ -1,0 +1,136 @@
+-- What a log tells of attempts that come to nothing.
+--
+-- The documentation of the Go package `clientv3/concurrency`, "STM" and "Isolation": a commit fails only where a key that was
+-- read, or at serializable snapshot one that is written, has changed since; and what an attempt at a serializable level reads is
+-- of one revision, so that no abort and no fault comes of reads that never held together.
+use Rattle.std.specs.Prelude.{◌≡◌, ℕ, ◌+◌, ◌≤◌, nat_eq, Bool, true, false, if◌then◌else◌, List, [], ◌∷◌, Option, Some, None, Result, Ok, slice_get}
+use Rattle.stm_history.specs.declared.revisions.TheConstants.{HIGHEST_REVISION}
+use Rattle.stm_history.specs.declared.key_state.ReadAnswer.{ReadAnswer}
+use Rattle.stm_history.specs.History.{History, now, key_now, mod_of}
+use Rattle.stm_program.specs.declared.write.Write.{Write}
+use Rattle.stm_program.specs.Writes.{latest_writes}
+use Rattle.stm_meaning.specs.declared.run.End.{End}
+use Rattle.stm_meaning.specs.declared.run.End.TheVariants.{Aborted as AbortedEnd, Faulted as FaultedEnd}
+use Rattle.stm_meaning.specs.declared.run.Run.{Run}
+use Rattle.stm_meaning.specs.declared.run.Answered.TheVariants.{Ended as EndedRun}
+use Rattle.stm_meaning.specs.Meaning.{run_over}
+use Rattle.stm_compile.specs.Levels.{is_serializable}
+use Rattle.stm_compile.specs.Answers.{state_as_of}
+use Rattle.stm_compile.specs.Conflicts.{Seen, seen_by, IsChangedAbove}
+use Rattle.stm_attempt.specs.Settled.{run_on}
+use Rattle.stm_attempt.specs.Fetches.{base_of}
+use Rattle.stm_world.specs.declared.event.WorldEvent.{WorldEvent}
+use Rattle.stm_world.specs.declared.reply.Reply.{Reply}
+use Rattle.stm_world.specs.declared.reply.Reply.TheVariants.{Conflict, GaveUp, Aborted, Faulted}
+use Rattle.stm_world.specs.declared.refusal.Denied.{Denied}
+use Rattle.stm_world.specs.Task.{Task}
+use Rattle.stm_world.specs.Log.{Line, is_id, runner_started, begun, running, store, told}
+use Rattle.stm_world.specs.World.{opened, replies_to}
+use Rattle.stm_world.specs.Headline.{logged, AreOfOneState}
+
+-- a property of every line of a log, which may look at the lines before it
+abbrev pub EachLine : (List Line → Line → Type 0) → List Line → Type 0
+EachLine P [] = Unit {0}
+EachLine P (line ∷ older) = P older line × EachLine P older
+
+-- ---- commits that failed ----
+
+-- a commit that failed, as a conflict or a give-up tells it
+pub record FailedCommit : Type 0 where
+  pub runner : ℕ
+  pub key : List ℕ
+  pub seen : ℕ
+  pub now_modified : ℕ
+
+abbrev pub failed_commit : Result Reply Denied → Option FailedCommit
+failed_commit (Ok (Conflict runner key seen now)) = Some record { runner = runner; key = key; seen = seen; now_modified = now }
+failed_commit (Ok (GaveUp runner attempts key seen now)) = Some record { runner = runner; key = key; seen = seen; now_modified = now }
+failed_commit other = None
+
+-- It is about a key that the attempt has read or was to write: what is told as seen is what was seen of the key, the history changes
+-- the key above the revision that it was seen at, and the other number is the key's modification revision now.
+pub record NamesAConflict (h : History) (reads : List ReadAnswer) (writes : List Write) (failed : FailedCommit) : Type 0 where
+  pub seen : Seen
+  pub index : ℕ
+  pub among : slice_get (seen_by reads writes) index ≡ Some seen
+  pub key : failed.key ≡ seen.key
+  pub was : failed.seen ≡ seen.mod_rev
+  pub is : failed.now_modified ≡ mod_of (key_now h failed.key)
+  pub changed : IsChangedAbove h seen.at failed.key
+
+-- a commit of a runner that runs after these lines, which failed by a conflict with the store that they lead to
+pub record IsRealFailure (start : ℕ) (log : List Line) (failed : FailedCommit) : Type 0 where
+  pub task : Task
+  pub runs : running failed.runner log ≡ Some task
+  pub run : Run
+  pub is_run : run_on task.program (told start failed.runner task log).reads ≡ EndedRun run
+  pub conflict : NamesAConflict (store start log).history (told start failed.runner task log).reads (latest_writes run.writes) failed
+
+abbrev pub IfFailedIsReal : ℕ → List Line → Option FailedCommit → Type 0
+IfFailedIsReal start log None = Unit {0}
+IfFailedIsReal start log (Some failed) = IsRealFailure start log failed
+
+-- Over every list of events, each conflict and each give-up that is told is a real one.
+abbrev pub FailuresAreConflicts : Type 0
+FailuresAreConflicts =
+    (start : ℕ) (events : List WorldEvent) →
+    EachLine (λ older line. IfFailedIsReal start older (failed_commit line.reply)) (logged events (replies_to events (opened start)) [])
+
+-- ---- aborts and faults ----
+
+-- an end without a commit, as an abort or a fault tells it
+pub record Stopped : Type 0 where
+  pub runner : ℕ
+  pub end : End
+
+abbrev pub stopped : Result Reply Denied → Option Stopped
+stopped (Ok (Aborted runner text)) = Some record { runner = runner; end = AbortedEnd text }
+stopped (Ok (Faulted runner fault)) = Some record { runner = runner; end = FaultedEnd fault }
+stopped other = None
+
+-- What the attempt has read is of one state, and the program run alone on this state comes to this end.
+pub record IsEndOnOneState (h : History) (task : Task) (reads : List ReadAnswer) (end : End) : Type 0 where
+  pub state : AreOfOneState h task reads
+  pub run : Run
+  pub alone : run_over (state_as_of h (base_of reads)) task.program.statements ≡ EndedRun run
+  pub ends : run.end ≡ end
+
+-- at a serializable level
+abbrev pub IfStoppedIsOfOneState : ℕ → List Line → Option Stopped → Type 0
+IfStoppedIsOfOneState start log None = Unit {0}
+IfStoppedIsOfOneState start log (Some stopped) =
+    (task : Task) → running stopped.runner log ≡ Some task → is_serializable task.level ≡ true →
+    IsEndOnOneState (store start log).history task (told start stopped.runner task log).reads stopped.end
+
+-- Over every list of events, each abort and each fault that is told at a serializable level is the end of the program run alone on
+-- the state at one revision, which was the store's: also where a commit of this attempt would have failed.
+abbrev pub StopsAreOfOneState : Type 0
+StopsAreOfOneState =
+    (start : ℕ) (events : List WorldEvent) → 1 ≤ start →
+    EachLine (λ older line. IfStoppedIsOfOneState start older (stopped line.reply)) (logged events (replies_to events (opened start)) [])
+
+-- ---- how far the store has moved on ----
+
+-- the store's revision when the runner got its number
+abbrev pub since : ℕ → ℕ → List Line → ℕ
+since start id [] = 0
+since start id (line ∷ older) = if is_id id (runner_started line.reply) then now (store start older).history else since start id older
+
+abbrev pub is_of_runner : ℕ → Option FailedCommit → Bool
+is_of_runner id None = false
+is_of_runner id (Some failed) = nat_eq failed.runner id
+
+-- how many commits of the runner were told to have failed, the one that its run gave up over among them
+abbrev pub failed_commits : ℕ → List Line → ℕ
+failed_commits id [] = 0
+failed_commits id (line ∷ older) =
+    if is_of_runner id (failed_commit line.reply) then failed_commits id older + 1 else failed_commits id older
+
+-- Over every list of events, a run whose commits failed so many times has seen the store's revision grow by as many since its start:
+-- it fails only where somebody else gets on. A store does not open above the highest revision.
+abbrev pub FailuresMoveOn : Type 0
+FailuresMoveOn =
+    (start : ℕ) (events : List WorldEvent) (id : ℕ) (task : Task) → start ≤ HIGHEST_REVISION
+    → begun id (logged events (replies_to events (opened start)) []) ≡ Some task
+    → since start id (logged events (replies_to events (opened start)) []) + failed_commits id (logged events (replies_to events (opened start)) [])
+    ≤ now (store start (logged events (replies_to events (opened start)) [])).history

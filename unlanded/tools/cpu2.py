@@ -1,0 +1,21 @@
+import re,collections
+best={}
+for l in open('/work/ps/ps.txt'):
+    f=l.split()
+    if len(f)<9: continue
+    cwd,pid,cpu=f[0],f[1],f[2]
+    try: cpu=int(cpu)
+    except: continue
+    m=re.search(r'rattle (build|check) --crate-name (\S+)',l)
+    if not m: continue
+    kind='edits' if m.group(1)=='check' else 'proofs'
+    if '--test' in l: kind='tests'
+    k=(pid,' '.join(f[3:8]))
+    if k not in best or best[k][0]<cpu: best[k]=(cpu,m.group(2),kind)
+tab=collections.defaultdict(collections.Counter)
+for cpu,c,k in best.values(): tab[c][k]+=cpu
+tot=collections.Counter(); out=[]
+for c in sorted(tab):
+    r=tab[c]; tot.update(r)
+    out.append('%s %.1f/%s/%s'%(c,r['proofs']/60,('%.1f'%(r['tests']/60)) if r['tests'] else '-',('%.1f'%(r['edits']/60)) if r['edits'] else '-'))
+print('; '.join(out)); print({k:round(v/60,1) for k,v in tot.items()}, round(sum(tot.values())/60,1))

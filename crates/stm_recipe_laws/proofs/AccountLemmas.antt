@@ -42,7 +42,7 @@ as_number-is : (r : Result ℤ Fault) (z : ℤ) → as_number r ≡ Ok (Number z
 as_number-is (Ok y) z e = cc
 as_number-is (Err fault) z e = absurd (cc)
 
-read_back : (z : ℤ) → is_in_range z ≡ true → written_number (signed_decimal z) ≡ Ok z
+pub read_back : (z : ℤ) → is_in_range z ≡ true → written_number (signed_decimal z) ≡ Ok z
 unfolding num_of
 read_back z fits = as_number-is (written_number (signed_decimal z)) z (numbers_are_read_back z fits).1
 

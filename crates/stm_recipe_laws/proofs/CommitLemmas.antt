@@ -26,6 +26,7 @@ use Rattle.stm_entries.specs.Legal.{IsLegal}
 use Rattle.stm_entries.specs.Replay.{replay_entry}
 use Rattle.stm_entries.specs.Replayed.{Replayed}
 use Rattle.stm_recipe_laws.specs.Commits.{IsCommitOf}
+use Rattle.stm_recipe_laws.specs.Queues.{output_of}
 
 -- the look-up of a program that runs on the store as it is knows every key
 pub now_is_known : (h : History) → KnowsEachKey (state_now h)
@@ -79,3 +80,21 @@ committed statements (Grant id ttl moment) r of legal = absurd of
 committed statements (Renew id moment) r of legal = absurd of
 committed statements (Revoke id) r of legal = absurd of
 committed statements (Expire id) r of legal = absurd of
+
+-- what the entry of a commit tells is what its run has emitted
+pub output_told : (statements : Block) (e : Entry) (r : Replayed) → IsCommitOf statements e → IsLegal e r → (run : Run) →
+    run_over (state_now r.history) statements ≡ Ended run → output_of e ≡ run.output
+output_told statements (Program program level answers output trace revision) r of legal run ran =
+    let h : History = r.history in
+    let alone : run_over (state_now h) program.statements ≡ Ended legal.run =
+    alone_by (is_comparing level) h (look_up answers) program.statements legal.run of.1 legal.is_run in
+    let same : Ended legal.run ≡ Ended run = sym alone ∙ ap (run_over (state_now h)) of.0 ∙ ran in
+    sym legal.emits ∙ ap (λ (x : Run). x.output) (one_run legal.run run same)
+  where
+    one_run : (x y : Run) → Ended x ≡ Ended y → x ≡ y
+    one_run x y is = cc
+output_told statements (Foreign txn) r of legal run ran = absurd of
+output_told statements (Grant id ttl moment) r of legal run ran = absurd of
+output_told statements (Renew id moment) r of legal run ran = absurd of
+output_told statements (Revoke id) r of legal run ran = absurd of
+output_told statements (Expire id) r of legal run ran = absurd of

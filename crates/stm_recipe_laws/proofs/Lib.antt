@@ -3,3 +3,5 @@ pub mod KeyLemmas
 pub mod SlotLemmas
 pub mod SumLemmas
 pub mod AccountLemmas
+pub mod QueueKeys
+pub mod QueueLemmas

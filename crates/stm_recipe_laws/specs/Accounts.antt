@@ -90,7 +90,7 @@ deposits_of accounts (e ∷ es) r of = pos (amount_of accounts e r of.0) +ℤ de
 
 -- ---- the law
 
--- What accounts have in all grows by the deposits, whatever else happens: transfers among them leave the sum.
+-- What accounts have in all grows by the deposits, and by nothing else, whatever happens to other keys; and it is the total of a state.
 pub record TotalsGrowByDeposits : Type 0 where
   pub grows : (accounts : List (List ℕ)) (es : List Entry) (r : Replayed) (total : ℤ) → AreAccounts accounts → AreLegal es r
       → (of : AreOfAccounts accounts es r) → total_now r.history accounts ≡ Some total

@@ -1,3 +1,4 @@
 pub mod Commits
 pub mod Accounts
+pub mod Queues
 pub mod Slots

@@ -3,4 +3,5 @@
 #![tactic(auto)]
 
 pub mod accounts;
+pub mod queues;
 pub mod slots;

@@ -9,7 +9,8 @@ pub fn reservations_take_free_slots()
 /// Where a slot is changed only by its recipes, at levels that compare, and by leases that end, between two reservations that committed
 /// stands a release that committed, or the end of a lease with which the slot was deleted.
 ///
-/// A recipe that is committed at ReadCommitted, or another client's put of the slot, breaks this: the law asks that there is none.
+/// Any other write of the slot (at ReadCommitted, by another program, or another client's put or delete) can break this: the law asks that
+/// between the two there is none.
 pub fn slots_are_freed_between()
     ensures { SlotsAreFreedBetween }
 {}

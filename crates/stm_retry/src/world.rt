@@ -187,8 +187,8 @@ impl World {
     /// before the stopped event, or that is an advance that was cut short after the leases in `expired`.
     ///
     /// In a new world the replies and the store are what the headline says of them. In any world, also one that has
-    /// run before, entries are only added behind those that are there: they are legal, each at its point, from the store
-    /// as it was, and replay to the store as it is.
+    /// run before, a run that is not stopped only adds entries behind those that are there: they are legal, each at its
+    /// point, from the store as it was, and replay to the store as it is.
     pub fn run(&mut self, events: &[WorldEvent]) -> Result<Vec<Result<Reply, Denied>>, RunStop>
         ensures replies { IfOk result (λ replies. replies.items ≡ replies_to events.now self.old) }
         ensures ok { OnOk result (self.new ≡ world_after events.now self.old) }

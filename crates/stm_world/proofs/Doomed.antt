@@ -1,5 +1,5 @@
 -- What a log tells of attempts that come to nothing: from the headline, line by line.
-use Rattle.std.proofs.Common.{◌≡◌, ℕ, ◌≤◌, List, [], Some, Ok, Err, true, sym, ◌∙◌, ap, subst}
+use Rattle.std.proofs.Common.{cond, map, arith, Bool, false, refl, ◌∷◌, None, Option, ◌≡◌, ℕ, ◌≤◌, List, [], Some, Ok, Err, true, sym, ◌∙◌, ap, subst}
 use Rattle.std.specs.Prelude.{option_map, Result}
 use Rattle.stm_history.specs.declared.key_state.ReadAnswer.{ReadAnswer}
 use Rattle.stm_history.specs.History.{History, key_now, mod_of}
@@ -12,6 +12,27 @@ use Rattle.stm_compile.specs.Answers.{state_as_of}
 use Rattle.stm_compile.specs.Conflicts.{IsChangedAbove}
 use Rattle.stm_compile.specs.Levels.{is_serializable}
 use Rattle.stm_attempt.specs.Fetches.{base_of}
+use Rattle.std.specs.List.{list_any}
+use Rattle.std.proofs.lemmas.List.Elements.{All-from_recursion}
+use Rattle.stm_history.specs.declared.change.Change.{Change}
+use Rattle.stm_history.specs.History.{now}
+use Rattle.stm_leases.specs.Live.{is_live_in}
+use Rattle.stm_program.specs.declared.level.Level.{Level}
+use Rattle.stm_meaning.specs.declared.run.Run.{Run}
+use Rattle.stm_txn.specs.declared.answer.FailedCompare.{FailedCompare}
+use Rattle.stm_txn.specs.declared.refusal.Refusal.TheVariants.{LeaseNotFound, RevisionsUsedUp, TooManyOps}
+use Rattle.stm_txn.specs.Outcome.{Done, is_used_up}
+use Rattle.stm_txn.specs.Commits.{revision_read, turned_down, effective, is_on_dead_lease}
+use Rattle.stm_compile.specs.Answers.{AreTrue}
+use Rattle.stm_compile.specs.Now.{as_change}
+use Rattle.stm_compile.specs.CommitTxn.{reread_keys}
+use Rattle.stm_compile.specs.Committed.{sends_too_many, conflict_now, judged}
+use Rattle.stm_compile.proofs.AgreeLemmas.{answers_of_one_revision}
+use Rattle.stm_attempt.specs.Fetches.{HaveOneBase}
+use Rattle.stm_program.specs.Writes.{latest_writes}
+use Rattle.stm_attempt.specs.Settled.{run_on}
+use Rattle.stm_meaning.specs.declared.run.Answered.TheVariants.{Ended as EndedRun}
+use Rattle.stm_world.proofs.Slots.{other_number}
 use Rattle.stm_world.specs.declared.event.WorldEvent.{WorldEvent}
 use Rattle.stm_world.specs.declared.reply.Reply.{Reply}
 use Rattle.stm_world.specs.declared.reply.Reply.TheVariants.{Started, Fetched, Committed, Conflict, GaveUp, Aborted, Faulted, Ended}
@@ -23,7 +44,7 @@ use Rattle.stm_world.specs.Right.{IsConflicted, EndsWith, StepIsRight, situation
 use Rattle.stm_world.specs.World.{World, Runner, opened, runner_at}
 use Rattle.stm_world.specs.Headline.{AreOfOneState}
 use Rattle.stm_world.specs.Doomed.{failed_commit, IsRealFailure, IfFailedIsReal, FailuresAreConflicts}
-use Rattle.stm_world.specs.Doomed.{stopped, IsEndOnOneState, IfStoppedIsOfOneState, StopsAreOfOneState}
+use Rattle.stm_world.specs.Doomed.{stopped, IsEndOnOneState, IfStoppedIsReal, StopsAreOfOneState}
 use Rattle.stm_world.proofs.OneState.{are_of_one_state}
 use Rattle.stm_world.proofs.Untouched.{runner_for}
 use Rattle.stm_world.proofs.Lines.{each_line, by_event}
@@ -31,6 +52,28 @@ use Rattle.stm_world.proofs.RunnerSteps.{CommitLaws}
 use Rattle.stm_world.proofs.Headlines.{Follows, opened_follows}
 
 -- ---- commits that failed ----
+
+-- what a commit tells as failed is its first compare that fails
+applied_fails_none : (dead used : Bool) (made done : Done) (failed : FailedCompare) → made.answer.failed ≡ None →
+    cond dead (Err LeaseNotFound) (cond used (Err RevisionsUsedUp) (Ok made)) ≡ Ok done → done.answer.failed ≡ Some failed → ⊥
+applied_fails_none true used made done failed none is some = absurd (cc)
+applied_fails_none false true made done failed none is some = absurd (cc)
+applied_fails_none false false made done failed none is some = let same : made ≡ done = cc in absurd (cc)
+
+judged_fails : (h : History) (is_live : ℕ → Bool) (level : Level) (reads : List ReadAnswer) (run : Run) (o : Option FailedCompare) (done : Done)
+    (failed : FailedCompare) → judged h is_live level reads run o ≡ Ok done → done.answer.failed ≡ Some failed → o ≡ Some failed
+judged_fails h is_live level reads run None done failed is some =
+    let changes : List Change = map as_change (latest_writes run.writes) in
+    absurd (applied_fails_none (list_any (is_on_dead_lease is_live) changes) (is_used_up h (effective h changes)) _ done failed refl is some)
+judged_fails h is_live level reads run (Some first) done failed is some =
+    let same : turned_down h first (reread_keys level reads) ≡ done = cc in
+    ap (λ (d : Done). d.answer.failed) same ∙ some
+
+commit_fails : (too_many : Bool) (h : History) (is_live : ℕ → Bool) (level : Level) (reads : List ReadAnswer) (run : Run) (o : Option FailedCompare)
+    (done : Done) (failed : FailedCompare) → cond too_many (Err TooManyOps) (judged h is_live level reads run o) ≡ Ok done →
+    done.answer.failed ≡ Some failed → o ≡ Some failed
+commit_fails true h is_live level reads run o done failed is some = absurd (cc)
+commit_fails false h is_live level reads run o done failed is some = judged_fails h is_live level reads run o done failed is some
 
 -- a commit that failed by a conflict, at the number of its runner
 pub real_failure : (start : ℕ) (log : List Line) (id runner : ℕ) (task : Task) (key : List ℕ) (seen now_modified : ℕ) → running id log ≡ Some task →
@@ -44,10 +87,14 @@ real_failure start log id runner task key seen now_modified runs same c =
       runs = runs;
       run = c.commits.run;
       is_run = c.commits.is_run;
+      is_done = c.commits.is_done;
       conflict = record {
+        compare = c.failed;
+        fails = commit_fails (sends_too_many task.level (told start id task log).reads (latest_writes c.commits.run.writes)) h
+            (is_live_in (store start log).live) task.level (told start id task log).reads c.commits.run
+            (conflict_now h task.level (told start id task log).reads (latest_writes c.commits.run.writes)) c.done c.failed c.commits.comes_to c.fails;
         seen = c.conflict.seen;
-        index = c.failed.index;
-        among = c.conflict.about;
+        about = c.conflict.about;
         key = c.about;
         was = c.was;
         is = c.is ∙ c.conflict.told ∙ ap (λ (k : List ℕ). mod_of (key_now h k)) (sym c.about);
@@ -87,7 +134,24 @@ failures_are_conflicts laws start events =
 
 -- ---- aborts and faults ----
 
--- the end that a run comes to on answers of one state
+-- the end that a run comes to on answers of one state: where nothing was read it is the current one
+alone_at : (h : History) (task : Task) (reads : List ReadAnswer) (run : Run) → HaveOneBase reads → AreTrue h reads → run_on task.program reads ≡ EndedRun run →
+    (revision_read h (base_of reads) ≤ now h) × (run_over (state_as_of h (revision_read h (base_of reads))) task.program.statements ≡ EndedRun run)
+alone_at h task [] run one truth is = (
+  omega arith,
+  subst (λ (a : Answered). IsContinuedBy a (run_over (state_as_of h (now h)) task.program.statements)) is
+      (answers_of_one_revision h (now h) [] task.program.statements tt (All-from_recursion (λ (a : ReadAnswer). a.of_rev ≡ now h) [] tt)),
+)
+alone_at h task (a ∷ reads) run one truth is =
+    let base : revision_read h a.of_rev ≡ a.of_rev =
+    ap (λ b. cond b (now h) a.of_rev) (other_number a.of_rev 0 (λ zero. let some : 1 ≤ a.of_rev = one.0 in omega (arith, zero))) in
+    let state : AreOfOneState h task (a ∷ reads) = are_of_one_state h task (a ∷ reads) one truth in
+    let alone : run_over (state_as_of h a.of_rev) task.program.statements ≡ EndedRun run =
+    subst (λ (x : Answered). IsContinuedBy x (run_over (state_as_of h a.of_rev) task.program.statements)) is state.continued in (
+      subst (λ n. n ≤ now h) (sym base) truth.0.reached,
+      subst (λ n. run_over (state_as_of h n) task.program.statements ≡ EndedRun run) (sym base) alone,
+    )
+
 of_its_state : (start : ℕ) (log : List Line) (id : ℕ) (task : Task) (end : End) (w : World) → Follows start log w → 1 ≤ start →
     running id log ≡ Some task → is_serializable task.level ≡ true → EndsWith (situation start log id task) end →
     IsEndOnOneState (store start log).history task (told start id task log).reads end
@@ -96,31 +160,32 @@ of_its_state start log id task end w f some runs serializable ends =
     let reads : List ReadAnswer = (told start id task log).reads in
     let r : Runner = runner_for start log id task in
     let found : runner_at id w.runners ≡ Some r = f.at.slots id ∙ ap (option_map (runner_for start log id)) runs in
-    let state : AreOfOneState h task reads =
-    are_of_one_state h task reads ((f.at.well_read id r found).based some serializable).0 (f.at.truth id r found).0 in
+    let one : HaveOneBase reads = ((f.at.well_read id r found).based some serializable).0 in
+    let truth : AreTrue h reads = (f.at.truth id r found).0 in
+    let at = alone_at h task reads ends.run one truth ends.is_run in
     record {
-      state = state;
+      state = are_of_one_state h task reads one truth;
+      reached = at.0;
       run = ends.run;
-      alone = subst (λ (a : Answered). IsContinuedBy a (run_over (state_as_of h (base_of reads)) task.program.statements)) ends.is_run state.continued;
+      is_run = ends.is_run;
+      alone = at.1;
       ends = ends.ended;
     }
 
 -- an abort or a fault of a runner, at its number
 of_one_state : (start : ℕ) (log : List Line) (id runner : ℕ) (task : Task) (end : End) (w : World) → Follows start log w → 1 ≤ start →
     running id log ≡ Some task → runner ≡ id → EndsWith (situation start log id task) end →
-    IfStoppedIsOfOneState start log (Some (record { runner = runner; end = end }))
+    IfStoppedIsReal start log (Some (record { runner = runner; end = end }))
 of_one_state start log id runner task end w f some runs same ends =
-    subst (λ n. IfStoppedIsOfOneState start log (Some (record { runner = n; end = end }))) (sym same)
-    (λ other runs_as serializable.
-    let is : task ≡ other = some_is_same task other (sym runs ∙ runs_as) in
-    subst (λ (t : Task). IsEndOnOneState (store start log).history t (told start id t log).reads end) is
-    (of_its_state start log id task end w f some runs (subst (λ (t : Task). is_serializable t.level ≡ true) (sym is) serializable) ends))
-  where
-    some_is_same : (one other : Task) → Some one ≡ Some other → one ≡ other
-    some_is_same one other same = cc
+    subst (λ n. IfStoppedIsReal start log (Some (record { runner = n; end = end }))) (sym same)
+    (record {
+      task = task;
+      runs = runs;
+      of_one_state = λ serializable. of_its_state start log id task end w f some runs serializable ends;
+    })
 
 reply_is_of_one_state : (start : ℕ) (log : List Line) (id : ℕ) (task : Task) (reply : Result Reply Denied) (w : World) → Follows start log w → 1 ≤ start →
-    running id log ≡ Some task → StepIsRight (situation start log id task) reply → IfStoppedIsOfOneState start log (stopped reply)
+    running id log ≡ Some task → StepIsRight (situation start log id task) reply → IfStoppedIsReal start log (stopped reply)
 reply_is_of_one_state start log id task (Ok (Aborted runner text)) w f some runs right =
     of_one_state start log id runner task (AbortedEnd text) w f some runs right.0 right.1
 reply_is_of_one_state start log id task (Ok (Faulted runner fault)) w f some runs right =
@@ -143,8 +208,8 @@ reply_is_of_one_state start log id task (Err refusal) w f some runs right = tt
 
 pub stops_are_of_one_state : CommitLaws → StopsAreOfOneState
 stops_are_of_one_state laws start events some =
-    each_line start (λ older line. IfStoppedIsOfOneState start older (stopped line.reply)) laws
-    (λ log event reply w f right. by_event start log (λ (e : WorldEvent) (r : Result Reply Denied). IfStoppedIsOfOneState start log (stopped r))
-    (λ e r none. subst (IfStoppedIsOfOneState start log) (sym none.no_stop) tt) (λ task. tt)
+    each_line start (λ older line. IfStoppedIsReal start older (stopped line.reply)) laws
+    (λ log event reply w f right. by_event start log (λ (e : WorldEvent) (r : Result Reply Denied). IfStoppedIsReal start log (stopped r))
+    (λ e r none. subst (IfStoppedIsReal start log) (sym none.no_stop) tt) (λ task. tt)
     (λ id task r runs step. reply_is_of_one_state start log id task r w f some runs step) event reply right)
     events [] (opened start) (opened_follows start) tt

@@ -162,7 +162,7 @@ failure_moves_on start log id task failed same runs real low m =
     subst (λ n. KnowsFrom (floor start log id) (told start n real.task log)) (sym same)
     (subst (λ (t : Task). KnowsFrom (floor start log id) (told start id t log)) (sym is) (m.known task runs)) in
     conflict_moves_on (floor start log id) (store start log).history (told start failed.runner real.task log).reads
-    (latest_writes real.run.writes) real.conflict.seen real.conflict.index failed.key (omega arith) knows.0 real.conflict.among real.conflict.changed
+    (latest_writes real.run.writes) real.conflict.seen real.conflict.compare.index failed.key (omega arith) knows.0 real.conflict.about real.conflict.changed
 
 conflict_by : (start : ℕ) (log : List Line) (id : ℕ) (task : Task) (key : List ℕ) (seen now_modified : ℕ) → running id log ≡ Some task →
     floor start log id + 1 ≤ now (store start log).history → HasMovedOn start (with_line (Step id) (Ok (Conflict id key seen now_modified)) log) id

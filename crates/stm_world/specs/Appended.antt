@@ -15,6 +15,6 @@ pub record HasAppended (old new : World) : Type 0 where
   pub legal : AreLegal more (without_moment old.standing)
   pub replays : replay more (without_moment old.standing) ≡ without_moment new.standing
 
--- From any world, also one that has run before, events only append entries.
+-- From any sound world, also one that has run before, events only append entries.
 abbrev pub EventsAppend : Type 0
 EventsAppend = (events : List WorldEvent) (w : World) → IsSound w → HasAppended w (world_after events w)

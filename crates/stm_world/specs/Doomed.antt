@@ -7,14 +7,18 @@ use Rattle.std.specs.Prelude.{◌≡◌, ℕ, ◌+◌, ◌≤◌, nat_eq, Bool, 
 use Rattle.stm_history.specs.declared.revisions.TheConstants.{HIGHEST_REVISION}
 use Rattle.stm_history.specs.declared.key_state.ReadAnswer.{ReadAnswer}
 use Rattle.stm_history.specs.History.{History, now, key_now, mod_of}
+use Rattle.stm_program.specs.declared.level.Level.{Level}
 use Rattle.stm_program.specs.declared.write.Write.{Write}
 use Rattle.stm_program.specs.Writes.{latest_writes}
 use Rattle.stm_meaning.specs.declared.run.End.{End}
-use Rattle.stm_meaning.specs.declared.run.End.TheVariants.{Aborted as AbortedEnd, Faulted as FaultedEnd}
+use Rattle.stm_meaning.specs.declared.run.End.TheVariants.{Done as DoneEnd, Aborted as AbortedEnd, Faulted as FaultedEnd}
 use Rattle.stm_meaning.specs.declared.run.Run.{Run}
 use Rattle.stm_meaning.specs.declared.run.Answered.TheVariants.{Ended as EndedRun}
 use Rattle.stm_meaning.specs.Meaning.{run_over}
+use Rattle.stm_txn.specs.declared.answer.FailedCompare.{FailedCompare}
+use Rattle.stm_txn.specs.Commits.{revision_read}
 use Rattle.stm_compile.specs.Levels.{is_serializable}
+use Rattle.stm_compile.specs.Committed.{conflict_now}
 use Rattle.stm_compile.specs.Answers.{state_as_of}
 use Rattle.stm_compile.specs.Conflicts.{Seen, seen_by, IsChangedAbove}
 use Rattle.stm_attempt.specs.Settled.{run_on}
@@ -28,6 +32,10 @@ use Rattle.stm_world.specs.Log.{Line, is_id, runner_started, begun, running, sto
 use Rattle.stm_world.specs.World.{opened, replies_to}
 use Rattle.stm_world.specs.Headline.{logged, AreOfOneState}
 
+-- the log of these events in a world whose store opened at a revision
+abbrev pub log_of : ℕ → List WorldEvent → List Line
+log_of start events = logged events (replies_to events (opened start)) []
+
 -- a property of every line of a log, which may look at the lines before it
 abbrev pub EachLine : (List Line → Line → Type 0) → List Line → Type 0
 EachLine P [] = Unit {0}
@@ -35,7 +43,8 @@ EachLine P (line ∷ older) = P older line × EachLine P older
 
 -- ---- commits that failed ----
 
--- a commit that failed, as a conflict or a give-up tells it
+-- a commit that failed, as a conflict or a give-up tells it: whose it was, the key told, what was seen of it, and its modification
+-- revision now
 pub record FailedCommit : Type 0 where
   pub runner : ℕ
   pub key : List ℕ
@@ -47,24 +56,27 @@ failed_commit (Ok (Conflict runner key seen now)) = Some record { runner = runne
 failed_commit (Ok (GaveUp runner attempts key seen now)) = Some record { runner = runner; key = key; seen = seen; now_modified = now }
 failed_commit other = None
 
--- It is about a key that the attempt has read or was to write: what is told as seen is what was seen of the key, the history changes
--- the key above the revision that it was seen at, and the other number is the key's modification revision now.
-pub record NamesAConflict (h : History) (reads : List ReadAnswer) (writes : List Write) (failed : FailedCommit) : Type 0 where
+-- The first compare of its commit that fails is about this key: what is told as seen is what was seen of the key, the history changes the key
+-- above the revision that it was seen at, and the other number is the key's modification revision now.
+pub record NamesAConflict (h : History) (level : Level) (reads : List ReadAnswer) (writes : List Write) (failed : FailedCommit) : Type 0 where
+  pub compare : FailedCompare
+  pub fails : conflict_now h level reads writes ≡ Some compare
   pub seen : Seen
-  pub index : ℕ
-  pub among : slice_get (seen_by reads writes) index ≡ Some seen
+  pub about : slice_get (seen_by reads writes) compare.index ≡ Some seen
   pub key : failed.key ≡ seen.key
   pub was : failed.seen ≡ seen.mod_rev
   pub is : failed.now_modified ≡ mod_of (key_now h failed.key)
   pub changed : IsChangedAbove h seen.at failed.key
 
--- a commit of a runner that runs after these lines, which failed by a conflict with the store that they lead to
+-- The commit of a runner that runs after these lines and whose program is done on what it has read, which failed by a conflict with the
+-- store that the lines lead to.
 pub record IsRealFailure (start : ℕ) (log : List Line) (failed : FailedCommit) : Type 0 where
   pub task : Task
   pub runs : running failed.runner log ≡ Some task
   pub run : Run
   pub is_run : run_on task.program (told start failed.runner task log).reads ≡ EndedRun run
-  pub conflict : NamesAConflict (store start log).history (told start failed.runner task log).reads (latest_writes run.writes) failed
+  pub is_done : run.end ≡ DoneEnd
+  pub conflict : NamesAConflict (store start log).history task.level (told start failed.runner task log).reads (latest_writes run.writes) failed
 
 abbrev pub IfFailedIsReal : ℕ → List Line → Option FailedCommit → Type 0
 IfFailedIsReal start log None = Unit {0}
@@ -74,7 +86,7 @@ IfFailedIsReal start log (Some failed) = IsRealFailure start log failed
 abbrev pub FailuresAreConflicts : Type 0
 FailuresAreConflicts =
     (start : ℕ) (events : List WorldEvent) →
-    EachLine (λ older line. IfFailedIsReal start older (failed_commit line.reply)) (logged events (replies_to events (opened start)) [])
+    EachLine (λ older line. IfFailedIsReal start older (failed_commit line.reply)) (log_of start events)
 
 -- ---- aborts and faults ----
 
@@ -88,26 +100,33 @@ stopped (Ok (Aborted runner text)) = Some record { runner = runner; end = Aborte
 stopped (Ok (Faulted runner fault)) = Some record { runner = runner; end = FaultedEnd fault }
 stopped other = None
 
--- What the attempt has read is of one state, and the program run alone on this state comes to this end.
+-- The attempt has come to this end on what it has read. That is of one state, the current one where nothing was read, and the program run
+-- alone on this state comes to the same end.
 pub record IsEndOnOneState (h : History) (task : Task) (reads : List ReadAnswer) (end : End) : Type 0 where
   pub state : AreOfOneState h task reads
+  pub reached : revision_read h (base_of reads) ≤ now h
   pub run : Run
-  pub alone : run_over (state_as_of h (base_of reads)) task.program.statements ≡ EndedRun run
+  pub is_run : run_on task.program reads ≡ EndedRun run
+  pub alone : run_over (state_as_of h (revision_read h (base_of reads))) task.program.statements ≡ EndedRun run
   pub ends : run.end ≡ end
 
--- at a serializable level
-abbrev pub IfStoppedIsOfOneState : ℕ → List Line → Option Stopped → Type 0
-IfStoppedIsOfOneState start log None = Unit {0}
-IfStoppedIsOfOneState start log (Some stopped) =
-    (task : Task) → running stopped.runner log ≡ Some task → is_serializable task.level ≡ true →
-    IsEndOnOneState (store start log).history task (told start stopped.runner task log).reads stopped.end
+-- an end of a runner that runs after these lines: at a serializable level it is that on one state
+pub record IsRealStop (start : ℕ) (log : List Line) (stopped : Stopped) : Type 0 where
+  pub task : Task
+  pub runs : running stopped.runner log ≡ Some task
+  pub of_one_state : is_serializable task.level ≡ true →
+      IsEndOnOneState (store start log).history task (told start stopped.runner task log).reads stopped.end
+
+abbrev pub IfStoppedIsReal : ℕ → List Line → Option Stopped → Type 0
+IfStoppedIsReal start log None = Unit {0}
+IfStoppedIsReal start log (Some stopped) = IsRealStop start log stopped
 
 -- Over every list of events, each abort and each fault that is told at a serializable level is the end of the program run alone on
--- the state at one revision, which was the store's: also where a commit of this attempt would have failed.
+-- the state at one revision of the store, of which all that the attempt has read is true: also where the store has moved on since.
 abbrev pub StopsAreOfOneState : Type 0
 StopsAreOfOneState =
     (start : ℕ) (events : List WorldEvent) → 1 ≤ start →
-    EachLine (λ older line. IfStoppedIsOfOneState start older (stopped line.reply)) (logged events (replies_to events (opened start)) [])
+    EachLine (λ older line. IfStoppedIsReal start older (stopped line.reply)) (log_of start events)
 
 -- ---- how far the store has moved on ----
 
@@ -126,11 +145,10 @@ failed_commits id [] = 0
 failed_commits id (line ∷ older) =
     if is_of_runner id (failed_commit line.reply) then failed_commits id older + 1 else failed_commits id older
 
--- Over every list of events, a run whose commits failed so many times has seen the store's revision grow by as many since its start:
--- it fails only where somebody else gets on. A store does not open above the highest revision.
+-- Over every list of events, a run whose commits failed so many times has seen the store's revision grow by at least as many since its start.
+-- A store does not open above the highest revision.
 abbrev pub FailuresMoveOn : Type 0
 FailuresMoveOn =
     (start : ℕ) (events : List WorldEvent) (id : ℕ) (task : Task) → start ≤ HIGHEST_REVISION
-    → begun id (logged events (replies_to events (opened start)) []) ≡ Some task
-    → since start id (logged events (replies_to events (opened start)) []) + failed_commits id (logged events (replies_to events (opened start)) [])
-    ≤ now (store start (logged events (replies_to events (opened start)) [])).history
+    → begun id (log_of start events) ≡ Some task
+    → since start id (log_of start events) + failed_commits id (log_of start events) ≤ now (store start (log_of start events)).history

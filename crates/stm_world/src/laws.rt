@@ -25,23 +25,23 @@ pub fn answers_are_of_one_state()
     ensures { OneState }
 {}
 
-/// Over every list of events, each conflict and each give-up that is told names a key with a real conflict: the
-/// attempt has read the key, or was to write it at serializable snapshot; what is told as seen is what was seen of
-/// it, the history changes it above the revision that it was seen at, and the other number is its modification
-/// revision now.
+/// Over every list of events, each conflict and each give-up that is told is that of a runner whose program is done, and names a key with a
+/// real conflict: the first compare of its commit that fails is about this key. What is told as seen is what was seen of the key, the
+/// history changes it above the revision that it was seen at, and the other number is its modification revision now. A key that was
+/// written is compared at serializable snapshot alone.
 pub fn failures_are_conflicts()
     ensures { FailuresAreConflicts }
 {}
 
-/// Over every list of events, a run whose commits failed so many times has seen the store's revision grow by as
-/// many since its start: a commit fails only where somebody else has got on.
+/// Over every list of events, a run whose commits failed so many times has seen the store's revision grow by at least as
+/// many since its start.
 pub fn failures_move_on()
     ensures { FailuresMoveOn }
 {}
 
-/// Over every list of events, each abort and each fault that is told at a serializable level is the end of the
-/// program run alone on the state of the store at one revision, of which all that the attempt has read is true:
-/// also where its commit would have failed.
+/// Over every list of events, each abort and each fault that is told at a serializable level is the end of the program run alone on
+/// the state at one revision of the store, of which all that the attempt has read is true: also where the store has moved on since.
+/// Where nothing was read, that is the current state.
 pub fn stops_are_of_one_state()
     ensures { StopsAreOfOneState }
 {}
@@ -68,7 +68,7 @@ pub fn worlds_are_sound()
     ensures { WorldsAreSound }
 {}
 
-/// From any sound world, also one that has run before, events only append entries: those are legal, each at its
+/// From any sound world, also one that has run before, events only append entries: these are legal, each at its
 /// point, from the store as it was, and replay to the store as it is.
 pub fn events_append()
     ensures { EventsAppend }

@@ -25,7 +25,10 @@ pub fn run_answered<L: Lookup>(
     let mut session = Session::new(alloc)?;
     match run_all(alloc, lookup, &mut session, program.statements()) {
         Ok(()) => Ok(ended(session, End::Done)),
-        Err(Halt::OutOfMemory) => Err(AllocError),
+        Err(Halt::OutOfMemory) => {
+            drop(session);
+            Err(AllocError)
+        }
         Err(Halt::Stopped(stop)) => Ok(stopped(session, stop)),
     }
 }

@@ -19,6 +19,14 @@ fn waits_for_value(frame: ComparisonFrame, part: &Arc<Expr>) -> Result<Move, All
     Ok(waits(Frame::Comparison(frame), Focus::Evaluate(part)))
 }
 
+/// A condition waits for its other value.
+fn waits_for_other(frame: ComparisonFrame, part: &ExprPart) -> Result<Move, AllocError>
+    ensures { IfOk result (λ m. m ≡ waits (Frame.Comparison frame) (Focus.Evaluate part.now)) }
+{
+    let part = part.again()?;
+    Ok(waits(Frame::Comparison(frame), Focus::Evaluate(part)))
+}
+
 /// A condition waits for a truth.
 fn waits_for_truth(frame: TruthFrame, part: &Arc<Cond>) -> Result<Move, AllocError>
     ensures { IfOk result (λ m. m ≡ waits (Frame.Truth frame) (Focus.Test part.now.value)) }
@@ -61,16 +69,12 @@ pub(crate) fn take_compared(frame: &ComparisonFrame, value: &Value) -> Result<Mo
     match frame {
         ComparisonFrame::EqualLeft(right) => {
             let left = value.clone()?;
-            let right = right.again()?;
-            let frame = Frame::Comparison(ComparisonFrame::EqualRight(left));
-            Ok(waits(frame, Focus::Evaluate(right)))
+            waits_for_other(ComparisonFrame::EqualRight(left), right)
         }
         ComparisonFrame::EqualRight(left) => Ok(goes(at_truth(are_equal(left, value)))),
         ComparisonFrame::LessLeft(right) => {
             let left = value.clone()?;
-            let right = right.again()?;
-            let frame = Frame::Comparison(ComparisonFrame::LessRight(left));
-            Ok(waits(frame, Focus::Evaluate(right)))
+            waits_for_other(ComparisonFrame::LessRight(left), right)
         }
         ComparisonFrame::LessRight(left) => Ok(goes(at_truth(is_below(left, value)))),
     }

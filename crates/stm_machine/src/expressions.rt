@@ -1,7 +1,7 @@
 //! The moves of expressions.
 ghost use Rattle.std.specs.Prelude.{◌≡◌, IfOk};
 ghost use Rattle.stm_steps.specs.Values.{key_in};
-ghost use Rattle.stm_machine.specs.Moves.{waits, at_get, at_rev, begin_expression, take_operand};
+ghost use Rattle.stm_machine.specs.Moves.{goes, waits, at_get, at_rev, begin_expression, take_operand};
 
 use crate::focus::{Focus, Item};
 use crate::frame::{Frame, OperandFrame};
@@ -20,18 +20,30 @@ fn waits_for(frame: OperandFrame, part: &Arc<Expr>) -> Result<Move, AllocError>
     Ok(waits(Frame::Operand(frame), Focus::Evaluate(part)))
 }
 
+/// An expression waits for the value of its other part.
+fn waits_for_other(frame: OperandFrame, part: &ExprPart) -> Result<Move, AllocError>
+    ensures { IfOk result (λ m. m ≡ waits (Frame.Operand frame) (Focus.Evaluate part.now)) }
+{
+    let part = part.again()?;
+    Ok(waits(Frame::Operand(frame), Focus::Evaluate(part)))
+}
+
+/// Behind an expression that gave a value.
+fn gives(value: Value) -> Move
+    ensures { result ≡ goes (Focus.Give (Item.Value value)) }
+{
+    goes(Focus::Give(Item::Value(value)))
+}
+
 /// The move at the start of an expression.
 #[tactic(auto, unfolding(crate::specs::Moves::begin_expression))]
 pub(crate) fn begin_expression(session: &Session, expression: &Expr) -> Result<Move, AllocError>
     ensures { IfOk result (λ m. m ≡ begin_expression expression.now session.now) }
 {
     match &expression.node {
-        ExprNode::Text(text) => Ok(goes(Focus::Give(Item::Value(Value::Text(text.clone()?))))),
-        ExprNode::Number(number) => Ok(goes(Focus::Give(Item::Value(Value::Number(*number))))),
-        ExprNode::Variable(variable) => {
-            let value = session.variable(*variable).clone()?;
-            Ok(goes(Focus::Give(Item::Value(value))))
-        }
+        ExprNode::Text(text) => Ok(gives(Value::Text(text.clone()?))),
+        ExprNode::Number(number) => Ok(gives(Value::Number(*number))),
+        ExprNode::Variable(variable) => Ok(gives(session.variable(*variable).clone()?)),
         ExprNode::Get(key) => waits_for(OperandFrame::Get, key),
         ExprNode::Rev(key) => waits_for(OperandFrame::Rev, key),
         ExprNode::Arithmetic(operator, left, right) => {
@@ -81,18 +93,14 @@ pub(crate) fn take_operand(
         OperandFrame::Rev => Ok(goes(at_rev(value)?)),
         OperandFrame::ArithmeticLeft(operator, right) => {
             let left = value.clone()?;
-            let right = right.again()?;
-            let frame = Frame::Operand(OperandFrame::ArithmeticRight(*operator, left));
-            Ok(waits(frame, Focus::Evaluate(right)))
+            waits_for_other(OperandFrame::ArithmeticRight(*operator, left), right)
         }
         OperandFrame::ArithmeticRight(operator, left) => {
             Ok(goes(at_value(combine(*operator, left, value))))
         }
         OperandFrame::CatLeft(back) => {
             let front = value.clone()?;
-            let back = back.again()?;
-            let frame = Frame::Operand(OperandFrame::CatRight(front));
-            Ok(waits(frame, Focus::Evaluate(back)))
+            waits_for_other(OperandFrame::CatRight(front), back)
         }
         OperandFrame::CatRight(front) => Ok(goes(at_value(join(alloc, front, value)?))),
         OperandFrame::TextOf => Ok(goes(at_value(spell(alloc, value)?))),

@@ -12,6 +12,7 @@ use crate::stack::Stack;
 use crate::steps::next_move;
 use std::alloc::{AllocError, Global};
 use std::marker::Model;
+use std::mem;
 use std::sync::Arc;
 use stm_history::Text;
 use stm_program::{Block, Program};
@@ -85,7 +86,8 @@ impl Machine {
         let Some(made) = made else {
             return Ok(false);
         };
-        self.focus = leave_waiting(&mut self.stack, made);
+        let focus = leave_waiting(&mut self.stack, made);
+        drop(mem::replace(&mut self.focus, focus));
         Ok(true)
     }
 

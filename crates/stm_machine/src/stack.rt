@@ -71,6 +71,6 @@ impl Stack {
         ensures frames { self.new.frames ≡ below_top self.old.frames }
         ensures room { self.old.room ≤ self.new.room }
     {
-        self.frames.pop();
+        drop(self.frames.pop());
     }
 }

@@ -1,8 +1,9 @@
 //! The moves of statements, blocks and loops.
 ghost use Rattle.std.specs.Prelude.{◌≡◌, ◌≤◌, IfOk, OnErr};
 ghost use Rattle.stm_history.specs.declared.revisions.TheConstants.{HIGHEST_NUMBER};
+ghost use Rattle.stm_steps.specs.Session.{with_output, with_variable};
 ghost use Rattle.stm_steps.specs.Values.{text_in, turns_of};
-ghost use Rattle.stm_machine.specs.Moves.{waits_in, at_abort, begin_statement, begin_block, moved, write_moved, begin_loop};
+ghost use Rattle.stm_machine.specs.Moves.{goes, nothing, waits, waits_in, at_abort, begin_statement, begin_block, moved, write_moved, begin_loop};
 ghost use Rattle.stm_machine.specs.Moves.{take_argument, take_turn, take_nothing};
 
 use crate::focus::Focus;
@@ -112,6 +113,38 @@ fn begin_loop(
     }
 }
 
+/// A put waits for what it puts.
+fn waits_to_put(key: &Value, part: &ExprPart, lease: u64) -> Result<Move, AllocError>
+    ensures { IfOk result (λ m. m ≡ waits (Frame.Argument (ArgumentFrame.PutValue key.now lease)) (Focus.Evaluate part.now)) }
+{
+    let key = key.clone()?;
+    let part = part.again()?;
+    let frame = Frame::Argument(ArgumentFrame::PutValue(key, lease));
+    Ok(waits(frame, Focus::Evaluate(part)))
+}
+
+/// Puts a value out. Want of memory leaves the session as it was.
+fn emit_value(session: &mut Session, value: &Value) -> Result<Move, AllocError>
+    ensures ok { IfOk result (λ m. moved m session.new ≡ moved (goes nothing) (with_output value.now session.old)) }
+    ensures err { OnErr result (session.new ≡ session.old) }
+{
+    session.emit(value.clone()?)?;
+    Ok(goes(nothing()))
+}
+
+/// Gives a variable a value. Want of memory leaves the session as it was.
+fn set_variable(
+    session: &mut Session,
+    variable: Variable,
+    value: &Value,
+) -> Result<Move, AllocError>
+    ensures ok { IfOk result (λ m. moved m session.new ≡ moved (goes nothing) (with_variable variable value.now session.old)) }
+    ensures err { OnErr result (session.new ≡ session.old) }
+{
+    session.set(variable, value.clone()?);
+    Ok(goes(nothing()))
+}
+
 /// The move of a statement that gets a value. Want of memory leaves the session as it was.
 #[tactic(auto, unfolding(crate::specs::Moves::take_argument))]
 pub(crate) fn take_argument(
@@ -123,23 +156,12 @@ pub(crate) fn take_argument(
     ensures err { OnErr result (session.new ≡ session.old) }
 {
     match frame {
-        ArgumentFrame::Set(variable) => {
-            session.set(*variable, value.clone()?);
-            Ok(goes(nothing()))
-        }
-        ArgumentFrame::PutKey(part, lease) => {
-            let key = value.clone()?;
-            let part = part.again()?;
-            let frame = Frame::Argument(ArgumentFrame::PutValue(key, *lease));
-            Ok(waits(frame, Focus::Evaluate(part)))
-        }
+        ArgumentFrame::Set(variable) => set_variable(session, *variable, value),
+        ArgumentFrame::PutKey(part, lease) => waits_to_put(value, part, *lease),
         ArgumentFrame::PutValue(key, lease) => keep_write(session, put(key, value, *lease)?),
         ArgumentFrame::Del => keep_write(session, deletion(value)?),
         ArgumentFrame::For(variable, limit, body) => begin_loop(*variable, body, *limit, value),
-        ArgumentFrame::Emit => {
-            session.emit(value.clone()?)?;
-            Ok(goes(nothing()))
-        }
+        ArgumentFrame::Emit => emit_value(session, value),
         ArgumentFrame::Abort => Ok(goes(at_abort(value)?)),
     }
 }

@@ -1,7 +1,8 @@
 //! The move that a machine makes from where it stands.
-ghost use Rattle.std.specs.Prelude.{◌≡◌, ◌≤◌, None, IfOk, OnErr, option_map};
+ghost use Rattle.std.specs.Prelude.{◌≡◌, ◌≤◌, List, None, IfOk, OnErr, option_map};
 ghost use Rattle.stm_machine.specs.Moves.{goes, moved, take_item};
-ghost use Rattle.stm_machine.specs.Steps.{state_after, give_step, step_from};
+ghost use Rattle.stm_machine.specs.Steps.{state_after, give_step, read_step, step_from};
+ghost use Rattle.stm_steps.specs.Steps.{get_key, rev_key};
 
 use crate::conditions::{begin_condition, take_compared, take_truth};
 use crate::expressions::{begin_expression, take_operand};
@@ -11,6 +12,7 @@ use crate::moves::{Move, goes, nothing};
 use crate::stack::Stack;
 use crate::statements::{take_argument, take_nothing};
 use std::alloc::{AllocError, Global};
+use stm_history::Text;
 use stm_steps::{End, Lookup, Session, Value};
 
 /// The move of a part that gets what it waited for. Want of memory leaves the session as it was.
@@ -66,6 +68,39 @@ fn read_move(found: Option<Value>) -> Option<Move>
     }
 }
 
+/// The move at a `get` of a key. `None` where the look-up does not know the key: nothing has changed then. Want of
+/// memory leaves the session as it was.
+fn get_move<L: Lookup>(
+    alloc: Global,
+    lookup: &L,
+    session: &mut Session,
+    key: &Text,
+) -> Result<Option<Move>, AllocError>
+    ensures step { IfOk result (λ made. (frames : List Frame) →
+        read_step frames (get_key (L.answers lookup.now) key.now session.old) ≡ option_map (λ m. state_after m frames session.new) made) }
+    ensures none { IfOk result (λ made. made ≡ None → session.new ≡ session.old) }
+    ensures err { OnErr result (session.new ≡ session.old) }
+{
+    let found = session.get(alloc, lookup, key)?;
+    Ok(read_move(found))
+}
+
+/// The move at a `rev` of a key. `None` where the look-up does not know the key: nothing has changed then. Want of
+/// memory leaves the session as it was.
+fn rev_move<L: Lookup>(
+    lookup: &L,
+    session: &mut Session,
+    key: &Text,
+) -> Result<Option<Move>, AllocError>
+    ensures step { IfOk result (λ made. (frames : List Frame) →
+        read_step frames (rev_key (L.answers lookup.now) key.now session.old) ≡ option_map (λ m. state_after m frames session.new) made) }
+    ensures none { IfOk result (λ made. made ≡ None → session.new ≡ session.old) }
+    ensures err { OnErr result (session.new ≡ session.old) }
+{
+    let found = session.rev(lookup, key)?;
+    Ok(read_move(found))
+}
+
 /// The move from where a machine stands. `None` where its run has ended, and at a key that the look-up does not
 /// know: nothing has changed then. Want of memory leaves all as it was.
 pub(crate) fn next_move<L: Lookup>(
@@ -86,8 +121,8 @@ pub(crate) fn next_move<L: Lookup>(
     match focus {
         Focus::Evaluate(expression) => Ok(Some(begin_expression(session, expression.get())?)),
         Focus::Test(condition) => Ok(Some(begin_condition(condition.get())?)),
-        Focus::Get(key) => Ok(read_move(session.get(alloc, lookup, key)?)),
-        Focus::Rev(key) => Ok(read_move(session.rev(lookup, key)?)),
+        Focus::Get(key) => get_move(alloc, lookup, session, key),
+        Focus::Rev(key) => rev_move(lookup, session, key),
         Focus::Give(item) => Ok(Some(give_move(alloc, stack, session, item)?)),
         Focus::Ended(_) => Ok(None),
     }

@@ -1,7 +1,8 @@
 //! Runs of whole programs.
 ghost use Rattle.std.specs.Prelude.{◌≡◌, IfOk};
 ghost use Rattle.stm_steps.specs.declared.run.Answered.TheVariants.{Ended};
-ghost use Rattle.stm_meaning.specs.Meaning.{run_over};
+ghost use Rattle.stm_meaning.specs.Meaning.{answered, run_of, run_over};
+ghost use Rattle.stm_steps.specs.Outcome.{Stops};
 ghost use Rattle.stm_steps.specs.States.{state_answers};
 
 use crate::statements::run_all;
@@ -23,19 +24,34 @@ pub fn run_answered<L: Lookup>(
 {
     let mut session = Session::new(alloc)?;
     match run_all(alloc, lookup, &mut session, program.statements()) {
-        Ok(()) => Ok(Answered::Ended(session.into_run(End::Done))),
-        Err(Halt::OutOfMemory) => Err(AllocError),
-        Err(Halt::Stopped(Stop::Aborted(text))) => {
-            Ok(Answered::Ended(session.into_run(End::Aborted(text))))
+        Ok(()) => Ok(ended(session, End::Done)),
+        Err(Halt::OutOfMemory) => {
+            drop(session);
+            Err(AllocError)
         }
-        Err(Halt::Stopped(Stop::Faulted(fault))) => {
-            Ok(Answered::Ended(session.into_run(End::Faulted(fault))))
-        }
-        Err(Halt::Stopped(Stop::Wants(key))) => Ok(Answered::Wants {
-            key,
-            trace: session.into_trace(),
-        }),
+        Err(Halt::Stopped(stop)) => Ok(stopped(session, stop)),
     }
+}
+
+/// What a run that stopped answers. It takes no memory.
+fn stopped(session: Session, stop: Stop) -> Answered
+    ensures { result ≡ answered (Stops stop session) }
+{
+    match stop {
+        Stop::Aborted(text) => ended(session, End::Aborted(text)),
+        Stop::Faulted(fault) => ended(session, End::Faulted(fault)),
+        Stop::Wants(key) => {
+            let trace = session.into_trace();
+            Answered::Wants { key, trace }
+        }
+    }
+}
+
+/// What a run that came to this end answers. It takes no memory.
+fn ended(session: Session, end: End) -> Answered
+    ensures { result ≡ Ended (run_of end session) }
+{
+    Answered::Ended(session.into_run(end))
 }
 
 /// The run of a program alone on a state.

@@ -1,6 +1,6 @@
 //! The words that programs are spelled with.
-ghost use Rattle.std.specs.Prelude.{◌≡◌};
-ghost use Rattle.stm_program_json.specs.Words.{expression_word, condition_word, statement_word};
+ghost use Rattle.std.specs.Prelude.{◌≡◌, codes, Some, None, if◌then◌else◌};
+ghost use Rattle.stm_program_json.specs.Words.{same, expression_word, condition_word, statement_word};
 
 use stm_program::Operator;
 
@@ -107,7 +107,23 @@ pub(crate) fn expression_word_of(word: &str) -> Option<ExprWord>
         Some(ExprWord::Unary(Unary::TextOf))
     } else if word == "num_of" {
         Some(ExprWord::Unary(Unary::NumOf))
-    } else if word == "cat" {
+    } else {
+        binary_word_of(word)
+    }
+}
+
+/// The expression of two parts that begins with a word, if there is one.
+fn binary_word_of(word: &str) -> Option<ExprWord>
+    ensures { result ≡
+        (if same word.now (codes "cat") then Some (ExprWord.Binary Binary.Cat)
+        else (if same word.now (codes "add") then Some (ExprWord.Binary (Binary.Arithmetic Operator.Add))
+        else (if same word.now (codes "sub") then Some (ExprWord.Binary (Binary.Arithmetic Operator.Sub))
+        else (if same word.now (codes "mul") then Some (ExprWord.Binary (Binary.Arithmetic Operator.Mul))
+        else (if same word.now (codes "div") then Some (ExprWord.Binary (Binary.Arithmetic Operator.Div))
+        else (if same word.now (codes "rem") then Some (ExprWord.Binary (Binary.Arithmetic Operator.Rem))
+        else None)))))) }
+{
+    if word == "cat" {
         Some(ExprWord::Binary(Binary::Cat))
     } else if word == "add" {
         Some(ExprWord::Binary(Binary::Arithmetic(Operator::Add)))

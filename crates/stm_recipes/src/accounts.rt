@@ -1,5 +1,5 @@
 //! Accounts: keys whose values are numbers.
-ghost use Rattle.std.specs.Prelude.{◌≡◌, IfOk};
+ghost use Rattle.std.specs.Prelude.{◌≡◌, [], ◌∷◌, IfOk, OnOk};
 ghost use Rattle.stm_program.specs.Syntax.{of_statements};
 ghost use Rattle.stm_recipes.specs.Accounts as recipe;
 ghost use Rattle.stm_recipes.specs.Names.{IsName};
@@ -24,11 +24,8 @@ pub fn transfer(alloc: Global, from: &str, to: &str, amount: u32) -> Result<Prog
     requires to { IsName to.now }
     ensures { IfOk result (λ program. program ≡ of_statements (recipe.transfer_program from.now to.now amount)) }
 {
-    let read = read_balance(alloc, from)?;
-    let refuse = refuse_below(alloc, amount)?;
-    let withdraw = withdraw(alloc, from, amount)?;
-    let pay = pay(alloc, to, amount)?;
-    let statements = vec![in alloc; read, refuse, withdraw, pay]?;
+    let mut statements = Vec::new(alloc);
+    push_transfer(alloc, &mut statements, from, to, amount)?;
     Ok(Program::of(statements))
 }
 
@@ -43,11 +40,44 @@ pub fn deposit(alloc: Global, account: &str, amount: u32) -> Result<Program, All
     requires { IsName account.now }
     ensures { IfOk result (λ program. program ≡ of_statements (recipe.deposit_program account.now amount)) }
 {
-    let read = read_text(alloc, 0, account)?;
-    let zero = zero_if_empty(alloc, 0)?;
-    let sum = put_sum(alloc, account, amount)?;
-    let statements = vec![in alloc; read, zero, sum]?;
+    let mut statements = Vec::new(alloc);
+    push_deposit(alloc, &mut statements, account, amount)?;
     Ok(Program::of(statements))
+}
+
+/// The statements of a transfer.
+fn push_transfer(
+    alloc: Global,
+    statements: &mut Vec<Stmt>,
+    from: &str,
+    to: &str,
+    amount: u32,
+) -> Result<(), AllocError>
+    requires { statements.old.items ≡ [] }
+    ensures { OnOk result (statements.new.items ≡
+        recipe.read_balance from.now ∷ recipe.refuse_below amount ∷ recipe.withdraw from.now amount ∷ recipe.pay to.now amount ∷ []) }
+{
+    statements.push(read_balance(alloc, from)?)?;
+    statements.push(refuse_below(alloc, amount)?)?;
+    statements.push(withdraw(alloc, from, amount)?)?;
+    statements.push(pay(alloc, to, amount)?)?;
+    Ok(())
+}
+
+/// The statements of a deposit.
+fn push_deposit(
+    alloc: Global,
+    statements: &mut Vec<Stmt>,
+    account: &str,
+    amount: u32,
+) -> Result<(), AllocError>
+    requires { statements.old.items ≡ [] }
+    ensures { OnOk result (statements.new.items ≡ recipe.read_text 0 account.now ∷ recipe.zero_if_empty 0 ∷ recipe.put_sum account.now amount ∷ []) }
+{
+    statements.push(read_text(alloc, 0, account)?)?;
+    statements.push(zero_if_empty(alloc, 0)?)?;
+    statements.push(put_sum(alloc, account, amount)?)?;
+    Ok(())
 }
 
 fn read_balance(alloc: Global, from: &str) -> Result<Stmt, AllocError>

@@ -1,6 +1,7 @@
 //! Queues: items under the numbers from a head up to a tail.
-ghost use Rattle.std.specs.Prelude.{◌≡◌, [], ◌∷◌, IfOk};
+ghost use Rattle.std.specs.Prelude.{◌≡◌, [], ◌∷◌, ◌++◌, ◌≤◌, IfOk, OnOk};
 ghost use Rattle.stm_program.specs.Syntax.{of_statements};
+ghost use Rattle.stm_program.specs.declared.limits.TheConstants.{MAX_VARIABLE};
 ghost use Rattle.stm_recipes.specs.Accounts as counter;
 ghost use Rattle.stm_recipes.specs.Names.{IsName, head_key, tail_key};
 ghost use Rattle.stm_recipes.specs.Queues as recipe;
@@ -28,11 +29,8 @@ pub fn enqueue(alloc: Global, queue: &str, item: &str) -> Result<Program, AllocE
     ensures { IfOk result (λ program. program ≡ of_statements (recipe.enqueue_program queue.now item.now)) }
 {
     let tail = joined(alloc, queue, "/tail")?;
-    let read = read_text(alloc, 0, tail.as_str())?;
-    let zero = zero_if_empty(alloc, 0)?;
-    let place = put_item(alloc, queue, item)?;
-    let next = put_sum(alloc, tail.as_str(), 1)?;
-    let statements = vec![in alloc; read, zero, place, next]?;
+    let mut statements = Vec::new(alloc);
+    push_enqueue(alloc, &mut statements, queue, tail.as_str(), item)?;
     Ok(Program::of(statements))
 }
 
@@ -49,28 +47,65 @@ pub fn dequeue(alloc: Global, queue: &str) -> Result<Program, AllocError>
     requires { IsName queue.now }
     ensures { IfOk result (λ program. program ≡ of_statements (recipe.dequeue_program queue.now)) }
 {
-    let mut statements = read_ends(alloc, queue)?;
+    let mut statements = Vec::new(alloc);
+    push_ends(alloc, &mut statements, queue)?;
+    push_dequeue(alloc, &mut statements, queue)?;
+    Ok(Program::of(statements))
+}
+
+/// The statements of an enqueue.
+fn push_enqueue(
+    alloc: Global,
+    statements: &mut Vec<Stmt>,
+    queue: &str,
+    tail: &str,
+    item: &str,
+) -> Result<(), AllocError>
+    requires { statements.old.items ≡ [] }
+    ensures { OnOk result (statements.new.items ≡
+        counter.read_text 0 tail.now ∷ counter.zero_if_empty 0 ∷ recipe.put_item queue.now item.now ∷ counter.put_sum tail.now 1 ∷ []) }
+{
+    statements.push(read_text(alloc, 0, tail)?)?;
+    statements.push(zero_if_empty(alloc, 0)?)?;
+    statements.push(put_item(alloc, queue, item)?)?;
+    statements.push(put_sum(alloc, tail, 1)?)?;
+    Ok(())
+}
+
+/// Head and tail, into the first two variables.
+fn push_ends(alloc: Global, statements: &mut Vec<Stmt>, queue: &str) -> Result<(), AllocError>
+    requires { statements.old.items ≡ [] }
+    ensures { OnOk result (statements.new.items ≡
+        counter.read_text 0 (head_key queue.now) ∷ counter.zero_if_empty 0 ∷ counter.read_text 1 (tail_key queue.now) ∷ counter.zero_if_empty 1 ∷ []) }
+{
+    statements.push(read_end(alloc, 0, queue, "/head")?)?;
+    statements.push(zero_if_empty(alloc, 0)?)?;
+    statements.push(read_end(alloc, 1, queue, "/tail")?)?;
+    statements.push(zero_if_empty(alloc, 1)?)?;
+    Ok(())
+}
+
+/// The statements of a dequeue behind head and tail.
+fn push_dequeue(alloc: Global, statements: &mut Vec<Stmt>, queue: &str) -> Result<(), AllocError>
+    ensures { OnOk result (statements.new.items ≡ statements.old.items ++
+        (recipe.refuse_empty ∷ recipe.name_item queue.now ∷ recipe.emit_item ∷ recipe.delete_item ∷ counter.put_sum (head_key queue.now) 1 ∷ [])) }
+{
     statements.push(refuse_empty(alloc)?)?;
     statements.push(name_item(alloc, queue)?)?;
     statements.push(emit_item(alloc)?)?;
     statements.push(delete_item(alloc)?)?;
     statements.push(advance_head(alloc, queue)?)?;
-    Ok(Program::of(statements))
+    Ok(())
 }
 
-/// Head and tail, into the first two variables.
-fn read_ends(alloc: Global, queue: &str) -> Result<Vec<Stmt>, AllocError>
-    ensures { IfOk result (λ read. read.items ≡
-        counter.read_text 0 (head_key queue.now) ∷ counter.zero_if_empty 0 ∷ counter.read_text 1 (tail_key queue.now) ∷ counter.zero_if_empty 1 ∷ []) }
+/// Head or tail, into a variable.
+fn read_end(alloc: Global, place: u8, queue: &str, end: &str) -> Result<Stmt, AllocError>
+    requires { place ≤ MAX_VARIABLE }
+    ensures { IfOk result (λ s. s ≡ counter.read_text place (queue.now ++ end.now)) }
 {
-    let head = joined(alloc, queue, "/head")?;
-    let head = read_text(alloc, 0, head.as_str())?;
-    let first = zero_if_empty(alloc, 0)?;
-    let tail = joined(alloc, queue, "/tail")?;
-    let tail = read_text(alloc, 1, tail.as_str())?;
-    let next = zero_if_empty(alloc, 1)?;
-    let statements = vec![in alloc; head, first, tail, next]?;
-    Ok(statements)
+    let key = joined(alloc, queue, end)?;
+    let read = read_text(alloc, place, key.as_str())?;
+    Ok(read)
 }
 
 fn advance_head(alloc: Global, queue: &str) -> Result<Stmt, AllocError>

@@ -4,6 +4,7 @@ ghost use Rattle.std.specs.Fmt.{decimal};
 ghost use Rattle.std.specs.Option.{option_copied};
 ghost use Rattle.stm_recipes.specs.Accounts.{balance_of, total_of};
 ghost use Rattle.stm_recipes.specs.Names.{items_key};
+ghost use Rattle.stm_recipes.specs.Queues as recipe;
 ghost use Rattle.stm_recipes.specs.Queues.{mark_of, item_at, items_from, queue_items_of};
 ghost use Rattle.stm_recipes.specs.Slots.{holder_in};
 ghost use Rattle.stm_steps.specs.States.{find_entry};
@@ -62,7 +63,22 @@ pub fn queue_items(
 {
     let head = joined(alloc, queue, "/head")?;
     let tail = joined(alloc, queue, "/tail")?;
-    match (mark(state, head.as_str()), mark(state, tail.as_str())) {
+    let head = mark(state, head.as_str());
+    let tail = mark(state, tail.as_str());
+    items_of_marks(alloc, state, queue, head, tail)
+}
+
+/// The items from a head up to the one before a tail, where there are both and the head is not above the tail.
+fn items_of_marks(
+    alloc: Global,
+    state: &State,
+    queue: &str,
+    head: Option<u64>,
+    tail: Option<u64>,
+) -> Result<Option<Vec<String>>, AllocError>
+    ensures { IfOk result (λ found. option_map (λ items. map string_bytes items.items) found ≡ recipe.items_between state.now queue.now head tail) }
+{
+    match (head, tail) {
         (Some(head), Some(tail)) if head <= tail => {
             items_between(alloc, state, queue, head, tail)
         }

@@ -32,7 +32,9 @@ pub(crate) fn three_parts(
 ) -> Result<Value, AllocError>
     ensures { IfOk result (λ v. view v ≡ spelled word.now (view first ∷ view second ∷ view third ∷ [])) }
 {
-    json!(in alloc; [word, first, second, third])
+    let word = json!(in alloc; word)?;
+    let parts = vec![in alloc; word, first, second, third]?;
+    Ok(Value::from(parts))
 }
 
 pub(crate) fn four_parts(
@@ -45,5 +47,7 @@ pub(crate) fn four_parts(
 ) -> Result<Value, AllocError>
     ensures { IfOk result (λ v. view v ≡ spelled word.now (view first ∷ view second ∷ view third ∷ view fourth ∷ [])) }
 {
-    json!(in alloc; [word, first, second, third, fourth])
+    let word = json!(in alloc; word)?;
+    let parts = vec![in alloc; word, first, second, third, fourth]?;
+    Ok(Value::from(parts))
 }

@@ -1,6 +1,7 @@
 -- What the calls of an attempt leave, by what the code has at hand: the reads, how many of them are told, and how far the program has come.
 use Rattle.std.proofs.Common.{◌≡◌, refl, sym, ◌∙◌, ap, subst, ℕ, zero, suc, true, false, List, [], ◌∷◌, ◌++◌, length, take}
-use Rattle.std.specs.Prelude.{Option, None, Some, is_none, IfSome}
+use Rattle.std.specs.Prelude.{Option, None, Some, is_none, IfSome, Result, Ok, Err, IfOk, OnOk}
+use Rattle.std.specs.declared.alloc.AllocError.{AllocError}
 use Rattle.std.proofs.Math.Seq.{take-length}
 use Rattle.stm_history.specs.declared.key_state.ReadAnswer.{ReadAnswer}
 use Rattle.stm_program.specs.Syntax.{ProgramTree}
@@ -103,6 +104,11 @@ unseen program old before level reads prefetched after told progress view way mo
 pub asked_from : (program : ProgramTree) (old new : AttemptState) (next : Next) → new ≡ advanced program old →
     next ≡ next_of program old.level old.known → awaited new ≡ key_asked next
 asked_from program old new next left told = ap awaited left ∙ asked_is_awaited program old ∙ ap key_asked (sym told)
+
+pub asked_told : (program : ProgramTree) (old new : AttemptState) (told : Result Next AllocError) → OnOk told (new ≡ advanced program old) →
+    IfOk told (λ next. next ≡ next_of program old.level old.known) → IfOk told (λ next. awaited new ≡ key_asked next)
+asked_told program old new (Ok next) left is = asked_from program old new next left is
+asked_told program old new (Err error) left is = tt
 
 -- ---- an attempt that waits for a key
 

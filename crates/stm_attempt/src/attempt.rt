@@ -167,11 +167,10 @@ impl Attempt {
         ensures err { OnErr result (self.new ≡ self.old) }
     {
         if self.program.is_none() {
-            let first = self.first_advance(program)?;
-            return Ok(first);
+            self.first_advance(program)
+        } else {
+            self.next_advance(program)
         }
-        let next = self.next_advance(program)?;
-        Ok(next)
     }
 
     /// Takes the answer for the key that `advance` just asked for. Its numbers are at most `HIGHEST_NUMBER`.

@@ -1,5 +1,5 @@
 //! The transaction that commits an attempt.
-ghost use Rattle.std.specs.Prelude.{◌≡◌, ◌≤◌, ◌++◌, map, IfOk};
+ghost use Rattle.std.specs.Prelude.{◌≡◌, ◌≤◌, ◌++◌, ◌∷◌, [], map, IfOk, OnOk};
 ghost use Rattle.stm_history.specs.declared.key_state.ReadAnswer.{ReadAnswer as Answer};
 ghost use Rattle.stm_history.specs.declared.revisions.TheConstants.{HIGHEST_NUMBER};
 ghost use Rattle.stm_txn.specs.Commits.{read_now};
@@ -37,15 +37,39 @@ fn unmodified(alloc: Global, first: u64, write: &Write) -> Result<Compare, Alloc
     })
 }
 
+/// Adds the compare of a key that was read.
+fn push_as_read(compares: &mut Vec<Compare>, answer: &ReadAnswer) -> Result<(), AllocError>
+    ensures { OnOk result (compares.new.items ≡ compares.old.items ++ is_as_read answer.now ∷ []) }
+{
+    let compare = as_read(answer)?;
+    compares.push(compare)?;
+    Ok(())
+}
+
 /// The compares of the keys that were read.
 fn read_compares(alloc: Global, answers: &[ReadAnswer]) -> Result<Vec<Compare>, AllocError>
     ensures { IfOk result (λ compares. compares.items ≡ map is_as_read answers.now) }
 {
     let mut compares = Vec::with_capacity(alloc, answers.len())?;
     for answer in answers {
-        compares.push(as_read(answer)?)?;
+        push_as_read(&mut compares, answer)?;
     }
     Ok(compares)
+}
+
+/// Adds the compare of a key that was written.
+fn push_unmodified(
+    alloc: Global,
+    compares: &mut Vec<Compare>,
+    first: u64,
+    write: &Write,
+) -> Result<(), AllocError>
+    requires { first ≤ HIGHEST_NUMBER }
+    ensures { OnOk result (compares.new.items ≡ compares.old.items ++ is_unmodified first write.now ∷ []) }
+{
+    let compare = unmodified(alloc, first, write)?;
+    compares.push(compare)?;
+    Ok(())
 }
 
 /// The compares of the keys that were written.
@@ -59,7 +83,7 @@ fn write_compares(
 {
     let mut compares = Vec::with_capacity(alloc, writes.len())?;
     for write in writes.values() {
-        compares.push(unmodified(alloc, first, write)?)?;
+        push_unmodified(alloc, &mut compares, first, write)?;
     }
     Ok(compares)
 }
@@ -116,15 +140,33 @@ fn operation(write: &Write) -> Result<Op, AllocError>
     }
 }
 
+/// Adds a write, as an operation.
+fn push_operation(ops: &mut Vec<Op>, write: &Write) -> Result<(), AllocError>
+    ensures { OnOk result (ops.new.items ≡ ops.old.items ++ write_op write.now ∷ []) }
+{
+    let op = operation(write)?;
+    ops.push(op)?;
+    Ok(())
+}
+
 /// The writes, as operations.
 fn operations(alloc: Global, writes: &WriteBuffer) -> Result<Vec<Op>, AllocError>
     ensures { IfOk result (λ ops. ops.items ≡ map write_op writes.now) }
 {
     let mut ops = Vec::with_capacity(alloc, writes.len())?;
     for write in writes.values() {
-        ops.push(operation(write)?)?;
+        push_operation(&mut ops, write)?;
     }
     Ok(ops)
+}
+
+/// Adds a read of a key that was read, as it is when the commit has failed.
+fn push_again(ops: &mut Vec<Op>, answer: &ReadAnswer) -> Result<(), AllocError>
+    ensures { OnOk result (ops.new.items ≡ ops.old.items ++ read_now answer.now.key ∷ []) }
+{
+    let key = answer.key.clone()?;
+    ops.push(Op::Get { key, rev: 0 })?;
+    Ok(())
 }
 
 /// Reads of the keys that were read, as they are when the commit has failed.
@@ -133,8 +175,7 @@ fn reads_again(alloc: Global, answers: &[ReadAnswer]) -> Result<Vec<Op>, AllocEr
 {
     let mut ops = Vec::with_capacity(alloc, answers.len())?;
     for answer in answers {
-        let key = answer.key.clone()?;
-        ops.push(Op::Get { key, rev: 0 })?;
+        push_again(&mut ops, answer)?;
     }
     Ok(ops)
 }

@@ -1,8 +1,9 @@
 //! One branch of a transaction.
-ghost use Rattle.std.specs.Prelude.{◌≡◌, ◌+◌, ◌<◌, ◌≤◌, IfOk, IsTrue, [], option_copied, is_some, Some, None};
+ghost use Rattle.std.specs.Prelude.{◌≡◌, ◌+◌, ◌<◌, ◌≤◌, ◌++◌, ◌∷◌, IfOk, OnOk, IsTrue, [], option_copied, is_some, Some, None};
 ghost use Rattle.stm_history.specs.History.{now, key_at, key_now};
+ghost use Rattle.stm_history.specs.declared.change.Change.TheVariants.{Put, Del};
 ghost use Rattle.stm_txn.specs.Branches.{carried, count_of, is_readable, are_readable, has_changes};
-ghost use Rattle.stm_txn.specs.LookUps.{copy, read_copied, change_copied, answer_copied, changes_copied, answers_copied};
+ghost use Rattle.stm_txn.specs.LookUps.{copy, read_copied, change_copied, with_copied, answer_copied, changes_copied, answers_copied};
 
 use crate::answer::OpAnswer;
 use crate::short_list::ShortList;
@@ -103,25 +104,76 @@ fn answer(keys: &Keys, changes: &[Change], op: &Op) -> Result<OpAnswer, AllocErr
     }
 }
 
+/// The change of a put.
+fn put_of(key: &Text, value: &Text, lease: u64) -> Result<Option<Change>, AllocError>
+    ensures { IfOk result (λ c. c ≡ Some (Put key.now value.now lease)) }
+{
+    let key = key.clone()?;
+    let value = value.clone()?;
+    Ok(Some(Change::Put { key, value, lease }))
+}
+
+/// The change of a delete.
+fn deletion_of(key: &Text) -> Result<Option<Change>, AllocError>
+    ensures { IfOk result (λ c. c ≡ Some (Del key.now)) }
+{
+    let key = key.clone()?;
+    Ok(Some(Change::Del { key }))
+}
+
 /// The change that an operation makes, if it makes one.
 fn change(keys: &Keys, changes: &[Change], op: &Op) -> Result<Option<Change>, AllocError>
     ensures { IfOk result (λ c. c ≡ change_copied keys.now.history changes.now op.now) }
 {
     match op {
         Op::Get { .. } => Ok(None),
-        Op::Put { key, value, lease } => Ok(Some(Change::Put {
-            key: key.clone()?,
-            value: value.clone()?,
-            lease: *lease,
-        })),
+        Op::Put { key, value, lease } => put_of(key, value, *lease),
         Op::Del { key } => {
             if is_copied(keys, changes, key.as_str()) {
-                Ok(Some(Change::Del { key: key.clone()? }))
+                deletion_of(key)
             } else {
                 Ok(None)
             }
         }
     }
+}
+
+/// Puts the change that an operation makes, if it makes one, behind those so far.
+fn add_change(keys: &Keys, changes: &mut Vec<Change>, op: &Op) -> Result<(), AllocError>
+    ensures { OnOk result (changes.new.items ≡ with_copied changes.old.items (change_copied keys.now.history changes.old.items op.now)) }
+{
+    match change(keys, changes.as_slice(), op)? {
+        None => Ok(()),
+        Some(change) => {
+            changes.push(change)?;
+            Ok(())
+        }
+    }
+}
+
+/// Runs one operation, over what those before it changed.
+fn run_op(keys: &Keys, branch: &mut Branch, op: &Op) -> Result<(), AllocError>
+    requires { IsTrue (is_readable (now keys.now.history) op.now) }
+    ensures answers { OnOk result (branch.new.answers ≡ branch.old.answers ++ answer_copied keys.now.history branch.old.changes.items op.now ∷ []) }
+    ensures changes { OnOk result (branch.new.changes.items ≡ with_copied branch.old.changes.items (change_copied keys.now.history branch.old.changes.items op.now)) }
+{
+    let answer = answer(keys, branch.changes.as_slice(), op)?;
+    branch.answers.push(answer)?;
+    add_change(keys, &mut branch.changes, op)?;
+    Ok(())
+}
+
+/// Runs operations, over what those before them changed. Room for their answers is made first.
+fn run_ops(keys: &Keys, branch: &mut Branch, ops: &[Op]) -> Result<(), AllocError>
+    requires { IsTrue (are_readable (now keys.now.history) ops.now) }
+    ensures answers { OnOk result (branch.new.answers ≡ branch.old.answers ++ answers_copied keys.now.history branch.old.changes.items ops.now) }
+    ensures changes { OnOk result (branch.new.changes.items ≡ changes_copied keys.now.history branch.old.changes.items ops.now) }
+{
+    branch.answers.reserve(ops.len())?;
+    for op in ops {
+        run_op(keys, branch, op)?;
+    }
+    Ok(())
 }
 
 /// Runs a branch over the current state, which it leaves as it is.
@@ -130,16 +182,17 @@ pub(crate) fn run_branch(alloc: Global, keys: &Keys, ops: &[Op]) -> Result<Branc
     ensures answers { IfOk result (λ b. b.answers ≡ answers_copied keys.now.history [] ops.now) }
     ensures changes { IfOk result (λ b. b.changes.items ≡ changes_copied keys.now.history [] ops.now) }
 {
-    let mut answers = ShortList::new(alloc);
-    answers.reserve(ops.len())?;
-    let mut changes = Vec::new(alloc);
-    for op in ops {
-        answers.push(answer(keys, changes.as_slice(), op)?)?;
-        if let Some(change) = change(keys, changes.as_slice(), op)? {
-            changes.push(change)?;
+    let mut branch = Branch {
+        answers: ShortList::new(alloc),
+        changes: Vec::new(alloc),
+    };
+    match run_ops(keys, &mut branch, ops) {
+        Ok(()) => Ok(branch),
+        Err(error) => {
+            drop(branch);
+            Err(error)
         }
     }
-    Ok(Branch { answers, changes })
 }
 
 /// Whether an operation would change something, were it the first.

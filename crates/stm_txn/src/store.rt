@@ -172,6 +172,24 @@ impl Store {
         Store::with_revision(alloc, 1)
     }
 
+    /// An empty store whose counter is `start`, at moment 0, with watchers of which there are none. It takes no memory.
+    fn opened(alloc: Global, start: u64, watchers: Watchers) -> Store
+        requires positive { 1 ≤ start }
+        requires bounded { start ≤ HIGHEST_REVISION }
+        requires unwatched { watchers ≡ [] }
+        ensures standing { result.standing ≡ opening start }
+        ensures present { result.present ≡ [] }
+        ensures log { StandsFor result.standing.live [] }
+    {
+        Store {
+            keys: Keys::with_revision(alloc, start),
+            leases: Leases::new(alloc),
+            moment: 0,
+            watchers,
+            alloc,
+        }
+    }
+
     /// An empty store whose counter is `start`, at moment 0: its keys are absent at every revision up to
     /// `start`. Want of memory is its only refusal.
     pub fn with_revision(alloc: Global, start: u64) -> Result<Store, AllocError>
@@ -181,13 +199,8 @@ impl Store {
         ensures present { IfOk result (λ s. s.present ≡ []) }
         ensures log { IfOk result (λ s. StandsFor s.standing.live []) }
     {
-        Ok(Store {
-            keys: Keys::with_revision(alloc, start),
-            leases: Leases::new(alloc),
-            moment: 0,
-            watchers: Watchers::new(alloc)?,
-            alloc,
-        })
+        let watchers = Watchers::new(alloc)?;
+        Ok(Store::opened(alloc, start, watchers))
     }
 
     /// The keys. The counter of every store is at least 1, and no number of a state, its lease included, is

@@ -1,5 +1,6 @@
 //! A transaction: compares that pick one of two lists of operations.
-ghost use Rattle.std.specs.Prelude.{◌≡◌};
+ghost use Rattle.std.specs.Prelude.{◌≡◌, IfOk};
+ghost use Rattle.stm_txn.specs.declared.txn.Op.TheVariants.{Get, Put, Del};
 ghost use Rattle.stm_txn.specs.Operations.{key_of_op};
 
 use crate::short_list::ShortList;
@@ -131,21 +132,39 @@ impl Clone for Compare {
     }
 }
 
+/// A get of a copy of this key.
+fn get_of(key: &Text, rev: u64) -> Result<Op, AllocError>
+    ensures { IfOk result (λ op. op ≡ Get key.now rev) }
+{
+    let key = key.clone()?;
+    Ok(Op::Get { key, rev })
+}
+
+/// A put of copies of these texts.
+fn put_of(key: &Text, value: &Text, lease: u64) -> Result<Op, AllocError>
+    ensures { IfOk result (λ op. op ≡ Put key.now value.now lease) }
+{
+    let key = key.clone()?;
+    let value = value.clone()?;
+    Ok(Op::Put { key, value, lease })
+}
+
+/// A delete of a copy of this key.
+fn del_of(key: &Text) -> Result<Op, AllocError>
+    ensures { IfOk result (λ op. op ≡ Del key.now) }
+{
+    let key = key.clone()?;
+    Ok(Op::Del { key })
+}
+
 impl Clone for Op {
     ghost is_clone = { λ op copy. copy ≡ op };
 
     fn clone(&self) -> Result<Op, AllocError> {
         match self {
-            Op::Get { key, rev } => Ok(Op::Get {
-                key: key.clone()?,
-                rev: *rev,
-            }),
-            Op::Put { key, value, lease } => Ok(Op::Put {
-                key: key.clone()?,
-                value: value.clone()?,
-                lease: *lease,
-            }),
-            Op::Del { key } => Ok(Op::Del { key: key.clone()? }),
+            Op::Get { key, rev } => get_of(key, *rev),
+            Op::Put { key, value, lease } => put_of(key, value, *lease),
+            Op::Del { key } => del_of(key),
         }
     }
 }

@@ -33,6 +33,13 @@ fn mark_ready(slot: &mut Option<Watcher>)
     }
 }
 
+/// Empties a place.
+fn clear(slot: &mut Option<Watcher>)
+    ensures { slot.new ≡ None }
+{
+    drop(slot.take());
+}
+
 /// Whether a watcher that is ready stands at a place.
 fn is_ready(slot: &Option<Watcher>) -> bool
     ensures { result ≡ is_ready slot.now }
@@ -124,7 +131,7 @@ impl Slots {
         requires { IsSome (slice_index_or self.old index None) }
         ensures { self.new ≡ slice_set self.old index None }
     {
-        self.watchers[index] = None;
+        clear(&mut self.watchers[index]);
         self.readiness.remove(index);
     }
 

@@ -62,6 +62,17 @@ impl Watchers {
         })
     }
 
+    /// Puts a watcher at the next place. Want of memory leaves the places as they were.
+    fn place(&mut self, watcher: Watcher) -> Result<(), AllocError>
+        ensures ok { OnOk result (self.new ≡ self.old ++ Some watcher ∷ []) }
+        ensures err { OnErr result (self.new ≡ self.old) }
+    {
+        let list = self.index.make_room(&watcher.watching.watched)?;
+        self.slots.push(watcher)?;
+        self.index.push(list);
+        Ok(())
+    }
+
     /// Adds a watcher, and gives its number.
     fn add(&mut self, watched: Watched, from: u64, keys: &Keys) -> Result<u64, AllocError>
         requires { StandFor keys.now.history self.old }
@@ -72,9 +83,7 @@ impl Watchers {
     {
         let watching = Watching::starting(watched, from, keys);
         let ready = is_told(keys, &watching);
-        let list = self.index.make_room(&watching.watched)?;
-        self.slots.push(Watcher { watching, ready })?;
-        self.index.push(list);
+        self.place(Watcher { watching, ready })?;
         Ok(self.slots.len() as u64)
     }
 

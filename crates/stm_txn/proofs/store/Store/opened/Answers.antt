@@ -8,7 +8,7 @@ use Rattle.stm_watch.specs.declared.watched.Watcher.{Watcher}
 use Rattle.stm_watch.specs.Calls.{StandFor}
 use Rattle.stm_txn.specs.Leasing.{hanging}
 use Rattle.stm_txn.specs.Numbers.{LeasesFit}
-use Rattle.stm_txn.proofs.store.Store.with_revision.Goals as goal
+use Rattle.stm_txn.proofs.store.Store.opened.Goals as goal
 
 pub invariant_of-result : goal.invariant_of-result
 invariant_of-result c = (
@@ -17,7 +17,7 @@ invariant_of-result c = (
       ∙ finmap.get-empty (slice_cmp nat_cmp) key
       ∙ ap (λ h. hanging (key_now h key)) (sym c.with_revision.ensures.history),
   subst (λ (h : History). LeasesFit h.revisions) (sym c.with_revision.ensures.history) tt,
-  subst (λ (ws : List (Option Watcher)). StandFor c.with_revision.result.history ws) (sym c.in_ok-new.ensures) tt,
+  subst (λ (ws : List (Option Watcher)). StandFor c.with_revision.result.history ws) (sym c.requires.unwatched) tt,
 )
 
 pub returns-clause-log : goal.returns-clause-log

@@ -1,7 +1,10 @@
 //! From the bytes of a source to what is printed of its jobs in a sink.
-ghost use Rattle.std.specs.Prelude.{◌≡◌, ◌≤◌, false, string_bytes, Ok, IfOk, IfErr};
+ghost use Rattle.std.specs.Prelude.{◌≡◌, ◌≤◌, ℕ, List, false, string_bytes, Ok, IfOk, IfErr};
 ghost use Rattle.stm_history.specs.declared.revisions.TheConstants.{HIGHEST_REVISION};
 ghost use Rattle.stm_texts.specs.Reading.{IsOpening, scenario_in};
+ghost use Rattle.stm_world.specs.declared.event.WorldEvent.{WorldEvent};
+ghost use Rattle.stm_world.specs.World.{opened, world_after};
+ghost use Rattle.stm_jobs.specs.Lines.{AreLinesOf};
 ghost use Rattle.stm_jobs.specs.Running.{AreLinesOfRun, IsBrokenOff, fault_told, Answers, Writes, Does};
 
 use crate::accepting::accept;
@@ -14,7 +17,8 @@ use stm_devices::{ReadFault, Sink, Source, read_all, write_all};
 use stm_hall::Hall;
 use stm_json::{BadInput, ReadError};
 use stm_texts::{Scenario, read_scenario};
-use stm_workers::{FaultCause, Job, NoGate, run_workers};
+use stm_txn::Store;
+use stm_workers::{FaultCause, Gathered, Job, NoGate, RunFault, run_workers};
 use stm_world::WorldEvent;
 use thiserror::Error;
 
@@ -67,6 +71,45 @@ fn fault_of(cause: FaultCause) -> JobsFault
     }
 }
 
+/// The fault of a run that was broken off. Its hall is let go.
+fn fault_of_run(broken: RunFault) -> JobsFault
+    ensures { IsBrokenOff result }
+{
+    let cause = broken.cause;
+    drop(broken);
+    fault_of(cause)
+}
+
+/// What is printed of a run of so many jobs.
+fn lines_of_run(alloc: Global, jobs: usize, gathered: Gathered) -> Result<String, JobsFault>
+    ensures lines { IfOk result (λ text. AreLinesOf jobs gathered.committed gathered.hall.standing.history (string_bytes text)) }
+    ensures fault { IfErr result IsBrokenOff }
+{
+    match lines(alloc, jobs, &gathered) {
+        Ok(text) => Ok(text),
+        Err(_) => Err(JobsFault::OutOfMemory),
+    }
+}
+
+/// What is printed of these jobs, run on this store.
+fn lines_on<R: Threads + Wait + Sync>(
+    rt: &R,
+    alloc: Global,
+    store: Store,
+    jobs: &[Job],
+    workers: usize,
+) -> Result<String, JobsFault>
+    requires { (1 ≤ workers) × (workers ≤ 16) }
+    ensures lines { IfOk result (λ text. (start : ℕ) (calls : List WorldEvent) → store.standing ≡ (world_after calls (opened start)).standing
+        → AreLinesOfRun start calls jobs.now (string_bytes text)) }
+    ensures fault { IfErr result IsBrokenOff }
+{
+    match run_workers(rt, alloc, jobs, workers, Hall::new(alloc, store), &NoGate) {
+        Ok(gathered) => lines_of_run(alloc, jobs.len(), gathered),
+        Err(broken) => Err(fault_of_run(broken)),
+    }
+}
+
 /// What is printed of these jobs, run on an empty store at this revision once these calls of it were made.
 fn lines_of<R: Threads + Wait + Sync>(
     rt: &R,
@@ -80,15 +123,9 @@ fn lines_of<R: Threads + Wait + Sync>(
     ensures lines { IfOk result (λ text. AreLinesOfRun start calls.now jobs.now (string_bytes text)) }
     ensures fault { IfErr result IsBrokenOff }
 {
-    let Ok(store) = open_store(alloc, start, calls) else {
-        return Err(JobsFault::OutOfMemory);
-    };
-    match run_workers(rt, alloc, jobs, workers, Hall::new(alloc, store), &NoGate) {
-        Ok(gathered) => match lines(alloc, jobs.len(), &gathered) {
-            Ok(text) => Ok(text),
-            Err(_) => Err(JobsFault::OutOfMemory),
-        },
-        Err(broken) => Err(fault_of(broken.cause)),
+    match open_store(alloc, start, calls) {
+        Ok(store) => lines_on(rt, alloc, store, jobs, workers),
+        Err(_) => Err(JobsFault::OutOfMemory),
     }
 }
 

@@ -1,13 +1,13 @@
 //! From the bytes of a source to the report in a sink.
 ghost use Rattle.std.specs.Prelude.{◌≡◌, false, IfOk, string_bytes};
-ghost use Rattle.stm_report.specs.Script.{IsRunReport, Answers, Reports, Does};
+ghost use Rattle.stm_report.specs.Script.{IsReportFrom, IsRunReport, Answers, Reports, Does};
 ghost use Rattle.stm_texts.specs.Reading.{IsOpening};
 
 use crate::report_text::report;
 use std::alloc::{AllocError, Global};
 use stm_devices::{ReadFault, Sink, Source, read_all, write_all};
 use stm_retry::World;
-use stm_texts::{BadInput, ReadError, Scenario, read_scenario};
+use stm_texts::{BadInput, ReadError, Scenario, WorldEvent, read_scenario};
 use thiserror::Error;
 
 /// Why a script failed.
@@ -27,18 +27,30 @@ pub enum ScriptFault {
     Write,
 }
 
+/// The report of what a world replies to these events.
+fn report_from(
+    alloc: Global,
+    world: &mut World,
+    events: &[WorldEvent],
+) -> Result<String, AllocError>
+    ensures { IfOk result (λ text. IsReportFrom world.old events.now (string_bytes text)) }
+{
+    match world.run(events) {
+        Ok(replies) => report(alloc, world, replies.as_slice()),
+        Err(_) => Err(AllocError),
+    }
+}
+
 /// The report of a scenario's run.
-#[tactic(auto, unfolding(crate::specs::Script::IsRunReport))]
 fn run_report(alloc: Global, scenario: &Scenario) -> Result<String, AllocError>
     requires { IsOpening scenario.now.opening }
     ensures { IfOk result (λ text. IsRunReport scenario.now (string_bytes text)) }
 {
     let opening = scenario.opening.unwrap_or(1);
     let mut world = World::with_revision(alloc, opening)?;
-    match world.run(scenario.events.as_slice()) {
-        Ok(replies) => report(alloc, &world, replies.as_slice()),
-        Err(_) => Err(AllocError),
-    }
+    let text = report_from(alloc, &mut world, scenario.events.as_slice());
+    drop(world);
+    text
 }
 
 /// The report of the scenario that bytes spell.

@@ -4,6 +4,14 @@
 #![tactic(auto)]
 
 #[cfg(test)]
+mod attempts;
+#[cfg(test)]
 mod expiries;
+#[cfg(test)]
+mod making;
+#[cfg(test)]
+mod player;
+#[cfg(test)]
+mod shown;
 #[cfg(test)]
 mod verdicts;

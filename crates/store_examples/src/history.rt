@@ -1,6 +1,6 @@
 //! A worked example of the plain list, with ample memory. What is expected comes from the rules of a history,
 //! and never from a run.
-use crate::shown::show_state;
+use crate::shown::tell_state;
 use std::alloc::{AllocError, Global};
 use std::test::Fail;
 use stm_history::{Change, HIGHEST_REVISION, Revision, Revisions, Sequence, Text};
@@ -20,88 +20,96 @@ fn change_of(alloc: Global, value: &str) -> Result<Change, AllocError> {
 }
 
 /// Adds a revision of one change.
-fn add_change(alloc: Global, history: &mut Revisions, change: Change) -> Result<(), AllocError> {
+fn add_change(alloc: Global, history: &mut Revisions, value: &str) -> Result<(), AllocError> {
     if history.now() < HIGHEST_REVISION {
-        let mut changes = Vec::new(alloc);
-        changes.push(change)?;
+        let change = change_of(alloc, value)?;
+        let changes = vec![in alloc; change]?;
         let _number = history.add(Revision::of(changes))?;
     }
     Ok(())
 }
 
-/// A history that opens at 41, with a revision of its own for each change of "a".
-fn history_of(alloc: Global, values: &[&str]) -> Result<Revisions, AllocError> {
-    let mut history = Revisions::new(alloc, 41);
-    for value in values {
-        add_change(alloc, &mut history, change_of(alloc, value)?)?;
-    }
-    Ok(history)
-}
-
-/// What "a" is at a revision.
-fn told_at(alloc: Global, history: &Revisions, revision: u64) -> Result<String, AllocError> {
-    let state = history.key_at("a", revision)?;
-    show_state(alloc, state.as_ref(), "-")
-}
-
 /// What "a" is at these revisions.
-fn told_key(alloc: Global, history: &Revisions, revisions: &[u64]) -> Result<String, AllocError> {
-    let mut told = String::new(alloc);
+fn tell_key(told: &mut String, history: &Revisions, revisions: &[u64]) -> Result<(), AllocError> {
     for revision in revisions {
-        told.push_str(told_at(alloc, history, *revision)?.as_str())?;
+        let state = history.key_at("a", *revision)?;
+        tell_state(told, state.as_ref(), "-")?;
         told.push_str(" ")?;
     }
+    Ok(())
+}
+
+/// The number of changes of the last revision.
+fn last_changes(history: &Revisions) -> usize {
+    match history.as_slice().last() {
+        None => 0,
+        Some(revision) => revision.changes().len(),
+    }
+}
+
+/// What a history tells of itself: opening, counter, the number of its revisions, the number of changes of the last one, and what
+/// "a" is now and whether it is there.
+fn tell_history(told: &mut String, history: &Revisions) -> Result<(), AllocError> {
+    write!(
+        told,
+        "{} {} {} {} ",
+        history.opening(),
+        history.now(),
+        history.as_slice().len(),
+        last_changes(history)
+    )?;
+    let state = history.key_now("a")?;
+    tell_state(told, state.as_ref(), "-")?;
+    write!(told, " {}", history.is_present("a"))
+}
+
+/// Adds a revision of its own for each change of "a", and tells what the history then is, and what "a" is at these revisions.
+fn play(
+    alloc: Global,
+    told: &mut String,
+    history: &mut Revisions,
+    values: &[&str],
+    revisions: &[u64],
+) -> Result<(), AllocError> {
+    for value in values {
+        add_change(alloc, history, value)?;
+    }
+    tell_history(told, history)?;
+    told.push_str(": ")?;
+    tell_key(told, history, revisions)
+}
+
+/// The same with a history that opens at 41.
+fn told_of(alloc: Global, values: &[&str], revisions: &[u64]) -> Result<String, AllocError> {
+    let mut told = String::new(alloc);
+    let mut history = Revisions::new(alloc, 41);
+    let done = play(alloc, &mut told, &mut history, values, revisions);
+    drop(history);
+    done?;
     Ok(told)
 }
 
 #[test]
 fn a_key_is_put_twice_deleted_and_put(rt: HostRuntime) -> Result<(), Fail> {
-    let alloc = rt.alloc();
-    let history = history_of(alloc, &["x", "y", "-", "z"])?;
-    let told = told_key(alloc, &history, &[41, 42, 43, 44, 45, 46])?;
+    let told = told_of(rt.alloc(), &["x", "y", "-", "z"], &[41, 42, 43, 44, 45, 46])?;
     assert_eq!(rt;
         told.as_str(),
-        "- x/42/42/1/0 y/42/43/2/0 - z/45/45/1/0 z/45/45/1/0 "
+        "41 45 4 1 z/45/45/1/0 true: - x/42/42/1/0 y/42/43/2/0 - z/45/45/1/0 z/45/45/1/0 "
     );
     Ok(())
 }
 
-/// What a history tells of itself: opening, counter, the number of its revisions, the number of changes of the last one, and what
-/// "a" is now and whether it is there.
-fn told_history(alloc: Global, history: &Revisions) -> Result<String, AllocError> {
-    let state = history.key_now("a")?;
-    let state = show_state(alloc, state.as_ref(), "-")?;
-    let changes = match history.as_slice().last() {
-        None => 0,
-        Some(revision) => revision.changes().len(),
-    };
-    format!(in alloc;
-        "{} {} {} {changes} {state} {}",
-        history.opening(),
-        history.now(),
-        history.as_slice().len(),
-        history.is_present("a")
-    )
-}
-
 #[test]
 fn a_history_tells_what_it_is_now(rt: HostRuntime) -> Result<(), Fail> {
-    let alloc = rt.alloc();
-    let history = history_of(alloc, &["x", "y"])?;
-    let told = told_history(alloc, &history)?;
-    assert_eq!(rt; told.as_str(), "41 43 2 1 y/42/43/2/0 true");
+    let told = told_of(rt.alloc(), &["x", "y"], &[])?;
+    assert_eq!(rt; told.as_str(), "41 43 2 1 y/42/43/2/0 true: ");
     Ok(())
 }
 
+/// What a string is that a text was made of and gave back.
 fn come_back(alloc: Global, text: &str) -> Result<String, AllocError> {
     let text = Text::from(String::from_str(alloc, text)?);
     String::from_str(alloc, text.as_str())
-}
-
-#[test]
-fn a_text_gives_its_string_back(rt: HostRuntime) -> Result<(), Fail> {
-    assert_eq!(rt; come_back(rt.alloc(), "é")?.as_str(), "é");
-    Ok(())
 }
 
 /// The elements of a copy of a list of one text.
@@ -112,9 +120,34 @@ fn copied(alloc: Global, text: &str) -> Result<Vec<Text>, AllocError> {
 }
 
 #[test]
+fn a_text_gives_its_string_back(rt: HostRuntime) -> Result<(), Fail> {
+    let told = come_back(rt.alloc(), "é")?;
+    assert_eq!(rt; told.as_str(), "é");
+    Ok(())
+}
+
+/// The number of texts, and each of them.
+fn tell_texts(told: &mut String, texts: &[Text]) -> Result<(), AllocError> {
+    write!(told, "{}", texts.len())?;
+    for text in texts {
+        write!(told, " {text}")?;
+    }
+    Ok(())
+}
+
+/// The same of the elements of a copy of a list of one text.
+fn told_copied(alloc: Global, text: &str) -> Result<String, AllocError> {
+    let mut told = String::new(alloc);
+    let texts = copied(alloc, text)?;
+    let done = tell_texts(&mut told, texts.as_slice());
+    drop(texts);
+    done?;
+    Ok(told)
+}
+
+#[test]
 fn a_list_gives_its_elements_back(rt: HostRuntime) -> Result<(), Fail> {
-    let texts = copied(rt.alloc(), "é")?;
-    assert_eq!(rt; texts.len(), 1);
-    assert_eq!(rt; texts[0].as_str(), "é");
+    let told = told_copied(rt.alloc(), "é")?;
+    assert_eq!(rt; told.as_str(), "1 é");
     Ok(())
 }

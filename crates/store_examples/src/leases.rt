@@ -2,9 +2,8 @@
 //!
 //! Each example is a list of steps and one text: a test that holds leases in hand over many calls is slow to prove.
 
-use crate::shown::add_answer;
+use crate::shown::{end_answer, tell_done, tell_number};
 use std::alloc::{AllocError, Global};
-use std::fmt::Display;
 use std::test::Fail;
 use stm_leases::{KeysError, Leases};
 
@@ -30,144 +29,152 @@ enum Step {
     Len,
 }
 
-fn show_done<E: Display + Drop>(alloc: Global, done: Result<(), E>) -> Result<String, AllocError> {
-    match done {
-        Ok(()) => String::from_str(alloc, "done"),
-        Err(error) => format!(in alloc; "{error}"),
+/// The keys that a lease has, or why they are not told.
+fn tell_keys(told: &mut String, leases: &Leases, id: u64) -> Result<(), AllocError> {
+    match leases.keys_of(id) {
+        Ok(keys) => tell_texts(told, keys.as_slice()),
+        Err(error) => write!(told, "{error}"),
     }
 }
 
-fn show_id(alloc: Global, id: Option<u64>) -> Result<String, AllocError> {
-    match id {
-        None => String::from_str(alloc, "-"),
-        Some(id) => id.to_string(alloc),
+/// Texts, each after a space.
+fn tell_texts(told: &mut String, texts: &[String]) -> Result<(), AllocError> {
+    told.push_str("keys")?;
+    for text in texts {
+        write!(told, " {text}")?;
     }
-}
-
-fn show_keys(alloc: Global, keys: Result<Vec<String>, KeysError>) -> Result<String, AllocError> {
-    match keys {
-        Ok(keys) => keys.join(alloc, " "),
-        Err(error) => error.to_string(alloc),
-    }
+    Ok(())
 }
 
 /// Hangs a key on a lease that is live.
-fn hang(alloc: Global, leases: &mut Leases, key: &str, id: u64) -> Result<String, AllocError> {
+fn hang(
+    alloc: Global,
+    told: &mut String,
+    leases: &mut Leases,
+    key: &str,
+    id: u64,
+) -> Result<(), AllocError> {
     let text = String::from_str(alloc, key)?;
     let copy = String::from_str(alloc, key)?;
     leases.reserve_attach(1)?;
     leases.detach(key);
     if !leases.is_live(id) {
-        return String::from_str(alloc, "not live");
+        return told.push_str("not live");
     }
     leases.attach(text, copy, id);
-    Ok(String::new(alloc))
+    Ok(())
 }
 
 /// Ends a live lease without keys.
-fn remove(alloc: Global, leases: &mut Leases, id: u64) -> Result<String, AllocError> {
+fn remove(told: &mut String, leases: &mut Leases, id: u64) -> Result<(), AllocError> {
     if !leases.is_live(id) || leases.has_keys(id) {
-        return String::from_str(alloc, "not removed");
+        return told.push_str("not removed");
     }
     leases.remove(id);
-    Ok(String::new(alloc))
+    Ok(())
 }
 
 /// Takes one step, and tells what was answered.
-fn take(alloc: Global, leases: &mut Leases, step: Step) -> Result<String, AllocError> {
+fn take(
+    alloc: Global,
+    told: &mut String,
+    leases: &mut Leases,
+    step: Step,
+) -> Result<(), AllocError> {
     match step {
-        Step::Grant(id, ttl, now) => show_done(alloc, leases.grant(id, ttl, now)),
-        Step::KeepAlive(id, now) => show_done(alloc, leases.keep_alive(id, now)),
-        Step::Hang(key, id) => hang(alloc, leases, key, id),
-        Step::Detach(key) => show_id(alloc, leases.detach(key)),
-        Step::KeysOf(id) => show_keys(alloc, leases.keys_of(id)),
-        Step::NextDue(now) => show_id(alloc, leases.next_due(now)),
-        Step::IsLive(id) => leases.is_live(id).to_string(alloc),
-        Step::HasKeys(id) => leases.has_keys(id).to_string(alloc),
-        Step::Remove(id) => remove(alloc, leases, id),
-        Step::Len => leases.len().to_string(alloc),
+        Step::Grant(id, ttl, now) => tell_done(told, leases.grant(id, ttl, now)),
+        Step::KeepAlive(id, now) => tell_done(told, leases.keep_alive(id, now)),
+        Step::Hang(key, id) => hang(alloc, told, leases, key, id),
+        Step::Detach(key) => tell_number(told, leases.detach(key), "-"),
+        Step::KeysOf(id) => tell_keys(told, leases, id),
+        Step::NextDue(now) => tell_number(told, leases.next_due(now), "-"),
+        Step::IsLive(id) => write!(told, "{}", leases.is_live(id)),
+        Step::HasKeys(id) => write!(told, "{}", leases.has_keys(id)),
+        Step::Remove(id) => remove(told, leases, id),
+        Step::Len => write!(told, "{}", leases.len()),
     }
 }
 
 /// Takes the steps, and tells the answers.
-fn take_all(alloc: Global, leases: &mut Leases, steps: &[Step]) -> Result<String, AllocError> {
-    let mut told = String::new(alloc);
+fn take_all(
+    alloc: Global,
+    told: &mut String,
+    leases: &mut Leases,
+    steps: &[Step],
+) -> Result<(), AllocError> {
     for step in steps {
-        let answer = take(alloc, leases, *step)?;
-        add_answer(&mut told, answer.as_str())?;
+        let length = told.len();
+        take(alloc, told, leases, *step)?;
+        end_answer(told, length)?;
     }
-    Ok(told)
+    Ok(())
 }
 
 /// The same with no lease yet.
 fn play(alloc: Global, steps: &[Step]) -> Result<String, AllocError> {
+    let mut told = String::new(alloc);
     let mut leases = Leases::new(alloc);
-    let told = take_all(alloc, &mut leases, steps);
+    let done = take_all(alloc, &mut told, &mut leases, steps);
     drop(leases);
-    told
+    done?;
+    Ok(told)
 }
 
-// Two keys hang on a lease, and one of them is detached.
-#[test]
-fn keys_are_told_in_order_until_they_are_detached(rt: HostRuntime) -> Result<(), Fail> {
-    let steps = [
-        Step::Grant(1, 5, 0),
-        Step::Hang("b", 1),
-        Step::Hang("a", 1),
-        Step::KeysOf(1),
-        Step::Detach("b"),
-        Step::KeysOf(1),
-        Step::KeysOf(2),
-    ];
-    let told = play(rt.alloc(), &steps)?;
-    assert_eq!(rt; told.as_str(), "done; a b; 1; a; LeaseNotFound; ");
-    Ok(())
-}
+/// What is done, and what is told of it.
+const EXAMPLES: [(&[Step], &str); 4] = [
+    // Two keys hang on a lease, and one of them is detached.
+    (
+        &[
+            Step::Grant(1, 5, 0),
+            Step::Hang("b", 1),
+            Step::Hang("a", 1),
+            Step::KeysOf(1),
+            Step::Detach("b"),
+            Step::KeysOf(1),
+            Step::KeysOf(2),
+        ],
+        "done; keys a b; 1; keys a; LeaseNotFound; ",
+    ),
+    // A lease of 5 seconds is due at 5 and not at 4.
+    (
+        &[
+            Step::Grant(1, 5, 0),
+            Step::NextDue(4),
+            Step::NextDue(5),
+            Step::Len,
+        ],
+        "done; -; 1; 1; ",
+    ),
+    // The order of the refusals of a grant, and a renewal of a lease that is live and of one that is not.
+    (
+        &[
+            Step::Grant(0, 5, 0),
+            Step::Grant(3, 0, 0),
+            Step::Grant(3, 9000000000, 0),
+            Step::Grant(3, 5, 0),
+            Step::KeepAlive(4, 0),
+            Step::KeepAlive(3, 7),
+        ],
+        "LeaseIdOutOfRange; TtlOutOfRange; done; LeaseExists; LeaseNotFound; done; ",
+    ),
+    // A lease on which no key hangs ends.
+    (
+        &[
+            Step::Grant(2, 5, 0),
+            Step::IsLive(2),
+            Step::HasKeys(2),
+            Step::Remove(2),
+            Step::IsLive(2),
+        ],
+        "done; true; false; false; ",
+    ),
+];
 
-// A lease of 5 seconds is due at 5 and not at 4.
 #[test]
-fn a_lease_falls_due(rt: HostRuntime) -> Result<(), Fail> {
-    let steps = [
-        Step::Grant(1, 5, 0),
-        Step::NextDue(4),
-        Step::NextDue(5),
-        Step::Len,
-    ];
-    let told = play(rt.alloc(), &steps)?;
-    assert_eq!(rt; told.as_str(), "done; -; 1; 1; ");
-    Ok(())
-}
-
-// The order of the refusals of a grant, and a renewal of a lease that is live and of one that is not.
-#[test]
-fn grants_are_refused_in_order(rt: HostRuntime) -> Result<(), Fail> {
-    let steps = [
-        Step::Grant(0, 5, 0),
-        Step::Grant(3, 0, 0),
-        Step::Grant(3, 9000000000, 0),
-        Step::Grant(3, 5, 0),
-        Step::KeepAlive(4, 0),
-        Step::KeepAlive(3, 7),
-    ];
-    let told = play(rt.alloc(), &steps)?;
-    assert_eq!(rt;
-        told.as_str(),
-        "LeaseIdOutOfRange; TtlOutOfRange; done; LeaseExists; LeaseNotFound; done; "
-    );
-    Ok(())
-}
-
-// A lease on which no key hangs ends.
-#[test]
-fn a_lease_without_keys_ends(rt: HostRuntime) -> Result<(), Fail> {
-    let steps = [
-        Step::Grant(2, 5, 0),
-        Step::IsLive(2),
-        Step::HasKeys(2),
-        Step::Remove(2),
-        Step::IsLive(2),
-    ];
-    let told = play(rt.alloc(), &steps)?;
-    assert_eq!(rt; told.as_str(), "done; true; false; false; ");
+fn leases_are_granted_hold_keys_and_fall_due(rt: HostRuntime) -> Result<(), Fail> {
+    for (steps, expected) in EXAMPLES {
+        let told = play(rt.alloc(), steps)?;
+        assert_eq!(rt; told.as_str(), expected);
+    }
     Ok(())
 }

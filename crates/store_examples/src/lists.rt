@@ -6,7 +6,7 @@
 ghost use Rattle.std.specs.Prelude.{IfSome};
 ghost use Rattle.stm_lists.specs.Lists.{HasList, HasNode};
 
-use crate::shown::{add_answer, show_number};
+use crate::shown::end_answer;
 use std::alloc::{AllocError, Global};
 use std::test::Fail;
 use stm_lists::{ListId, Lists, NodeId};
@@ -62,145 +62,184 @@ impl Player {
     }
 }
 
-fn new_list(alloc: Global, player: &mut Player) -> Result<String, AllocError> {
+fn new_list(player: &mut Player) -> Result<(), AllocError> {
     let list = player.lists.new_list()?;
     player.made.push(list)?;
-    Ok(String::new(alloc))
+    Ok(())
 }
 
-fn push(alloc: Global, player: &mut Player, list: usize, value: u32) -> Result<String, AllocError> {
+fn push(told: &mut String, player: &mut Player, list: usize, value: u32) -> Result<(), AllocError> {
     let Some(list) = player.list(list) else {
-        return String::from_str(alloc, "no list");
+        return told.push_str("no list");
     };
     let Ok(node) = player.lists.push_back(list, value) else {
-        return String::from_str(alloc, "no room");
+        return told.push_str("no room");
     };
     player.nodes.push(node)?;
-    Ok(String::new(alloc))
+    Ok(())
 }
 
 fn move_to(
-    alloc: Global,
+    told: &mut String,
     player: &mut Player,
     node: usize,
     list: usize,
-) -> Result<String, AllocError> {
+) -> Result<(), AllocError> {
     let Some(list) = player.list(list) else {
-        return String::from_str(alloc, "no list");
+        return told.push_str("no list");
     };
     let Some(node) = player.node(node) else {
-        return String::from_str(alloc, "no node");
+        return told.push_str("no node");
     };
     player.lists.move_to(node, list);
-    Ok(String::new(alloc))
+    Ok(())
 }
 
-fn unlink(alloc: Global, player: &mut Player, node: usize) -> Result<String, AllocError> {
+fn unlink(told: &mut String, player: &mut Player, node: usize) -> Result<(), AllocError> {
     match player.node(node) {
-        None => String::from_str(alloc, "no node"),
-        Some(node) => player.lists.unlink(node).to_string(alloc),
+        None => told.push_str("no node"),
+        Some(node) => write!(told, "{}", player.lists.unlink(node)),
     }
 }
 
-fn drop_list(alloc: Global, player: &mut Player, list: usize) -> Result<String, AllocError> {
+fn drop_list(told: &mut String, player: &mut Player, list: usize) -> Result<(), AllocError> {
     let Some(list) = player.list(list) else {
-        return String::from_str(alloc, "no list");
+        return told.push_str("no list");
     };
     if player.lists.len(list) != 0 {
-        return String::from_str(alloc, "not empty");
+        return told.push_str("not empty");
     }
     player.lists.drop_list(list);
-    Ok(String::new(alloc))
+    Ok(())
 }
 
-/// How many nodes were made before this one.
-fn place_of(nodes: &[NodeId], wanted: Option<NodeId>) -> Option<usize> {
-    let wanted = wanted?;
-    nodes.iter().position(|node| *node == wanted)
+/// How many nodes were made before this one, after a word; `-` for none.
+fn tell_node(
+    told: &mut String,
+    nodes: &[NodeId],
+    word: &str,
+    wanted: Option<NodeId>,
+) -> Result<(), AllocError> {
+    told.push_str(word)?;
+    match wanted {
+        None => told.push_str("-"),
+        Some(wanted) => tell_place(told, nodes.iter().position(|node| *node == wanted)),
+    }
 }
 
-fn look_at_list(alloc: Global, player: &Player, list: usize) -> Result<String, AllocError> {
+/// A place, `-` for none.
+fn tell_place(told: &mut String, place: Option<usize>) -> Result<(), AllocError> {
+    match place {
+        None => told.push_str("-"),
+        Some(place) => write!(told, "{place}"),
+    }
+}
+
+fn look_at_list(told: &mut String, player: &Player, list: usize) -> Result<(), AllocError> {
     let Some(list) = player.list(list) else {
-        return String::from_str(alloc, "no list");
+        return told.push_str("no list");
     };
-    let front = place_of(&player.nodes, player.lists.front(list));
-    let front = show_number(alloc, front)?;
-    format!(in alloc; "{} front {front}", player.lists.len(list))
+    write!(told, "{} ", player.lists.len(list))?;
+    tell_node(
+        told,
+        player.nodes.as_slice(),
+        "front ",
+        player.lists.front(list),
+    )
 }
 
-/// The next node of a node, and the one before it.
-fn show_neighbours(alloc: Global, player: &Player, node: NodeId) -> Result<String, AllocError>
-    requires { HasNode player.now.lists node }
-{
-    let next = show_number(alloc, place_of(&player.nodes, player.lists.next(node)))?;
-    let before = show_number(alloc, place_of(&player.nodes, player.lists.prev(node)))?;
-    format!(in alloc; "next {next} before {before}")
+/// The list of a node.
+fn tell_owner(told: &mut String, lists: &[ListId], owner: ListId) -> Result<(), AllocError> {
+    tell_place(told, lists.iter().position(|list| *list == owner))
 }
 
-fn look_at_node(alloc: Global, player: &Player, node: usize) -> Result<String, AllocError> {
+fn look_at_node(told: &mut String, player: &Player, node: usize) -> Result<(), AllocError> {
     let Some(node) = player.node(node) else {
-        return String::from_str(alloc, "no node");
+        return told.push_str("no node");
     };
-    let owner = player.lists.owner(node);
-    let owner = player.made.iter().position(|list| *list == owner);
-    let owner = show_number(alloc, owner)?;
-    let neighbours = show_neighbours(alloc, player, node)?;
-    format!(in alloc; "{} on {owner} {neighbours}", player.lists.get(node))
+    write!(told, "{} on ", player.lists.get(node))?;
+    tell_owner(told, player.made.as_slice(), player.lists.owner(node))?;
+    tell_node(
+        told,
+        player.nodes.as_slice(),
+        " next ",
+        player.lists.next(node),
+    )?;
+    tell_node(
+        told,
+        player.nodes.as_slice(),
+        " before ",
+        player.lists.prev(node),
+    )
 }
 
 /// Takes one step, and tells what was answered.
-fn take(alloc: Global, player: &mut Player, step: Step) -> Result<String, AllocError> {
+fn take(told: &mut String, player: &mut Player, step: Step) -> Result<(), AllocError> {
     match step {
-        Step::NewList => new_list(alloc, player),
-        Step::Push(list, value) => push(alloc, player, list, value),
-        Step::Move(node, list) => move_to(alloc, player, node, list),
-        Step::Unlink(node) => unlink(alloc, player, node),
-        Step::DropList(list) => drop_list(alloc, player, list),
-        Step::LookAtList(list) => look_at_list(alloc, player, list),
-        Step::LookAtNode(node) => look_at_node(alloc, player, node),
+        Step::NewList => new_list(player),
+        Step::Push(list, value) => push(told, player, list, value),
+        Step::Move(node, list) => move_to(told, player, node, list),
+        Step::Unlink(node) => unlink(told, player, node),
+        Step::DropList(list) => drop_list(told, player, list),
+        Step::LookAtList(list) => look_at_list(told, player, list),
+        Step::LookAtNode(node) => look_at_node(told, player, node),
     }
 }
 
 /// Takes the steps, with room for three nodes, and tells the answers.
-fn play(alloc: Global, steps: &[Step]) -> Result<String, AllocError> {
-    let mut lists = Lists::new(alloc);
-    lists.reserve(3)?;
-    let mut player = Player {
-        lists,
+fn take_all(told: &mut String, player: &mut Player, steps: &[Step]) -> Result<(), AllocError> {
+    player.lists.reserve(3)?;
+    for step in steps {
+        let length = told.len();
+        take(told, player, *step)?;
+        end_answer(told, length)?;
+    }
+    Ok(())
+}
+
+/// No list yet.
+fn nothing_made(alloc: Global) -> Player {
+    Player {
+        lists: Lists::new(alloc),
         made: Vec::new(alloc),
         nodes: Vec::new(alloc),
-    };
-    let mut told = String::new(alloc);
-    for step in steps {
-        let answer = take(alloc, &mut player, *step)?;
-        add_answer(&mut told, answer.as_str())?;
     }
+}
+
+/// Takes the steps with no list yet, and tells the answers.
+fn play(alloc: Global, steps: &[Step]) -> Result<String, AllocError> {
+    let mut told = String::new(alloc);
+    let mut player = nothing_made(alloc);
+    let done = take_all(&mut told, &mut player, steps);
+    drop(player);
+    done?;
     Ok(told)
 }
 
-// Two lists, three nodes: one is unlinked, one moved, and the emptied list is dropped.
+/// Two lists, three nodes: one is unlinked, one moved, and the emptied list is dropped.
+const STEPS: [Step; 17] = [
+    Step::NewList,
+    Step::NewList,
+    Step::LookAtList(0),
+    Step::LookAtList(1),
+    Step::Push(0, 10),
+    Step::Push(0, 20),
+    Step::Push(0, 30),
+    Step::Unlink(1),
+    Step::LookAtNode(1),
+    Step::Move(0, 1),
+    Step::LookAtList(0),
+    Step::LookAtList(1),
+    Step::LookAtNode(0),
+    Step::Unlink(2),
+    Step::LookAtList(0),
+    Step::DropList(0),
+    Step::LookAtList(0),
+];
+
 #[test]
 fn nodes_leave_move_and_empty_their_list(rt: HostRuntime) -> Result<(), Fail> {
-    let steps = [
-        Step::NewList,
-        Step::NewList,
-        Step::LookAtList(0),
-        Step::LookAtList(1),
-        Step::Push(0, 10),
-        Step::Push(0, 20),
-        Step::Push(0, 30),
-        Step::Unlink(1),
-        Step::LookAtNode(1),
-        Step::Move(0, 1),
-        Step::LookAtList(0),
-        Step::LookAtList(1),
-        Step::LookAtNode(0),
-        Step::Unlink(2),
-        Step::LookAtList(0),
-        Step::DropList(0),
-        Step::LookAtList(0),
-    ];
-    let told = play(rt.alloc(), &steps)?;
+    let told = play(rt.alloc(), &STEPS)?;
     assert_eq!(rt;
         told.as_str(),
         "0 front -; 0 front -; 20; no node; 1 front 2; 1 front 0; 10 on 1 next - before -; 30; 0 front -; no list; "

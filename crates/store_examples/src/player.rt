@@ -1,16 +1,15 @@
 //! Steps on a store, with ample memory, and what is told of them.
 //!
-//! An example is a list of steps and one text: a test that holds a store in hand over many calls is slow to prove, and so is
-//! a step that takes a part of the player in hand.
+//! An example is a list of steps and one text: a test that holds a store in hand over many calls is slow to prove.
 ghost use Rattle.std.specs.Prelude.{◌≤◌};
 
-use crate::shown::{add_answer, show_state};
+use crate::shown::{end_answer, tell_answered, tell_done, tell_event, tell_number, tell_state};
 use std::alloc::{AllocError, Global};
 use std::mem;
 use std::process::Abort;
 use std::test::Fail;
 use stm_txn::{
-    Batch, Compare, Event, Expired, HIGHEST_REVISION, Keys, Op, OpAnswer, Order, Refusal,
+    AdvanceRefused, Batch, Compare, Event, Expired, HIGHEST_REVISION, Keys, Op, OpAnswer, Order,
     ShortList, Store, Target, Text, Txn, TxnAnswer,
 };
 
@@ -56,13 +55,6 @@ pub enum Step {
     NextIsOneOf(u64, u64),
 }
 
-/// A store, and the transaction that is being made.
-#[derive(Drop)]
-pub struct Player {
-    pub store: Store,
-    pub next: Txn,
-}
-
 fn empty_txn(alloc: Global) -> Txn {
     Txn {
         compares: ShortList::new(alloc),
@@ -71,295 +63,238 @@ fn empty_txn(alloc: Global) -> Txn {
     }
 }
 
-fn show_op(alloc: Global, answer: &OpAnswer) -> Result<String, AllocError> {
+fn tell_op(told: &mut String, answer: &OpAnswer) -> Result<(), AllocError> {
     match answer {
-        OpAnswer::Put => String::from_str(alloc, " put"),
-        OpAnswer::Del(count) => format!(in alloc; " del {count}"),
+        OpAnswer::Put => told.push_str(" put"),
+        OpAnswer::Del(count) => write!(told, " del {count}"),
         OpAnswer::Get(read) => {
-            let state = show_state(alloc, read.kv.as_ref(), "null")?;
-            format!(in alloc; " get {} {state}", read.revision)
+            write!(told, " get {} ", read.revision)?;
+            tell_state(told, read.kv.as_ref(), "null")
         }
     }
 }
 
 /// An answer in one line: success, revision, and the answer to each operation.
-fn show_answer(alloc: Global, answer: &TxnAnswer) -> Result<String, AllocError> {
-    let mut line = format!(in alloc; "{} {}", answer.succeeded, answer.revision)?;
+fn tell_answer(told: &mut String, answer: &TxnAnswer) -> Result<(), AllocError> {
+    write!(told, "{} {}", answer.succeeded, answer.revision)?;
     for op in answer.answers.as_slice() {
-        let shown = show_op(alloc, op)?;
-        line.push_str(shown.as_str())?;
+        tell_op(told, op)?;
     }
-    Ok(line)
+    Ok(())
 }
 
-fn show_expired(alloc: Global, expired: &[Expired]) -> Result<String, AllocError> {
-    let mut line = String::from_str(alloc, "expired")?;
+fn tell_expired(told: &mut String, expired: &[Expired]) -> Result<(), AllocError> {
+    told.push_str("expired")?;
     for lease in expired {
-        let shown = format!(in alloc; " {}@{}", lease.id, lease.revision)?;
-        line.push_str(shown.as_str())?;
+        write!(told, " {}@{}", lease.id, lease.revision)?;
     }
-    Ok(line)
-}
-
-fn show_done(alloc: Global, done: Result<(), Refusal>) -> Result<String, AllocError> {
-    match done {
-        Ok(()) => String::from_str(alloc, "done"),
-        Err(refusal) => refusal.to_string(alloc),
-    }
+    Ok(())
 }
 
 /// Puts a copy of the next transaction in its place.
-fn copy_next(alloc: Global, player: &mut Player) -> Result<String, AllocError> {
-    player.next = player.next.clone()?;
-    Ok(String::new(alloc))
+fn copy_next(next: &mut Txn) -> Result<(), AllocError> {
+    let copy = next.clone()?;
+    drop(mem::replace(next, copy));
+    Ok(())
 }
 
-/// The answer to the transaction in one line, or the name of its refusal.
-fn commit(alloc: Global, player: &mut Player) -> Result<String, AllocError> {
-    let txn = mem::replace(&mut player.next, empty_txn(alloc));
-    match player.store.txn(&txn) {
-        Ok(answer) => show_answer(alloc, &answer),
-        Err(refusal) => refusal.to_string(alloc),
+/// The answer to a transaction in one line, or the name of its refusal.
+fn run(told: &mut String, store: &mut Store, txn: &Txn) -> Result<(), AllocError> {
+    match store.txn(txn) {
+        Ok(answer) => tell_answer(told, &answer),
+        Err(refusal) => write!(told, "{refusal}"),
     }
 }
 
-fn grant(alloc: Global, player: &mut Player, id: u64, ttl: u64) -> Result<String, AllocError> {
-    show_done(alloc, player.store.grant(id, ttl))
+/// Runs the next transaction; the one after it is empty.
+fn commit(
+    alloc: Global,
+    told: &mut String,
+    store: &mut Store,
+    next: &mut Txn,
+) -> Result<(), AllocError> {
+    run(told, store, next)?;
+    drop(mem::replace(next, empty_txn(alloc)));
+    Ok(())
 }
 
-fn keep(alloc: Global, player: &mut Player, id: u64) -> Result<String, AllocError> {
-    show_done(alloc, player.store.keep_alive(id))
-}
-
-fn revoke(alloc: Global, player: &mut Player, id: u64) -> Result<String, AllocError> {
-    match player.store.revoke(id) {
-        Ok(revision) => format!(in alloc; "at {revision}"),
-        Err(refusal) => refusal.to_string(alloc),
+/// The revision of a revocation, or why it is refused.
+fn revoke(told: &mut String, store: &mut Store, id: u64) -> Result<(), AllocError> {
+    match store.revoke(id) {
+        Ok(revision) => write!(told, "at {revision}"),
+        Err(refusal) => write!(told, "{refusal}"),
     }
 }
 
 /// Tells the leases that an advance ended, after the refusal where it was refused.
-fn advance(alloc: Global, player: &mut Player, moment: u64) -> Result<String, AllocError> {
-    match player.store.advance(moment) {
-        Ok(expired) => show_expired(alloc, expired.as_slice()),
-        Err(refused) => {
-            let expired = show_expired(alloc, refused.expired.as_slice())?;
-            format!(in alloc; "{refused} {expired}")
-        }
+fn advance(told: &mut String, store: &mut Store, moment: u64) -> Result<(), AllocError> {
+    match store.advance(moment) {
+        Ok(expired) => tell_expired(told, expired.as_slice()),
+        Err(refused) => tell_refused(told, &refused),
     }
 }
 
-fn show_event(alloc: Global, event: &Event) -> Result<String, AllocError> {
-    match event {
-        Event::Put { key, .. } => format!(in alloc; " PUT {key}"),
-        Event::Delete { key, .. } => format!(in alloc; " DELETE {key}"),
-    }
+fn tell_refused(told: &mut String, refused: &AdvanceRefused) -> Result<(), AllocError> {
+    write!(told, "{refused} ")?;
+    tell_expired(told, refused.expired.as_slice())
 }
 
 /// The events of a revision in one line, in their order; nothing above the counter.
-fn events(alloc: Global, keys: &Keys, revision: u64) -> Result<String, AllocError> {
-    let mut line = String::from_str(alloc, "events")?;
+fn tell_events(told: &mut String, keys: &Keys, revision: u64) -> Result<(), AllocError> {
+    told.push_str("events")?;
     if revision > keys.revision() {
-        return Ok(line);
+        return Ok(());
     }
-    for event in keys.events_of(revision)? {
-        let shown = show_event(alloc, &event)?;
-        line.push_str(shown.as_str())?;
+    let events = keys.events_of(revision)?;
+    tell_each(told, events.as_slice())
+}
+
+/// Events, a space before each.
+fn tell_each(told: &mut String, events: &[Event]) -> Result<(), AllocError> {
+    for event in events {
+        told.push_str(" ")?;
+        tell_event(told, event)?;
     }
-    Ok(line)
+    Ok(())
 }
 
-fn events_of(alloc: Global, player: &Player, revision: u64) -> Result<String, AllocError> {
-    events(alloc, player.store.keys(), revision)
+fn look(told: &mut String, store: &Store, key: &str) -> Result<(), AllocError> {
+    write!(told, "{key} ")?;
+    tell_state(told, store.keys().get(key), "null")?;
+    write!(told, " leases {}", store.lease_count())
 }
 
-fn look(alloc: Global, player: &Player, key: &str) -> Result<String, AllocError> {
-    let state = show_state(alloc, player.store.keys().get(key), "null")?;
-    format!(in alloc; "{key} {state} leases {}", player.store.lease_count())
-}
-
-fn standing(alloc: Global, player: &Player) -> Result<String, AllocError> {
-    let store = &player.store;
-    let counter = store.keys().revision();
-    format!(in alloc;
-        "revision {counter} leases {} moment {}",
+fn tell_standing(told: &mut String, store: &Store) -> Result<(), AllocError> {
+    write!(
+        told,
+        "revision {} leases {} moment {}",
+        store.keys().revision(),
         store.lease_count(),
         store.moment()
     )
 }
 
-fn is_live(alloc: Global, player: &Player, id: u64) -> Result<String, AllocError> {
-    player.store.is_live(id).to_string(alloc)
-}
-
-/// Joins "the key's modification revision is 0" to the next transaction.
-fn if_absent(alloc: Global, player: &mut Player, key: &str) -> Result<String, AllocError> {
+/// Joins "the key's modification revision is 0" to a transaction.
+fn if_absent(alloc: Global, next: &mut Txn, key: &str) -> Result<(), AllocError> {
     let key = Text::copy_of(alloc, key)?;
     let target = Target::Mod(0);
     let order = Order::Equal;
-    player.next.compares.push(Compare { key, target, order })?;
-    Ok(String::new(alloc))
+    next.compares.push(Compare { key, target, order })
 }
 
-/// Joins "the key's value is not this" to the next transaction.
+/// Joins "the key's value is not this" to a transaction.
 fn if_value_is_not(
     alloc: Global,
-    player: &mut Player,
+    next: &mut Txn,
     key: &str,
     value: &str,
-) -> Result<String, AllocError> {
+) -> Result<(), AllocError> {
     let key = Text::copy_of(alloc, key)?;
     let target = Target::Value(Text::copy_of(alloc, value)?);
     let order = Order::NotEqual;
-    player.next.compares.push(Compare { key, target, order })?;
-    Ok(String::new(alloc))
+    next.compares.push(Compare { key, target, order })
 }
 
-fn get_of(alloc: Global, key: &str, rev: u64) -> Result<Op, AllocError> {
-    Ok(Op::Get {
-        key: Text::copy_of(alloc, key)?,
-        rev,
-    })
+fn get(alloc: Global, next: &mut Txn, key: &str, rev: u64) -> Result<(), AllocError> {
+    let key = Text::copy_of(alloc, key)?;
+    next.success.push(Op::Get { key, rev })
 }
 
-fn put_of(alloc: Global, key: &str, value: &str, lease: u64) -> Result<Op, AllocError> {
+fn else_get(alloc: Global, next: &mut Txn, key: &str) -> Result<(), AllocError> {
+    let key = Text::copy_of(alloc, key)?;
+    next.failure.push(Op::Get { key, rev: 0 })
+}
+
+fn put(
+    alloc: Global,
+    next: &mut Txn,
+    key: &str,
+    value: &str,
+    lease: u64,
+) -> Result<(), AllocError> {
     let key = Text::copy_of(alloc, key)?;
     let value = Text::copy_of(alloc, value)?;
-    Ok(Op::Put { key, value, lease })
+    next.success.push(Op::Put { key, value, lease })
 }
 
-fn del_of(alloc: Global, key: &str) -> Result<Op, AllocError> {
-    Ok(Op::Del {
-        key: Text::copy_of(alloc, key)?,
-    })
-}
-
-/// Adds an operation to the success list of the next transaction.
-fn add(
-    alloc: Global,
-    player: &mut Player,
-    op: Result<Op, AllocError>,
-) -> Result<String, AllocError> {
-    player.next.success.push(op?)?;
-    Ok(String::new(alloc))
-}
-
-/// Adds a read of the key to the failure list of the next transaction.
-fn add_else(
-    alloc: Global,
-    player: &mut Player,
-    op: Result<Op, AllocError>,
-) -> Result<String, AllocError> {
-    player.next.failure.push(op?)?;
-    Ok(String::new(alloc))
-}
-
-fn show_watcher(alloc: Global, told: Result<u64, Refusal>) -> Result<String, AllocError> {
-    match told {
-        Ok(number) => number.to_string(alloc),
-        Err(refusal) => refusal.to_string(alloc),
-    }
-}
-
-fn watch(alloc: Global, player: &mut Player, key: &str, from: u64) -> Result<String, AllocError> {
-    show_watcher(alloc, player.store.watch_key(key, from))
-}
-
-fn watch_range(
-    alloc: Global,
-    player: &mut Player,
-    first: &str,
-    end: &str,
-    from: u64,
-) -> Result<String, AllocError> {
-    show_watcher(alloc, player.store.watch_range(first, end, from))
-}
-
-fn cancel(alloc: Global, player: &mut Player, id: u64) -> Result<String, AllocError> {
-    show_done(alloc, player.store.cancel(id))
-}
-
-/// An event with its key's state, or the revision of a deletion.
-fn show_told(alloc: Global, event: &Event) -> Result<String, AllocError> {
-    match event {
-        Event::Put { key, state } => {
-            let state = show_state(alloc, Some(state), "-")?;
-            format!(in alloc; " PUT {key} {state}")
-        }
-        Event::Delete { key, revision } => format!(in alloc; " DELETE {key} {revision}"),
-    }
+fn del(alloc: Global, next: &mut Txn, key: &str) -> Result<(), AllocError> {
+    let key = Text::copy_of(alloc, key)?;
+    next.success.push(Op::Del { key })
 }
 
 /// Up to which revision a batch tells, and its events.
-fn show_batch(alloc: Global, batch: &Batch) -> Result<String, AllocError> {
-    let mut line = format!(in alloc; "upto {}", batch.upto)?;
-    for event in batch.events.as_slice() {
-        let shown = show_told(alloc, event)?;
-        line.push_str(shown.as_str())?;
-    }
-    Ok(line)
+fn tell_batch(told: &mut String, batch: &Batch) -> Result<(), AllocError> {
+    write!(told, "upto {}", batch.upto)?;
+    tell_each(told, batch.events.as_slice())
 }
 
-fn poll(alloc: Global, player: &mut Player, id: u64, most: u64) -> Result<String, AllocError> {
-    match player.store.poll(id, most) {
-        Ok(batch) => show_batch(alloc, &batch),
-        Err(refusal) => refusal.to_string(alloc),
-    }
-}
-
-fn next_ready(alloc: Global, player: &Player) -> Result<String, AllocError> {
-    match player.store.next_ready() {
-        None => String::from_str(alloc, "none"),
-        Some(id) => id.to_string(alloc),
+fn poll(told: &mut String, store: &mut Store, id: u64, most: u64) -> Result<(), AllocError> {
+    match store.poll(id, most) {
+        Ok(batch) => tell_batch(told, &batch),
+        Err(refusal) => write!(told, "{refusal}"),
     }
 }
 
 fn next_is_one_of(
-    alloc: Global,
-    player: &Player,
+    told: &mut String,
+    store: &Store,
     first: u64,
     second: u64,
-) -> Result<String, AllocError> {
-    let next = player.store.next_ready();
-    (next == Some(first) || next == Some(second)).to_string(alloc)
+) -> Result<(), AllocError> {
+    let next = store.next_ready();
+    write!(told, "{}", next == Some(first) || next == Some(second))
 }
 
 /// Takes one step, and tells what was answered.
-fn take(alloc: Global, player: &mut Player, step: Step) -> Result<String, AllocError> {
+fn take(
+    alloc: Global,
+    told: &mut String,
+    store: &mut Store,
+    next: &mut Txn,
+    step: Step,
+) -> Result<(), AllocError> {
     match step {
-        Step::IfAbsent(key) => if_absent(alloc, player, key),
-        Step::IfValueIsNot(key, value) => if_value_is_not(alloc, player, key, value),
-        Step::Get(key, rev) => add(alloc, player, get_of(alloc, key, rev)),
-        Step::Put(key, value, lease) => add(alloc, player, put_of(alloc, key, value, lease)),
-        Step::Del(key) => add(alloc, player, del_of(alloc, key)),
-        Step::ElseGet(key) => add_else(alloc, player, get_of(alloc, key, 0)),
-        Step::Copy => copy_next(alloc, player),
-        Step::Commit => commit(alloc, player),
-        Step::Grant(id, ttl) => grant(alloc, player, id, ttl),
-        Step::Keep(id) => keep(alloc, player, id),
-        Step::Revoke(id) => revoke(alloc, player, id),
-        Step::Advance(moment) => advance(alloc, player, moment),
-        Step::Events(revision) => events_of(alloc, player, revision),
-        Step::Look(key) => look(alloc, player, key),
-        Step::Standing => standing(alloc, player),
-        Step::IsLive(id) => is_live(alloc, player, id),
-        Step::Watch(key, from) => watch(alloc, player, key, from),
-        Step::WatchRange(first, end, from) => watch_range(alloc, player, first, end, from),
-        Step::Cancel(id) => cancel(alloc, player, id),
-        Step::Poll(id, most) => poll(alloc, player, id, most),
-        Step::Next => next_ready(alloc, player),
-        Step::NextIsOneOf(first, second) => next_is_one_of(alloc, player, first, second),
+        Step::IfAbsent(key) => if_absent(alloc, next, key),
+        Step::IfValueIsNot(key, value) => if_value_is_not(alloc, next, key, value),
+        Step::Get(key, rev) => get(alloc, next, key, rev),
+        Step::Put(key, value, lease) => put(alloc, next, key, value, lease),
+        Step::Del(key) => del(alloc, next, key),
+        Step::ElseGet(key) => else_get(alloc, next, key),
+        Step::Copy => copy_next(next),
+        Step::Commit => commit(alloc, told, store, next),
+        Step::Grant(id, ttl) => tell_done(told, store.grant(id, ttl)),
+        Step::Keep(id) => tell_done(told, store.keep_alive(id)),
+        Step::Revoke(id) => revoke(told, store, id),
+        Step::Advance(moment) => advance(told, store, moment),
+        Step::Events(revision) => tell_events(told, store.keys(), revision),
+        Step::Look(key) => look(told, store, key),
+        Step::Standing => tell_standing(told, store),
+        Step::IsLive(id) => write!(told, "{}", store.is_live(id)),
+        Step::Watch(key, from) => tell_answered(told, store.watch_key(key, from)),
+        Step::WatchRange(first, end, from) => {
+            tell_answered(told, store.watch_range(first, end, from))
+        }
+        Step::Cancel(id) => tell_done(told, store.cancel(id)),
+        Step::Poll(id, most) => poll(told, store, id, most),
+        Step::Next => tell_number(told, store.next_ready(), "none"),
+        Step::NextIsOneOf(first, second) => next_is_one_of(told, store, first, second),
     }
 }
 
 /// Takes the steps, and tells the answers, `; ` after each.
-fn take_all(alloc: Global, player: &mut Player, steps: &[Step]) -> Result<String, AllocError> {
-    let mut told = String::new(alloc);
+fn take_all(
+    alloc: Global,
+    told: &mut String,
+    store: &mut Store,
+    next: &mut Txn,
+    steps: &[Step],
+) -> Result<(), AllocError> {
     for step in steps {
-        let answer = take(alloc, player, *step)?;
-        add_answer(&mut told, answer.as_str())?;
+        let length = told.len();
+        take(alloc, told, store, next, *step)?;
+        end_answer(told, length)?;
     }
-    Ok(told)
+    Ok(())
 }
 
 /// A store that opens at a revision, at 1 the one that `new` gives.
@@ -373,25 +308,19 @@ fn store_at(alloc: Global, opening: u64) -> Result<Store, AllocError>
     Store::with_revision(alloc, opening)
 }
 
-/// A store that opens at a revision, before its first step.
-fn open(alloc: Global, opening: u64) -> Result<Player, AllocError>
-    requires positive { 1 ≤ opening }
-    requires bounded { opening ≤ HIGHEST_REVISION }
-{
-    let store = store_at(alloc, opening)?;
-    let next = empty_txn(alloc);
-    Ok(Player { store, next })
-}
-
 /// Takes the steps on a store that opens at a revision, and tells the answers.
 fn play(alloc: Global, opening: u64, steps: &[Step]) -> Result<String, AllocError>
     requires positive { 1 ≤ opening }
     requires bounded { opening ≤ HIGHEST_REVISION }
 {
-    let mut player = open(alloc, opening)?;
-    let told = take_all(alloc, &mut player, steps);
-    drop(player);
-    told
+    let mut told = String::new(alloc);
+    let mut store = store_at(alloc, opening)?;
+    let mut next = empty_txn(alloc);
+    let done = take_all(alloc, &mut told, &mut store, &mut next, steps);
+    drop(next);
+    drop(store);
+    done?;
+    Ok(told)
 }
 
 /// Asserts what is told of the steps on a store that opens at a revision.

@@ -4,81 +4,129 @@
 use crate::player::{Step, is_told};
 use std::test::Fail;
 
-#[test]
-fn compares_pick_the_branch(rt: HostRuntime) -> Result<(), Fail> {
-    let steps = [
-        Step::IfAbsent("a"),
-        Step::Put("a", "1", 0),
-        Step::Get("a", 0),
-        Step::Del("z"),
-        Step::ElseGet("a"),
-        Step::Commit,
-        Step::IfAbsent("a"),
-        Step::Put("a", "2", 0),
-        Step::ElseGet("a"),
-        Step::Commit,
-        Step::IfValueIsNot("zz", "q"),
-        Step::Commit,
-    ];
-    let expected = "true 2 put get 2 1/2/2/1/0 del 0; false 2 get 2 1/2/2/1/0; false 2; ";
-    is_told(&rt, rt.alloc(), 1, &steps, expected)
-}
+/// Steps on a store that opens at 1, and what is told of them.
+const EXAMPLES: [(&[Step], &str); 8] = [
+    // Compares pick the branch.
+    (
+        &[
+            Step::IfAbsent("a"),
+            Step::Put("a", "1", 0),
+            Step::Get("a", 0),
+            Step::Del("z"),
+            Step::ElseGet("a"),
+            Step::Commit,
+            Step::IfAbsent("a"),
+            Step::Put("a", "2", 0),
+            Step::ElseGet("a"),
+            Step::Commit,
+            Step::IfValueIsNot("zz", "q"),
+            Step::Commit,
+        ],
+        "true 2 put get 2 1/2/2/1/0 del 0; false 2 get 2 1/2/2/1/0; false 2; ",
+    ),
+    // A second delete deletes nothing.
+    (
+        &[
+            Step::Put("a", "1", 0),
+            Step::Commit,
+            Step::Put("a", "1", 0),
+            Step::Del("a"),
+            Step::Commit,
+            Step::Del("a"),
+            Step::Del("a"),
+            Step::Commit,
+            Step::Del("a"),
+            Step::Commit,
+        ],
+        "true 2 put; DuplicateKey; true 3 del 1 del 0; true 3 del 0; ",
+    ),
+    // The past is read and the future refused.
+    (
+        &[
+            Step::Put("a", "1", 0),
+            Step::Commit,
+            Step::Del("a"),
+            Step::Commit,
+            Step::Get("a", 4),
+            Step::Commit,
+            Step::Get("a", 2),
+            Step::Commit,
+            Step::Get("", 0),
+            Step::Put("b", "1", 0),
+            Step::Put("b", "1", 0),
+            Step::Commit,
+        ],
+        "true 2 put; true 3 del 1; FutureRevision; true 3 get 3 1/2/2/1/0; EmptyKey; ",
+    ),
+    // A moved key expires with its new lease.
+    (
+        &[
+            Step::Grant(1, 5),
+            Step::Grant(2, 10),
+            Step::Put("b", "1", 2),
+            Step::Put("a", "1", 1),
+            Step::Commit,
+            Step::Put("a", "1", 2),
+            Step::Commit,
+            Step::Advance(5),
+            Step::Advance(10),
+            Step::Events(4),
+        ],
+        "done; done; true 2 put put; true 3 put; expired 1@3; expired 2@4; events DELETE a 4 DELETE b 4; ",
+    ),
+    // Grants and renewals are refused in order.
+    (
+        &[
+            Step::Grant(0, 5),
+            Step::Grant(3, 0),
+            Step::Grant(3, 9000000000),
+            Step::Grant(3, 5),
+            Step::Keep(4),
+            Step::Advance(7),
+            Step::Advance(6),
+            Step::Keep(3),
+            Step::Revoke(3),
+        ],
+        "LeaseIdOutOfRange; TtlOutOfRange; done; LeaseExists; LeaseNotFound; expired; \
+         TimeGoesBack expired; done; at 1; ",
+    ),
+    // Due leases end by moment and then by id.
+    (
+        &[
+            Step::Grant(1, 9),
+            Step::Grant(3, 4),
+            Step::Grant(2, 4),
+            Step::Put("c", "1", 3),
+            Step::Put("b", "1", 2),
+            Step::Put("a", "1", 1),
+            Step::Commit,
+            Step::Advance(20),
+        ],
+        "done; done; done; true 2 put put put; expired 2@3 3@4 1@5; ",
+    ),
+    // A new store opens at one.
+    (&[Step::Standing], "revision 1 leases 0 moment 0; "),
+    // A copy of a transaction is the same.
+    // The copy puts "a" and deletes "b", as the transaction that it was made of does.
+    (
+        &[
+            Step::Advance(5),
+            Step::Put("a", "1", 0),
+            Step::Del("b"),
+            Step::Copy,
+            Step::Commit,
+            Step::Standing,
+        ],
+        "expired; true 2 put del 0; revision 2 leases 0 moment 5; ",
+    ),
+];
 
 #[test]
-fn a_second_delete_deletes_nothing(rt: HostRuntime) -> Result<(), Fail> {
-    let steps = [
-        Step::Put("a", "1", 0),
-        Step::Commit,
-        Step::Put("a", "1", 0),
-        Step::Del("a"),
-        Step::Commit,
-        Step::Del("a"),
-        Step::Del("a"),
-        Step::Commit,
-        Step::Del("a"),
-        Step::Commit,
-    ];
-    let expected = "true 2 put; DuplicateKey; true 3 del 1 del 0; true 3 del 0; ";
-    is_told(&rt, rt.alloc(), 1, &steps, expected)
-}
-
-#[test]
-fn the_past_is_read_and_the_future_refused(rt: HostRuntime) -> Result<(), Fail> {
-    let steps = [
-        Step::Put("a", "1", 0),
-        Step::Commit,
-        Step::Del("a"),
-        Step::Commit,
-        Step::Get("a", 4),
-        Step::Commit,
-        Step::Get("a", 2),
-        Step::Commit,
-        Step::Get("", 0),
-        Step::Put("b", "1", 0),
-        Step::Put("b", "1", 0),
-        Step::Commit,
-    ];
-    let expected = "true 2 put; true 3 del 1; FutureRevision; true 3 get 3 1/2/2/1/0; EmptyKey; ";
-    is_told(&rt, rt.alloc(), 1, &steps, expected)
-}
-
-#[test]
-fn a_moved_key_expires_with_its_new_lease(rt: HostRuntime) -> Result<(), Fail> {
-    let steps = [
-        Step::Grant(1, 5),
-        Step::Grant(2, 10),
-        Step::Put("b", "1", 2),
-        Step::Put("a", "1", 1),
-        Step::Commit,
-        Step::Put("a", "1", 2),
-        Step::Commit,
-        Step::Advance(5),
-        Step::Advance(10),
-        Step::Events(4),
-    ];
-    let expected =
-        "done; done; true 2 put put; true 3 put; expired 1@3; expired 2@4; events DELETE a DELETE b; ";
-    is_told(&rt, rt.alloc(), 1, &steps, expected)
+fn transactions_and_leases_are_told(rt: HostRuntime) -> Result<(), Fail> {
+    for (steps, expected) in EXAMPLES {
+        is_told(&rt, rt.alloc(), 1, steps, expected)?;
+    }
+    Ok(())
 }
 
 #[test]
@@ -91,24 +139,6 @@ fn nothing_changes_at_the_highest_revision(rt: HostRuntime) -> Result<(), Fail> 
     ];
     let expected = "RevisionsUsedUp; true 9223372036854775806 get 9223372036854775806 null; ";
     is_told(&rt, rt.alloc(), 9223372036854775806, &steps, expected)
-}
-
-#[test]
-fn grants_and_renewals_are_refused_in_order(rt: HostRuntime) -> Result<(), Fail> {
-    let steps = [
-        Step::Grant(0, 5),
-        Step::Grant(3, 0),
-        Step::Grant(3, 9000000000),
-        Step::Grant(3, 5),
-        Step::Keep(4),
-        Step::Advance(7),
-        Step::Advance(6),
-        Step::Keep(3),
-        Step::Revoke(3),
-    ];
-    let expected = "LeaseIdOutOfRange; TtlOutOfRange; done; LeaseExists; LeaseNotFound; expired; \
-         TimeGoesBack expired; done; at 1; ";
-    is_told(&rt, rt.alloc(), 1, &steps, expected)
 }
 
 #[test]
@@ -129,42 +159,4 @@ fn an_advance_stops_where_the_revisions_end(rt: HostRuntime) -> Result<(), Fail>
         "done; done; true 9223372036854775805 put put; RevisionsUsedUp expired 1@9223372036854775806; \
          false; true; b 1/9223372036854775805/9223372036854775805/1/2 leases 1; RevisionsUsedUp expired; ";
     is_told(&rt, rt.alloc(), 9223372036854775804, &steps, expected)
-}
-
-#[test]
-fn due_leases_end_by_moment_and_then_by_id(rt: HostRuntime) -> Result<(), Fail> {
-    let steps = [
-        Step::Grant(1, 9),
-        Step::Grant(3, 4),
-        Step::Grant(2, 4),
-        Step::Put("c", "1", 3),
-        Step::Put("b", "1", 2),
-        Step::Put("a", "1", 1),
-        Step::Commit,
-        Step::Advance(20),
-    ];
-    let expected = "done; done; done; true 2 put put put; expired 2@3 3@4 1@5; ";
-    is_told(&rt, rt.alloc(), 1, &steps, expected)
-}
-
-#[test]
-fn a_new_store_opens_at_one(rt: HostRuntime) -> Result<(), Fail> {
-    let steps = [Step::Standing];
-    let expected = "revision 1 leases 0 moment 0; ";
-    is_told(&rt, rt.alloc(), 1, &steps, expected)
-}
-
-// The copy puts "a" and deletes "b", as the transaction that it was made of does.
-#[test]
-fn a_copy_of_a_transaction_is_the_same(rt: HostRuntime) -> Result<(), Fail> {
-    let steps = [
-        Step::Advance(5),
-        Step::Put("a", "1", 0),
-        Step::Del("b"),
-        Step::Copy,
-        Step::Commit,
-        Step::Standing,
-    ];
-    let expected = "expired; true 2 put del 0; revision 2 leases 0 moment 5; ";
-    is_told(&rt, rt.alloc(), 1, &steps, expected)
 }

@@ -7,9 +7,8 @@ ghost use Rattle.stm_history.specs.History.{IsRevision};
 ghost use Rattle.stm_keys.specs.Keys.{DeletePresent};
 ghost use Rattle.stm_watch.specs.Calls.{StandFor};
 
-use crate::shown::{add_answer, show_event};
+use crate::shown::{end_answer, tell_answered, tell_event, tell_number};
 use std::alloc::{AllocError, Global};
-use std::fmt::Display;
 use std::test::Fail;
 use stm_keys::{ApplyRefusal, Change, Keys, Text};
 use stm_watch::{Batch, Watchers};
@@ -30,26 +29,13 @@ enum Step {
     NextReady,
 }
 
-fn show_number<E: Display + Drop>(
-    alloc: Global,
-    number: Result<u64, E>,
-) -> Result<String, AllocError> {
-    match number {
-        Ok(number) => number.to_string(alloc),
-        Err(refusal) => refusal.to_string(alloc),
-    }
-}
-
 /// The events of a batch, and up to which revision it tells.
-fn show_batch(alloc: Global, batch: &Batch) -> Result<String, AllocError> {
-    let mut told = String::new(alloc);
+fn tell_batch(told: &mut String, batch: &Batch) -> Result<(), AllocError> {
     for event in batch.events.as_slice() {
-        told.push_str(show_event(alloc, event)?.as_str())?;
+        tell_event(told, event)?;
+        told.push_str(" ")?;
     }
-    let upto = batch.upto.to_string(alloc)?;
-    told.push_str("upto ")?;
-    told.push_str(upto.as_str())?;
-    Ok(told)
+    write!(told, "upto {}", batch.upto)
 }
 
 fn put_of(alloc: Global, key: &str) -> Result<Change, AllocError>
@@ -130,160 +116,152 @@ fn delete_one(
 }
 
 fn poll(
-    alloc: Global,
+    told: &mut String,
     keys: &Keys,
     watchers: &mut Watchers,
     id: u64,
     most: u64,
-) -> Result<String, AllocError>
+) -> Result<(), AllocError>
     requires { StandFor keys.now.history watchers.old }
     ensures { StandFor keys.now.history watchers.new }
 {
     match watchers.poll(id, keys, most) {
-        Ok(batch) => show_batch(alloc, &batch),
-        Err(refusal) => refusal.to_string(alloc),
+        Ok(batch) => tell_batch(told, &batch),
+        Err(refusal) => write!(told, "{refusal}"),
     }
 }
 
 fn cancel(
-    alloc: Global,
+    told: &mut String,
     keys: &Keys,
     watchers: &mut Watchers,
     id: u64,
-) -> Result<String, AllocError>
+) -> Result<(), AllocError>
     requires { StandFor keys.now.history watchers.old }
     ensures { StandFor keys.now.history watchers.new }
 {
     match watchers.cancel(id) {
-        Ok(()) => String::from_str(alloc, "done"),
-        Err(refusal) => refusal.to_string(alloc),
-    }
-}
-
-fn next_ready(alloc: Global, watchers: &Watchers) -> Result<String, AllocError> {
-    match watchers.next_ready() {
-        None => String::from_str(alloc, "-"),
-        Some(id) => id.to_string(alloc),
+        Ok(()) => told.push_str("done"),
+        Err(refusal) => write!(told, "{refusal}"),
     }
 }
 
 fn take(
     alloc: Global,
+    told: &mut String,
     keys: &mut Keys,
     watchers: &mut Watchers,
     step: Step,
-) -> Result<String, AllocError>
+) -> Result<(), AllocError>
     requires { StandFor keys.old.history watchers.old }
     ensures { StandFor keys.new.history watchers.new }
 {
     match step {
-        Step::Put(key) => show_number(alloc, put_one(alloc, keys, watchers, key)),
-        Step::PutThree => show_number(alloc, put_three(alloc, keys, watchers)),
-        Step::Delete(key) => show_number(alloc, delete_one(alloc, keys, watchers, key)),
-        Step::Watch(key, from) => show_number(alloc, watchers.watch_key(key, from, keys)),
+        Step::Put(key) => tell_answered(told, put_one(alloc, keys, watchers, key)),
+        Step::PutThree => tell_answered(told, put_three(alloc, keys, watchers)),
+        Step::Delete(key) => tell_answered(told, delete_one(alloc, keys, watchers, key)),
+        Step::Watch(key, from) => tell_answered(told, watchers.watch_key(key, from, keys)),
         Step::WatchRange(first, end, from) => {
-            show_number(alloc, watchers.watch_range(first, end, from, keys))
+            tell_answered(told, watchers.watch_range(first, end, from, keys))
         }
-        Step::Poll(id, most) => poll(alloc, keys, watchers, id, most),
-        Step::Cancel(id) => cancel(alloc, keys, watchers, id),
-        Step::NextReady => next_ready(alloc, watchers),
+        Step::Poll(id, most) => poll(told, keys, watchers, id, most),
+        Step::Cancel(id) => cancel(told, keys, watchers, id),
+        Step::NextReady => tell_number(told, watchers.next_ready(), "-"),
     }
 }
 
 /// Takes the steps, and tells the answers.
 fn take_all(
     alloc: Global,
+    told: &mut String,
     keys: &mut Keys,
     watchers: &mut Watchers,
     steps: &[Step],
-) -> Result<String, AllocError>
+) -> Result<(), AllocError>
     requires { StandFor keys.old.history watchers.old }
 {
-    let mut told = String::new(alloc);
     for step in steps {
-        let answer = take(alloc, keys, watchers, *step)?;
-        add_answer(&mut told, answer.as_str())?;
+        let length = told.len();
+        take(alloc, told, keys, watchers, *step)?;
+        end_answer(told, length)?;
     }
-    Ok(told)
+    Ok(())
 }
 
 /// The same on a store at revision 1.
 fn play(alloc: Global, steps: &[Step]) -> Result<String, AllocError> {
+    let mut told = String::new(alloc);
     let mut watchers = Watchers::new(alloc)?;
     let mut keys = Keys::new(alloc);
-    let told = take_all(alloc, &mut keys, &mut watchers, steps);
+    let done = take_all(alloc, &mut told, &mut keys, &mut watchers, steps);
     drop(watchers);
     drop(keys);
-    told
+    done?;
+    Ok(told)
 }
 
-// A watcher that starts below the counter is ready at once, and is told one revision after the other.
-#[test]
-fn a_watcher_is_told_what_happened_before(rt: HostRuntime) -> Result<(), Fail> {
-    let steps = [
-        Step::Put("a"),
-        Step::Delete("a"),
-        Step::Watch("a", 2),
-        Step::NextReady,
-        Step::Poll(1, 1),
-        Step::Poll(1, 1),
-        Step::NextReady,
-    ];
-    let told = play(rt.alloc(), &steps)?;
-    assert_eq!(rt;
-        told.as_str(),
-        "2; 3; 1; 1; PUT a 1/2/2/1/0 upto 2; DELETE a 3 upto 3; -; "
-    );
-    Ok(())
-}
+/// Steps on a store that opens at 1, and what is told of them.
+const EXAMPLES: [(&[Step], &str); 3] = [
+    // A watcher is told what happened before.
+    // A watcher that starts below the counter is ready at once, and is told one revision after the other.
+    (
+        &[
+            Step::Put("a"),
+            Step::Delete("a"),
+            Step::Watch("a", 2),
+            Step::NextReady,
+            Step::Poll(1, 1),
+            Step::Poll(1, 1),
+            Step::NextReady,
+        ],
+        "2; 3; 1; 1; PUT a 1/2/2/1/0 upto 2; DELETE a 3 upto 3; -; ",
+    ),
+    // A revision is told whole.
+    // A range has no key at its end; the events of one revision come together, in the order of operations.
+    (
+        &[
+            Step::WatchRange("a", "c", 0),
+            Step::NextReady,
+            Step::PutThree,
+            Step::Put("c"),
+            Step::NextReady,
+            Step::Poll(1, 0),
+            Step::Poll(1, 1),
+            Step::NextReady,
+            Step::WatchRange("b", "b", 1),
+            Step::NextReady,
+            Step::Poll(2, 0),
+        ],
+        "1; -; 2; 3; 1; upto 1; PUT a 1/2/2/1/0 PUT b 1/2/2/1/0 upto 3; -; 2; -; upto 3; ",
+    ),
+    // A watcher waits and is cancelled.
+    // A start above the counter waits for that revision; a cancelled watcher's number is not used again.
+    (
+        &[
+            Step::Watch("a", 3),
+            Step::Watch("", 1),
+            Step::Put("a"),
+            Step::NextReady,
+            Step::Put("a"),
+            Step::NextReady,
+            Step::Cancel(1),
+            Step::Cancel(1),
+            Step::Poll(1, 1),
+            Step::NextReady,
+            Step::Watch("a", 3),
+            Step::Poll(2, 5),
+            Step::Watch("a", 9),
+            Step::Poll(3, 5),
+        ],
+        "1; EmptyKey; 2; -; 3; 1; done; NoWatcher; NoWatcher; -; 2; PUT a 1/2/3/2/0 upto 3; 3; upto 8; ",
+    ),
+];
 
-// A range has no key at its end; the events of one revision come together, in the order of operations.
 #[test]
-fn a_revision_is_told_whole(rt: HostRuntime) -> Result<(), Fail> {
-    let steps = [
-        Step::WatchRange("a", "c", 0),
-        Step::NextReady,
-        Step::PutThree,
-        Step::Put("c"),
-        Step::NextReady,
-        Step::Poll(1, 0),
-        Step::Poll(1, 1),
-        Step::NextReady,
-        Step::WatchRange("b", "b", 1),
-        Step::NextReady,
-        Step::Poll(2, 0),
-    ];
-    let told = play(rt.alloc(), &steps)?;
-    assert_eq!(rt;
-        told.as_str(),
-        "1; -; 2; 3; 1; upto 1; PUT a 1/2/2/1/0 PUT b 1/2/2/1/0 upto 3; -; 2; -; upto 3; "
-    );
-    Ok(())
-}
-
-// A start above the counter waits for that revision; a cancelled watcher's number is not used again.
-#[test]
-fn a_watcher_waits_and_is_cancelled(rt: HostRuntime) -> Result<(), Fail> {
-    let steps = [
-        Step::Watch("a", 3),
-        Step::Watch("", 1),
-        Step::Put("a"),
-        Step::NextReady,
-        Step::Put("a"),
-        Step::NextReady,
-        Step::Cancel(1),
-        Step::Cancel(1),
-        Step::Poll(1, 1),
-        Step::NextReady,
-        Step::Watch("a", 3),
-        Step::Poll(2, 5),
-        Step::Watch("a", 9),
-        Step::Poll(3, 5),
-    ];
-    let told = play(rt.alloc(), &steps)?;
-    assert_eq!(rt;
-        told.as_str(),
-        "1; EmptyKey; 2; -; 3; 1; done; NoWatcher; NoWatcher; -; 2; PUT a 1/2/3/2/0 upto 3; 3; upto 8; "
-    );
+fn watchers_are_told(rt: HostRuntime) -> Result<(), Fail> {
+    for (steps, expected) in EXAMPLES {
+        let told = play(rt.alloc(), steps)?;
+        assert_eq!(rt; told.as_str(), expected);
+    }
     Ok(())
 }

@@ -11,13 +11,127 @@ use stm_recipes::{
     deposit, dequeue, enqueue, held, queue_items, release_slot, reserve_slot, total, transfer,
 };
 
+/// The programs that are looked at.
+#[derive(Clone, Copy)]
+enum Recipe {
+    Transfer,
+    DearTransfer,
+    TransferToItself,
+    TransferFromNone,
+    Deposit,
+    Enqueue,
+    Dequeue,
+    Reservation,
+    ReleaseByOther,
+    Release,
+}
+
+fn program_of(alloc: Global, recipe: Recipe) -> Result<Program, AllocError> {
+    match recipe {
+        Recipe::Transfer => transfer(alloc, "a0", "a1", 30),
+        Recipe::DearTransfer => transfer(alloc, "a0", "a1", 101),
+        Recipe::TransferToItself => transfer(alloc, "a0", "a0", 30),
+        Recipe::TransferFromNone => transfer(alloc, "a2", "a1", 30),
+        Recipe::Deposit => deposit(alloc, "b", 5),
+        Recipe::Enqueue => enqueue(alloc, "q", "i1"),
+        Recipe::Dequeue => dequeue(alloc, "q"),
+        Recipe::Reservation => reserve_slot(alloc, "s", "h", 7),
+        Recipe::ReleaseByOther => release_slot(alloc, "s", "g"),
+        Recipe::Release => release_slot(alloc, "s", "h"),
+    }
+}
+
+/// A program as the language spells it.
+fn spelled(alloc: Global, program: &Program) -> Result<String, Fail> {
+    let value = write_program(alloc, program)?;
+    let text = value.to_string(alloc);
+    drop(value);
+    Ok(text?)
+}
+
+fn spelled_recipe(alloc: Global, recipe: Recipe) -> Result<String, Fail> {
+    let program = program_of(alloc, recipe)?;
+    let spelled = spelled(alloc, &program);
+    drop(program);
+    spelled
+}
+
+static SPELLED: [(Recipe, &str); 6] = [
+    (
+        Recipe::Transfer,
+        concat!(
+            r#"[["set",0,["num_of",["get","a0"]]],["if",["less",["var",0],30],[["abort","insufficient"]],[]],["put","a0",["text_of","#,
+            r#"["sub",["var",0],30]],0],["put","a1",["text_of",["add",["num_of",["get","a1"]],30]],0]]"#,
+        ),
+    ),
+    (
+        Recipe::Deposit,
+        r#"[["set",0,["get","b"]],["if",["eq",["var",0],""],[["set",0,"0"]],[]],["put","b",["text_of",["add",["num_of",["var",0]],5]],0]]"#,
+    ),
+    (
+        Recipe::Enqueue,
+        concat!(
+            r#"[["set",0,["get","q/tail"]],["if",["eq",["var",0],""],[["set",0,"0"]],[]],["put",["cat","q/",["var",0]],"i1",0],"#,
+            r#"["put","q/tail",["text_of",["add",["num_of",["var",0]],1]],0]]"#,
+        ),
+    ),
+    (
+        Recipe::Dequeue,
+        concat!(
+            r#"[["set",0,["get","q/head"]],["if",["eq",["var",0],""],[["set",0,"0"]],[]],["set",1,["get","q/tail"]],["if",["eq","#,
+            r#"["var",1],""],[["set",1,"0"]],[]],["if",["eq",["var",0],["var",1]],[["abort","empty"]],[]],["set",2,["cat","q/","#,
+            r#"["var",0]]],["emit",["get",["var",2]]],["del",["var",2]],["put","q/head",["text_of",["add",["num_of",["var",0]],1]],0]]"#,
+        ),
+    ),
+    (
+        Recipe::Reservation,
+        r#"[["if",["eq",["rev","s"],0],[],[["abort","held"]]],["put","s","h",7]]"#,
+    ),
+    (
+        Recipe::ReleaseByOther,
+        r#"[["if",["eq",["get","s"],"g"],[["del","s"]],[["abort","not held"]]]]"#,
+    ),
+];
+
+/// Asserts what was told.
+fn is_told(rt: &impl Abort, told: String, expected: &str) {
+    assert_eq!(rt; told.as_str(), expected);
+}
+
+fn are_spelled(rt: &impl Abort, alloc: Global, cases: &[(Recipe, &str)]) -> Result<(), Fail> {
+    for &(recipe, expected) in cases {
+        let spelled = spelled_recipe(alloc, recipe)?;
+        is_told(rt, spelled, expected);
+    }
+    Ok(())
+}
+
+#[test]
+fn recipes_are_spelled_as_programs(rt: HostRuntime) -> Result<(), Fail> {
+    are_spelled(&rt, rt.alloc(), &SPELLED)
+}
+
+fn add_entry(alloc: Global, key: &str, value: &str, state: &mut State) -> Result<(), AllocError> {
+    let key = Text::copy_of(alloc, key)?;
+    let value = Text::copy_of(alloc, value)?;
+    state.insert(key, value, 2)
+}
+
+fn add_entries(
+    alloc: Global,
+    entries: &[(&str, &str)],
+    state: &mut State,
+) -> Result<(), AllocError> {
+    for &(key, value) in entries {
+        add_entry(alloc, key, value, state)?;
+    }
+    Ok(())
+}
+
 /// A state of keys and values, each modified at revision 2.
 fn state_of(alloc: Global, entries: &[(&str, &str)]) -> Result<State, AllocError> {
     let mut state = State::new(alloc);
-    for &(key, value) in entries {
-        let key = Text::copy_of(alloc, key)?;
-        state.insert(key, Text::copy_of(alloc, value)?, 2)?;
-    }
+    add_entries(alloc, entries, &mut state)?;
     Ok(state)
 }
 
@@ -36,13 +150,18 @@ fn show_value(alloc: Global, value: &Value) -> Result<String, AllocError> {
     }
 }
 
-/// The end of a run in words, and then each value that it emitted.
-fn described(alloc: Global, run: &Run) -> Result<String, AllocError> {
-    let mut text = show_end(alloc, &run.end)?;
-    for value in run.output.as_slice() {
+fn add_values(alloc: Global, values: &[Value], text: &mut String) -> Result<(), AllocError> {
+    for value in values {
         let shown = show_value(alloc, value)?;
         text.push_str(shown.as_str())?;
     }
+    Ok(())
+}
+
+/// The end of a run in words, and then each value that it emitted.
+fn described(alloc: Global, run: &Run) -> Result<String, AllocError> {
+    let mut text = show_end(alloc, &run.end)?;
+    add_values(alloc, run.output.as_slice(), &mut text)?;
     Ok(text)
 }
 
@@ -53,138 +172,115 @@ fn shown(alloc: Global, write: &Write) -> Result<String, AllocError> {
     }
 }
 
-/// The end of a program's run, what it emitted, and the effect of its writes.
-fn told(alloc: Global, program: &Program, state: &State) -> Result<String, AllocError> {
-    let run = run_alone(alloc, program, state)?;
-    let mut text = described(alloc, &run)?;
-    for write in apply_alone(alloc, run.writes.as_slice(), state)? {
-        text.push_str(shown(alloc, &write)?.as_str())?;
+fn add_writes(alloc: Global, writes: &[Write], text: &mut String) -> Result<(), AllocError> {
+    for write in writes {
+        let shown = shown(alloc, write)?;
+        text.push_str(shown.as_str())?;
     }
+    Ok(())
+}
+
+/// Adds the effect of a run's writes to a text.
+fn add_effect(
+    alloc: Global,
+    run: &Run,
+    state: &State,
+    text: &mut String,
+) -> Result<(), AllocError> {
+    let effect = apply_alone(alloc, run.writes.as_slice(), state)?;
+    add_writes(alloc, effect.as_slice(), text)
+}
+
+fn told_run(alloc: Global, run: &Run, state: &State) -> Result<String, AllocError> {
+    let mut text = described(alloc, run)?;
+    add_effect(alloc, run, state, &mut text)?;
     Ok(text)
 }
 
-fn comes_to(
-    rt: &impl Abort,
-    alloc: Global,
-    program: &Program,
-    entries: &[(&str, &str)],
-    expected: &str,
-) -> Result<(), Fail> {
+/// The end of a program's run, what it emitted, and the effect of its writes.
+fn told(alloc: Global, program: &Program, state: &State) -> Result<String, AllocError> {
+    let run = run_alone(alloc, program, state)?;
+    let told = told_run(alloc, &run, state);
+    drop(run);
+    told
+}
+
+fn told_of(alloc: Global, recipe: Recipe, state: &State) -> Result<String, AllocError> {
+    let program = program_of(alloc, recipe)?;
+    let told = told(alloc, &program, state);
+    drop(program);
+    told
+}
+
+/// What comes of a recipe's run on a state of these keys and values.
+fn told_on(alloc: Global, recipe: Recipe, entries: &[(&str, &str)]) -> Result<String, AllocError> {
     let state = state_of(alloc, entries)?;
-    let told = told(alloc, program, &state)?;
-    assert_eq!(rt; told.as_str(), expected);
-    Ok(())
+    let told = told_of(alloc, recipe, &state);
+    drop(state);
+    told
 }
 
-fn is_spelled(
+static ACCOUNTS: [(&str, &str); 2] = [("a0", "100"), ("a1", "100")];
+
+static FULL_QUEUE: [(&str, &str); 2] = [("q/0", "i1"), ("q/tail", "1")];
+
+static EMPTY_HEAD: [(&str, &str); 2] = [("q/head", ""), ("q/tail", "1")];
+
+static HELD_SLOT: [(&str, &str); 1] = [("s", "h")];
+
+static ON_ACCOUNTS: [(Recipe, &str); 4] = [
+    (Recipe::Transfer, "Done a0=70/0 a1=130/0"),
+    (Recipe::DearTransfer, "Aborted insufficient"),
+    (Recipe::TransferToItself, "Done a0=100/0"),
+    (Recipe::TransferFromNone, "NotANumber"),
+];
+
+static ON_NOTHING: [(Recipe, &str); 3] = [
+    (Recipe::Deposit, "Done b=5/0"),
+    (Recipe::Enqueue, "Done q/0=i1/0 q/tail=1/0"),
+    (Recipe::Reservation, "Done s=h/7"),
+];
+
+static ON_FULL_QUEUE: [(Recipe, &str); 1] = [(Recipe::Dequeue, "Done i1 -q/0 q/head=1/0")];
+
+static ON_HELD_SLOT: [(Recipe, &str); 3] = [
+    (Recipe::Reservation, "Aborted held"),
+    (Recipe::ReleaseByOther, "Aborted not held"),
+    (Recipe::Release, "Done -s"),
+];
+
+/// Asserts what comes of recipes on a state of these keys and values.
+fn come_to(
     rt: &impl Abort,
     alloc: Global,
-    program: &Program,
-    expected: &str,
+    entries: &[(&str, &str)],
+    cases: &[(Recipe, &str)],
 ) -> Result<(), Fail> {
-    let value = write_program(alloc, program)?;
-    assert_eq!(rt; value.to_string(alloc)?.as_str(), expected);
-    Ok(())
-}
-
-const ACCOUNTS: [(&str, &str); 2] = [("a0", "100"), ("a1", "100")];
-
-#[test]
-fn a_transfer_moves_the_amount(rt: HostRuntime) -> Result<(), Fail> {
-    let alloc = rt.alloc();
-    let program = transfer(alloc, "a0", "a1", 30)?;
-    is_spelled(
-        &rt,
-        alloc,
-        &program,
-        concat!(
-            r#"[["set",0,["num_of",["get","a0"]]],["if",["less",["var",0],30],[["abort","insufficient"]],[]],["put","a0",["text_of","#,
-            r#"["sub",["var",0],30]],0],["put","a1",["text_of",["add",["num_of",["get","a1"]],30]],0]]"#,
-        ),
-    )?;
-    comes_to(&rt, alloc, &program, &ACCOUNTS, "Done a0=70/0 a1=130/0")
-}
-
-#[test]
-fn a_transfer_needs_the_amount(rt: HostRuntime) -> Result<(), Fail> {
-    let alloc = rt.alloc();
-    let program = transfer(alloc, "a0", "a1", 101)?;
-    comes_to(&rt, alloc, &program, &ACCOUNTS, "Aborted insufficient")
-}
-
-#[test]
-fn an_account_pays_itself(rt: HostRuntime) -> Result<(), Fail> {
-    let alloc = rt.alloc();
-    let program = transfer(alloc, "a0", "a0", 30)?;
-    comes_to(&rt, alloc, &program, &ACCOUNTS, "Done a0=100/0")
-}
-
-#[test]
-fn an_absent_account_has_no_number(rt: HostRuntime) -> Result<(), Fail> {
-    let alloc = rt.alloc();
-    let program = transfer(alloc, "a2", "a1", 30)?;
-    comes_to(&rt, alloc, &program, &ACCOUNTS, "NotANumber")
-}
-
-#[test]
-fn a_deposit_makes_the_account(rt: HostRuntime) -> Result<(), Fail> {
-    let alloc = rt.alloc();
-    let program = deposit(alloc, "b", 5)?;
-    is_spelled(
-        &rt,
-        alloc,
-        &program,
-        r#"[["set",0,["get","b"]],["if",["eq",["var",0],""],[["set",0,"0"]],[]],["put","b",["text_of",["add",["num_of",["var",0]],5]],0]]"#,
-    )?;
-    comes_to(&rt, alloc, &program, &[], "Done b=5/0")
-}
-
-#[test]
-fn accounts_add_up(rt: HostRuntime) -> Result<(), Fail> {
-    let alloc = rt.alloc();
-    let state = state_of(alloc, &ACCOUNTS)?;
-    assert_eq!(rt; total(&state, &["a0", "a1"]), Some(200));
-    assert_eq!(rt; total(&state, &["a0", "a2"]), None);
+    for &(recipe, expected) in cases {
+        let told = told_on(alloc, recipe, entries)?;
+        is_told(rt, told, expected);
+    }
     Ok(())
 }
 
 #[test]
-fn an_item_is_added(rt: HostRuntime) -> Result<(), Fail> {
-    let alloc = rt.alloc();
-    let program = enqueue(alloc, "q", "i1")?;
-    is_spelled(
-        &rt,
-        alloc,
-        &program,
-        concat!(
-            r#"[["set",0,["get","q/tail"]],["if",["eq",["var",0],""],[["set",0,"0"]],[]],["put",["cat","q/",["var",0]],"i1",0],"#,
-            r#"["put","q/tail",["text_of",["add",["num_of",["var",0]],1]],0]]"#,
-        ),
-    )?;
-    comes_to(&rt, alloc, &program, &[], "Done q/0=i1/0 q/tail=1/0")
+fn accounts_are_paid_from(rt: HostRuntime) -> Result<(), Fail> {
+    come_to(&rt, rt.alloc(), &ACCOUNTS, &ON_ACCOUNTS)
+}
+
+#[test]
+fn what_is_absent_is_made(rt: HostRuntime) -> Result<(), Fail> {
+    come_to(&rt, rt.alloc(), &[], &ON_NOTHING)
 }
 
 #[test]
 fn the_first_item_is_taken(rt: HostRuntime) -> Result<(), Fail> {
-    let alloc = rt.alloc();
-    let program = dequeue(alloc, "q")?;
-    is_spelled(
-        &rt,
-        alloc,
-        &program,
-        concat!(
-            r#"[["set",0,["get","q/head"]],["if",["eq",["var",0],""],[["set",0,"0"]],[]],["set",1,["get","q/tail"]],["if",["eq","#,
-            r#"["var",1],""],[["set",1,"0"]],[]],["if",["eq",["var",0],["var",1]],[["abort","empty"]],[]],["set",2,["cat","q/","#,
-            r#"["var",0]]],["emit",["get",["var",2]]],["del",["var",2]],["put","q/head",["text_of",["add",["num_of",["var",0]],1]],0]]"#,
-        ),
-    )?;
-    comes_to(
-        &rt,
-        alloc,
-        &program,
-        &[("q/0", "i1"), ("q/tail", "1")],
-        "Done i1 -q/0 q/head=1/0",
-    )
+    come_to(&rt, rt.alloc(), &FULL_QUEUE, &ON_FULL_QUEUE)
+}
+
+#[test]
+fn a_held_slot_has_one_holder(rt: HostRuntime) -> Result<(), Fail> {
+    come_to(&rt, rt.alloc(), &HELD_SLOT, &ON_HELD_SLOT)
 }
 
 /// Copies an entry, unless its key was written.
@@ -221,6 +317,13 @@ fn put_write(write: &Write, after: &mut State) -> Result<(), AllocError> {
     }
 }
 
+fn put_writes(writes: &[Write], after: &mut State) -> Result<(), AllocError> {
+    for write in writes {
+        put_write(write, after)?;
+    }
+    Ok(())
+}
+
 /// Puts what the effect of writes on a state puts.
 fn put_effect(
     alloc: Global,
@@ -228,89 +331,169 @@ fn put_effect(
     writes: &[Write],
     after: &mut State,
 ) -> Result<(), AllocError> {
-    for write in apply_alone(alloc, writes, state)? {
-        put_write(&write, after)?;
-    }
-    Ok(())
+    let effect = apply_alone(alloc, writes, state)?;
+    put_writes(effect.as_slice(), after)
 }
 
-/// The state after a program's run: what the run did not write, and then what it put.
-fn state_after(alloc: Global, program: &Program, state: &State) -> Result<State, AllocError> {
+/// What a run on a state did not write, and then what it put.
+fn add_after(alloc: Global, run: &Run, state: &State, after: &mut State) -> Result<(), AllocError> {
+    copy_rest(state, run.writes.as_slice(), after)?;
+    put_effect(alloc, state, run.writes.as_slice(), after)
+}
+
+fn add_after_run(
+    alloc: Global,
+    program: &Program,
+    state: &State,
+    after: &mut State,
+) -> Result<(), AllocError> {
     let run = run_alone(alloc, program, state)?;
+    let added = add_after(alloc, &run, state, after);
+    drop(run);
+    added
+}
+
+fn add_after_recipe(
+    alloc: Global,
+    recipe: Recipe,
+    state: &State,
+    after: &mut State,
+) -> Result<(), AllocError> {
+    let program = program_of(alloc, recipe)?;
+    add_after_run(alloc, &program, state, after)
+}
+
+/// The state after a recipe's run on a state.
+fn state_after(alloc: Global, recipe: Recipe, state: &State) -> Result<State, AllocError> {
     let mut after = State::new(alloc);
-    copy_rest(state, run.writes.as_slice(), &mut after)?;
-    put_effect(alloc, state, run.writes.as_slice(), &mut after)?;
+    add_after_recipe(alloc, recipe, state, &mut after)?;
     Ok(after)
 }
 
-/// The items of the queue q.
-fn items(alloc: Global, state: &State) -> Result<String, AllocError> {
-    let mut text = String::new(alloc);
-    match queue_items(alloc, state, "q")? {
-        Some(items) => {
-            for item in items {
-                text.push_str(item.as_str())?;
-                text.push_str(";")?;
-            }
-        }
-        None => text.push_str("none")?,
+fn add_items(items: &[String], text: &mut String) -> Result<(), AllocError> {
+    text.push_str("[")?;
+    for item in items {
+        text.push_str(item.as_str())?;
+        text.push_str(";")?;
     }
+    text.push_str("] ")
+}
+
+fn add_found(items: Option<&Vec<String>>, text: &mut String) -> Result<(), AllocError> {
+    match items {
+        Some(items) => add_items(items.as_slice(), text),
+        None => text.push_str("none"),
+    }
+}
+
+/// Adds the items of the queue q.
+fn tell_items(alloc: Global, state: &State, text: &mut String) -> Result<(), AllocError> {
+    let items = queue_items(alloc, state, "q")?;
+    add_found(items.as_ref(), text)
+}
+
+/// Adds what comes of taking an item.
+fn tell_taking(alloc: Global, state: &State, text: &mut String) -> Result<(), AllocError> {
+    let told = told_of(alloc, Recipe::Dequeue, state)?;
+    text.push_str(told.as_str())
+}
+
+/// The queue after an item was taken, and what comes of taking one more.
+fn tell_emptied(alloc: Global, filled: &State, text: &mut String) -> Result<(), AllocError> {
+    let emptied = state_after(alloc, Recipe::Dequeue, filled)?;
+    tell_items_and_taking(alloc, &emptied, text)
+}
+
+fn tell_items_and_taking(
+    alloc: Global,
+    state: &State,
+    text: &mut String,
+) -> Result<(), AllocError> {
+    tell_items(alloc, state, text)?;
+    tell_taking(alloc, state, text)
+}
+
+fn tell_filled(alloc: Global, filled: &State, text: &mut String) -> Result<(), AllocError> {
+    tell_items(alloc, filled, text)?;
+    tell_emptied(alloc, filled, text)
+}
+
+/// The queue after an item was added, and after it was taken.
+fn tell_queue(alloc: Global, empty: &State, text: &mut String) -> Result<(), AllocError> {
+    let filled = state_after(alloc, Recipe::Enqueue, empty)?;
+    tell_filled(alloc, &filled, text)
+}
+
+fn told_queue(alloc: Global, empty: &State) -> Result<String, AllocError> {
+    let mut text = String::new(alloc);
+    tell_queue(alloc, empty, &mut text)?;
     Ok(text)
+}
+
+fn told_new_queue(alloc: Global) -> Result<String, AllocError> {
+    let empty = State::new(alloc);
+    told_queue(alloc, &empty)
 }
 
 #[test]
 fn a_queue_is_filled_and_emptied(rt: HostRuntime) -> Result<(), Fail> {
-    let alloc = rt.alloc();
-    let add = enqueue(alloc, "q", "i1")?;
-    let take = dequeue(alloc, "q")?;
-    let filled = state_after(alloc, &add, &State::new(alloc))?;
-    assert_eq!(rt; items(alloc, &filled)?.as_str(), "i1;");
-    let emptied = state_after(alloc, &take, &filled)?;
-    assert_eq!(rt; items(alloc, &emptied)?.as_str(), "");
-    assert_eq!(rt; told(alloc, &take, &emptied)?.as_str(), "Aborted empty");
+    let told = told_new_queue(rt.alloc())?;
+    is_told(&rt, told, "[i1;] [] Aborted empty");
     Ok(())
+}
+
+fn told_items(alloc: Global, state: &State) -> Result<String, AllocError> {
+    let mut text = String::new(alloc);
+    tell_items(alloc, state, &mut text)?;
+    Ok(text)
+}
+
+fn items_on(alloc: Global, entries: &[(&str, &str)]) -> Result<String, AllocError> {
+    let state = state_of(alloc, entries)?;
+    told_items(alloc, &state)
 }
 
 #[test]
 fn no_queue_has_an_empty_head(rt: HostRuntime) -> Result<(), Fail> {
-    let state = state_of(rt.alloc(), &[("q/head", ""), ("q/tail", "1")])?;
-    assert_eq!(rt; items(rt.alloc(), &state)?.as_str(), "none");
+    let items = items_on(rt.alloc(), &EMPTY_HEAD)?;
+    is_told(&rt, items, "none");
     Ok(())
 }
 
-#[test]
-fn a_held_slot_is_not_reserved(rt: HostRuntime) -> Result<(), Fail> {
-    let alloc = rt.alloc();
-    let program = reserve_slot(alloc, "s", "h", 7)?;
-    is_spelled(
-        &rt,
-        alloc,
-        &program,
-        r#"[["if",["eq",["rev","s"],0],[],[["abort","held"]]],["put","s","h",7]]"#,
-    )?;
-    comes_to(&rt, alloc, &program, &[], "Done s=h/7")?;
-    comes_to(&rt, alloc, &program, &[("s", "h")], "Aborted held")
+fn totals(state: &State) -> (Option<i128>, Option<i128>) {
+    (total(state, &["a0", "a1"]), total(state, &["a0", "a2"]))
+}
+
+fn totals_of_accounts(alloc: Global) -> Result<(Option<i128>, Option<i128>), AllocError> {
+    let state = state_of(alloc, &ACCOUNTS)?;
+    Ok(totals(&state))
 }
 
 #[test]
-fn a_slot_is_released_by_its_holder(rt: HostRuntime) -> Result<(), Fail> {
-    let alloc = rt.alloc();
-    let other = release_slot(alloc, "s", "g")?;
-    is_spelled(
-        &rt,
-        alloc,
-        &other,
-        r#"[["if",["eq",["get","s"],"g"],[["del","s"]],[["abort","not held"]]]]"#,
-    )?;
-    comes_to(&rt, alloc, &other, &[("s", "h")], "Aborted not held")?;
-    let holder = release_slot(alloc, "s", "h")?;
-    comes_to(&rt, alloc, &holder, &[("s", "h")], "Done -s")
+fn accounts_add_up(rt: HostRuntime) -> Result<(), Fail> {
+    assert_eq!(rt; totals_of_accounts(rt.alloc())?, (Some(200), None));
+    Ok(())
+}
+
+fn holder_of<'a>(state: &'a State, slot: &str) -> &'a str {
+    match held(state, slot) {
+        Some(holder) => holder,
+        None => "none",
+    }
+}
+
+fn holders(alloc: Global, state: &State) -> Result<String, AllocError> {
+    format!(in alloc; "{} {}", holder_of(state, "s"), holder_of(state, "t"))
+}
+
+fn holders_in_held(alloc: Global) -> Result<String, AllocError> {
+    let state = state_of(alloc, &HELD_SLOT)?;
+    holders(alloc, &state)
 }
 
 #[test]
 fn a_slot_has_its_holder(rt: HostRuntime) -> Result<(), Fail> {
-    let state = state_of(rt.alloc(), &[("s", "h")])?;
-    assert!(rt; held(&state, "s") == Some("h"));
-    assert!(rt; held(&state, "t").is_none());
+    let holders = holders_in_held(rt.alloc())?;
+    is_told(&rt, holders, "h none");
     Ok(())
 }

@@ -9,6 +9,7 @@ ghost use Rattle.stm_attempt.specs.AttemptState.{IsOf, awaited};
 ghost use Rattle.stm_attempt.specs.Next.{key_asked};
 
 use crate::programs::program_of;
+use crate::told::is_told;
 use std::alloc::{AllocError, Global};
 use std::test::Fail;
 use stm_attempt::{Attempt, Next, Ready};
@@ -110,6 +111,13 @@ fn supplied(
     attempt.advance(program)
 }
 
+/// An answer in words, which is dropped then.
+fn shown_once(alloc: Global, next: Next) -> Result<String, AllocError> {
+    let shown = show_next(alloc, &next);
+    drop(next);
+    shown
+}
+
 fn told_after(
     alloc: Global,
     program: &Program,
@@ -122,7 +130,7 @@ fn told_after(
     requires bounded { revision ≤ HIGHEST_NUMBER }
 {
     let next = supplied(program, attempt, asked, revision)?;
-    show_next(alloc, &next)
+    shown_once(alloc, next)
 }
 
 /// What an attempt answered, and what it answers then.
@@ -142,6 +150,23 @@ fn told_both(
     format!(in alloc; "{first}, {second}")
 }
 
+/// The same of an answer that is dropped then.
+fn told_both_once(
+    alloc: Global,
+    program: &Program,
+    attempt: &mut Attempt,
+    asked: Next,
+    revision: u64,
+) -> Result<String, AllocError>
+    requires of { IsOf program.now attempt.old }
+    requires asked { awaited attempt.old ≡ key_asked asked }
+    requires bounded { revision ≤ HIGHEST_NUMBER }
+{
+    let told = told_both(alloc, program, attempt, &asked, revision);
+    drop(asked);
+    told
+}
+
 /// What an attempt answers at first, and then once it has taken that the wanted key is absent at a revision.
 fn told_of(
     alloc: Global,
@@ -153,7 +178,7 @@ fn told_of(
     requires bounded { revision ≤ HIGHEST_NUMBER }
 {
     let asked = attempt.advance(program)?;
-    told_both(alloc, program, attempt, &asked, revision)
+    told_both_once(alloc, program, attempt, asked, revision)
 }
 
 /// An attempt for which the answer was prefetched.
@@ -185,15 +210,14 @@ fn told(alloc: Global, revision: u64) -> Result<String, Fail>
 
 #[test]
 fn prefetched_answers_of_another_revision_are_dropped(rt: HostRuntime) -> Result<(), Fail> {
-    assert_eq!(rt; told(rt.alloc(), 6)?.as_str(), "Fetch b at 0, Fetch a at 6");
+    let told = told(rt.alloc(), 6)?;
+    is_told(&rt, told, "Fetch b at 0, Fetch a at 6", "revision 6");
     Ok(())
 }
 
 #[test]
 fn prefetched_answers_of_the_base_are_taken(rt: HostRuntime) -> Result<(), Fail> {
-    assert_eq!(rt;
-        told(rt.alloc(), 5)?.as_str(),
-        "Fetch b at 0, Ready \"\" \"1\""
-    );
+    let told = told(rt.alloc(), 5)?;
+    is_told(&rt, told, "Fetch b at 0, Ready \"\" \"1\"", "revision 5");
     Ok(())
 }

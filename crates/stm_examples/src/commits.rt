@@ -3,7 +3,9 @@
 ghost use Rattle.std.specs.Prelude.{IfOk};
 ghost use Rattle.stm_txn.specs.Numbers.{ReadFits};
 
+use crate::told::is_told;
 use std::alloc::{AllocError, Global};
+use std::process::Abort;
 use std::test::Fail;
 use stm_compile::{ReadSet, WriteBuffer, compile};
 use stm_history::{KeyState, ReadAnswer, Text};
@@ -53,13 +55,27 @@ fn deletion_of(alloc: Global, key: &str) -> Result<Write, AllocError> {
     Ok(Write::Del { key })
 }
 
+fn add_put(alloc: Global, writes: &mut WriteBuffer) -> Result<(), AllocError> {
+    let put = put_of(alloc, "b", "9")?;
+    writes.write(put)?;
+    Ok(())
+}
+
+fn add_deletion(alloc: Global, writes: &mut WriteBuffer) -> Result<(), AllocError> {
+    let deletion = deletion_of(alloc, "a")?;
+    writes.write(deletion)?;
+    Ok(())
+}
+
+fn add_both(alloc: Global, writes: &mut WriteBuffer) -> Result<(), AllocError> {
+    add_put(alloc, writes)?;
+    add_deletion(alloc, writes)
+}
+
 /// "b" is put, and then "a" is deleted.
 fn two_writes(alloc: Global) -> Result<WriteBuffer, AllocError> {
-    let put = put_of(alloc, "b", "9")?;
-    let deletion = deletion_of(alloc, "a")?;
     let mut writes = WriteBuffer::new(alloc);
-    writes.write(put)?;
-    writes.write(deletion)?;
+    add_both(alloc, &mut writes)?;
     Ok(writes)
 }
 
@@ -107,17 +123,26 @@ fn add_operations(alloc: Global, ops: &[Op], line: &mut String) -> Result<(), Al
     Ok(())
 }
 
-/// A transaction in one line: its compares, its success list, and its failure list.
-fn show_transaction(alloc: Global, txn: &Txn) -> Result<String, AllocError> {
-    let mut line = String::new(alloc);
-    for compare in txn.compares.as_slice() {
+fn add_compares(alloc: Global, compares: &[Compare], line: &mut String) -> Result<(), AllocError> {
+    for compare in compares {
         let shown = show_compare(alloc, compare)?;
         line.push_str(shown.as_str())?;
     }
+    Ok(())
+}
+
+fn add_transaction(alloc: Global, txn: &Txn, line: &mut String) -> Result<(), AllocError> {
+    add_compares(alloc, txn.compares.as_slice(), line)?;
     line.push_str(" then")?;
-    add_operations(alloc, txn.success.as_slice(), &mut line)?;
+    add_operations(alloc, txn.success.as_slice(), line)?;
     line.push_str(" else")?;
-    add_operations(alloc, txn.failure.as_slice(), &mut line)?;
+    add_operations(alloc, txn.failure.as_slice(), line)
+}
+
+/// A transaction in one line: its compares, its success list, and its failure list.
+fn show_transaction(alloc: Global, txn: &Txn) -> Result<String, AllocError> {
+    let mut line = String::new(alloc);
+    add_transaction(alloc, txn, &mut line)?;
     Ok(line)
 }
 
@@ -129,17 +154,23 @@ fn shown_commit(
     writes: &WriteBuffer,
 ) -> Result<String, AllocError> {
     let txn = compile(alloc, level, reads, writes)?;
-    show_transaction(alloc, &txn)
+    let shown = show_transaction(alloc, &txn);
+    drop(txn);
+    shown
+}
+
+fn committing_reads(alloc: Global, level: Level, reads: &ReadSet) -> Result<String, AllocError> {
+    let writes = two_writes(alloc)?;
+    shown_commit(alloc, level, reads, &writes)
 }
 
 /// What commits the read and the two writes at a level.
 fn committing(alloc: Global, level: Level) -> Result<String, AllocError> {
     let reads = read_of_a(alloc)?;
-    let writes = two_writes(alloc)?;
-    shown_commit(alloc, level, &reads, &writes)
+    committing_reads(alloc, level, &reads)
 }
 
-const COMMITS: [(Level, &str); 4] = [
+static COMMITS: [(Level, &str); 4] = [
     (
         Level::SerializableSnapshot,
         " if a = mod 2; if b < mod 3; if a < mod 3; then put b 9 0; del a; else get a 0;",
@@ -155,10 +186,15 @@ const COMMITS: [(Level, &str); 4] = [
     (Level::ReadCommitted, " then put b 9 0; del a; else"),
 ];
 
-#[test]
-fn levels_differ_in_compares_and_rereads(rt: HostRuntime) -> Result<(), Fail> {
-    for (level, expected) in COMMITS {
-        assert_eq!(rt; committing(rt.alloc(), level)?.as_str(), expected);
+fn are_committed_as(rt: &impl Abort, alloc: Global, commits: &[(Level, &str)]) -> Result<(), Fail> {
+    for &(level, expected) in commits {
+        let told = committing(alloc, level)?;
+        is_told(rt, told, expected, "the commit");
     }
     Ok(())
+}
+
+#[test]
+fn levels_differ_in_compares_and_rereads(rt: HostRuntime) -> Result<(), Fail> {
+    are_committed_as(&rt, rt.alloc(), &COMMITS)
 }

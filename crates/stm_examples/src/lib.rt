@@ -15,4 +15,6 @@ mod program;
 #[cfg(test)]
 mod programs;
 #[cfg(test)]
+mod told;
+#[cfg(test)]
 mod worlds;

@@ -5,7 +5,8 @@ use std::test::Fail;
 use stm_program::Program;
 use stm_program_json::read_program;
 
-fn read(alloc: Global, value: &Value) -> Result<Program, Fail> {
+/// The program of a JSON value.
+pub fn read(alloc: Global, value: &Value) -> Result<Program, Fail> {
     let program = read_program(alloc, value)?;
     Ok(program)
 }

@@ -1,10 +1,11 @@
 //! A worked example of a world, with ample memory. What is expected comes from the rules of runners, and never from a run.
 
 use crate::programs::program_of;
+use crate::told::is_told;
 use std::alloc::{AllocError, Global};
 use std::test::Fail;
 use stm_program::Level;
-use stm_retry::{World, WorldEvent};
+use stm_retry::{Denied, Reply, World, WorldEvent};
 use stm_txn::Keys;
 
 /// Starts a program of one put.
@@ -14,10 +15,18 @@ fn start_put(alloc: Global, world: &mut World) -> Result<u64, Fail> {
     Ok(runner)
 }
 
+fn step_once(world: &mut World, runner: u64) -> Result<Reply, Denied> {
+    let event = WorldEvent::Step { runner };
+    let reply = world.step(&event);
+    drop(event);
+    reply
+}
+
 /// Runs it to its end.
 fn run_put(alloc: Global, world: &mut World) -> Result<(), Fail> {
     let runner = start_put(alloc, world)?;
-    let _reply = world.step(&WorldEvent::Step { runner })?;
+    let reply = step_once(world, runner)?;
+    drop(reply);
     Ok(())
 }
 
@@ -29,9 +38,14 @@ fn revision_of(keys: &Keys, key: &str) -> u64 {
     }
 }
 
+fn count_present(world: &World) -> Result<usize, AllocError> {
+    let state = world.state()?;
+    Ok(state.len())
+}
+
 /// The counter, the number of entries, the modification revisions of "a" and "b", and the number of present keys.
 fn told_world(alloc: Global, world: &World) -> Result<String, AllocError> {
-    let state = world.state()?;
+    let present = count_present(world)?;
     let keys = world.store().keys();
     format!(in alloc;
         "{} {} {} {} {}",
@@ -39,7 +53,7 @@ fn told_world(alloc: Global, world: &World) -> Result<String, AllocError> {
         world.history().len(),
         revision_of(keys, "a"),
         revision_of(keys, "b"),
-        state.len()
+        present
     )
 }
 
@@ -59,6 +73,6 @@ fn told_put(alloc: Global) -> Result<String, Fail> {
 #[test]
 fn a_world_tells_its_store(rt: HostRuntime) -> Result<(), Fail> {
     let told = told_put(rt.alloc())?;
-    assert_eq!(rt; told.as_str(), "2 1 2 0 1");
+    is_told(&rt, told, "2 1 2 0 1", "a world after a put");
     Ok(())
 }

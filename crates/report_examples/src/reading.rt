@@ -2,7 +2,7 @@
 use std::alloc::{AllocError, Global};
 use std::process::Abort;
 use std::test::Fail;
-use stm_reports::{BadInput, Cause, ReadError, Report, ReportLine, ToldOp, read_report};
+use stm_reports::{BadInput, ReadError, ReportLine, ToldOp, read_report};
 
 /// The word of a line.
 fn word(line: &ReportLine) -> &'static str {
@@ -30,8 +30,8 @@ fn word(line: &ReportLine) -> &'static str {
     }
 }
 
-/// Lines of each kind, with their words.
-const LINES: [(&str, &str); 24] = [
+/// Lines of each kind, with what is told of them.
+const LINES: [(&str, &str); 25] = [
     (r#"[1,"started",1]"#, "started"),
     (r#"[5,"fetched",1,"x",2,3,3]"#, "fetched"),
     (
@@ -47,10 +47,14 @@ const LINES: [(&str, &str); 24] = [
     (r#"[3,"aborted",1,"insufficient"]"#, "aborted"),
     (r#"[3,"faulted",1,"ZeroDivisor"]"#, "faulted"),
     (r#"[3,"ended",1,"LeaseNotFound"]"#, "ended"),
-    (r#"[1,"txn",true,2,[["put"]]]"#, "txn"),
+    (r#"[1,"txn",true,2,[["put"]]]"#, "txn put"),
     (
         r#"[1,"txn",false,2,[["del",0],["del",1],["get",2,null],["get",2,["1",2,2,1,0]]]]"#,
-        "txn",
+        "txn del 0 del 1 get get",
+    ),
+    (
+        r#"[1,"txn",true,3,[["del",0],["put"],["del",1]]]"#,
+        "txn del 0 put del 1",
     ),
     (r#"[1,"granted",7]"#, "granted"),
     (r#"[1,"kept",7]"#, "kept"),
@@ -62,35 +66,88 @@ const LINES: [(&str, &str); 24] = [
         r#"[1,"batch",1,3,[["PUT","a","1",2,2,1,0],["DELETE","a",3]]]"#,
         "batch",
     ),
-    (r#"[1,"refused","NoRunner",[]]"#, "refused"),
-    (r#"[1,"refused","RevisionsUsedUp",[[7,3]]]"#, "refused"),
+    (r#"[1,"refused","NoRunner",[]]"#, "refused NoRunner"),
+    (
+        r#"[1,"refused","RevisionsUsedUp",[[7,3]]]"#,
+        "refused RevisionsUsedUp",
+    ),
     (r#"["key","x","0",2,4,2,0]"#, "key"),
     (r#"["lease",7,60,0]"#, "lease"),
     (r#"["end",4,9223372036854775807]"#, "end"),
     ("[ \"end\" , 1,\t0 ]\r", "end"),
 ];
 
-/// A text and a line feed.
-fn ended(alloc: Global, line: &str) -> Result<String, AllocError> {
-    format!(in alloc; "{line}\n")
+fn tell_op(told: &mut String, op: &ToldOp) -> Result<(), AllocError> {
+    match op {
+        ToldOp::Get { .. } => told.push_str(" get"),
+        ToldOp::Put => told.push_str(" put"),
+        ToldOp::Del { count } => write!(told, " del {count}"),
+    }
 }
 
-fn read(alloc: Global, text: &str) -> Result<Report, Fail> {
-    Ok(read_report(alloc, text.as_bytes())?)
+/// What a transaction did, and how many keys each delete deleted.
+fn tell_ops(told: &mut String, ops: &[ToldOp]) -> Result<(), AllocError> {
+    for op in ops {
+        tell_op(told, op)?;
+    }
+    Ok(())
+}
+
+/// What the word of a line does not tell: the operations of a transaction, and the name of a refusal.
+fn tell_more(told: &mut String, line: &ReportLine) -> Result<(), AllocError> {
+    match line {
+        ReportLine::Txn { answers, .. } => tell_ops(told, answers.as_slice()),
+        ReportLine::Refused { cause, .. } => write!(told, " {}", cause.name()),
+        _ => Ok(()),
+    }
+}
+
+/// The word of each line and what more is told of it, `; ` between.
+fn tell_lines(told: &mut String, lines: &[ReportLine]) -> Result<(), AllocError> {
+    for line in lines {
+        if !told.is_empty() {
+            told.push_str("; ")?;
+        }
+        told.push_str(word(line))?;
+        tell_more(told, line)?;
+    }
+    Ok(())
+}
+
+/// What is told of the lines of a report.
+fn told_lines(alloc: Global, text: &str) -> Result<String, Fail> {
+    let mut told = String::new(alloc);
+    let report = read_report(alloc, text.as_bytes())?;
+    let done = tell_lines(&mut told, report.lines.as_slice());
+    drop(report);
+    done?;
+    Ok(told)
+}
+
+/// Asserts what is told of a report.
+fn is_read(rt: &impl Abort, alloc: Global, text: &str, expected: &str) -> Result<(), Fail> {
+    let told = told_lines(alloc, text)?;
+    assert_eq!(rt; told.as_str(), expected, "{text}");
+    Ok(())
+}
+
+/// Asserts what is told of a line, which ends in a line feed.
+fn is_line(rt: &impl Abort, alloc: Global, line: &str, expected: &str) -> Result<(), Fail> {
+    let text = format!(in alloc; "{line}\n")?;
+    is_read(rt, alloc, text.as_str(), expected)
+}
+
+/// The same of lines.
+fn are_lines(rt: &impl Abort, alloc: Global, lines: &[(&str, &str)]) -> Result<(), Fail> {
+    for (line, expected) in lines {
+        is_line(rt, alloc, line, expected)?;
+    }
+    Ok(())
 }
 
 #[test]
 fn lines_of_each_kind_are_read(rt: HostRuntime) -> Result<(), Fail> {
-    let alloc = rt.alloc();
-    for (line, kind) in LINES {
-        let report = read(alloc, ended(alloc, line)?.as_str())?;
-        let lines = report.lines.as_slice();
-        assert_eq!(rt; lines.len(), 1, "{line}");
-        for told in lines {
-            assert_eq!(rt; word(told), kind, "{line}");
-        }
-    }
-    Ok(())
+    are_lines(&rt, rt.alloc(), &LINES)
 }
 
 const WRITE_SKEW: &str = "[1,\"txn\",true,2,[[\"put\"]]]
@@ -111,12 +168,11 @@ const WRITE_SKEW: &str = "[1,\"txn\",true,2,[[\"put\"]]]
 
 #[test]
 fn a_whole_report_is_read(rt: HostRuntime) -> Result<(), Fail> {
-    let alloc = rt.alloc();
-    let report = read(alloc, WRITE_SKEW)?;
-    assert_eq!(rt; report.lines.len(), 14);
-    let none = read(alloc, "")?;
-    assert_eq!(rt; none.lines.len(), 0);
-    Ok(())
+    let expected =
+        "txn put; txn put; started; started; fetched; fetched; fetched; fetched; committed; conflict; committed; \
+         key; key; end";
+    is_read(&rt, rt.alloc(), WRITE_SKEW, expected)?;
+    is_read(&rt, rt.alloc(), "", "")
 }
 
 /// The names of refusals.
@@ -148,170 +204,156 @@ const REFUSALS: [&str; 25] = [
     "Unvouched",
 ];
 
-/// The line of an event that was refused.
-fn refused(alloc: Global, name: &str) -> Result<String, AllocError> {
-    format!(in alloc; "[2,\"refused\",\"{name}\",[]]\n")
-}
-
-/// The name of a refusal, if a line tells one.
-fn refusal(line: &ReportLine) -> Option<&'static str> {
-    match line {
-        ReportLine::Refused { cause, .. } => Some(cause.name()),
-        _ => None,
-    }
-}
-
+/// Asserts that the line of an event that was refused tells this name.
 fn is_named(rt: &impl Abort, alloc: Global, name: &str) -> Result<(), Fail> {
-    let text = refused(alloc, name)?;
-    let report = read(alloc, text.as_str())?;
-    assert_eq!(rt; report.lines.len(), 1, "{name}");
-    for line in report.lines.as_slice() {
-        assert_eq!(rt; refusal(line), Some(name), "{name}");
+    let line = format!(in alloc; "[2,\"refused\",\"{name}\",[]]")?;
+    let expected = format!(in alloc; "refused {name}")?;
+    is_line(rt, alloc, line.as_str(), expected.as_str())
+}
+
+/// The same of these names.
+fn are_named(rt: &impl Abort, alloc: Global, names: &[&str]) -> Result<(), Fail> {
+    for name in names {
+        is_named(rt, alloc, name)?;
     }
     Ok(())
 }
 
 #[test]
 fn each_refusal_is_named(rt: HostRuntime) -> Result<(), Fail> {
-    for name in REFUSALS {
-        is_named(&rt, rt.alloc(), name)?;
-    }
-    Ok(())
+    are_named(&rt, rt.alloc(), &REFUSALS)
 }
 
-/// Bad lines, each with the place in it and the cause of its first fault.
-const BAD_LINES: [(&str, &str, Cause); 30] = [
-    ("", "", Cause::NotJson),
-    ("x", "", Cause::NotJson),
-    (r#"["end",1,0"#, "", Cause::NotJson),
-    (r#"["end",1,1e400]"#, "", Cause::NotJson),
-    ("{}", "", Cause::Shape),
-    ("[]", "", Cause::Shape),
-    ("[1]", "", Cause::Shape),
-    (r#"[1,"lost",1]"#, "", Cause::Shape),
-    (r#"["started",1]"#, "", Cause::Shape),
-    (r#"["x","started",1]"#, "", Cause::Shape),
-    (r#"[1,"started"]"#, "", Cause::Shape),
-    (r#"[1,"started",1,1]"#, "", Cause::Shape),
-    (r#"[null,"started",1]"#, "/0", Cause::Shape),
-    (r#"[-1,"started",1.5]"#, "/0", Cause::Range),
-    (r#"[1,"started",9223372036854775808]"#, "/2", Cause::Range),
-    (r#"[1,"started",1.5]"#, "/2", Cause::Shape),
-    (r#"[1,"txn",1,2,[]]"#, "/2", Cause::Shape),
-    (r#"[1,"txn",true,2,[["del",2]]]"#, "/4/0/1", Cause::Range),
-    (r#"[1,"txn",true,2,[["put",1]]]"#, "/4/0", Cause::Shape),
+/// Bad lines, each with the place and the cause of the first fault of a report of that line.
+const BAD_LINES: [(&str, &str); 30] = [
+    ("", "/0: NotJson"),
+    ("x", "/0: NotJson"),
+    (r#"["end",1,0"#, "/0: NotJson"),
+    (r#"["end",1,1e400]"#, "/0: NotJson"),
+    ("{}", "/0: Shape"),
+    ("[]", "/0: Shape"),
+    ("[1]", "/0: Shape"),
+    (r#"[1,"lost",1]"#, "/0: Shape"),
+    (r#"["started",1]"#, "/0: Shape"),
+    (r#"["x","started",1]"#, "/0: Shape"),
+    (r#"[1,"started"]"#, "/0: Shape"),
+    (r#"[1,"started",1,1]"#, "/0: Shape"),
+    (r#"[null,"started",1]"#, "/0/0: Shape"),
+    (r#"[-1,"started",1.5]"#, "/0/0: Range"),
+    (r#"[1,"started",9223372036854775808]"#, "/0/2: Range"),
+    (r#"[1,"started",1.5]"#, "/0/2: Shape"),
+    (r#"[1,"txn",1,2,[]]"#, "/0/2: Shape"),
+    (r#"[1,"txn",true,2,[["del",2]]]"#, "/0/4/0/1: Range"),
+    (r#"[1,"txn",true,2,[["put",1]]]"#, "/0/4/0: Shape"),
     (
         r#"[1,"txn",true,2,[["get",2,["1",2,2,1]]]]"#,
-        "/4/0/2",
-        Cause::Shape,
+        "/0/4/0/2: Shape",
     ),
-    (r#"[1,"faulted",1,"NoRunner"]"#, "/3", Cause::Shape),
-    (r#"[1,"ended",1,"Nothing"]"#, "/3", Cause::Shape),
-    (r#"[1,"refused","Kind",[[1]]]"#, "/3/0", Cause::Shape),
-    (
-        r#"[1,"committed",1,2,1,[1,true],[],[]]"#,
-        "/5/1",
-        Cause::Shape,
-    ),
+    (r#"[1,"faulted",1,"NoRunner"]"#, "/0/3: Shape"),
+    (r#"[1,"ended",1,"Nothing"]"#, "/0/3: Shape"),
+    (r#"[1,"refused","Kind",[[1]]]"#, "/0/3/0: Shape"),
+    (r#"[1,"committed",1,2,1,[1,true],[],[]]"#, "/0/5/1: Shape"),
     (
         r#"[1,"committed",1,2,1,[],[["get","a",1]],[["a"]]]"#,
-        "/6/0/2",
-        Cause::Shape,
+        "/0/6/0/2: Shape",
     ),
     (
         r#"[1,"committed",1,2,1,[],[],[["a",0,0,1]]]"#,
-        "/7/0/1",
-        Cause::Shape,
+        "/0/7/0/1: Shape",
     ),
-    (r#"[1,"advanced",-1,7]"#, "/2", Cause::Range),
+    (r#"[1,"advanced",-1,7]"#, "/0/2: Range"),
     (
         r#"[1,"batch",1,3,[["put","a","1",2,2,1,0]]]"#,
-        "/4/0",
-        Cause::Shape,
+        "/0/4/0: Shape",
     ),
-    (r#"["key",1,"0",2,4,2]"#, "", Cause::Shape),
-    (r#"["lease",7,true,-1]"#, "/2", Cause::Shape),
+    (r#"["key",1,"0",2,4,2]"#, "/0: Shape"),
+    (r#"["lease",7,true,-1]"#, "/0/2: Shape"),
 ];
 
 /// Bad reports, each with the place and the cause of its first fault.
-const BAD_REPORTS: [(&str, &str, Cause); 5] = [
-    ("[\"end\",1,0]", "/0", Cause::Shape),
-    ("[\"end\",1,0]\n[\"end\"", "/1", Cause::Shape),
-    ("[\"end\",1,0]\n\n[\"end\",null,0]", "/1", Cause::NotJson),
-    ("[\"end\",1,0]\n[\"end\",null,0]\nx\n", "/1/1", Cause::Shape),
-    ("[\"end\",1,0]\n ", "/1", Cause::Shape),
+const BAD_REPORTS: [(&str, &str); 5] = [
+    ("[\"end\",1,0]", "/0: Shape"),
+    ("[\"end\",1,0]\n[\"end\"", "/1: Shape"),
+    ("[\"end\",1,0]\n\n[\"end\",null,0]", "/1: NotJson"),
+    ("[\"end\",1,0]\n[\"end\",null,0]\nx\n", "/1/1: Shape"),
+    ("[\"end\",1,0]\n ", "/1: Shape"),
 ];
 
-fn fault_of(alloc: Global, bytes: &[u8]) -> Result<BadInput, Fail> {
+fn tell_fault(told: &mut String, fault: &BadInput) -> Result<(), AllocError> {
+    write!(told, "{}: {}", fault.place, fault.cause)
+}
+
+/// Tells the place and the cause of the first fault of a report.
+fn tell_read(told: &mut String, alloc: Global, bytes: &[u8]) -> Result<(), Fail> {
     match read_report(alloc, bytes) {
-        Err(ReadError::Bad(fault)) => Ok(fault),
+        Err(ReadError::Bad(fault)) => Ok(tell_fault(told, &fault)?),
         Err(error) => Err(Fail::from(error)),
-        Ok(_report) => Err(Fail::from("it was read")),
+        Ok(report) => {
+            drop(report);
+            Err(Fail::from("it was read"))
+        }
     }
 }
 
+/// Asserts the place and the cause of the first fault of a report, which is shown where they are others.
 fn is_fault(
     rt: &impl Abort,
     alloc: Global,
-    text: &str,
-    place: &str,
-    cause: Cause,
+    bytes: &[u8],
+    shown: &str,
+    expected: &str,
 ) -> Result<(), Fail> {
-    let fault = fault_of(alloc, text.as_bytes())?;
-    assert_eq!(rt; fault.place.as_str(), place, "the place in {text}");
-    assert_eq!(rt; fault.cause, cause, "the cause in {text}");
+    let mut told = String::new(alloc);
+    tell_read(&mut told, alloc, bytes)?;
+    assert_eq!(rt; told.as_str(), expected, "in {shown}");
     Ok(())
+}
+
+/// The same of a line, which ends in a line feed.
+fn is_bad_line(rt: &impl Abort, alloc: Global, line: &str, expected: &str) -> Result<(), Fail> {
+    let text = format!(in alloc; "{line}\n")?;
+    is_fault(rt, alloc, text.as_bytes(), line, expected)
+}
+
+/// The same of lines.
+fn are_bad_lines(rt: &impl Abort, alloc: Global, lines: &[(&str, &str)]) -> Result<(), Fail> {
+    for (line, expected) in lines {
+        is_bad_line(rt, alloc, line, expected)?;
+    }
+    Ok(())
+}
+
+/// The same of whole reports.
+fn are_bad_reports(rt: &impl Abort, alloc: Global, texts: &[(&str, &str)]) -> Result<(), Fail> {
+    for (text, expected) in texts {
+        is_fault(rt, alloc, text.as_bytes(), text, expected)?;
+    }
+    Ok(())
+}
+
+#[test]
+fn the_first_fault_of_a_line_is_answered(rt: HostRuntime) -> Result<(), Fail> {
+    are_bad_lines(&rt, rt.alloc(), &BAD_LINES)
 }
 
 #[test]
 fn the_first_fault_is_answered(rt: HostRuntime) -> Result<(), Fail> {
-    let alloc = rt.alloc();
-    for (line, place, cause) in BAD_LINES {
-        let text = ended(alloc, line)?;
-        let place = format!(in alloc; "/0{place}")?;
-        is_fault(&rt, alloc, text.as_str(), place.as_str(), cause)?;
-    }
-    for (text, place, cause) in BAD_REPORTS {
-        is_fault(&rt, alloc, text, place, cause)?;
-    }
-    Ok(())
+    are_bad_reports(&rt, rt.alloc(), &BAD_REPORTS)
+}
+
+/// The same of so many line feeds.
+fn is_fault_of_feeds(
+    rt: &impl Abort,
+    alloc: Global,
+    count: usize,
+    expected: &str,
+) -> Result<(), Fail> {
+    let bytes = vec![in alloc; b'\n'; count]?;
+    is_fault(rt, alloc, bytes.as_slice(), "line feeds", expected)
 }
 
 #[test]
 fn a_report_of_too_many_bytes_is_not_read(rt: HostRuntime) -> Result<(), Fail> {
-    let alloc = rt.alloc();
-    let longest = vec![in alloc; b'\n'; 16777216]?;
-    let fault = fault_of(alloc, longest.as_slice())?;
-    assert_eq!(rt; fault.place.as_str(), "/0");
-    assert_eq!(rt; fault.cause, Cause::NotJson);
-    let longer = vec![in alloc; b'\n'; 16777217]?;
-    let fault = fault_of(alloc, longer.as_slice())?;
-    assert_eq!(rt; fault.place.as_str(), "");
-    assert_eq!(rt; fault.cause, Cause::TooLong);
-    Ok(())
-}
-
-/// Whether a transaction deleted a key by its operation at an index.
-fn deleted(line: &ReportLine, index: usize) -> Option<bool> {
-    let ReportLine::Txn { answers, .. } = line else {
-        return None;
-    };
-    match answers.as_slice().get(index)? {
-        ToldOp::Del { count } => Some(*count == 1),
-        _ => None,
-    }
-}
-
-#[test]
-fn what_a_transaction_deleted_is_read(rt: HostRuntime) -> Result<(), Fail> {
-    let report = read(
-        rt.alloc(),
-        "[1,\"txn\",true,3,[[\"del\",0],[\"put\"],[\"del\",1]]]\n",
-    )?;
-    for line in report.lines.as_slice() {
-        assert_eq!(rt; deleted(line, 0), Some(false));
-        assert_eq!(rt; deleted(line, 1), None);
-        assert_eq!(rt; deleted(line, 2), Some(true));
-    }
-    Ok(())
+    is_fault_of_feeds(&rt, rt.alloc(), 16777216, "/0: NotJson")?;
+    is_fault_of_feeds(&rt, rt.alloc(), 16777217, ": TooLong")
 }

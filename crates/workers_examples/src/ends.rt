@@ -1,59 +1,66 @@
 //! How jobs end, and what is left of the hall that was handed in. What is expected comes from the rules, and never from a run.
 
-use crate::making::{making, program, push_put};
+use crate::making::add_job;
 use std::alloc::{AllocError, Global};
 use std::sync::Wait;
 use std::test::Fail;
 use std::thread::Threads;
+use stm_history::Text;
 use stm_program::Level;
-use stm_txn::{Refusal, ShortList, Store, Txn};
+use stm_txn::{Op, ShortList, Store, Txn};
 use stm_workers::{Gathered, Hall, Job, JobEnd, JobRefusal, NoGate, run_workers};
 
-/// A job that may send one commit.
-fn job(alloc: Global, level: Level, text: &str) -> Result<Job, Fail> {
-    let program = program(alloc, text)?;
-    Ok(Job {
-        program,
-        level,
-        limit: 1,
-    })
+/// Two of the five jobs commit, and each other one ends in a way of its own.
+const JOBS: [(Level, &str); 5] = [
+    (Level::Serializable, r#"[["put","b",["get","a"],0]]"#),
+    (Level::Serializable, r#"[["abort","no"]]"#),
+    (Level::RepeatableReads, r#"[["emit",["div",1,0]]]"#),
+    (Level::ReadCommitted, r#"[["put","c","1",9]]"#),
+    (Level::SerializableSnapshot, r#"[["del","x"]]"#),
+];
+
+/// Adds these jobs, each of which may send one commit.
+fn add_jobs(alloc: Global, jobs: &mut Vec<Job>) -> Result<(), Fail> {
+    for (level, text) in JOBS {
+        add_job(alloc, jobs, level, text, 1)?;
+    }
+    Ok(())
 }
 
-/// The job of this number: two of the five commit, and each other one ends in a way of its own.
-fn numbered_job(alloc: Global, number: usize) -> Result<Job, Fail> {
-    match number {
-        0 => job(alloc, Level::Serializable, r#"[["put","b",["get","a"],0]]"#),
-        1 => job(alloc, Level::Serializable, r#"[["abort","no"]]"#),
-        2 => job(alloc, Level::RepeatableReads, r#"[["emit",["div",1,0]]]"#),
-        3 => job(alloc, Level::ReadCommitted, r#"[["put","c","1",9]]"#),
-        _ => job(alloc, Level::SerializableSnapshot, r#"[["del","x"]]"#),
+fn empty_txn(alloc: Global) -> Txn {
+    Txn {
+        compares: ShortList::new(alloc),
+        success: ShortList::new(alloc),
+        failure: ShortList::new(alloc),
     }
 }
 
-/// So many of these jobs.
-fn jobs(alloc: Global, count: usize) -> Result<Vec<Job>, Fail> {
-    let mut jobs = Vec::new(alloc);
-    for number in 0..count {
-        let next = numbered_job(alloc, number)?;
-        jobs.push(next)?;
-    }
-    Ok(jobs)
+/// Adds a put of "a".
+fn add_put(alloc: Global, txn: &mut Txn) -> Result<(), AllocError> {
+    let key = Text::copy_of(alloc, "a")?;
+    let value = Text::copy_of(alloc, "1")?;
+    let lease = 0;
+    txn.success.push(Op::Put { key, value, lease })
 }
 
-/// The transaction of another client that puts a key.
-fn put(alloc: Global) -> Result<Txn, AllocError> {
-    let mut success = ShortList::new(alloc);
-    push_put(alloc, &mut success, "a", "1")?;
-    Ok(making(alloc, success))
-}
-
-/// Another client commits to a hall.
-fn commit_into(alloc: Global, hall: &mut Hall) -> Result<(), Fail> {
-    let txn = put(alloc)?;
-    match hall.foreign(&txn) {
-        Ok(_) => Ok(()),
+/// Another client commits a transaction to a hall, after a put was added to it.
+fn commit_with_put(alloc: Global, hall: &mut Hall, txn: &mut Txn) -> Result<(), Fail> {
+    add_put(alloc, txn)?;
+    match hall.foreign(txn) {
+        Ok(answer) => {
+            drop(answer);
+            Ok(())
+        }
         Err(refusal) => Err(Fail::from(refusal)),
     }
+}
+
+/// Another client puts "a".
+fn commit_into(alloc: Global, hall: &mut Hall) -> Result<(), Fail> {
+    let mut txn = empty_txn(alloc);
+    let done = commit_with_put(alloc, hall, &mut txn);
+    drop(txn);
+    done
 }
 
 /// A hall that another client has committed to before it is handed in.
@@ -69,15 +76,51 @@ fn begun(alloc: Global) -> Result<Hall, Fail> {
     }
 }
 
-/// What these jobs came to on such a hall, by one worker, who draws them in their order.
-fn run_on_begun<R: Threads + Wait + Sync>(
-    rt: &R,
+fn tell_refusal(told: &mut String, refusal: &JobRefusal) -> Result<(), AllocError> {
+    match refusal {
+        JobRefusal::Store(refusal) => write!(told, "refused {}; ", refusal.cause),
+        _ => told.push_str("refused; "),
+    }
+}
+
+/// How a job ended: a commit with the index of its entry, and the store's revision after it.
+fn tell_end(told: &mut String, end: &JobEnd) -> Result<(), AllocError> {
+    match end {
+        JobEnd::Committed { index, revision } => write!(told, "commit {index} at {revision}; "),
+        JobEnd::Aborted(text) => write!(told, "abort {text}; "),
+        JobEnd::Faulted(fault) => write!(told, "{}; ", fault.name()),
+        JobEnd::Refused(refusal) => tell_refusal(told, refusal),
+        JobEnd::GaveUp { key } => write!(told, "gave up over {key}; "),
+    }
+}
+
+/// How the jobs ended, how many committed, and how many entries the hall has.
+fn tell_gathered(told: &mut String, gathered: &Gathered) -> Result<(), AllocError> {
+    for end in gathered.ends.as_slice() {
+        tell_end(told, end)?;
+    }
+    write!(
+        told,
+        "{} committed, {} entries",
+        gathered.committed,
+        gathered.hall.entries().len()
+    )
+}
+
+/// What jobs came to on such a hall, by one worker, who draws them in their order.
+fn tell_jobs<W: Threads + Wait + Sync>(
+    rt: &W,
     alloc: Global,
+    told: &mut String,
     jobs: &[Job],
-) -> Result<Gathered, Fail> {
+) -> Result<(), Fail> {
     let hall = begun(alloc)?;
     match run_workers(rt, alloc, jobs, 1, hall, &NoGate) {
-        Ok(gathered) => Ok(gathered),
+        Ok(gathered) => {
+            let done = tell_gathered(told, &gathered);
+            drop(gathered);
+            Ok(done?)
+        }
         Err(fault) => {
             drop(fault);
             Err(Fail::from("the run was broken off"))
@@ -85,73 +128,46 @@ fn run_on_begun<R: Threads + Wait + Sync>(
     }
 }
 
-/// Whether a job ended with the commit whose entry has this index, after which the store is at this revision.
-fn is_commit(end: &JobEnd, entry: usize, after: u64) -> bool {
-    match end {
-        JobEnd::Committed { index, revision } => *index == entry && *revision == after,
-        _ => false,
-    }
+/// Adds the five jobs, and tells what they came to.
+fn tell_five<W: Threads + Wait + Sync>(
+    rt: &W,
+    alloc: Global,
+    told: &mut String,
+    jobs: &mut Vec<Job>,
+) -> Result<(), Fail> {
+    add_jobs(alloc, jobs)?;
+    tell_jobs(rt, alloc, told, jobs.as_slice())
 }
 
-/// Whether a job aborted with this text.
-fn is_abort(end: &JobEnd, told: &str) -> bool {
-    match end {
-        JobEnd::Aborted(text) => text.as_str() == told,
-        _ => false,
-    }
+fn told_of_five<W: Threads + Wait + Sync>(rt: &W, alloc: Global) -> Result<String, Fail> {
+    let mut told = String::new(alloc);
+    let mut jobs = Vec::new(alloc);
+    let done = tell_five(rt, alloc, &mut told, &mut jobs);
+    drop(jobs);
+    done?;
+    Ok(told)
 }
 
-/// Whether a job divided by zero.
-fn is_division_by_zero(end: &JobEnd) -> bool {
-    match end {
-        JobEnd::Faulted(fault) => fault.name() == "ZeroDivisor",
-        _ => false,
-    }
-}
-
-/// Whether a job named a lease that is not live.
-fn is_refused_lease(end: &JobEnd) -> bool {
-    match end {
-        JobEnd::Refused(JobRefusal::Store(refusal)) => {
-            matches!(refusal.cause, Refusal::LeaseNotFound)
-        }
-        _ => false,
-    }
-}
-
-/// Whether these are the ends of the five jobs. The entry that was there stays the first; each commit stands behind it.
-fn are_ends_of_five(ends: &[JobEnd]) -> bool {
-    if ends.len() != 5 {
-        return false;
-    }
-    is_commit(&ends[0], 1, 3)
-        && is_abort(&ends[1], "no")
-        && is_division_by_zero(&ends[2])
-        && is_refused_lease(&ends[3])
-        && is_commit(&ends[4], 2, 3)
-}
-
+// The entry that was there stays the first; each commit stands behind it.
 #[test]
 fn ends_stand_at_the_places_of_their_jobs(rt: HostRuntime) -> Result<(), Fail> {
-    let alloc = rt.alloc();
-    let jobs = jobs(alloc, 5)?;
-    let gathered = run_on_begun(&rt, alloc, jobs.as_slice());
-    drop(jobs);
-    let gathered = gathered?;
-    assert!(rt; are_ends_of_five(gathered.ends.as_slice()));
-    assert_eq!(rt; gathered.committed, 2);
-    assert_eq!(rt; gathered.hall.entries().len(), 3);
-    drop(gathered);
+    let told = told_of_five(&rt, rt.alloc())?;
+    assert_eq!(rt;
+        told.as_str(),
+        "commit 1 at 3; abort no; ZeroDivisor; refused LeaseNotFound; commit 2 at 3; 2 committed, 3 entries"
+    );
     Ok(())
+}
+
+fn told_of_none<W: Threads + Wait + Sync>(rt: &W, alloc: Global) -> Result<String, Fail> {
+    let mut told = String::new(alloc);
+    tell_jobs(rt, alloc, &mut told, &[])?;
+    Ok(told)
 }
 
 #[test]
 fn no_job_leaves_the_hall(rt: HostRuntime) -> Result<(), Fail> {
-    let alloc = rt.alloc();
-    let gathered = run_on_begun(&rt, alloc, &[])?;
-    assert_eq!(rt; gathered.ends.len(), 0);
-    assert_eq!(rt; gathered.committed, 0);
-    assert_eq!(rt; gathered.hall.entries().len(), 1);
-    drop(gathered);
+    let told = told_of_none(&rt, rt.alloc())?;
+    assert_eq!(rt; told.as_str(), "0 committed, 1 entries");
     Ok(())
 }

@@ -2,8 +2,9 @@
 //! job 1's commit was answered, which can't be on one thread. A job whose commit failed is attempted again.
 ghost use Rattle.std.specs.Prelude.{◌≤◌};
 
-use crate::making::program;
+use crate::making::add_job;
 use std::alloc::{AllocError, Global};
+use std::process::Abort;
 use std::sync::Wait;
 use std::sync::atomic::{AtomicBool, AtomicU64, Ordering};
 use std::test::Fail;
@@ -19,9 +20,22 @@ const MANY_TURNS: u32 = 1000000;
 /// The same, where it can't come.
 const FEW_TURNS: u32 = 1000;
 
-/// What two jobs tell each other.
+/// Where job 0 is held until job 1's commit was answered.
+#[derive(Clone, Copy)]
+enum Place {
+    /// Before its fetch.
+    Fetch,
+    /// Before its commit.
+    Commit,
+    /// Before its commit; and job 1 before its own until job 0 stands there: so whatever job 0 reads, it reads before job 1's commit,
+    /// and sends its own after it.
+    CommitOnceBothStand,
+}
+
+/// Holds the jobs, by what they tell each other.
 #[derive(Drop)]
-struct Signs {
+struct Holding {
+    place: Place,
     /// How often a job that is held looks for a sign.
     turns: u32,
     /// Job 0 stands before its commit.
@@ -34,9 +48,10 @@ struct Signs {
     fetches: AtomicU64,
 }
 
-impl Signs {
-    fn new(turns: u32) -> Signs {
-        Signs {
+impl Holding {
+    fn new(place: Place, turns: u32) -> Holding {
+        Holding {
+            place,
             turns,
             standing: AtomicBool::new(false),
             answered: AtomicBool::new(false),
@@ -56,142 +71,56 @@ impl Signs {
         self.serial.store(true, Ordering::SeqCst);
     }
 
-    fn is_serial(&self) -> bool {
-        self.serial.load(Ordering::SeqCst)
-    }
-}
-
-/// Holds job 0 before its commit until job 1's commit was answered.
-#[derive(Drop)]
-struct AtCommit {
-    signs: Signs,
-}
-
-impl Gate for AtCommit {
-    fn before_fetch(&self, _job: usize) {}
-
-    fn before_commit(&self, job: usize) {
-        if job == 0 {
-            self.signs.wait_for(&self.signs.answered);
+    /// Holds job 0 before its commit.
+    fn hold_commit(&self) {
+        if !matches!(self.place, Place::Fetch) {
+            self.standing.store(true, Ordering::SeqCst);
+            self.wait_for(&self.answered);
         }
     }
 
-    fn after_commit(&self, job: usize) {
-        if job == 1 {
-            self.signs.answered.store(true, Ordering::SeqCst);
-        }
-    }
-}
-
-/// Holds job 0 before its fetch until job 1's commit was answered.
-#[derive(Drop)]
-struct AtFetch {
-    signs: Signs,
-}
-
-impl Gate for AtFetch {
-    fn before_fetch(&self, job: usize) {
-        if job == 0 {
-            self.signs.wait_for(&self.signs.answered);
-        }
-    }
-
-    fn before_commit(&self, _job: usize) {}
-
-    fn after_commit(&self, job: usize) {
-        if job == 1 {
-            self.signs.answered.store(true, Ordering::SeqCst);
-        }
-    }
-}
-
-/// Holds job 1 before its commit until job 0 stands before its own, and job 0 there until job 1's commit was answered: so whatever job 0
-/// reads, it reads before job 1's commit, and sends its own after it. What job 0 fetches is counted.
-#[derive(Drop)]
-struct OneBetween {
-    signs: Signs,
-}
-
-impl Gate for OneBetween {
-    fn before_fetch(&self, job: usize) {
-        if job == 0 {
-            self.signs.fetches.fetch_add(1, Ordering::SeqCst);
-        }
-    }
-
-    fn before_commit(&self, job: usize) {
-        if job == 0 {
-            self.signs.standing.store(true, Ordering::SeqCst);
-            self.signs.wait_for(&self.signs.answered);
+    /// Whether the jobs were at work at once.
+    fn manner(&self) -> &'static str {
+        if self.serial.load(Ordering::SeqCst) {
+            "serial"
         } else {
-            self.signs.wait_for(&self.signs.standing);
+            "at once"
+        }
+    }
+}
+
+impl Gate for Holding {
+    fn before_fetch(&self, job: usize) {
+        if job != 0 {
+            return;
+        }
+        self.fetches.fetch_add(1, Ordering::SeqCst);
+        if matches!(self.place, Place::Fetch) {
+            self.wait_for(&self.answered);
+        }
+    }
+
+    fn before_commit(&self, job: usize) {
+        if job == 0 {
+            self.hold_commit();
+        } else if matches!(self.place, Place::CommitOnceBothStand) {
+            self.wait_for(&self.standing);
         }
     }
 
     fn after_commit(&self, job: usize) {
         if job == 1 {
-            self.signs.answered.store(true, Ordering::SeqCst);
+            self.answered.store(true, Ordering::SeqCst);
         }
     }
 }
 
-/// A job that may send so many commits.
-fn job(alloc: Global, text: &str, limit: u32) -> Result<Job, Fail>
+/// Adds two jobs, of which each may send so many commits.
+fn add_two(alloc: Global, jobs: &mut Vec<Job>, texts: (&str, &str), limit: u32) -> Result<(), Fail>
     requires { 1 ≤ limit }
 {
-    let program = program(alloc, text)?;
-    Ok(Job {
-        program,
-        level: Level::SerializableSnapshot,
-        limit,
-    })
-}
-
-/// Two jobs, of which each may send so many commits.
-fn jobs(alloc: Global, first: &str, second: &str, limit: u32) -> Result<Vec<Job>, Fail>
-    requires { 1 ≤ limit }
-{
-    let mut jobs = Vec::new(alloc);
-    let next = job(alloc, first, limit)?;
-    jobs.push(next)?;
-    let next = job(alloc, second, limit)?;
-    jobs.push(next)?;
-    Ok(jobs)
-}
-
-/// What jobs came to on an empty hall.
-fn gathered_of<R: Threads + Wait + Sync, G: Gate + Sync>(
-    rt: &R,
-    alloc: Global,
-    jobs: &[Job],
-    workers: usize,
-    gate: &G,
-) -> Result<Gathered, Fail>
-    requires { (1 ≤ workers) × (workers ≤ 16) }
-{
-    let store = Store::new(alloc)?;
-    match run_workers(rt, alloc, jobs, workers, Hall::new(alloc, store), gate) {
-        Ok(gathered) => Ok(gathered),
-        Err(fault) => {
-            drop(fault);
-            Err(Fail::from("the run was broken off"))
-        }
-    }
-}
-
-/// What two jobs came to on an empty hall, of which each may send so many commits.
-fn run_two<R: Threads + Wait + Sync, G: Gate + Sync>(
-    rt: &R,
-    alloc: Global,
-    texts: (&str, &str),
-    limit: u32,
-    workers: usize,
-    gate: &G,
-) -> Result<Gathered, Fail>
-    requires { (1 ≤ limit) × (1 ≤ workers) × (workers ≤ 16) }
-{
-    let jobs = jobs(alloc, texts.0, texts.1, limit)?;
-    gathered_of(rt, alloc, jobs.as_slice(), workers, gate)
+    add_job(alloc, jobs, Level::SerializableSnapshot, texts.0, limit)?;
+    add_job(alloc, jobs, Level::SerializableSnapshot, texts.1, limit)
 }
 
 /// What job 0 gave up over.
@@ -211,43 +140,107 @@ fn has_put_p(hall: &Hall) -> Result<bool, AllocError> {
     }
 }
 
+/// The same, as it is told.
+fn p_now(hall: &Hall) -> Result<&'static str, AllocError> {
+    if has_put_p(hall)? {
+        Ok("is 1")
+    } else {
+        Ok("is not 1")
+    }
+}
+
 /// What is told of a run, in a line: whether the jobs were at work at once, how many committed, the store's revision, whether `p` is
-/// "1", and what job 0 gave up over.
-fn line(alloc: Global, signs: &Signs, gathered: &Gathered) -> Result<String, AllocError> {
-    let manner = if signs.is_serial() {
-        "serial"
-    } else {
-        "at once"
-    };
-    let put = if has_put_p(&gathered.hall)? {
-        "is 1"
-    } else {
-        "is not 1"
-    };
-    format!(in alloc;
-        "{manner}: {} committed, revision {}, p {put}, gave up over {}",
+/// "1", what job 0 gave up over, and how many keys it fetched.
+fn tell_run(told: &mut String, holding: &Holding, gathered: &Gathered) -> Result<(), AllocError> {
+    let put = p_now(&gathered.hall)?;
+    write!(
+        told,
+        "{}: {} committed, revision {}, p {put}, gave up over {}, {} fetched",
+        holding.manner(),
         gathered.committed,
         gathered.hall.revision(),
-        given_up_over(gathered.ends.as_slice())
+        given_up_over(gathered.ends.as_slice()),
+        holding.fetches.load(Ordering::SeqCst)
     )
 }
 
-/// What is told of two jobs on an empty hall, of which each may send so many commits.
-fn told_of_two<R: Threads + Wait + Sync, G: Gate + Sync>(
-    rt: &R,
+/// What jobs come to on an empty hall.
+fn tell_jobs<W: Threads + Wait + Sync>(
+    rt: &W,
+    alloc: Global,
+    told: &mut String,
+    jobs: &[Job],
+    workers: usize,
+    holding: &Holding,
+) -> Result<(), Fail>
+    requires { (1 ≤ workers) × (workers ≤ 16) }
+{
+    let store = Store::new(alloc)?;
+    match run_workers(rt, alloc, jobs, workers, Hall::new(alloc, store), holding) {
+        Ok(gathered) => {
+            let done = tell_run(told, holding, &gathered);
+            drop(gathered);
+            Ok(done?)
+        }
+        Err(fault) => {
+            drop(fault);
+            Err(Fail::from("the run was broken off"))
+        }
+    }
+}
+
+/// Adds two jobs, of which each may send so many commits, and tells what they come to.
+fn tell_two<W: Threads + Wait + Sync>(
+    rt: &W,
+    alloc: Global,
+    told: &mut String,
+    jobs: &mut Vec<Job>,
+    texts: (&str, &str),
+    limit: u32,
+    workers: usize,
+    holding: &Holding,
+) -> Result<(), Fail>
+    requires { (1 ≤ limit) × (1 ≤ workers) × (workers ≤ 16) }
+{
+    add_two(alloc, jobs, texts, limit)?;
+    tell_jobs(rt, alloc, told, jobs.as_slice(), workers, holding)
+}
+
+fn told_of_two<W: Threads + Wait + Sync>(
+    rt: &W,
     alloc: Global,
     texts: (&str, &str),
     limit: u32,
     workers: usize,
-    gate: &G,
-    signs: &Signs,
+    holding: &Holding,
 ) -> Result<String, Fail>
     requires { (1 ≤ limit) × (1 ≤ workers) × (workers ≤ 16) }
 {
-    let gathered = run_two(rt, alloc, texts, limit, workers, gate)?;
-    let line = line(alloc, signs, &gathered);
-    drop(gathered);
-    Ok(line?)
+    let mut told = String::new(alloc);
+    let mut jobs = Vec::new(alloc);
+    let done = tell_two(
+        rt, alloc, &mut told, &mut jobs, texts, limit, workers, holding,
+    );
+    drop(jobs);
+    done?;
+    Ok(told)
+}
+
+/// Asserts what two jobs come to on an empty hall, of which each may send so many commits.
+fn is_told<W: Threads + Wait + Sync + Abort>(
+    rt: &W,
+    alloc: Global,
+    holding: &Holding,
+    texts: (&str, &str),
+    limit: u32,
+    workers: usize,
+    expected: &str,
+) -> Result<(), Fail>
+    requires { (1 ≤ limit) × (1 ≤ workers) × (workers ≤ 16) }
+{
+    let told = told_of_two(rt, alloc, texts, limit, workers, holding)?;
+    assert_eq!(rt; told.as_str(), expected);
+    Ok(())
 }
 
 const PUT_P: &str = r#"[["put","p","1",0]]"#;
@@ -258,83 +251,46 @@ const READ_Q: &str = r#"[["put","p",["get","q"],0]]"#;
 
 #[test]
 fn two_workers_are_at_work_at_once(rt: HostRuntime) -> Result<(), Fail> {
-    let gate = AtCommit {
-        signs: Signs::new(MANY_TURNS),
-    };
-    let told = told_of_two(&rt, rt.alloc(), (PUT_P, PUT_Q), 1, 2, &gate, &gate.signs)?;
-    assert_eq!(rt;
-        told.as_str(),
-        "at once: 2 committed, revision 3, p is 1, gave up over nothing"
-    );
-    Ok(())
+    let holding = Holding::new(Place::Commit, MANY_TURNS);
+    let expected = "at once: 2 committed, revision 3, p is 1, gave up over nothing, 0 fetched";
+    is_told(&rt, rt.alloc(), &holding, (PUT_P, PUT_Q), 1, 2, expected)
 }
 
 #[test]
 fn one_worker_runs_one_job_after_another(rt: HostRuntime) -> Result<(), Fail> {
-    let gate = AtCommit {
-        signs: Signs::new(FEW_TURNS),
-    };
-    let told = told_of_two(&rt, rt.alloc(), (PUT_P, PUT_Q), 1, 1, &gate, &gate.signs)?;
-    assert_eq!(rt;
-        told.as_str(),
-        "serial: 2 committed, revision 3, p is 1, gave up over nothing"
-    );
-    Ok(())
+    let holding = Holding::new(Place::Commit, FEW_TURNS);
+    let expected = "serial: 2 committed, revision 3, p is 1, gave up over nothing, 0 fetched";
+    is_told(&rt, rt.alloc(), &holding, (PUT_P, PUT_Q), 1, 1, expected)
 }
 
 // Job 0 is about to fetch while job 1 commits, so no lock is held there. It reads what job 1 put.
 #[test]
 fn no_lock_is_held_before_a_fetch(rt: HostRuntime) -> Result<(), Fail> {
-    let gate = AtFetch {
-        signs: Signs::new(MANY_TURNS),
-    };
-    let told = told_of_two(&rt, rt.alloc(), (READ_Q, PUT_Q), 1, 2, &gate, &gate.signs)?;
-    assert_eq!(rt;
-        told.as_str(),
-        "at once: 2 committed, revision 3, p is 1, gave up over nothing"
-    );
-    Ok(())
+    let holding = Holding::new(Place::Fetch, MANY_TURNS);
+    let expected = "at once: 2 committed, revision 3, p is 1, gave up over nothing, 1 fetched";
+    is_told(&rt, rt.alloc(), &holding, (READ_Q, PUT_Q), 1, 2, expected)
 }
 
 // With one worker nobody commits while job 0 stands before its fetch: so it is held there, in vain, and reads an absent key.
 #[test]
 fn one_worker_waits_before_its_fetch(rt: HostRuntime) -> Result<(), Fail> {
-    let gate = AtFetch {
-        signs: Signs::new(FEW_TURNS),
-    };
-    let told = told_of_two(&rt, rt.alloc(), (READ_Q, PUT_Q), 1, 1, &gate, &gate.signs)?;
-    assert_eq!(rt;
-        told.as_str(),
-        "serial: 2 committed, revision 3, p is not 1, gave up over nothing"
-    );
-    Ok(())
+    let holding = Holding::new(Place::Fetch, FEW_TURNS);
+    let expected = "serial: 2 committed, revision 3, p is not 1, gave up over nothing, 1 fetched";
+    is_told(&rt, rt.alloc(), &holding, (READ_Q, PUT_Q), 1, 1, expected)
 }
 
 // Job 0 reads a key that job 1 puts before job 0's commit is sent. It may send no more.
 #[test]
 fn a_job_gives_up_over_a_key_that_another_put(rt: HostRuntime) -> Result<(), Fail> {
-    let gate = OneBetween {
-        signs: Signs::new(MANY_TURNS),
-    };
-    let told = told_of_two(&rt, rt.alloc(), (READ_Q, PUT_Q), 1, 2, &gate, &gate.signs)?;
-    assert_eq!(rt;
-        told.as_str(),
-        "at once: 1 committed, revision 2, p is not 1, gave up over q"
-    );
-    Ok(())
+    let holding = Holding::new(Place::CommitOnceBothStand, MANY_TURNS);
+    let expected = "at once: 1 committed, revision 2, p is not 1, gave up over q, 1 fetched";
+    is_told(&rt, rt.alloc(), &holding, (READ_Q, PUT_Q), 1, 2, expected)
 }
 
 // The same, but it may send one more: that one is evaluated on the answer that came with the failed commit, so the key is fetched once.
 #[test]
 fn a_job_is_sent_again_without_a_fetch(rt: HostRuntime) -> Result<(), Fail> {
-    let gate = OneBetween {
-        signs: Signs::new(MANY_TURNS),
-    };
-    let told = told_of_two(&rt, rt.alloc(), (READ_Q, PUT_Q), 2, 2, &gate, &gate.signs)?;
-    assert_eq!(rt;
-        told.as_str(),
-        "at once: 2 committed, revision 3, p is 1, gave up over nothing"
-    );
-    assert_eq!(rt; gate.signs.fetches.load(Ordering::SeqCst), 1);
-    Ok(())
+    let holding = Holding::new(Place::CommitOnceBothStand, MANY_TURNS);
+    let expected = "at once: 2 committed, revision 3, p is 1, gave up over nothing, 1 fetched";
+    is_told(&rt, rt.alloc(), &holding, (READ_Q, PUT_Q), 2, 2, expected)
 }

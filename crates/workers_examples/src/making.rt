@@ -1,40 +1,49 @@
-//! Programs and transactions that the tests begin with.
-use serde_json::Value as Json;
-use std::alloc::{AllocError, Global};
-use std::test::Fail;
-use stm_history::Text;
-use stm_program::Program;
-use stm_program_json::read_program;
-use stm_txn::{Op, ShortList, Txn};
+//! Jobs that the tests begin with.
+ghost use Rattle.std.specs.Prelude.{◌≤◌};
 
-/// The program that a text spells.
-pub(crate) fn program(alloc: Global, text: &str) -> Result<Program, Fail> {
-    let value = Json::from_str(alloc, text)?;
-    let program = read_program(alloc, &value)?;
+use serde_json::Value as Json;
+use std::alloc::Global;
+use std::test::Fail;
+use stm_program::{Level, Program};
+use stm_program_json::read_program;
+use stm_workers::Job;
+
+fn program_of(alloc: Global, value: &Json) -> Result<Program, Fail> {
+    let program = read_program(alloc, value)?;
     Ok(program)
 }
 
-/// Adds a put.
-pub(crate) fn push_put(
-    alloc: Global,
-    success: &mut ShortList<Op>,
-    key: &str,
-    value: &str,
-) -> Result<(), AllocError> {
-    let key = Text::copy_of(alloc, key)?;
-    let value = Text::copy_of(alloc, value)?;
-    success.push(Op::Put {
-        key,
-        value,
-        lease: 0,
+/// The program that a text spells.
+fn program(alloc: Global, text: &str) -> Result<Program, Fail> {
+    let value = Json::from_str(alloc, text)?;
+    let program = program_of(alloc, &value);
+    drop(value);
+    program
+}
+
+/// A job that may send so many commits.
+fn job(alloc: Global, level: Level, text: &str, limit: u32) -> Result<Job, Fail>
+    requires { 1 ≤ limit }
+{
+    let program = program(alloc, text)?;
+    Ok(Job {
+        program,
+        level,
+        limit,
     })
 }
 
-/// A transaction that makes these operations.
-pub(crate) fn making(alloc: Global, success: ShortList<Op>) -> Txn {
-    Txn {
-        compares: ShortList::new(alloc),
-        success,
-        failure: ShortList::new(alloc),
-    }
+/// Adds a job that may send so many commits.
+pub(crate) fn add_job(
+    alloc: Global,
+    jobs: &mut Vec<Job>,
+    level: Level,
+    text: &str,
+    limit: u32,
+) -> Result<(), Fail>
+    requires { 1 ≤ limit }
+{
+    let next = job(alloc, level, text, limit)?;
+    jobs.push(next)?;
+    Ok(())
 }

@@ -9,6 +9,8 @@ mod checking;
 #[cfg(test)]
 mod file_tests;
 mod files;
+#[cfg(test)]
+mod hostile_tests;
 mod scripting;
 #[cfg(test)]
 mod tests;

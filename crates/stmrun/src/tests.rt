@@ -81,7 +81,7 @@ fn run(alloc: Global, scenario: &[u8]) -> Left {
 }
 
 /// A scenario that is run has this report.
-fn reports(rt: &impl Abort, alloc: Global, scenario: &str, report: &str) {
+pub(crate) fn reports(rt: &impl Abort, alloc: Global, scenario: &str, report: &str) {
     let left = run(alloc, scenario.as_bytes());
     assert_eq!(rt; left.status, 0, "{scenario}");
     assert!(rt; left.out.as_slice() == report.as_bytes(), "{scenario}");

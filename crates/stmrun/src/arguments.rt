@@ -139,7 +139,8 @@ const RECIPE_EXAMPLE: &str =
                                     they begin and end under QUEUE/head and QUEUE/tail
   reserve_slot SLOT HOLDER LEASE    puts the holder under the key SLOT, on a lease, 0 for none; aborts with
                                     held where the key is present
-  release_slot SLOT HOLDER          deletes the key SLOT; aborts with not held where it has another value
+  release_slot SLOT HOLDER          deletes the key SLOT; aborts with not held where it is absent or has
+                                    another value
 
 FROM, TO, ACCOUNT, QUEUE, ITEM, SLOT and HOLDER have 1 to 1024 bytes, AMOUNT is a whole number from 0 to
 4294967295, LEASE one from 0 to 9223372036854775807. Words that begin with - stand behind --.

@@ -10,8 +10,8 @@ use Rattle.clap.specs.declared.builder.value_parser.ValueParser.TheVariants.{Uns
 use Rattle.clap.specs.declared.error.Error.{Error}
 use Rattle.clap.specs.declared.parser.matches.ArgMatches.{ArgMatches}
 use Rattle.stmrun.specs.declared.arguments.Asked.{Asked}
-use Rattle.stmrun.specs.declared.arguments.Asked.TheVariants.{Script, Check, Threads, Nothing}
-use Rattle.stmrun.specs.Asking.{Asks, AsksBy, HasFiles, HasWorkers, IsWhole}
+use Rattle.stmrun.specs.declared.arguments.Asked.TheVariants.{Script, Check, Threads, Recipe, Nothing}
+use Rattle.stmrun.specs.Asking.{Asks, AsksBy, HasFiles, HasName, HasWorkers, IsWhole}
 use Rattle.stmrun.specs.CommandLine.{IsStatusOf, IsToldBy, faults_of, stmrun_app}
 
 module _ (app : App) (is : app ≡ stmrun_app) (words : List Text) where
@@ -34,6 +34,7 @@ pub asks : (words : List Text) (asked : Asked) → faults_of words ≡ [] → As
 asks words (Script file) none by = (none, by)
 asks words (Check scenario report) none by = (none, by)
 asks words (Threads file workers) none by = (none, by)
+asks words (Recipe named) none by = (none, by)
 asks words (Nothing status) none by = absurd (asks_something (subcommand_of stmrun_app words) status by)
 
 -- ---- the number of threads
@@ -70,31 +71,52 @@ abbrev first_byte : Text → ℕ
 first_byte [] = 0
 first_byte (b ∷ bs) = b
 
-not_both : (name : Text) → name ≡ codes "check" → name ≡ codes "threads" → ⊥
-not_both name check threads = let same : 99 ≡ 116 = ap first_byte (sym check ∙ threads) in absurd (omega (arith, same))
+-- no name is two texts that begin otherwise
+not_both : (name one two : Text) → (first_byte one ≡ first_byte two → ⊥) → name ≡ one → name ≡ two → ⊥
+not_both name one two differ is other = differ (ap first_byte (sym is ∙ other))
+
+check_or_threads : (name : Text) → name ≡ codes "check" → name ≡ codes "threads" → ⊥
+check_or_threads name = not_both name (codes "check") (codes "threads") (λ (same : 99 ≡ 116). absurd (omega (arith, same)))
+
+check_or_recipe : (name : Text) → name ≡ codes "check" → name ≡ codes "recipe" → ⊥
+check_or_recipe name = not_both name (codes "check") (codes "recipe") (λ (same : 99 ≡ 114). absurd (omega (arith, same)))
+
+threads_or_recipe : (name : Text) → name ≡ codes "threads" → name ≡ codes "recipe" → ⊥
+threads_or_recipe name = not_both name (codes "threads") (codes "recipe") (λ (same : 116 ≡ 114). absurd (omega (arith, same)))
+
+-- what is said of each command that is whole
+each : (name : Text) (rows : List Row) → (name ≡ codes "script" → ⊥) → (name ≡ codes "check" → HasFiles rows → ⊥)
+    → (name ≡ codes "threads" → HasWorkers rows → ⊥) → (name ≡ codes "recipe" → HasName rows → ⊥) → IsWhole (Some (name, rows)) → ⊥
+each name rows script check threads recipe whole = ⊎_elim
+    (λ is. script is)
+    (λ rest. ⊎_elim
+    (λ is. check is.0 is.1)
+    (λ more. ⊎_elim (λ is. threads is.0 is.1) (λ is. recipe is.0 is.1) more)
+    rest)
+    whole
 
 -- a check without one of its files is no whole command
 pub whole_check : (name : Text) (rows : List Row) (o : Option Asked) → name ≡ codes "check" → (name ≡ codes "script" → ⊥)
     → IfNone o (HasFiles rows → ⊥) → IfNone o (IsWhole (Some (name, rows)) → ⊥)
 whole_check name rows (Some asked) is other missing = tt
-whole_check name rows None is other missing = λ whole. ⊎_elim
-    (λ script. other script)
-    (λ rest. ⊎_elim (λ check. missing check.1) (λ threads. not_both name is threads.0) rest)
-    whole
+whole_check name rows None is other missing =
+    each name rows other (λ _. missing) (λ threads _. check_or_threads name is threads) (λ recipe _. check_or_recipe name is recipe)
 
 -- nor is a run without its number of threads
 pub whole_threads : (name : Text) (rows : List Row) (o : Option Asked) → name ≡ codes "threads" → (name ≡ codes "script" → ⊥)
     → IfNone o (HasWorkers rows → ⊥) → IfNone o (IsWhole (Some (name, rows)) → ⊥)
 whole_threads name rows (Some asked) is other missing = tt
-whole_threads name rows None is other missing = λ whole. ⊎_elim
-    (λ script. other script)
-    (λ rest. ⊎_elim (λ check. not_both name check.0 is) (λ threads. missing threads.1) rest)
-    whole
+whole_threads name rows None is other missing =
+    each name rows other (λ check _. check_or_threads name check is) (λ _. missing) (λ recipe _. threads_or_recipe name is recipe)
+
+-- nor a recipe without its name
+pub whole_recipe : (name : Text) (rows : List Row) (o : Option Asked) → name ≡ codes "recipe" → (name ≡ codes "script" → ⊥)
+    → IfNone o (HasName rows → ⊥) → IfNone o (IsWhole (Some (name, rows)) → ⊥)
+whole_recipe name rows (Some asked) is other missing = tt
+whole_recipe name rows None is other missing =
+    each name rows other (λ check _. check_or_recipe name check is) (λ threads _. threads_or_recipe name threads is) (λ _. missing)
 
 -- nor one of another name
 pub whole_other : (name : Text) (rows : List Row) → (name ≡ codes "script" → ⊥) → (name ≡ codes "check" → ⊥) → (name ≡ codes "threads" → ⊥)
-    → IsWhole (Some (name, rows)) → ⊥
-whole_other name rows script check threads whole = ⊎_elim
-    (λ is. script is)
-    (λ rest. ⊎_elim (λ is. check is.0) (λ is. threads is.0) rest)
-    whole
+    → (name ≡ codes "recipe" → ⊥) → IsWhole (Some (name, rows)) → ⊥
+whole_other name rows script check threads recipe = each name rows script (λ is _. check is) (λ is _. threads is) (λ is _. recipe is)

@@ -1,4 +1,4 @@
--- A command line in which `clap` finds no fault names a command of stmrun, with its files or its number of threads.
+-- A command line in which `clap` finds no fault names a command of stmrun, with its files, its number of threads or its name of a recipe.
 use Rattle.std.proofs.Common.{◌≡◌, ◌++◌, ◌∷◌, ◌&&◌, ◌||◌, ℕ, Bool, cond, codes, true, false, not, zero, suc, refl, sym, ap, subst, inl, inr}
 use Rattle.std.proofs.Common.{List, [], length, drop, Option, Some, None, IfSome, IsSome, IsSomeAnd, is_some, option_map, option_and_then, find, fold}
 use Rattle.std.proofs.Common.{slice_get, bytes_eq, chars, encode_utf8, true≢false}
@@ -32,7 +32,7 @@ use Rattle.clap.specs.declared.error.kind.ErrorKind.{ErrorKind}
 use Rattle.clap.specs.declared.error.kind.ErrorKind.TheVariants as kind
 use Rattle.clap.specs.declared.parser.matches.ValueSource.{ValueSource}
 use Rattle.clap.specs.declared.parser.matches.ValueSource.TheVariants.{CommandLine}
-use Rattle.stmrun.specs.Asking.{HasFiles, HasWorkers, IsWhole}
+use Rattle.stmrun.specs.Asking.{HasFiles, HasName, HasWorkers, IsWhole}
 use Rattle.stmrun.specs.CommandLine.{stmrun_app}
 
 -- ---- kinds
@@ -473,26 +473,31 @@ check_shape = first_of_subs (drop 1 whole_app.subs)
 abbrev threads_shape : Shape
 threads_shape = first_of_subs (drop 2 whole_app.subs)
 
+abbrev recipe_shape : Shape
+recipe_shape = first_of_subs (drop 3 whole_app.subs)
+
 abbrev help_shape : Shape
-help_shape = first_of_subs (drop 3 whole_app.subs)
+help_shape = first_of_subs (drop 4 whole_app.subs)
 
 abbrev IsNoHelp : Text → Type 0
 IsNoHelp name = answers_to name (codes "help", []) ≡ false
 
 -- the subcommand that a word without a fault names is not help
-abbrev picked : Bool → Bool → Bool → Bool → Option (Text × List Text)
-picked one two three four =
+abbrev picked : Bool → Bool → Bool → Bool → Bool → Option (Text × List Text)
+picked one two three four five =
     cond one (Some (codes "script", []))
-    (cond two (Some (codes "check", [])) (cond three (Some (codes "threads", [])) (cond four (Some (codes "help", [])) None)))
+    (cond two (Some (codes "check", []))
+    (cond three (Some (codes "threads", [])) (cond four (Some (codes "recipe", [])) (cond five (Some (codes "help", [])) None))))
 
-named_so : (one two three four : Bool) (word : Text) (h : Held)
-    → other_fault whole_app.top (option_map (λ (s : Text × List Text). s.0) (picked one two three four)) word h ≡ []
-    → IfSome (option_map (λ (s : Text × List Text). s.0) (picked one two three four)) IsNoHelp
-named_so true two three four word h none = refl
-named_so false true three four word h none = refl
-named_so false false true four word h none = refl
-named_so false false false true word h none = absurd (some_kind _ _ none)
-named_so false false false false word h none = tt
+named_so : (one two three four five : Bool) (word : Text) (h : Held)
+    → other_fault whole_app.top (option_map (λ (s : Text × List Text). s.0) (picked one two three four five)) word h ≡ []
+    → IfSome (option_map (λ (s : Text × List Text). s.0) (picked one two three four five)) IsNoHelp
+named_so true two three four five word h none = refl
+named_so false true three four five word h none = refl
+named_so false false true four five word h none = refl
+named_so false false false true five word h none = refl
+named_so false false false false true word h none = absurd (some_kind _ _ none)
+named_so false false false false false word h none = tt
 
 called : (is_trailing : Bool) (waiting : Waiting) (word : Text) (h : Held) → word_fault whole_app.top (names_of whole_app) is_trailing waiting word h ≡ []
     → is_trailing ≡ false → IfSome (subcommand_met (names_of whole_app) waiting word) IsNoHelp
@@ -501,7 +506,7 @@ called false (option id) word h none first = tt
 called false positional word h none first = tt
 called false idle word h none first =
     named_so (answers_to word (codes "script", [])) (answers_to word (codes "check", [])) (answers_to word (codes "threads", []))
-    (answers_to word (codes "help", [])) word h none
+    (answers_to word (codes "recipe", [])) (answers_to word (codes "help", [])) word h none
 
 -- the word itself passes where its turn does
 word_passes : (stop : Option (Text × List Text)) (a b : Kinds) → cond (is_some stop) [] (or_else a b) ≡ [] → stop ≡ None → a ≡ []
@@ -588,28 +593,49 @@ workers_given words none =
     let given = one_given (is_given (codes "workers") rows) (last_checks threads_shape rows false kept.1).1 in
     given_first IsWorkersIfThere (IsUnsignedIn 1 16) (codes "workers") rows (λ other v same may. may same) kept.0 given
 
+-- ---- the name of a recipe
+
+recipe_sets : AllSet AnyText recipe_shape.args_override_self recipe_shape.rules
+recipe_sets =
+    let again = recipe_shape.args_override_self in
+    let name = one_value AnyText again (first_of_rules recipe_shape.rules) refl refl (λ v vs none. tt) in
+    let first = one_value AnyText again (first_of_rules (drop 1 recipe_shape.rules)) refl refl (λ v vs none. tt) in
+    let second = one_value AnyText again (first_of_rules (drop 2 recipe_shape.rules)) refl refl (λ v vs none. tt) in
+    let third = one_value AnyText again (first_of_rules (drop 3 recipe_shape.rules)) refl refl (λ v vs none. tt) in
+    (name, (first, (second, (third, (no_request AnyText again (first_of_rules (drop 4 recipe_shape.rules)) refl, tt)))))
+
+name_given : (words : List Text) → level_fault recipe_shape [] nothing_held words false [] ≡ [] → HasName (rows_after recipe_shape.rules [] words)
+name_given words none =
+    let rows = rows_after recipe_shape.rules [] words in
+    let kept = level_keeps AnyText recipe_shape recipe_sets words (refl, (refl, (refl, (refl, (refl, tt))))) none in
+    let given = one_given (is_given (codes "NAME") rows) (last_checks recipe_shape rows false kept.1).1 in
+    is_there (first_of (codes "NAME") rows) (AnyText [])
+    (given_first AnyText (AnyText []) (codes "NAME") rows (λ other v same may. tt) kept.0 given)
+
 -- ---- the whole command line
 
-abbrev picked_shape : Bool → Bool → Bool → Bool → Option Shape
-picked_shape one two three four =
-    cond one (Some script_shape) (cond two (Some check_shape) (cond three (Some threads_shape) (cond four (Some help_shape) None)))
+abbrev picked_shape : Bool → Bool → Bool → Bool → Bool → Option Shape
+picked_shape one two three four five =
+    cond one (Some script_shape)
+    (cond two (Some check_shape) (cond three (Some threads_shape) (cond four (Some recipe_shape) (cond five (Some help_shape) None))))
 
-chosen : (one two three four : Bool) (words : List Text) → four ≡ false
-    → option_map_or (λ (s : Shape). level_fault s [] nothing_held words false []) (picked_shape one two three four) [] ≡ []
-    → (not (is_some (option_map (λ (s : Shape). rows_at s words) (picked_shape one two three four))) && true) ≡ false
-    → IsWhole (option_map (λ (s : Shape). rows_at s words) (picked_shape one two three four))
-chosen true two three four words no_help none entered_one = inl refl
-chosen false true three four words no_help none entered_one = inr (inl (refl, files_given words none))
-chosen false false true four words no_help none entered_one = inr (inr (refl, workers_given words none))
-chosen false false false true words no_help none entered_one = absurd (true≢false no_help)
-chosen false false false false words no_help none entered_one = absurd (true≢false entered_one)
+chosen : (one two three four five : Bool) (words : List Text) → five ≡ false
+    → option_map_or (λ (s : Shape). level_fault s [] nothing_held words false []) (picked_shape one two three four five) [] ≡ []
+    → (not (is_some (option_map (λ (s : Shape). rows_at s words) (picked_shape one two three four five))) && true) ≡ false
+    → IsWhole (option_map (λ (s : Shape). rows_at s words) (picked_shape one two three four five))
+chosen true two three four five words no_help none entered_one = inl refl
+chosen false true three four five words no_help none entered_one = inr (inl (refl, files_given words none))
+chosen false false true four five words no_help none entered_one = inr (inr (inl (refl, workers_given words none)))
+chosen false false false true five words no_help none entered_one = inr (inr (inr (refl, name_given words none)))
+chosen false false false false true words no_help none entered_one = absurd (true≢false no_help)
+chosen false false false false false words no_help none entered_one = absurd (true≢false entered_one)
 
 named : (stop : Option (Text × List Text)) → IfSome stop (λ p. IsNoHelp p.0) → entered_fault whole_app stop ≡ []
     → (not (is_some (entered whole_app stop)) && true) ≡ false → IsWhole (entered whole_app stop)
 named None no_help none entered_one = absurd (true≢false entered_one)
 named (Some p) no_help none entered_one =
     chosen (answers_to p.0 (label_of script_shape)) (answers_to p.0 (label_of check_shape)) (answers_to p.0 (label_of threads_shape))
-    (answers_to p.0 (label_of help_shape)) p.1 no_help none entered_one
+    (answers_to p.0 (label_of recipe_shape)) (answers_to p.0 (label_of help_shape)) p.1 no_help none entered_one
 
 pub whole_command : (words : List Text) → fault_of stmrun_app words ≡ [] → IsWhole (subcommand_of stmrun_app words)
 whole_command words none =

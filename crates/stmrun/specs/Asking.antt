@@ -3,7 +3,7 @@ use Rattle.std.specs.Prelude.{◌≡◌, ◌⊎◌, ℕ, ◌≤◌, List, [], Op
 use Rattle.std.specs.Str.Parse.{digits_value, without_leading_plus}
 use Rattle.clap.specs.Words.{IsUnsignedIn, Text, Row, first_of, subcommand_of}
 use Rattle.stmrun.specs.declared.arguments.Asked.{Asked}
-use Rattle.stmrun.specs.declared.arguments.Asked.TheVariants.{Script, Check, Threads, Nothing}
+use Rattle.stmrun.specs.declared.arguments.Asked.TheVariants.{Script, Check, Threads, Recipe, Nothing}
 use Rattle.stmrun.specs.CommandLine.{stmrun_app, faults_of, IsStatusOf}
 
 -- the text spells this number
@@ -16,7 +16,8 @@ NumberAt None n = ⊥
 NumberAt (Some text) n = NamesNumber text n
 
 -- a command of this name, with what stands in the places of its arguments, asks for a script of its file, or of standard
--- input where it names none, for a check of its files, or for a run of its file by so many threads, from 1 to 16
+-- input where it names none, for a check of its files, for a run of its file by so many threads, from 1 to 16, or for the
+-- recipe of its words
 abbrev pub AsksAt : Text → List Row → Asked → Type 0
 AsksAt name rows (Script file) = (name ≡ codes "script") × (first_of (codes "FILE") rows ≡ option_map (λ path. path.now) file)
 AsksAt name rows (Check scenario report) =
@@ -24,6 +25,11 @@ AsksAt name rows (Check scenario report) =
 AsksAt name rows (Threads file workers) =
     (name ≡ codes "threads") × (first_of (codes "FILE") rows ≡ option_map (λ path. path.now) file)
     × NumberAt (first_of (codes "workers") rows) workers × (1 ≤ workers) × (workers ≤ 16)
+AsksAt name rows (Recipe words) =
+    (name ≡ codes "recipe") × (first_of (codes "NAME") rows ≡ Some words.name.now)
+    × (first_of (codes "FIRST") rows ≡ option_map (λ word. word.now) words.first)
+    × (first_of (codes "SECOND") rows ≡ option_map (λ word. word.now) words.second)
+    × (first_of (codes "THIRD") rows ≡ option_map (λ word. word.now) words.third)
 AsksAt name rows (Nothing status) = ⊥
 
 -- the same, of the command that the words name
@@ -31,7 +37,7 @@ abbrev pub AsksBy : Option (Text × List Row) → Asked → Type 0
 AsksBy None asked = ⊥
 AsksBy (Some named) asked = AsksAt named.0 named.1 asked
 
--- a script, a check with its files, or a run by threads, where the words have no fault, and else the status of their fault
+-- a script, a check with its files, a run by threads, or a recipe, where the words have no fault, and else the status of their fault
 abbrev pub Asks : List Text → Asked → Type 0
 Asks words (Nothing status) = IsStatusOf (faults_of words) status
 Asks words asked = (faults_of words ≡ []) × AsksBy (subcommand_of stmrun_app words) asked
@@ -44,9 +50,15 @@ HasFiles rows = IsSome (first_of (codes "SCENARIO") rows) × IsSome (first_of (c
 abbrev pub HasWorkers : List Row → Type 0
 HasWorkers rows = IsSomeAnd (first_of (codes "workers") rows) (IsUnsignedIn 1 16)
 
--- what is found of the command that the words name is that of a script, of a check with its files, or of a run by so many threads
+-- the name of a recipe stands in its place
+abbrev pub HasName : List Row → Type 0
+HasName rows = IsSome (first_of (codes "NAME") rows)
+
+-- what is found of the command that the words name is that of a script, of a check with its files, of a run by so many threads, or of
+-- a recipe with a name
 abbrev pub IsWhole : Option (Text × List Row) → Type 0
 IsWhole None = ⊥
 IsWhole (Some named) =
     (named.0 ≡ codes "script")
-    ⊎ (((named.0 ≡ codes "check") × HasFiles named.1) ⊎ ((named.0 ≡ codes "threads") × HasWorkers named.1))
+    ⊎ (((named.0 ≡ codes "check") × HasFiles named.1)
+    ⊎ (((named.0 ≡ codes "threads") × HasWorkers named.1) ⊎ ((named.0 ≡ codes "recipe") × HasName named.1)))

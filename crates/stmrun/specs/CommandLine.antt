@@ -24,16 +24,24 @@ workers_rule = record (wanted (codes "workers")) { long = Some (codes "workers")
 abbrev pub threads_app : App
 threads_app = with_rule (with_rule (new_app (codes "threads")) (new_rule (codes "FILE"))) workers_rule
 
+abbrev pub recipe_app : App
+recipe_app =
+    with_rule
+    (with_rule (with_rule (with_rule (new_app (codes "recipe")) (wanted (codes "NAME"))) (new_rule (codes "FIRST"))) (new_rule (codes "SECOND")))
+    (new_rule (codes "THIRD"))
+
 -- a command that is added to another makes it that one with this as a subcommand, the last
 abbrev pub IsAddedAs : App → Command → Type 0
 IsAddedAs app command = (old new : Command) → AddsSubcommand old command new → app_of new ≡ with_subcommand (app_of old) app.top
 
--- stmrun: it wants a subcommand, script, check or threads
+-- stmrun: it wants a subcommand, script, check, threads or recipe
 abbrev pub stmrun_app : App
 stmrun_app =
     with_subcommand
+    (with_subcommand
     (with_subcommand (with_subcommand (on_top (λ top. record top { subcommand_required = true }) (new_app (codes "stmrun"))) script_app.top) check_app.top)
-    threads_app.top
+    threads_app.top)
+    recipe_app.top
 
 -- 0 for help, 3 for want of memory and 2 for usage
 abbrev pub status_of_kind : ErrorKind → ℕ

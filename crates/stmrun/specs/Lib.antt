@@ -1,5 +1,6 @@
 pub mod Asking
 pub mod Checking
 pub mod CommandLine
+pub mod Recipes
 pub mod Statuses
 pub mod Threading

@@ -1,8 +1,8 @@
 //! The command line.
 ghost use Rattle.std.specs.Prelude.{◌≡◌, ◌≤◌, ◌⊎◌, codes, false, IfOk, IfErr, IfNone, IfSome, Some, map, option_map, string_bytes};
 ghost use Rattle.clap.specs.Words.{IsUnsignedIn, app_of, first_of, found_of, kind_of, new_rule, rows_of, rule_of, subcommand_rows_of};
-ghost use Rattle.stmrun.specs.CommandLine.{script_app, check_app, threads_app, stmrun_app, wanted, workers_rule, IsAddedAs, IsToldBy};
-ghost use Rattle.stmrun.specs.Asking.{Asks, AsksAt, AsksBy, HasFiles, HasWorkers, IsWhole, NamesNumber};
+ghost use Rattle.stmrun.specs.CommandLine.{script_app, check_app, threads_app, recipe_app, stmrun_app, wanted, workers_rule, IsAddedAs, IsToldBy};
+ghost use Rattle.stmrun.specs.Asking.{Asks, AsksAt, AsksBy, HasFiles, HasName, HasWorkers, IsWhole, NamesNumber};
 
 use clap::error::ErrorKind;
 use clap::{Arg, ArgMatches, Command, Error};
@@ -10,6 +10,7 @@ use std::alloc::{AllocError, Global};
 use std::rt::Env;
 use std::{env, io};
 use stm_jobs::MOST_WORKERS;
+use stm_recipe_lines::RecipeWords;
 
 /// What a command line asks for.
 #[derive(Clone, Copy, Debug, PartialEq, Eq)]
@@ -28,6 +29,8 @@ pub(crate) enum Asked<'a> {
         scenario: Option<&'a str>,
         workers: usize,
     },
+    /// The program of a recipe, by its name and its arguments.
+    Recipe(RecipeWords<'a>),
     /// Nothing more: help was printed, or the command line was refused, with this status.
     Nothing(u8),
 }
@@ -53,8 +56,9 @@ const EXAMPLE: &str = "A scenario is a JSON array of events, in their order:
   [\"poll\",WATCHER,MAX]                a watcher is given what is pending, of at most MAX revisions
   [\"cancel\",WATCHER]                  a watcher is given up
 
-LEVEL is ReadCommitted, RepeatableReads, Serializable or SerializableSnapshot. This scenario starts a
-program that puts a key, and lets it take a step:
+LEVEL is ReadCommitted, RepeatableReads, Serializable or SerializableSnapshot. PROGRAM is an array of
+statements; stmrun recipe prints ready ones. This scenario starts a program that puts a key, and lets it
+take a step:
 
   [[\"start\",\"Serializable\",1,[[\"put\",\"a\",\"1\",0]]],[\"step\",1]]
 
@@ -122,6 +126,36 @@ then stmrun threads --workers 2 s.json prints
 Which job goes first is not said, nor that the run ends. Statuses: 0 done, 2 bad input or usage, 3 want of
 memory, a failed device, no thread, or a job whose end is not what the store says (audit JOB).";
 
+const RECIPE_EXAMPLE: &str =
+    "Prints the program of a recipe as one line of JSON, which is the last part of a scenario's event
+[\"start\",LEVEL,LIMIT,PROGRAM]:
+
+  transfer FROM TO AMOUNT           moves an amount from one account to another; aborts with insufficient
+                                    where the first has less. An account is a key whose value is a number
+  deposit ACCOUNT AMOUNT            adds an amount to an account, which counts as 0 where it is absent
+  enqueue QUEUE ITEM                puts an item behind the others of a queue
+  dequeue QUEUE                     puts out the first item and deletes it; aborts with empty where there is
+                                    none. A queue keeps its items under QUEUE/0, QUEUE/1 and so on, and where
+                                    they begin and end under QUEUE/head and QUEUE/tail
+  reserve_slot SLOT HOLDER LEASE    puts the holder under the key SLOT, on a lease, 0 for none; aborts with
+                                    held where the key is present
+  release_slot SLOT HOLDER          deletes the key SLOT; aborts with not held where it is absent or has
+                                    another value
+
+FROM, TO, ACCOUNT, QUEUE, ITEM, SLOT and HOLDER have 1 to 1024 bytes, AMOUNT is a whole number from 0 to
+4294967295, LEASE one from 0 to 9223372036854775807. Words that begin with - stand behind --.
+
+  stmrun recipe deposit a 30
+
+prints the program of this scenario, which makes account a and puts 30 there:
+
+  [[\"start\",\"Serializable\",1,
+    [[\"set\",0,[\"get\",\"a\"]],[\"if\",[\"eq\",[\"var\",0],\"\"],[[\"set\",0,\"0\"]],[]],
+     [\"put\",\"a\",[\"text_of\",[\"add\",[\"num_of\",[\"var\",0]],30]],0]]],
+   [\"step\",1],[\"step\",1]]
+
+Statuses: 0 done, 2 usage, 3 want of memory or a failed device.";
+
 /// What is said of words that are not UTF-8, in the manner of the other usage faults.
 const NOT_TEXT: &str = "error: the command line is not UTF-8
 
@@ -129,16 +163,16 @@ Usage: stmrun <COMMAND>
 
 For more information, try '--help'.";
 
-/// A file that has to be named, by its place.
-fn file<'a>(alloc: Global, name: &'a str, help: &'a str) -> Arg<'a>
+/// An argument that has to be there, by its place.
+fn required<'a>(alloc: Global, name: &'a str, help: &'a str) -> Arg<'a>
     ensures rule { rule_of result ≡ wanted name.now }
     ensures local { result.global ≡ false }
 {
     Arg::new(alloc, name).required(true).help(help)
 }
 
-/// A file that may be named, by its place.
-fn other_input<'a>(alloc: Global, name: &'a str, help: &'a str) -> Arg<'a>
+/// An argument that may be there, by its place.
+fn optional<'a>(alloc: Global, name: &'a str, help: &'a str) -> Arg<'a>
     ensures rule { rule_of result ≡ new_rule name.now }
     ensures local { result.global ≡ false }
 {
@@ -149,7 +183,7 @@ fn other_input<'a>(alloc: Global, name: &'a str, help: &'a str) -> Arg<'a>
 fn script_command<'a>(alloc: Global) -> Result<Command<'a>, AllocError>
     ensures { IfOk result (IsAddedAs script_app) }
 {
-    let input = other_input(
+    let input = optional(
         alloc,
         "FILE",
         "The file of the scenario, in the place of standard input",
@@ -164,8 +198,8 @@ fn script_command<'a>(alloc: Global) -> Result<Command<'a>, AllocError>
 fn check_command<'a>(alloc: Global) -> Result<Command<'a>, AllocError>
     ensures { IfOk result (IsAddedAs check_app) }
 {
-    let scenario = file(alloc, "SCENARIO", "The file of the scenario");
-    let report = file(alloc, "REPORT", "The file of the report");
+    let scenario = required(alloc, "SCENARIO", "The file of the scenario");
+    let report = required(alloc, "REPORT", "The file of the report");
     Command::new(alloc, "check")
         .about("Says whether REPORT is a report of SCENARIO, and if not, which line is wrong first")
         .after_help(CHECK_EXAMPLE)
@@ -191,7 +225,7 @@ fn workers<'a>(alloc: Global) -> Arg<'a>
 fn threads_command<'a>(alloc: Global) -> Result<Command<'a>, AllocError>
     ensures { IfOk result (IsAddedAs threads_app) }
 {
-    let input = other_input(
+    let input = optional(
         alloc,
         "FILE",
         "The file of the scenario, in the place of standard input",
@@ -204,6 +238,23 @@ fn threads_command<'a>(alloc: Global) -> Result<Command<'a>, AllocError>
         .arg(count)
 }
 
+/// The command `recipe`.
+fn recipe_command<'a>(alloc: Global) -> Result<Command<'a>, AllocError>
+    ensures { IfOk result (IsAddedAs recipe_app) }
+{
+    let name = required(alloc, "NAME", "The name of the recipe");
+    let first = optional(alloc, "FIRST", "Its first argument");
+    let second = optional(alloc, "SECOND", "Its second argument");
+    let third = optional(alloc, "THIRD", "Its third argument");
+    Command::new(alloc, "recipe")
+        .about("Prints the program of a recipe, as a scenario's start takes it")
+        .after_help(RECIPE_EXAMPLE)
+        .arg(name)?
+        .arg(first)?
+        .arg(second)?
+        .arg(third)
+}
+
 /// The command.
 fn command<'a>(alloc: Global) -> Result<Command<'a>, AllocError>
     ensures { IfOk result (λ command. app_of command ≡ stmrun_app) }
@@ -211,13 +262,15 @@ fn command<'a>(alloc: Global) -> Result<Command<'a>, AllocError>
     let script = script_command(alloc)?;
     let check = check_command(alloc)?;
     let threads = threads_command(alloc)?;
+    let recipe = recipe_command(alloc)?;
     Command::new(alloc, "stmrun")
         .about("Runs transactional programs over an etcd-like store, one event at a time")
         .after_help(EXAMPLE)
         .subcommand_required(true)
         .subcommand(script)?
         .subcommand(check)?
-        .subcommand(threads)
+        .subcommand(threads)?
+        .subcommand(recipe)
 }
 
 /// The status of a command line that is refused, or that asks for help, once its text is printed: 0 for help that was
@@ -259,9 +312,9 @@ fn words<R: Env + AllocGlobal>(rt: &R) -> Result<Vec<String>, WordsFault> {
     }
 }
 
-/// The file in the place of an argument.
-fn file_of<'a>(found: &ArgMatches<'a>, name: &str) -> Option<&'a str>
-    ensures { option_map (λ file. file.now) result ≡ first_of name.now (rows_of (found_of found.now)) }
+/// The word in the place of an argument.
+fn word_of<'a>(found: &ArgMatches<'a>, name: &str) -> Option<&'a str>
+    ensures { option_map (λ word. word.now) result ≡ first_of name.now (rows_of (found_of found.now)) }
 {
     found.get_str(name)
 }
@@ -271,8 +324,8 @@ fn files_of<'a>(found: &ArgMatches<'a>) -> Option<Asked<'a>>
     ensures asks { IfSome result (AsksAt (codes "check") (rows_of (found_of found.now))) }
     ensures missing { IfNone result (HasFiles (rows_of (found_of found.now)) → ⊥) }
 {
-    let scenario = file_of(found, "SCENARIO")?;
-    let report = file_of(found, "REPORT")?;
+    let scenario = word_of(found, "SCENARIO")?;
+    let report = word_of(found, "REPORT")?;
     Some(Asked::Check { scenario, report })
 }
 
@@ -306,20 +359,37 @@ fn threads_of<'a>(found: &ArgMatches<'a>) -> Option<Asked<'a>>
     ensures asks { IfSome result (AsksAt (codes "threads") (rows_of (found_of found.now))) }
     ensures missing { IfNone result (HasWorkers (rows_of (found_of found.now)) → ⊥) }
 {
-    let scenario = file_of(found, "FILE");
-    let text = file_of(found, "workers")?;
+    let scenario = word_of(found, "FILE");
+    let text = word_of(found, "workers")?;
     let workers = workers_in(text)?;
     Some(Asked::Threads { scenario, workers })
 }
 
+/// What a recipe with these arguments asks for; `None` where its name is missing.
+fn recipe_of<'a>(found: &ArgMatches<'a>) -> Option<Asked<'a>>
+    ensures asks { IfSome result (AsksAt (codes "recipe") (rows_of (found_of found.now))) }
+    ensures missing { IfNone result (HasName (rows_of (found_of found.now)) → ⊥) }
+{
+    let name = word_of(found, "NAME")?;
+    let first = word_of(found, "FIRST");
+    let second = word_of(found, "SECOND");
+    let third = word_of(found, "THIRD");
+    Some(Asked::Recipe(RecipeWords {
+        name,
+        first,
+        second,
+        third,
+    }))
+}
+
 /// What a command of this name asks for; `None` where it is no command of this program, or lacks what it has to have.
-#[tactic(auto, using(crate::proofs::CommandLemmas::whole_check, crate::proofs::CommandLemmas::whole_threads, crate::proofs::CommandLemmas::whole_other))]
+#[tactic(auto, using(crate::proofs::CommandLemmas::whole_check, crate::proofs::CommandLemmas::whole_threads, crate::proofs::CommandLemmas::whole_recipe, crate::proofs::CommandLemmas::whole_other))]
 fn asked_at<'a>(name: &str, found: &ArgMatches<'a>) -> Option<Asked<'a>>
     ensures asks { IfSome result (AsksAt name.now (rows_of (found_of found.now))) }
     ensures missing { IfNone result (IsWhole (Some (name.now, rows_of (found_of found.now))) → ⊥) }
 {
     if name == "script" {
-        let scenario = file_of(found, "FILE");
+        let scenario = word_of(found, "FILE");
         return Some(Asked::Script { scenario });
     }
     if name == "check" {
@@ -327,6 +397,9 @@ fn asked_at<'a>(name: &str, found: &ArgMatches<'a>) -> Option<Asked<'a>>
     }
     if name == "threads" {
         return threads_of(found);
+    }
+    if name == "recipe" {
+        return recipe_of(found);
     }
     None
 }

@@ -1,5 +1,5 @@
-//! The program: runs scenarios of transactional programs over one store, by itself or by several threads, and reports what happened, and checks
-//! reports.
+//! The program: runs scenarios of transactional programs over one store, by itself or by several threads, and reports what happened, checks
+//! reports, and prints the programs of recipes.
 #![tactic(auto)]
 
 ghost use Rattle.std.specs.Prelude.{◌≤◌};
@@ -11,6 +11,9 @@ mod file_tests;
 mod files;
 #[cfg(test)]
 mod hostile_tests;
+#[cfg(test)]
+mod recipe_tests;
+mod recipes;
 mod scripting;
 #[cfg(test)]
 mod tests;
@@ -21,11 +24,13 @@ mod threading_tests;
 use arguments::{Asked, asked_of, read_words};
 pub use checking::check_to;
 use files::open;
+pub use recipes::recipe_to;
 pub use scripting::script_to;
 use std::io::Read;
 use std::process::ExitCode;
 use std::sync::Wait;
 use std::thread::Threads;
+use stm_recipe_lines::RecipeWords;
 use stm_report::Std;
 pub use threading::threads_to;
 
@@ -84,6 +89,13 @@ fn run_threads<T: Threads + Wait + Sync>(
     }
 }
 
+/// Prints the program of the recipe that these words name.
+fn run_recipe(rt: &HostRuntime, words: &RecipeWords<'_>) -> u8 {
+    let mut out = Std::new(rt.stdout());
+    let mut err = Std::new(rt.stderr());
+    recipe_to(rt.alloc(), words, &mut out, &mut err)
+}
+
 /// Does what the command line asks for, and gives the status. A run of jobs starts threads and waits for them.
 fn run<T: Threads + Wait + Sync>(rt: &HostRuntime, threads: &T) -> u8 {
     let words = match read_words(rt) {
@@ -94,6 +106,7 @@ fn run<T: Threads + Wait + Sync>(rt: &HostRuntime, threads: &T) -> u8 {
         Asked::Script { scenario } => run_script(rt, scenario),
         Asked::Check { scenario, report } => run_check(rt, scenario, report),
         Asked::Threads { scenario, workers } => run_threads(rt, threads, scenario, workers),
+        Asked::Recipe(words) => run_recipe(rt, &words),
         Asked::Nothing(status) => status,
     }
 }

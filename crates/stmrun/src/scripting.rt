@@ -26,7 +26,7 @@ pub(crate) fn write_text<E: Sink>(err: &mut E, text: &str) -> Result<(), DeviceF
 }
 
 /// Writes two texts, one behind the other. Where the sink fails, a front of them was written.
-fn write_both<E: Sink>(err: &mut E, first: &str, second: &str) -> Result<(), DeviceFault>
+pub(crate) fn write_both<E: Sink>(err: &mut E, first: &str, second: &str) -> Result<(), DeviceFault>
     requires { E.failed err.old ≡ false }
     ensures { HasWritten (E.held err.old) (E.held err.new) (E.failed err.new) result (first.now ++ second.now) }
 {

@@ -37,10 +37,10 @@ impl Read for Pieces<'_> {
 
 /// A writer into memory, which takes pieces of a length and fails after so many writes.
 #[derive(Drop)]
-struct Taken {
-    bytes: Vec<u8>,
-    piece: usize,
-    writes: usize,
+pub(crate) struct Taken {
+    pub(crate) bytes: Vec<u8>,
+    pub(crate) piece: usize,
+    pub(crate) writes: usize,
 }
 
 impl Write for Taken {
@@ -61,14 +61,14 @@ impl Write for Taken {
 
 /// What a run of the command left.
 #[derive(Drop)]
-struct Left {
-    status: u8,
-    out: Vec<u8>,
-    err: Vec<u8>,
+pub(crate) struct Left {
+    pub(crate) status: u8,
+    pub(crate) out: Vec<u8>,
+    pub(crate) err: Vec<u8>,
 }
 
 /// Runs a scenario.
-fn run(alloc: Global, scenario: &[u8]) -> Left {
+pub(crate) fn run(alloc: Global, scenario: &[u8]) -> Left {
     let mut input = Std::new(scenario);
     let mut out = Std::new(Vec::new(alloc));
     let mut err = Std::new(Vec::new(alloc));
@@ -488,7 +488,7 @@ impl Env for Line<'_> {
 
 /// A command line asks for this where its texts are printed, and for that where they cannot be. Where one is printed, it
 /// has the wanted words and stands on standard output for help, and else on standard error.
-fn asks<'a>(
+pub(crate) fn asks<'a>(
     rt: &impl Abort,
     alloc: Global,
     words: &'a [&'a [u8]],

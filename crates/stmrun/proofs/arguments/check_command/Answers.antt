@@ -11,10 +11,10 @@ pub returns : goal.returns
 returns c =
     let bare_is : app_of c.after_help.result ≡ new_app (codes "check") = search rules in
     let local_is =
-    neither _ _ ((λ i. (c.after_help.ensures i).has_globals) ∙ ((λ i. (c.about.ensures i).has_globals) ∙ c.new.ensures.local)) c.file-scenario.ensures.local in
+    neither _ _ ((λ i. (c.after_help.ensures i).has_globals) ∙ ((λ i. (c.about.ensures i).has_globals) ∙ c.new.ensures.local)) c.required-scenario.ensures.local in
     IfOk-weaker c.arg-2.result _ _ (λ m adds. λ (old new : Command). λ (h : AddsSubcommand old m new).
-    h.shape (adds.globals ∙ neither _ _ (c.in_ok-arg.ensures.globals ∙ local_is) c.file-report.ensures.local)
+    h.shape (adds.globals ∙ neither _ _ (c.in_ok-arg.ensures.globals ∙ local_is) c.required-report.ensures.local)
     ∙ ap (λ (a : App). with_subcommand (app_of old) a.top)
-    (adds.shape c.file-report.ensures.local
-    ∙ ap₂ with_rule (c.in_ok-arg.ensures.shape c.file-scenario.ensures.local ∙ ap₂ with_rule bare_is c.file-scenario.ensures.rule) c.file-report.ensures.rule))
+    (adds.shape c.required-report.ensures.local
+    ∙ ap₂ with_rule (c.in_ok-arg.ensures.shape c.required-scenario.ensures.local ∙ ap₂ with_rule bare_is c.required-scenario.ensures.rule) c.required-report.ensures.rule))
     c.arg-2.ensures

@@ -13,7 +13,7 @@ returns c =
     IfOk-weaker c.arg.result _ _ (λ m adds. λ (old new : Command). λ (h : AddsSubcommand old m new).
     h.shape (adds.globals
     ∙ neither _ _ ((λ i. (c.after_help.ensures i).has_globals) ∙ ((λ i. (c.about.ensures i).has_globals) ∙ c.new.ensures.local))
-    c.other_input-input.ensures.local)
+    c.optional-input.ensures.local)
     ∙ ap (λ (a : App). with_subcommand (app_of old) a.top)
-    (adds.shape c.other_input-input.ensures.local ∙ ap₂ with_rule bare_is c.other_input-input.ensures.rule))
+    (adds.shape c.optional-input.ensures.local ∙ ap₂ with_rule bare_is c.optional-input.ensures.rule))
     c.arg.ensures

@@ -7,7 +7,7 @@ use Rattle.stmrun.proofs.arguments.threads_of.Goals as goal
 pub returns-clause-asks : goal.returns-clause-asks
 returns-clause-asks c = (
   refl,
-  sym c.file_of-scenario.ensures,
+  sym c.word_of-scenario.ensures,
   subst (λ o. NumberAt o c.in_ok-workers.workers) c.in_ok-text.ensures c.in_ok-workers.ensures.number.2,
   c.in_ok-workers.ensures.number.0,
   c.in_ok-workers.ensures.number.1,

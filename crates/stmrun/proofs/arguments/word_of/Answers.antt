@@ -1,7 +1,7 @@
 use Rattle.std.proofs.Common.{◌∙◌}
 use Rattle.clap.specs.Words.{found_of}
 use Rattle.clap.proofs.WalkLemmas.{first_value-rows}
-use Rattle.stmrun.proofs.arguments.file_of.Goals as goal
+use Rattle.stmrun.proofs.arguments.word_of.Goals as goal
 
 -- `first_value` of what was found is `first_of` its rows
 pub returns : goal.returns

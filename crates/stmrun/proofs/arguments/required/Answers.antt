@@ -1,7 +1,7 @@
 use Rattle.std.proofs.Common.{◌∙◌, ap, true, Some}
 use Rattle.clap.specs.declared.builder.arg.Arg.{Arg}
 use Rattle.clap.specs.Words.{Rule, rule_of}
-use Rattle.stmrun.proofs.arguments.file.Goals as goal
+use Rattle.stmrun.proofs.arguments.required.Goals as goal
 
 pub returns-clause-rule : goal.returns-clause-rule
 returns-clause-rule c =

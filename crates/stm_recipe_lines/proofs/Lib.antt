@@ -1,0 +1,3 @@
+pub mod NoFloats
+pub mod NumberLemmas
+pub mod WorkedExamples

@@ -1,0 +1,4 @@
+pub mod FaultTexts
+pub mod Lines
+pub mod Printing
+pub mod Reading

@@ -51,7 +51,7 @@ written_is (Ok y) z is = cc
 written_is (Err fault) z is = absurd (cc)
 
 -- what an account with a number holds
-number_is : (s : Option KeyState) (z : ℤ) → number_of s ≡ Some z → written_number (value_now s) ≡ Ok z
+pub number_is : (s : Option KeyState) (z : ℤ) → number_of s ≡ Some z → written_number (value_now s) ≡ Ok z
 number_is None z is = absurd (cc)
 number_is (Some s) z is = written_is (written_number s.value) z is
 
@@ -143,7 +143,7 @@ paid_by false from to less sum run is ended deed =
     absurd (cc)
 
 -- there was enough
-enough_by : (short : Bool) (from to : List ℕ) (amount : ℕ) (values : List ℕ → List ℕ) (balance : ℤ) (run : Run) → run.end ≡ DoneEnd →
+pub enough_by : (short : Bool) (from to : List ℕ) (amount : ℕ) (values : List ℕ → List ℕ) (balance : ℤ) (run : Run) → run.end ≡ DoneEnd →
     deed_of run ≡ (if short then aborted (codes "insufficient") else moved from to amount values balance) →
     (short ≡ false) × (deed_of run ≡ moved from to amount values balance)
 enough_by true from to amount values balance run ended deed =

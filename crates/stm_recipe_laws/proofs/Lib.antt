@@ -5,3 +5,7 @@ pub mod SumLemmas
 pub mod AccountLemmas
 pub mod QueueKeys
 pub mod QueueLemmas
+pub mod WrongEntries
+pub mod Readers
+pub mod WorldLemmas
+pub mod WorkedExamples

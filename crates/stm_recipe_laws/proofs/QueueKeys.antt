@@ -45,7 +45,7 @@ tail_is queue = sym (append_assoc queue (codes "/") (codes "tail"))
 head_is : (queue : List ℕ) → head_key queue ≡ items_key queue ++ codes "head"
 head_is queue = sym (append_assoc queue (codes "/") (codes "head"))
 
-keys_differ : (a b : List ℕ) → a ≢ b → bytes_eq a b ≡ false
+pub keys_differ : (a b : List ℕ) → a ≢ b → bytes_eq a b ≡ false
 keys_differ a b ne =
     elim (bytes_eq a b) as (λ x. bytes_eq a b ≡ x → x ≡ false) [
       | true ↦ λ is. absurd (ne (bytes_eq-same a b is))

@@ -243,9 +243,10 @@ record Took (queue : List ℕ) (e : Entry) (items : List (List ℕ)) (after : Hi
 item_value : (h : History) (queue : List ℕ) (n : ℕ) (item : List ℕ) → IsItem h queue n item → value_now (key_now h (place_of queue n)) ≡ item
 item_value h queue n item i = ap value_now i.is ∙ i.value
 
-dequeue_by : (queue : List ℕ) (e : Entry) (r : Replayed) (items all : List (List ℕ)) → 0 < length queue → IsLegal e r → (q : IsDequeue queue e) →
-    (held : HoldsItems r.history queue all) → all ≡ items → Took queue e all (replay_entry e r).history
-dequeue_by queue e r [] all long legal q held is =
+-- no dequeue of a queue that holds nothing is done
+pub nothing_to_take : (queue : List ℕ) (e : Entry) (r : Replayed) (all : List (List ℕ)) → 0 < length queue → IsLegal e r → IsDequeue queue e →
+    HoldsItems r.history queue all → all ≡ [] → ⊥
+nothing_to_take queue e r all long legal q held is =
     let h : History = r.history in
     let c : Committed (dequeue_program queue) r (replay_entry e r) = committed (dequeue_program queue) e r q legal in
     let none : length all ≡ 0 = ap length is in
@@ -257,7 +258,11 @@ dequeue_by queue e r [] all long legal q held is =
     ∙ ap (taken_or_refused queue (value_in (state_now h)) (decimal held.head)) (count_text h (tail_key queue) held.tail held.in_range held.is_tail) in
     let found = found_by (bytes_eq (decimal held.head) (decimal held.tail)) (nat_le (length (items_key queue) + length (decimal held.head)) longest_text) queue
     (value_now (key_now h (place_of queue held.head))) held.head c.run c.is_done deed in
-    absurd (decimals_apart held.head held.tail small held.in_range found.0 equal)
+    decimals_apart held.head held.tail small held.in_range found.0 equal
+
+dequeue_by : (queue : List ℕ) (e : Entry) (r : Replayed) (items all : List (List ℕ)) → 0 < length queue → IsLegal e r → (q : IsDequeue queue e) →
+    (held : HoldsItems r.history queue all) → all ≡ items → Took queue e all (replay_entry e r).history
+dequeue_by queue e r [] all long legal q held is = absurd (nothing_to_take queue e r all long legal q held is)
 dequeue_by queue e r (item ∷ items) all long legal q held is =
     let h : History = r.history in
     let after : History = (replay_entry e r).history in

@@ -102,7 +102,7 @@ reservations_take_free_slots slot e r reserves named legal =
 
 -- ---- between two reservations
 
-held_is_held : (slot holder : List ℕ) (lease : ℕ) (r : Replayed) → IsHeldBy slot holder lease r → is_held slot r ≡ true
+pub held_is_held : (slot holder : List ℕ) (lease : ℕ) (r : Replayed) → IsHeldBy slot holder lease r → is_held slot r ≡ true
 held_is_held slot holder lease r held = ap (λ (s : Option KeyState). is_some s) held.is
 
 -- a slot that is held stays so, or one of the entries frees it

@@ -1,5 +1,6 @@
-//! The law of accounts.
+//! The laws of accounts. Each function does nothing: its contract is the law.
 ghost use Rattle.stm_recipe_laws.specs.Accounts.{TotalsGrowByDeposits};
+ghost use Rattle.stm_recipe_laws.specs.WrongEntries.{WrongTransfers};
 
 /// Where accounts, each named once, have a total and are changed only by transfers among them and by deposits to them, at levels that
 /// compare, the total grows by the deposits that committed: no interleaving makes money or loses it. This is the total that
@@ -9,4 +10,10 @@ ghost use Rattle.stm_recipe_laws.specs.Accounts.{TotalsGrowByDeposits};
 /// that there is none.
 pub fn totals_grow_by_deposits()
     ensures { TotalsGrowByDeposits }
+{}
+
+/// Some entries of accounts that are none: a transfer of more than the paying account has, or from one that has no number; and a
+/// total that has grown by another amount than the deposits.
+pub fn wrong_transfers_are_none()
+    ensures { WrongTransfers }
 {}

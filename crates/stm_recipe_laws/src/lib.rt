@@ -5,3 +5,4 @@
 pub mod accounts;
 pub mod queues;
 pub mod slots;
+pub mod worlds;

@@ -1,5 +1,7 @@
-//! The law of queues.
+//! The laws of queues. Each function does nothing: its contract is the law.
 ghost use Rattle.stm_recipe_laws.specs.Queues.{QueuesKeepTheirItems};
+ghost use Rattle.stm_recipe_laws.specs.Readers.{ItemsAreRead};
+ghost use Rattle.stm_recipe_laws.specs.WrongEntries.{WrongDequeues};
 
 /// Where a queue's keys are changed only by its enqueues and dequeues, at levels that compare, the items that were dequeued, in order, and then
 /// those that are left are the ones that it held and then those that were enqueued, in order: none is lost, given twice, or given out of turn.
@@ -8,4 +10,18 @@ ghost use Rattle.stm_recipe_laws.specs.Queues.{QueuesKeepTheirItems};
 /// keys (at ReadCommitted, by another program, or another client's put or delete) can break this: the law asks that there is none.
 pub fn queues_keep_their_items()
     ensures { QueuesKeepTheirItems }
+{}
+
+/// What `stm_recipes::queue_items` tells of a state is what the queue holds, where its head and its tail are absent or spelled in digits as
+/// recipes spell them: the items that it holds are told, and those that are told it holds.
+///
+/// The reader takes other spellings of a number, too, such as `007` for a head, where a dequeue looks for the item under `007`.
+pub fn items_are_read()
+    ensures { ItemsAreRead }
+{}
+
+/// Some entries of queues that are none: a dequeue of a queue that holds nothing; an item that is taken out of turn, so also one that
+/// was taken before; and more items than the queue held and were added.
+pub fn wrong_dequeues_are_none()
+    ensures { WrongDequeues }
 {}

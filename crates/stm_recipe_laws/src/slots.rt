@@ -1,5 +1,7 @@
 //! The laws of slots. Each function does nothing: its contract is the law.
 ghost use Rattle.stm_recipe_laws.specs.Slots.{ReservationsTakeFreeSlots, SlotsAreFreedBetween};
+ghost use Rattle.stm_recipe_laws.specs.Readers.{HoldersAreRead};
+ghost use Rattle.stm_recipe_laws.specs.WrongEntries.{WrongReservations};
 
 /// A reservation at a level that compares commits only where the slot is free, and then the slot is its holder's, on its lease.
 pub fn reservations_take_free_slots()
@@ -13,4 +15,15 @@ pub fn reservations_take_free_slots()
 /// between the two there is none.
 pub fn slots_are_freed_between()
     ensures { SlotsAreFreedBetween }
+{}
+
+/// Who `stm_recipes::held` tells of a state holds the slot, on some lease; and the slot is held exactly where it tells somebody.
+pub fn holders_are_read()
+    ensures { HoldersAreRead }
+{}
+
+/// Some entries of slots that are none: a reservation of a slot that is held; a second one, where nothing has changed the slot since the
+/// first; and a release by another than the one who holds it.
+pub fn wrong_reservations_are_none()
+    ensures { WrongReservations }
 {}

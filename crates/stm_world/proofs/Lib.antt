@@ -19,10 +19,13 @@ pub mod Sound
 pub mod Appending
 pub mod ReadsNow
 pub mod Headlines
+pub mod Joined
 pub mod Lines
 pub mod Doomed
 pub mod LowRevisions
+pub mod Served
 pub mod MovingOn
 pub mod Failures
 pub mod Telling
+pub mod WrongFailures
 pub mod WorkedExamples

@@ -1,25 +1,24 @@
 -- A run's commits fail only as often as the store's revision grows since its start.
-use Rattle.std.proofs.Common.{◌≡◌, ℕ, ◌+◌, ◌<◌, ◌≤◌, zero, suc, List, [], ◌∷◌, ◌++◌, length, map, filter, Option, Some, None, Bool}
+use Rattle.std.proofs.Common.{◌≡◌, ℕ, ◌+◌, ◌<◌, ◌≤◌, zero, suc, List, [], ◌∷◌, ◌++◌, map, Some, Bool}
 use Rattle.std.proofs.Common.{true, false, cond, refl, sym, subst, arith}
-use Rattle.std.specs.Prelude.{nat_eq, nat_lt, min, fold, ◌&&◌, ◌||◌, bytes_eq, is_some, slice_get}
+use Rattle.std.specs.Prelude.{nat_eq, nat_lt, min, fold, ◌&&◌, ◌||◌, is_some, slice_get}
 use Rattle.std.specs.List.{AllByRecursion}
 use Rattle.std.proofs.lemmas.Bool.{ltb-true}
 use Rattle.stm_history.specs.declared.change.Change.{Change}
 use Rattle.stm_history.specs.declared.key_state.ReadAnswer.{ReadAnswer}
 use Rattle.stm_history.specs.declared.revisions.TheConstants.{HIGHEST_REVISION}
 use Rattle.stm_history.specs.History.{History, now, number_of_last, change_of}
-use Rattle.stm_program.specs.Syntax.{ProgramTree}
 use Rattle.stm_program.specs.declared.level.Level.{Level}
 use Rattle.stm_program.specs.declared.write.Write.{Write}
 use Rattle.stm_txn.specs.Commits.{revision_read}
 use Rattle.stm_compile.specs.Levels.{is_serializable}
-use Rattle.stm_compile.specs.Answers.{answer_in, answer_now}
+use Rattle.stm_compile.specs.Answers.{answer_now}
 use Rattle.stm_compile.specs.CommitTxn.{first_carried, reread_keys}
 use Rattle.stm_compile.specs.Conflicts.{Seen, seen_by, seen_of_read, seen_of_write, changes_above, IsChangedAbove}
-use Rattle.stm_attempt.specs.Known.{Known, serving, is_of_base}
-use Rattle.stm_attempt.specs.Settled.{run_on, wanted, answer_for, served, taken, settle}
+use Rattle.stm_attempt.specs.Known.{Known}
 use Rattle.stm_attempt.specs.Fetches.{base_of, at_of}
-use Rattle.stm_world.specs.Task.{Task, answer_at, with_served, after_fetch, after_conflict}
+use Rattle.stm_world.specs.Task.{Task, answer_at, after_fetch, after_conflict}
+use Rattle.stm_world.proofs.Served.{one_more, served_all}
 
 -- ---- answers of a revision on ----
 
@@ -32,51 +31,6 @@ AreFrom floor answers = AllByRecursion (IsFrom floor) answers
 
 abbrev pub KnowsFrom : ℕ → Known → Type 0
 KnowsFrom floor known = AreFrom floor known.reads × AreFrom floor known.prefetched
-
-one_more : (floor : ℕ) (answers : List ReadAnswer) (a : ReadAnswer) → AreFrom floor answers → IsFrom floor a → AreFrom floor (answers ++ a ∷ [])
-one_more floor [] a are is = (is, tt)
-one_more floor (x ∷ answers) a are is = (are.0, one_more floor answers a are.1 is)
-
-found_by : (floor : ℕ) (b : Bool) (x a : ReadAnswer) (rest : Option ReadAnswer) → IsFrom floor x → (rest ≡ Some a → IsFrom floor a) →
-    cond b (Some x) rest ≡ Some a → IsFrom floor a
-found_by floor true x a rest is later found = let same : x ≡ a = cc in subst (IsFrom floor) same is
-found_by floor false x a rest is later found = later found
-
-found_from : (floor : ℕ) (key : List ℕ) (answers : List ReadAnswer) (a : ReadAnswer) → AreFrom floor answers → answer_in key answers ≡ Some a → IsFrom floor a
-found_from floor key [] a are found = absurd (cc)
-found_from floor key (x ∷ answers) a are found =
-    found_by floor (bytes_eq x.key key) x a (answer_in key answers) are.0 (found_from floor key answers a are.1) found
-
-kept_by : (floor : ℕ) (b : Bool) (a : ReadAnswer) (rest : List ReadAnswer) → IsFrom floor a → AreFrom floor rest → AreFrom floor (cond b (a ∷ rest) rest)
-kept_by floor true a rest is are = (is, are)
-kept_by floor false a rest is are = are
-
-filtered_from : (floor : ℕ) (p : ReadAnswer → Bool) (answers : List ReadAnswer) → AreFrom floor answers → AreFrom floor (filter p answers)
-filtered_from floor p [] are = tt
-filtered_from floor p (a ∷ answers) are = kept_by floor (p a) a (filter p answers) are.0 (filtered_from floor p answers are.1)
-
-answered_from : (floor : ℕ) (key : Option (List ℕ)) (answers : List ReadAnswer) (a : ReadAnswer) → AreFrom floor answers →
-    answer_for key answers ≡ Some a → IsFrom floor a
-answered_from floor None answers a are found = absurd (cc)
-answered_from floor (Some key) answers a are found = found_from floor key answers a are found
-
-taken_from : (floor : ℕ) (again : List ReadAnswer → List ReadAnswer) (reads : List ReadAnswer) (o : Option ReadAnswer) →
-    ((more : List ReadAnswer) → AreFrom floor more → AreFrom floor (again more)) → ((a : ReadAnswer) → o ≡ Some a → IsFrom floor a) →
-    AreFrom floor reads → AreFrom floor (taken again reads o)
-taken_from floor again reads None goes new are = are
-taken_from floor again reads (Some a) goes new are = goes (reads ++ a ∷ []) (one_more floor reads a are (new a refl))
-
-settled_from : (floor n : ℕ) (program : ProgramTree) (prefetched reads : List ReadAnswer) → AreFrom floor prefetched → AreFrom floor reads →
-    AreFrom floor (settle n program prefetched reads)
-unfolding settle
-settled_from floor zero program prefetched reads p are = are
-settled_from floor (suc n) program prefetched reads p are =
-    taken_from floor (settle n program prefetched) reads (served program prefetched reads) (λ more. settled_from floor n program prefetched more p)
-    (λ a. answered_from floor (wanted (run_on program reads)) (serving reads prefetched) a (filtered_from floor (is_of_base reads) prefetched p)) are
-
-served_from : (floor : ℕ) (task : Task) (known : Known) → KnowsFrom floor known → KnowsFrom floor (with_served task known)
-served_from floor task known knows =
-    (settled_from floor (length known.prefetched) task.program known.prefetched known.reads knows.1 knows.0, knows.1)
 
 -- ---- a fetch ----
 
@@ -98,8 +52,8 @@ pub fetched_from : (floor : ℕ) (h : History) (task : Task) (key : List ℕ) (o
 fetched_from floor h task key of_rev known reached shows knows =
     let a : ReadAnswer = answer_at h key of_rev in
     let from : floor ≤ of_rev = subst (λ r. floor ≤ r) (sym shows) (base_from floor h task.level known.reads reached knows.0) in
-    served_from floor task (record { reads = known.reads ++ a ∷ []; prefetched = known.prefetched })
-    (one_more floor known.reads a knows.0 (from, reached), knows.1)
+    served_all (IsFrom floor) task (record { reads = known.reads ++ a ∷ []; prefetched = known.prefetched })
+    (one_more (IsFrom floor) known.reads a knows.0 (from, reached), knows.1)
 
 -- ---- a conflict ----
 
@@ -110,15 +64,15 @@ now_from floor h (key ∷ keys) reached = ((reached, reached), now_from floor h 
 pub conflicted_from : (floor : ℕ) (h : History) (task : Task) (known : Known) → floor ≤ now h → KnowsFrom floor (after_conflict task h known)
 conflicted_from floor h task known reached =
     let keys : List (List ℕ) = reread_keys task.level known.reads in
-    served_from floor task (record { reads = []; prefetched = map (answer_now h) keys }) (tt, now_from floor h keys reached)
+    served_all (IsFrom floor) task (record { reads = []; prefetched = map (answer_now h) keys }) (tt, now_from floor h keys reached)
 
 -- what a compare is about was seen at a revision not below this one
 abbrev SeenFrom : ℕ → List Seen → Type 0
 SeenFrom floor seen = AllByRecursion (λ (s : Seen). floor ≤ s.at) seen
 
-both_seen : (floor : ℕ) (xs ys : List Seen) → SeenFrom floor xs → SeenFrom floor ys → SeenFrom floor (xs ++ ys)
-both_seen floor [] ys first second = second
-both_seen floor (x ∷ xs) ys first second = (first.0, both_seen floor xs ys first.1 second)
+pub both_seen : (P : Seen → Type 0) (xs ys : List Seen) → AllByRecursion P xs → AllByRecursion P ys → AllByRecursion P (xs ++ ys)
+both_seen P [] ys first second = second
+both_seen P (x ∷ xs) ys first second = (first.0, both_seen P xs ys first.1 second)
 
 reads_seen : (floor : ℕ) (reads : List ReadAnswer) → AreFrom floor reads → SeenFrom floor (map seen_of_read reads)
 reads_seen floor [] are = tt
@@ -139,13 +93,13 @@ first_from floor (a ∷ reads) low are = least_from floor a.revision reads are.0
 
 seen_from : (floor : ℕ) (reads : List ReadAnswer) (writes : List Write) → floor ≤ HIGHEST_REVISION → AreFrom floor reads → SeenFrom floor (seen_by reads writes)
 seen_from floor reads writes low are =
-    both_seen floor (map seen_of_read reads) (map (seen_of_write (first_carried reads)) writes) (reads_seen floor reads are)
+    both_seen (λ (s : Seen). floor ≤ s.at) (map seen_of_read reads) (map (seen_of_write (first_carried reads)) writes) (reads_seen floor reads are)
     (writes_seen floor (first_carried reads) writes (first_from floor reads low are))
 
-seen_at_index : (floor : ℕ) (xs : List Seen) (index : ℕ) (seen : Seen) → SeenFrom floor xs → slice_get xs index ≡ Some seen → floor ≤ seen.at
-seen_at_index floor [] index seen all found = absurd (cc)
-seen_at_index floor (x ∷ xs) zero seen all found = let same : x ≡ seen = cc in subst (λ (s : Seen). floor ≤ s.at) same all.0
-seen_at_index floor (x ∷ xs) (suc index) seen all found = seen_at_index floor xs index seen all.1 found
+pub seen_at_index : (P : Seen → Type 0) (xs : List Seen) (index : ℕ) (seen : Seen) → AllByRecursion P xs → slice_get xs index ≡ Some seen → P seen
+seen_at_index P [] index seen all found = absurd (cc)
+seen_at_index P (x ∷ xs) zero seen all found = let same : x ≡ seen = cc in subst P same all.0
+seen_at_index P (x ∷ xs) (suc index) seen all found = seen_at_index P xs index seen all.1 found
 
 -- a history that changes a key above a revision is above that
 above_by : (opening r : ℕ) (above here later : Bool) (changes : List Change) (older : List (List Change)) →
@@ -157,7 +111,7 @@ above_by opening r false here later changes older is goes changed =
     let step : number_of_last opening (changes ∷ older) ≡ number_of_last opening older + 1 = omega arith in
     omega arith
 
-above_all : (opening r : ℕ) (key : List ℕ) (revisions : List (List Change)) → changes_above opening r key revisions ≡ true →
+pub above_all : (opening r : ℕ) (key : List ℕ) (revisions : List (List Change)) → changes_above opening r key revisions ≡ true →
     r < number_of_last opening revisions
 above_all opening r key [] changed = absurd (cc)
 above_all opening r key (changes ∷ older) changed =
@@ -168,6 +122,6 @@ above_all opening r key (changes ∷ older) changed =
 pub conflict_moves_on : (floor : ℕ) (h : History) (reads : List ReadAnswer) (writes : List Write) (seen : Seen) (index : ℕ) (key : List ℕ) →
     floor ≤ HIGHEST_REVISION → AreFrom floor reads → slice_get (seen_by reads writes) index ≡ Some seen → IsChangedAbove h seen.at key → floor + 1 ≤ now h
 conflict_moves_on floor h reads writes seen index key low are among changed =
-    let from : floor ≤ seen.at = seen_at_index floor (seen_by reads writes) index seen (seen_from floor reads writes low are) among in
+    let from : floor ≤ seen.at = seen_at_index (λ (s : Seen). floor ≤ s.at) (seen_by reads writes) index seen (seen_from floor reads writes low are) among in
     let above : seen.at < now h = above_all h.opening seen.at key h.revisions changed in
     omega arith

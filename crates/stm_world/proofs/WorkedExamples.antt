@@ -1,19 +1,54 @@
--- Worked examples of watchers, computed by the definition of the world's step.
-use Rattle.std.proofs.Common.{◌≡◌, refl, ℕ, List, [], ◌∷◌, Ok}
-use Rattle.std.specs.Prelude.{codes, Result}
+-- Worked examples of watchers, of attempts that come to nothing and of entries that are appended, computed by the definitions.
+use Rattle.std.proofs.Common.{◌≡◌, refl, arith, ℕ, ◌+◌, ◌<◌, ◌≤◌, List, [], ◌∷◌, ◌++◌, Some, None, Ok, true}
+use Rattle.std.specs.Prelude.{codes, pos, Result}
+use Rattle.stm_history.specs.declared.change.Change.TheVariants.{Put as PutChange}
+use Rattle.stm_history.specs.declared.revisions.TheConstants.{HIGHEST_REVISION}
 use Rattle.stm_history.specs.declared.key_state.KeyState.{KeyState}
+use Rattle.stm_history.specs.History.{now}
 use Rattle.stm_keys.specs.declared.event.Event.TheVariants.{Put as PutEvent}
+use Rattle.stm_program.specs.Syntax.{ProgramTree, of_statements, Expression, End as EndBlock, Then, Text, Number, Get, NumOf, Arithmetic}
+use Rattle.stm_program.specs.Syntax.{Put as PutStatement, Emit, Abort}
+use Rattle.stm_program.specs.Writes.{last_write, latest_writes}
+use Rattle.stm_program.specs.declared.operator.Operator.TheVariants.{Add, Sub, Div}
+use Rattle.stm_program.specs.declared.level.Level.{Level}
+use Rattle.stm_program.specs.declared.level.Level.TheVariants.{Serializable, RepeatableReads}
+use Rattle.stm_program.specs.declared.write.Write.TheVariants.{Put as PutWrite}
+use Rattle.stm_steps.specs.Session.{fresh}
+use Rattle.stm_steps.specs.Steps.{get_key}
+use Rattle.stm_steps.specs.Values.{text_in, key_in, num_of, written_number, arithmetic, computed, put_of}
+use Rattle.stm_meaning.specs.declared.fault.Fault.TheVariants.{ZeroDivisor}
+use Rattle.stm_meaning.specs.declared.value.Value.TheVariants.{Number as NumberValue}
+use Rattle.stm_meaning.specs.declared.trace_item.TraceItem.{TraceItem}
+use Rattle.stm_meaning.specs.declared.trace_item.TraceItem.TheVariants as seen
+use Rattle.stm_meaning.specs.declared.run.End.TheVariants.{Done, Aborted as AbortedEnd, Faulted as FaultedEnd}
+use Rattle.stm_meaning.specs.declared.run.Run.{Run}
+use Rattle.stm_meaning.specs.declared.run.Answered.TheVariants.{Ended as EndedRun}
+use Rattle.stm_meaning.specs.Meaning.{evaluate, run_block, run_over}
+use Rattle.stm_compile.specs.Answers.{state_now}
+use Rattle.stm_attempt.specs.Settled.{settle}
 use Rattle.stm_txn.specs.declared.txn.Op.{Op}
 use Rattle.stm_txn.specs.declared.txn.Op.TheVariants.{Put}
+use Rattle.stm_txn.specs.declared.answer.OpAnswer.TheVariants.{Put as PutAnswer}
 use Rattle.stm_txn.specs.declared.refusal.Refusal.TheVariants.{NoWatcher, EmptyKey}
+use Rattle.stm_entries.specs.declared.entry.Entry.{Entry}
+use Rattle.stm_entries.specs.declared.entry.Entry.TheVariants.{Program}
 use Rattle.stm_world.specs.declared.event.WorldEvent.{WorldEvent}
-use Rattle.stm_world.specs.declared.event.WorldEvent.TheVariants.{Txn, WatchKey, WatchRange, Poll, Cancel}
+use Rattle.stm_world.specs.declared.event.WorldEvent.TheVariants.{Start, Step, Txn, WatchKey, WatchRange, Poll, Cancel}
 use Rattle.stm_world.specs.declared.reply.Reply.{Reply}
-use Rattle.stm_world.specs.declared.reply.Reply.TheVariants.{Watching, Batch}
+use Rattle.stm_world.specs.declared.reply.Reply.TheVariants.{Started, Fetched, Committed, Conflict, GaveUp, Aborted, Faulted, Txn as TxnDone, Watching, Batch}
 use Rattle.stm_world.specs.declared.refusal.Denied.{Denied}
 use Rattle.stm_world.specs.declared.refusal.Refusal.TheVariants.{Store}
 use Rattle.stm_world.specs.Told.{denied}
-use Rattle.stm_world.specs.World.{opened, step, world_after}
+use Rattle.stm_world.specs.Task.{Task}
+use Rattle.stm_world.specs.Log.{Line, store}
+use Rattle.stm_world.specs.World.{World, opened, start_runner, fetch, commit, step_live, step, world_after, replies_to}
+use Rattle.stm_world.specs.Doomed.{log_of, FailedCommit, IsRealFailure, IsRealStop, since, failed_commits}
+use Rattle.stm_world.specs.Appended.{HasAppended}
+use Rattle.stm_world.specs.WrongFailures.{WrongFailures}
+use Rattle.stm_compile.proofs.AgreeLemmas.{commit_is_the_run_now}
+use Rattle.stm_compile.proofs.ConflictLemmas.{failed_compares_conflict}
+use Rattle.stm_world.proofs.Failures.{failures_move_on}
+use Rattle.stm_world.proofs.WrongFailures.{wrong_failures}
 
 -- a put that needs nothing
 abbrev put : List ℕ → Op
@@ -77,3 +112,244 @@ end_is_not_watched = refl
 
 end_at_first : reply_after (WatchRange (codes "b") (codes "b") 0 ∷ puts (put (codes "b") ∷ []) ∷ []) (Poll 1 1) ≡ Ok (Batch 1 2 [])
 end_at_first = refl
+
+-- ---- attempts that come to nothing: both keys are put twice, and a runner reads one before, and one after
+
+abbrev both_put : List ℕ → WorldEvent
+both_put value = puts (Put (codes "x") value 0 ∷ Put (codes "y") value 0 ∷ [])
+
+abbrev both_are_put : ℕ → Result Reply Denied
+both_are_put revision =
+    Ok (TxnDone (record { succeeded = true; revision = revision; answers = PutAnswer ∷ PutAnswer ∷ []; failed = None }))
+
+abbrev number_in : List ℕ → Expression
+number_in key = NumOf (Get (Text key))
+
+-- emits 1 divided by 1 + x - y: where x and y never differ it divides by 1
+abbrev quotient : ProgramTree
+quotient = of_statements (Then (Emit (Arithmetic Div (Number (pos 1))
+    (Arithmetic Add (Number (pos 1)) (Arithmetic Sub (number_in (codes "x")) (number_in (codes "y")))))) EndBlock)
+
+abbrev raced : Level → ℕ → List WorldEvent
+raced level limit = both_put (codes "1") ∷ Start quotient level limit ∷ Step 1 ∷ both_put (codes "2") ∷ Step 1 ∷ Step 1 ∷ []
+
+abbrev both_seen : List ℕ → List TraceItem
+both_seen value = seen.Get (codes "x") value ∷ seen.Get (codes "y") value ∷ []
+
+-- at serializable the sixth reply is a conflict over x, seen at 2 and now at 3, and the attempt after it commits
+conflict_is_told : replies_to (raced Serializable 2 ++ Step 1 ∷ []) (opened 1)
+    ≡ both_are_put 2 ∷ Ok (Started 1) ∷ Ok (Fetched 1 (codes "x") 2 2 2) ∷ both_are_put 3 ∷ Ok (Fetched 1 (codes "y") 2 2 3)
+    ∷ Ok (Conflict 1 (codes "x") 2 3) ∷ Ok (Committed 1 3 2 (NumberValue (pos 1) ∷ []) (both_seen (codes "2")) []) ∷ []
+unfolding start_runner fetch commit step_live settle run_over run_block evaluate key_in num_of written_number arithmetic computed get_key last_write latest_writes fresh
+conflict_is_told = refl
+
+-- where it may send one commit it gives up over the same key
+gives_up : replies_to (raced Serializable 1) (opened 1)
+    ≡ both_are_put 2 ∷ Ok (Started 1) ∷ Ok (Fetched 1 (codes "x") 2 2 2) ∷ both_are_put 3 ∷ Ok (Fetched 1 (codes "y") 2 2 3)
+    ∷ Ok (GaveUp 1 1 (codes "x") 2 3) ∷ []
+unfolding start_runner fetch commit step_live settle run_over run_block evaluate key_in num_of written_number arithmetic computed get_key last_write latest_writes fresh
+gives_up = refl
+
+-- at repeatable reads the second read is of the later revision, and the torn read divides by 0: the laws say nothing of it
+torn_read_faults : replies_to (raced RepeatableReads 1) (opened 1)
+    ≡ both_are_put 2 ∷ Ok (Started 1) ∷ Ok (Fetched 1 (codes "x") 2 2 2) ∷ both_are_put 3 ∷ Ok (Fetched 1 (codes "y") 3 3 3)
+    ∷ Ok (Faulted 1 ZeroDivisor) ∷ []
+unfolding start_runner fetch commit step_live settle run_over run_block evaluate key_in num_of written_number arithmetic computed get_key last_write latest_writes fresh
+torn_read_faults = refl
+
+-- ---- the conflict is a real one
+
+abbrev line : WorldEvent → Result Reply Denied → Line
+line event reply = record { event = event; reply = reply }
+
+-- the lines of two reads
+abbrev two_reads : Level → ℕ → ℕ → List Line
+two_reads level limit revision =
+    line (Step 1) (Ok (Fetched 1 (codes "y") revision revision 3)) ∷ line (both_put (codes "2")) (both_are_put 3)
+    ∷ line (Step 1) (Ok (Fetched 1 (codes "x") 2 2 2)) ∷ line (Start quotient level limit) (Ok (Started 1))
+    ∷ line (both_put (codes "1")) (both_are_put 2) ∷ []
+
+abbrev quotient_run : Run
+quotient_run = record {
+  end = Done;
+  output = NumberValue (pos 1) ∷ [];
+  trace = both_seen (codes "1");
+  writes = [];
+  reads = codes "x" ∷ codes "y" ∷ [];
+}
+
+abbrev over_x : FailedCommit
+over_x = record { runner = 1; key = codes "x"; seen = 2; now_modified = 3 }
+
+conflict_is_real : IsRealFailure 1 (two_reads Serializable 2 2) over_x
+unfolding settle run_over run_block evaluate key_in num_of written_number arithmetic computed get_key last_write latest_writes fresh
+conflict_is_real = record {
+  task = record { program = quotient; level = Serializable; limit = 2 };
+  runs = refl;
+  run = quotient_run;
+  is_run = refl;
+  is_done = refl;
+  conflict = record {
+    compare = record { index = 0; mod_rev = 3 };
+    fails = refl;
+    seen = record { key = codes "x"; mod_rev = 2; at = 2 };
+    about = refl;
+    key = refl;
+    was = refl;
+    is = refl;
+    changed = refl;
+  };
+}
+
+-- ---- failures and revisions
+
+-- the runner was started at revision 2
+abbrev failed_once : List Line
+failed_once = line (Step 1) (Ok (Conflict 1 (codes "x") 2 3)) ∷ two_reads Serializable 2 2
+
+failed_once_is_told : log_of 1 (raced Serializable 2) ≡ failed_once
+unfolding start_runner fetch commit step_live settle run_over run_block evaluate key_in num_of written_number arithmetic computed get_key last_write latest_writes fresh
+failed_once_is_told = refl
+
+one_failure : (since 1 1 failed_once ≡ 2) × (failed_commits 1 failed_once ≡ 1) × (now (store 1 failed_once).history ≡ 3)
+one_failure = (refl, refl, refl)
+
+-- a give-up counts, too
+one_give_up : failed_commits 1 (line (Step 1) (Ok (GaveUp 1 1 (codes "x") 2 3)) ∷ two_reads Serializable 1 2) ≡ 1
+one_give_up = refl
+
+-- a change of another key leaves room
+with_room : now (store 1 (line (puts (put (codes "z") ∷ []))
+    (Ok (TxnDone (record { succeeded = true; revision = 4; answers = PutAnswer ∷ []; failed = None }))) ∷ failed_once)).history ≡ 4
+with_room = refl
+
+-- ---- an abort of an earlier state
+
+abbrev abort_with_x : ProgramTree
+abort_with_x = of_statements (Then (Abort (Get (Text (codes "x")))) EndBlock)
+
+abbrev abort_task : Task
+abort_task = record { program = abort_with_x; level = Serializable; limit = 1 }
+
+abbrev before_abort : List Line
+before_abort =
+    line (both_put (codes "2")) (both_are_put 3) ∷ line (Step 1) (Ok (Fetched 1 (codes "x") 2 2 2))
+    ∷ line (Start abort_with_x Serializable 1) (Ok (Started 1)) ∷ line (both_put (codes "1")) (both_are_put 2) ∷ []
+
+earlier_abort_is_told :
+    log_of 1 (both_put (codes "1") ∷ Start abort_with_x Serializable 1 ∷ Step 1 ∷ both_put (codes "2") ∷ Step 1 ∷ [])
+    ≡ line (Step 1) (Ok (Aborted 1 (codes "1"))) ∷ before_abort
+unfolding start_runner fetch commit step_live settle run_over run_block evaluate key_in text_in get_key last_write fresh
+earlier_abort_is_told = refl
+
+abbrev abort_run : List ℕ → Run
+abort_run value =
+    record { end = AbortedEnd value; output = []; trace = seen.Get (codes "x") value ∷ []; writes = []; reads = codes "x" ∷ [] }
+
+-- alone on the current state it would abort with another text
+other_text_now : run_over (state_now (store 1 before_abort).history) abort_with_x.statements ≡ EndedRun (abort_run (codes "2"))
+unfolding run_over run_block evaluate key_in text_in get_key last_write fresh
+other_text_now = refl
+
+one_of_two : 1 ≤ 2
+one_of_two = omega arith
+
+two_of_three : 2 ≤ 3
+two_of_three = omega arith
+
+earlier_abort_is_real : IsRealStop 1 before_abort (record { runner = 1; end = AbortedEnd (codes "1") })
+unfolding settle run_over run_block evaluate key_in text_in get_key last_write fresh
+earlier_abort_is_real = record {
+  task = abort_task;
+  runs = refl;
+  of_one_state = λ serializable. record {
+    state = record {
+      one_revision = (one_of_two, tt);
+      truth = (record { reached = two_of_three; shown = refl }, tt);
+      continued = refl;
+    };
+    reached = two_of_three;
+    run = abort_run (codes "1");
+    is_run = refl;
+    alone = refl;
+    ends = refl;
+  };
+}
+
+-- ---- failures and ends that are none
+
+abbrev wrong : WrongFailures
+wrong = wrong_failures (failures_move_on (record { run_now = commit_is_the_run_now; conflicts = failed_compares_conflict }))
+
+-- a conflict over a key that was never read
+unread_key : IsRealFailure 1 (two_reads Serializable 2 2) (record { runner = 1; key = codes "z"; seen = 0; now_modified = 3 }) → ⊥
+unfolding settle run_over run_block evaluate key_in num_of written_number arithmetic computed get_key last_write fresh
+unread_key =
+    wrong.never_read 1 (two_reads Serializable 2 2) (record { program = quotient; level = Serializable; limit = 2 })
+    (record { runner = 1; key = codes "z"; seen = 0; now_modified = 3 }) refl (λ same. cc) refl
+
+-- the fault of a torn read, told at serializable
+torn_read : IsRealStop 1 (two_reads Serializable 2 3) (record { runner = 1; end = FaultedEnd ZeroDivisor }) → ⊥
+unfolding settle run_over run_block evaluate key_in num_of written_number arithmetic computed get_key last_write fresh
+torn_read =
+    wrong.torn_read 1 (two_reads Serializable 2 3) (record { program = quotient; level = Serializable; limit = 2 })
+    (record { runner = 1; end = FaultedEnd ZeroDivisor }) (codes "x") (codes "y")
+    (record { key = codes "x"; kv = Some (first_put 2); of_rev = 2; revision = 2 })
+    (record { key = codes "y"; kv = Some (record { value = codes "2"; create_rev = 2; mod_rev = 3; version = 2; lease = 0 }); of_rev = 3; revision = 3 })
+    refl refl refl refl (λ same. let torn : 2 ≡ 3 = same in omega (arith, torn))
+
+-- the commit after the conflict, told as a second one
+second_conflict : (events : List WorldEvent) → log_of 1 events ≡ line (Step 1) (Ok (Conflict 1 (codes "x") 2 3)) ∷ failed_once → ⊥
+second_conflict events =
+    let low : 1 ≤ HIGHEST_REVISION = omega arith in
+    let below : 3 < 2 + 2 = omega arith in
+    wrong.more_failures_than_growth 1 events (line (Step 1) (Ok (Conflict 1 (codes "x") 2 3)) ∷ failed_once) 1
+    (record { program = quotient; level = Serializable; limit = 2 }) low refl below
+
+-- ---- entries are appended to those of a world that has run before
+
+abbrev copy : ProgramTree
+copy = of_statements (Then (PutStatement (Text (codes "z")) (Get (Text (codes "x"))) 0) EndBlock)
+
+abbrev with_x : World
+with_x = world_after (puts (put (codes "x") ∷ []) ∷ []) (opened 1)
+
+abbrev copied : World
+copied = world_after (Start copy Serializable 1 ∷ Step 1 ∷ Step 1 ∷ []) with_x
+
+abbrev copy_entry : Entry
+copy_entry = Program copy Serializable [] [] (seen.Get (codes "x") (codes "1") ∷ []) 3
+
+copy_is_appended : HasAppended with_x copied
+unfolding start_runner fetch commit step_live settle run_over run_block evaluate key_in put_of get_key last_write latest_writes fresh
+copy_is_appended = record {
+  more = copy_entry ∷ [];
+  entries = refl;
+  legal = (
+    record {
+      run = record {
+        end = Done;
+        output = [];
+        trace = seen.Get (codes "x") (codes "1") ∷ [];
+        writes = PutWrite (codes "z") (codes "1") 0 ∷ [];
+        reads = codes "x" ∷ [];
+      };
+      is_run = refl;
+      is_done = refl;
+      emits = refl;
+      sees = refl;
+      reads_truth = refl;
+      done = record {
+        answer = record { succeeded = true; revision = 3; answers = PutAnswer ∷ []; failed = None };
+        history = record {
+          opening = 1;
+          revisions = (PutChange (codes "z") (codes "1") 0 ∷ []) ∷ (PutChange (codes "x") (codes "1") 0 ∷ []) ∷ [];
+        };
+      };
+      applies = refl;
+      reached = refl;
+    },
+    tt,
+  );
+  replays = refl;
+}

@@ -9,6 +9,8 @@ pub mod Sound
 pub mod Appended
 pub mod ReadsNow
 pub mod Headline
+pub mod Joined
 pub mod Doomed
 pub mod WrongLogs
 pub mod Telling
+pub mod WrongFailures

@@ -3,8 +3,10 @@ ghost use Rattle.stm_world.specs.Appended.{EventsAppend};
 ghost use Rattle.stm_world.specs.Asked.{AnswersAreTheReads};
 ghost use Rattle.stm_world.specs.Doomed.{FailuresAreConflicts, FailuresMoveOn, StopsAreOfOneState};
 ghost use Rattle.stm_world.specs.Headline.{Headline, OneState, ReadOnce};
+ghost use Rattle.stm_world.specs.Joined.{RunsGoOn};
 ghost use Rattle.stm_world.specs.Sound.{WorldsAreSound};
 ghost use Rattle.stm_world.specs.Telling.{WatchersAreTold};
+ghost use Rattle.stm_world.specs.WrongFailures.{WrongFailures, WrongRuns};
 ghost use Rattle.stm_world.specs.WrongLogs.{WrongLogs};
 
 /// The headline. Over every list of events, in any interleaving of any number of runners, from every
@@ -16,6 +18,12 @@ ghost use Rattle.stm_world.specs.WrongLogs.{WrongLogs};
 /// answers that it read; a commit that fails changes nothing; and a refusal comes only for its cause.
 pub fn headline()
     ensures { Headline }
+{}
+
+/// Later events are run from the world that earlier ones lead to: their replies stand behind the earlier ones, and so do
+/// their lines in a log. So what holds of every list of events holds at each point within one.
+pub fn runs_go_on()
+    ensures { RunsGoOn }
 {}
 
 /// What an attempt at a serializable level has read is true, and of one revision, also where its commit will
@@ -59,6 +67,16 @@ pub fn wrong_logs_are_none()
     ensures { WrongLogs }
 {}
 
+/// Some failures and ends that are none: a failed commit of a runner that does not run, of a program that is not done, at ReadCommitted,
+/// over a key that was never read (at serializable snapshot, neither read nor written), or over one that is as it was seen; more of them
+/// than revisions since the run's start; an abort or a fault of a runner that does not run, or, at a serializable level, on a torn read.
+///
+/// Nor is a failed commit over a key that is present, whose modification revision now is not above what was seen of it, nor an end at a
+/// serializable level to which the program alone on the state at its one revision does not come.
+pub fn wrong_failures_are_none()
+    ensures { WrongFailures }
+{}
+
 /// A world opens sound, and every step keeps it so: its entries replay to its store, each legal at its point,
 /// and what each runner that has not ended has read, or has prefetched for it, is true of the store's
 /// history. So does an advance that was cut short after some expiries.
@@ -72,6 +90,12 @@ pub fn worlds_are_sound()
 /// point, from the store as it was, and replay to the store as it is.
 pub fn events_append()
     ensures { EventsAppend }
+{}
+
+/// Some worlds to which no events lead from an earlier one: an entry that was there is gone, or is another; the history or the live
+/// leases have changed, and no entry says so.
+pub fn wrong_runs_are_none()
+    ensures { WrongRuns }
 {}
 
 /// Where a program's run ends on answers each of which was added when the run wanted its key, the keys of the

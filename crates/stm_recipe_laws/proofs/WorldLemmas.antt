@@ -1,0 +1,73 @@
+-- Recipes over all that happens in a world.
+use Rattle.std.proofs.Common.{◌≡◌, ℕ, ◌<◌, List, [], ◌∷◌, ◌++◌, length, Some, refl, sym, ◌∙◌, ap, subst, arith}
+use Rattle.std.specs.Prelude.{ℤ, ◌+ℤ◌}
+use Rattle.stm_compile.proofs.AgreeLemmas.{commit_is_the_run_now}
+use Rattle.stm_compile.proofs.ConflictLemmas.{failed_compares_conflict}
+use Rattle.stm_entries.specs.declared.entry.Entry.{Entry}
+use Rattle.stm_entries.specs.Legal.{AreLegal}
+use Rattle.stm_entries.specs.Replay.{replay, replay_entry}
+use Rattle.stm_entries.specs.Replayed.{Replayed, opening, without_moment}
+use Rattle.stm_entries.proofs.Replaying.{replay_goes_on, all_legal, front_legal, rest_legal}
+use Rattle.stm_world.specs.declared.event.WorldEvent.{WorldEvent}
+use Rattle.stm_world.specs.World.{opened, world_after}
+use Rattle.stm_world.proofs.Headlines.{headline}
+use Rattle.stm_recipe_laws.specs.Accounts.{total_now, AreAccounts, AreOfAccounts, deposits_of}
+use Rattle.stm_recipe_laws.specs.Queues.{Absent, HoldsItems, AreOfQueue, all_added, all_taken, Kept}
+use Rattle.stm_recipe_laws.specs.Slots.{IsReservation, AreOfSlot, IsFreed}
+use Rattle.stm_recipe_laws.specs.Worlds.{entries_after, history_after, RecipesInWorlds}
+use Rattle.stm_recipe_laws.proofs.AccountLemmas.{totals_grow_by_deposits}
+use Rattle.stm_recipe_laws.proofs.QueueLemmas.{queues_keep_their_items}
+use Rattle.stm_recipe_laws.proofs.SlotLemmas.{slots_are_freed_between}
+
+-- the entries of a world are legal and lead to its store
+record Leads (start : ℕ) (events : List WorldEvent) : Type 0 where
+  legal : AreLegal (entries_after start events) (opening start)
+  replays : replay (entries_after start events) (opening start) ≡ without_moment (world_after events (opened start)).standing
+
+leads : (start : ℕ) (events : List WorldEvent) → Leads start events
+leads start events =
+    let h = headline (record { run_now = commit_is_the_run_now; conflicts = failed_compares_conflict }) start events in
+    record { legal = h.legal; replays = h.replays }
+
+totals : (start : ℕ) (events : List WorldEvent) (accounts : List (List ℕ)) (front rest : List Entry) (total : ℤ) → AreAccounts accounts →
+    entries_after start events ≡ front ++ rest → (of : AreOfAccounts accounts rest (replay front (opening start))) →
+    total_now (replay front (opening start)).history accounts ≡ Some total →
+    total_now (history_after start events) accounts ≡ Some (total +ℤ deposits_of accounts rest (replay front (opening start)) of)
+totals start events accounts front rest total are parts of sums =
+    let l : Leads start events = leads start events in
+    let at : Replayed = replay front (opening start) in
+    let legal : AreLegal rest at = rest_legal front rest (opening start) (subst (λ (es : List Entry). AreLegal es (opening start)) parts l.legal) in
+    ap (λ (r : Replayed). total_now r.history accounts)
+    (sym l.replays ∙ ap (λ (es : List Entry). replay es (opening start)) parts ∙ replay_goes_on front rest (opening start))
+    ∙ totals_grow_by_deposits.grows accounts rest at total are legal of sums
+
+-- a queue of a store that opens holds nothing
+holds_nothing : (start : ℕ) (queue : List ℕ) → HoldsItems (opening start).history queue []
+holds_nothing start queue =
+    record { head = 0; tail = 0; is_head = Absent refl refl; is_tail = Absent refl refl; in_range = omega arith; count = refl; each = tt }
+
+items : (start : ℕ) (events : List WorldEvent) (queue : List ℕ) → 0 < length queue → (of : AreOfQueue queue (entries_after start events) (opening start)) →
+    Kept queue [] (all_taken queue (entries_after start events) (opening start) of) (all_added queue (entries_after start events) (opening start) of)
+    (history_after start events)
+items start events queue named of =
+    let l : Leads start events = leads start events in
+    let es : List Entry = entries_after start events in
+    subst (λ (r : Replayed). Kept queue [] (all_taken queue es (opening start) of) (all_added queue es (opening start) of) r.history) l.replays
+    (queues_keep_their_items queue es (opening start) [] named l.legal of (holds_nothing start queue))
+
+holders : (start : ℕ) (events : List WorldEvent) (slot : List ℕ) (front between rest : List Entry) (first second : Entry) → 0 < length slot →
+    entries_after start events ≡ front ++ (first ∷ between ++ second ∷ rest) → IsReservation slot first → IsReservation slot second →
+    AreOfSlot slot between (replay_entry first (replay front (opening start))) →
+    IsFreed slot between (replay_entry first (replay front (opening start)))
+holders start events slot front between rest first second named parts reserves again of =
+    let l : Leads start events = leads start events in
+    let at : Replayed = replay front (opening start) in
+    let after : Replayed = replay_entry first at in
+    let legal : AreLegal (first ∷ between ++ second ∷ rest) at =
+    rest_legal front (first ∷ between ++ second ∷ rest) (opening start) (subst (λ (es : List Entry). AreLegal es (opening start)) parts l.legal) in
+    let both : AreLegal (between ++ second ∷ []) after =
+    all_legal between (second ∷ []) after (front_legal between (second ∷ rest) after legal.1) ((rest_legal between (second ∷ rest) after legal.1).0, tt) in
+    slots_are_freed_between slot first second between at named (legal.0, both) reserves again of
+
+pub recipes_in_worlds : RecipesInWorlds
+recipes_in_worlds = record { totals = totals; items = items; holders = holders }

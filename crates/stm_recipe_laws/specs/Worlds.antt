@@ -1,0 +1,36 @@
+-- Recipes over all that happens in a world, from the opening of its store on.
+use Rattle.std.specs.Prelude.{◌≡◌, ℕ, ◌<◌, ℤ, ◌+ℤ◌, List, [], ◌∷◌, ◌++◌, length, Some}
+use Rattle.stm_history.specs.History.{History}
+use Rattle.stm_entries.specs.declared.entry.Entry.{Entry}
+use Rattle.stm_entries.specs.Replayed.{opening}
+use Rattle.stm_entries.specs.Replay.{replay, replay_entry}
+use Rattle.stm_world.specs.declared.event.WorldEvent.{WorldEvent}
+use Rattle.stm_world.specs.World.{opened, world_after}
+use Rattle.stm_recipe_laws.specs.Accounts.{total_now, AreAccounts, AreOfAccounts, deposits_of}
+use Rattle.stm_recipe_laws.specs.Queues.{AreOfQueue, all_added, all_taken, Kept}
+use Rattle.stm_recipe_laws.specs.Slots.{IsReservation, AreOfSlot, IsFreed}
+
+-- the entries of a world whose store opened at a revision, after these events
+abbrev pub entries_after : ℕ → List WorldEvent → List Entry
+entries_after start events = (world_after events (opened start)).entries
+
+-- the history of its store
+abbrev pub history_after : ℕ → List WorldEvent → History
+history_after start events = (world_after events (opened start)).standing.history
+
+pub record RecipesInWorlds : Type 0 where
+  -- from the point on where each account has a number, the total grows by the deposits
+  pub totals : (start : ℕ) (events : List WorldEvent) (accounts : List (List ℕ)) (front rest : List Entry) (total : ℤ) → AreAccounts accounts
+      → entries_after start events ≡ front ++ rest → (of : AreOfAccounts accounts rest (replay front (opening start)))
+      → total_now (replay front (opening start)).history accounts ≡ Some total
+      → total_now (history_after start events) accounts ≡ Some (total +ℤ deposits_of accounts rest (replay front (opening start)) of)
+  -- the items that were taken, and then those that the queue holds, are those that were added, in order
+  pub items : (start : ℕ) (events : List WorldEvent) (queue : List ℕ) → 0 < length queue
+      → (of : AreOfQueue queue (entries_after start events) (opening start))
+      → Kept queue [] (all_taken queue (entries_after start events) (opening start) of) (all_added queue (entries_after start events) (opening start) of)
+      (history_after start events)
+  -- between two reservations of a slot it is freed
+  pub holders : (start : ℕ) (events : List WorldEvent) (slot : List ℕ) (front between rest : List Entry) (first second : Entry) → 0 < length slot
+      → entries_after start events ≡ front ++ (first ∷ between ++ second ∷ rest) → IsReservation slot first → IsReservation slot second
+      → AreOfSlot slot between (replay_entry first (replay front (opening start)))
+      → IsFreed slot between (replay_entry first (replay front (opening start)))

@@ -1,5 +1,6 @@
 //! From the bytes of a scenario and of a report to what the check comes to.
-ghost use Rattle.std.specs.Prelude.{◌≡◌, false};
+ghost use Rattle.std.specs.Prelude.{◌≡◌, ◌≤◌, ◌+◌, false};
+ghost use Rattle.stm_devices.specs.declared.transfer.TheConstants.{MOST_READ};
 ghost use Rattle.stm_check.specs.Judging.{HasRead, ReadsScenario, ReadsReport, Judges};
 
 use crate::checking::{Checked, check};
@@ -29,7 +30,8 @@ pub enum CheckFault {
 /// The bytes of a source, up to so many as `stm_devices::MOST_READ`.
 fn bytes_of<S: Source>(alloc: Global, source: &mut S) -> Result<Vec<u8>, CheckFault>
     requires { S.failed source.old ≡ false }
-    ensures { HasRead (λ bytes. bytes.items) (S.left source.old) (S.failed source.new) result }
+    ensures bytes { HasRead (λ bytes. bytes.items) (S.left source.old) (S.failed source.new) result }
+    ensures bounded { S.reads source.new ≤ S.reads source.old + MOST_READ }
 {
     match read_all(alloc, source) {
         Ok(bytes) => Ok(bytes),
@@ -41,7 +43,8 @@ fn bytes_of<S: Source>(alloc: Global, source: &mut S) -> Result<Vec<u8>, CheckFa
 /// The scenario of a source.
 fn scenario_of<S: Source>(alloc: Global, source: &mut S) -> Result<Scenario, CheckFault>
     requires { S.failed source.old ≡ false }
-    ensures { ReadsScenario (S.left source.old) (S.failed source.new) result }
+    ensures scenario { ReadsScenario (S.left source.old) (S.failed source.new) result }
+    ensures bounded { S.reads source.new ≤ S.reads source.old + MOST_READ }
 {
     let bytes = match bytes_of(alloc, source) {
         Ok(bytes) => bytes,
@@ -57,7 +60,8 @@ fn scenario_of<S: Source>(alloc: Global, source: &mut S) -> Result<Scenario, Che
 /// The report of a source.
 fn report_of<S: Source>(alloc: Global, source: &mut S) -> Result<Report, CheckFault>
     requires { S.failed source.old ≡ false }
-    ensures { ReadsReport (S.left source.old) (S.failed source.new) result }
+    ensures report { ReadsReport (S.left source.old) (S.failed source.new) result }
+    ensures bounded { S.reads source.new ≤ S.reads source.old + MOST_READ }
 {
     let bytes = match bytes_of(alloc, source) {
         Ok(bytes) => bytes,
@@ -74,7 +78,7 @@ fn report_of<S: Source>(alloc: Global, source: &mut S) -> Result<Report, CheckFa
 ///
 /// Neither source has failed before. It fails as `BadScenario` with the scenario's first fault, and then the report is
 /// not read; as `BadReport` with the report's first fault; as `OutOfMemory` where a growth was refused; and as `Device`
-/// exactly where a source has failed. At most 16777217 bytes of each are read.
+/// exactly where a source has failed. At most 16777217 bytes of each are read, in at most so many reads of each.
 pub fn check_sources<S: Source, R: Source>(
     alloc: Global,
     scenario: &mut S,
@@ -82,12 +86,14 @@ pub fn check_sources<S: Source, R: Source>(
 ) -> Result<Checked, CheckFault>
     requires scenario_works { S.failed scenario.old ≡ false }
     requires report_works { R.failed report.old ≡ false }
-    ensures { Judges (record {
+    ensures judged { Judges (record {
       scenario = S.left scenario.old;
       report = R.left report.old;
       scenario_failed = S.failed scenario.new;
       report_failed = R.failed report.new;
     }) result }
+    ensures scenario_bounded { S.reads scenario.new ≤ S.reads scenario.old + MOST_READ }
+    ensures report_bounded { R.reads report.new ≤ R.reads report.old + MOST_READ }
 {
     let scenario = match scenario_of(alloc, scenario) {
         Ok(scenario) => scenario,

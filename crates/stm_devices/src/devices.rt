@@ -1,5 +1,5 @@
 //! Where bytes come from, and where they go.
-ghost use Rattle.std.specs.Prelude.{◌≡◌, ◌<◌, ℕ, List, Option, Bool, false, length};
+ghost use Rattle.std.specs.Prelude.{◌≡◌, ◌<◌, ◌≤◌, ◌+◌, ℕ, List, Option, Bool, false, length};
 ghost use Rattle.stm_devices.specs.Devices.{Reads, Writes};
 
 use std::io::{Read, Write};
@@ -18,11 +18,16 @@ pub trait Source {
     /// Whether a read has failed.
     ghost failed: { Self → Bool };
 
+    /// How often it was read. No source has to keep it: a call that takes any source can raise it by reads alone, so what
+    /// it ensures of this number bounds its reads.
+    ghost reads: { Self → ℕ } = { λ _. 0 };
+
     /// Reads some bytes into the front of the buffer, and tells how many: none only at the end, or into no
     /// buffer. It fails exactly where the device has then failed, and is not called again.
     fn read(&mut self, buffer: &mut [u8]) -> Result<usize, DeviceFault>
         requires { failed self.old ≡ false }
-        ensures { Reads (left self.old) (left self.new) (failed self.new) result buffer.new };
+        ensures bytes { Reads (left self.old) (left self.new) (failed self.new) result buffer.new }
+        ensures counted { reads self.new ≤ reads self.old + 1 };
 }
 
 /// Where bytes are written to.

@@ -1,11 +1,11 @@
 //! Reading a source to its end, and writing bytes to a sink.
-ghost use Rattle.std.specs.Prelude.{◌≡◌, ◌<◌, false};
+ghost use Rattle.std.specs.Prelude.{◌≡◌, ◌<◌, ◌≤◌, ◌+◌, false};
 ghost use Rattle.stm_devices.specs.Transfers.{HasTaken, HasRead, HasWritten};
 
 use crate::devices::{DeviceFault, Sink, Source};
 use std::alloc::{AllocError, Global};
 
-/// So many bytes `read_all` reads at most: one more than a scenario may have.
+/// So many bytes `read_all` reads at most, in at most so many reads: one more than a scenario may have bytes.
 pub const MOST_READ: usize = 16777217;
 
 /// So many bytes are read at a time.
@@ -42,17 +42,18 @@ impl From<DeviceFault> for ReadFault {
     }
 }
 
-/// Reads a piece of at most so many bytes, puts it behind the bytes, and tells its length: 0 only at the end.
+/// Reads a piece of at most so many bytes through the buffer, puts it behind the bytes, and tells its length: 0 only at the end.
 fn read_piece<S: Source>(
     source: &mut S,
+    buffer: &mut [u8; PIECE],
     bytes: &mut Vec<u8>,
     most: usize,
 ) -> Result<usize, ReadFault>
     requires works { S.failed source.old ≡ false }
     requires some { 0 < most }
-    ensures { HasTaken (S.left source.old) (S.left source.new) (S.failed source.new) most result bytes.old.items bytes.new.items }
+    ensures taken { HasTaken (S.left source.old) (S.left source.new) (S.failed source.new) most result bytes.old.items bytes.new.items }
+    ensures counted { S.reads source.new ≤ S.reads source.old + 1 }
 {
-    let mut buffer = [0u8; PIECE];
     let room = most.min(PIECE);
     let count = source.read(&mut buffer[..room])?;
     bytes.extend_from_slice(&buffer[..count])?;
@@ -62,15 +63,17 @@ fn read_piece<S: Source>(
 /// All bytes of a source, up to so many as `MOST_READ`.
 ///
 /// It fails as `OutOfMemory` where a growth was refused, and as `Device` exactly where the source has failed. What
-/// was read until then is lost.
+/// was read until then is lost. The source is read at most `MOST_READ` times, also by a call that fails.
 pub fn read_all<S: Source>(alloc: Global, source: &mut S) -> Result<Vec<u8>, ReadFault>
     requires { S.failed source.old ≡ false }
-    ensures { HasRead (λ v. v.items) (S.left source.old) (S.failed source.new) result }
+    ensures bytes { HasRead (λ v. v.items) (S.left source.old) (S.failed source.new) result }
+    ensures bounded { S.reads source.new ≤ S.reads source.old + MOST_READ }
 {
+    let mut buffer = [0u8; PIECE];
     let mut bytes = Vec::new(alloc);
     while bytes.len() < MOST_READ {
         let most = MOST_READ - bytes.len();
-        let count = read_piece(source, &mut bytes, most)?;
+        let count = read_piece(source, &mut buffer, &mut bytes, most)?;
         if count == 0 {
             return Ok(bytes);
         }

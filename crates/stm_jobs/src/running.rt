@@ -1,5 +1,6 @@
 //! From the bytes of a source to what is printed of its jobs in a sink.
-ghost use Rattle.std.specs.Prelude.{◌≡◌, ◌≤◌, ℕ, List, false, string_bytes, Ok, IfOk, IfErr};
+ghost use Rattle.std.specs.Prelude.{◌≡◌, ◌≤◌, ◌+◌, ℕ, List, false, string_bytes, Ok, IfOk, IfErr};
+ghost use Rattle.stm_devices.specs.declared.transfer.TheConstants.{MOST_READ};
 ghost use Rattle.stm_history.specs.declared.revisions.TheConstants.{HIGHEST_REVISION};
 ghost use Rattle.stm_texts.specs.Reading.{IsOpening, scenario_in};
 ghost use Rattle.stm_world.specs.declared.event.WorldEvent.{WorldEvent};
@@ -193,7 +194,8 @@ fn write_lines<R: Threads + Wait + Sync, W: Sink>(
 /// The scenario is read whole, and then judged as one of jobs, before anything runs. Nothing is written before the run has ended.
 /// Neither device has failed before. It fails as `Bad` with the first fault, as `OutOfMemory` where a growth was refused, as `Read` where the
 /// source has failed, as `Spawn` where a thread could not be started, and as `Audit` where the end of a job does not stand: then nothing was
-/// written. It fails as `Write` where the sink has failed: then a front of the lines was written. Nothing is said of whether it returns.
+/// written. It fails as `Write` where the sink has failed: then a front of the lines was written. The source is read at most 16777217 times.
+/// Nothing is said of whether it returns.
 pub fn run_jobs<R: Threads + Wait + Sync, S: Source, W: Sink>(
     rt: &R,
     alloc: Global,
@@ -204,13 +206,14 @@ pub fn run_jobs<R: Threads + Wait + Sync, S: Source, W: Sink>(
     requires workers { (1 ≤ workers) × (workers ≤ 16) }
     requires source_works { S.failed source.old ≡ false }
     requires sink_works { W.failed sink.old ≡ false }
-    ensures { Does (record {
+    ensures done { Does (record {
       input = S.left source.old;
       before = W.held sink.old;
       after = W.held sink.new;
       source_failed = S.failed source.new;
       sink_failed = W.failed sink.new;
     }) result }
+    ensures bounded { S.reads source.new ≤ S.reads source.old + MOST_READ }
 {
     match read_all(alloc, source) {
         Ok(bytes) => write_lines(rt, alloc, bytes.as_slice(), workers, sink),

@@ -1,5 +1,6 @@
 //! From the bytes of a source to the report in a sink.
-ghost use Rattle.std.specs.Prelude.{◌≡◌, false, IfOk, string_bytes};
+ghost use Rattle.std.specs.Prelude.{◌≡◌, ◌≤◌, ◌+◌, false, IfOk, string_bytes};
+ghost use Rattle.stm_devices.specs.declared.transfer.TheConstants.{MOST_READ};
 ghost use Rattle.stm_report.specs.Script.{IsReportFrom, IsRunReport, Answers, Reports, Does};
 ghost use Rattle.stm_texts.specs.Reading.{IsOpening};
 
@@ -88,7 +89,8 @@ fn write_report<W: Sink>(alloc: Global, bytes: &[u8], sink: &mut W) -> Result<()
 ///
 /// Neither device has failed before. It fails as `Bad` with the scenario's first fault, as `OutOfMemory` where a
 /// growth was refused, and as `Read` where the source has failed: then nothing was written. It fails as `Write`
-/// where the sink has failed: then a front of the report was written. At most 16777217 bytes are read.
+/// where the sink has failed: then a front of the report was written. At most 16777217 bytes are read, in at most so
+/// many reads, whatever it answers.
 pub fn script<S: Source, W: Sink>(
     alloc: Global,
     source: &mut S,
@@ -96,13 +98,14 @@ pub fn script<S: Source, W: Sink>(
 ) -> Result<(), ScriptFault>
     requires source_works { S.failed source.old ≡ false }
     requires sink_works { W.failed sink.old ≡ false }
-    ensures { Does (record {
+    ensures done { Does (record {
       input = S.left source.old;
       before = W.held sink.old;
       after = W.held sink.new;
       source_failed = S.failed source.new;
       sink_failed = W.failed sink.new;
     }) result }
+    ensures bounded { S.reads source.new ≤ S.reads source.old + MOST_READ }
 {
     match read_all(alloc, source) {
         Ok(bytes) => write_report(alloc, bytes.as_slice(), sink),

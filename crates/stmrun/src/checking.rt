@@ -1,5 +1,6 @@
 //! The command `check` over devices.
-ghost use Rattle.std.specs.Prelude.{◌≡◌, false, IfOk, string_bytes};
+ghost use Rattle.std.specs.Prelude.{◌≡◌, ◌≤◌, ◌+◌, false, IfOk, string_bytes};
+ghost use Rattle.stm_devices.specs.declared.transfer.TheConstants.{MOST_READ};
 ghost use Rattle.stm_devices.specs.Transfers.{HasWritten};
 ghost use Rattle.stm_check.specs.declared.checking.Checked.TheVariants.{No};
 ghost use Rattle.stmrun.specs.Checking.{answer_status, answer_text, fault_status, fault_message, SaysOf, Prints, Does, Ends};
@@ -60,12 +61,14 @@ fn answer<S: Source, R: Source, W: Sink>(
     requires scenario_works { S.failed scenario.old ≡ false }
     requires report_works { R.failed report.old ≡ false }
     requires out_works { W.failed out.old ≡ false }
-    ensures { Does (record {
+    ensures done { Does (record {
       scenario = S.left scenario.old;
       report = R.left report.old;
       scenario_failed = S.failed scenario.new;
       report_failed = R.failed report.new;
     }) (W.held out.old) (W.held out.new) (W.failed out.new) result }
+    ensures scenario_bounded { S.reads scenario.new ≤ S.reads scenario.old + MOST_READ }
+    ensures report_bounded { R.reads report.new ≤ R.reads report.old + MOST_READ }
 {
     let checked = match check_sources(alloc, scenario, report) {
         Ok(checked) => checked,
@@ -116,7 +119,7 @@ fn tell<E: Sink>(err: &mut E, fault: &CheckFault) -> u8
 /// is bad, 3 where a growth was refused or one of the devices but `err` failed. On `err` it says what went wrong, and
 /// takes no memory for it: `stmrun: bad scenario at PLACE: CAUSE`, `stmrun: bad report at PLACE: CAUSE`,
 /// `stmrun: out of memory` or `stmrun: device fault`, whole where `err` then has not failed. That `err` fails changes no
-/// status. None of the devices has failed before.
+/// status. None of the devices has failed before. `scenario` and `report` are read at most 16777217 times each.
 pub fn check_to<S: Source, R: Source, W: Sink, E: Sink>(
     alloc: Global,
     scenario: &mut S,
@@ -128,7 +131,7 @@ pub fn check_to<S: Source, R: Source, W: Sink, E: Sink>(
     requires report_works { R.failed report.old ≡ false }
     requires out_works { W.failed out.old ≡ false }
     requires err_works { E.failed err.old ≡ false }
-    ensures { Ends (record {
+    ensures ends { Ends (record {
       sources = record {
         scenario = S.left scenario.old;
         report = R.left report.old;
@@ -139,6 +142,8 @@ pub fn check_to<S: Source, R: Source, W: Sink, E: Sink>(
       after = W.held out.new;
       sink_failed = W.failed out.new;
     }) (E.held err.old) (E.held err.new) (E.failed err.new) result }
+    ensures scenario_bounded { S.reads scenario.new ≤ S.reads scenario.old + MOST_READ }
+    ensures report_bounded { R.reads report.new ≤ R.reads report.old + MOST_READ }
 {
     match answer(alloc, scenario, report, out) {
         Ok(checked) => status_of(checked),

@@ -1,5 +1,6 @@
 //! The command `script` over devices.
-ghost use Rattle.std.specs.Prelude.{◌≡◌, ◌++◌, false};
+ghost use Rattle.std.specs.Prelude.{◌≡◌, ◌≤◌, ◌+◌, ◌++◌, false};
+ghost use Rattle.stm_devices.specs.declared.transfer.TheConstants.{MOST_READ};
 ghost use Rattle.stm_devices.specs.Transfers.{HasWritten};
 ghost use Rattle.stmrun.specs.Statuses.{status_of, bad_input, message_of, SaysOf, Ends};
 
@@ -77,7 +78,7 @@ fn tell<E: Sink>(err: &mut E, fault: &ScriptFault) -> u8
 /// Gives the status: 0 where the report was written, 2 where the input is no scenario, 3 where a growth was refused or
 /// `input` or `out` failed. On `err` it says what went wrong, and takes no memory for it: `stmrun: bad scenario at PLACE: CAUSE`,
 /// `stmrun: out of memory` or `stmrun: device fault`, whole where `err` then has not failed. That `err` fails changes no
-/// status. None of the devices has failed before.
+/// status. None of the devices has failed before. `input` is read at most 16777217 times.
 pub fn script_to<S: Source, W: Sink, E: Sink>(
     alloc: Global,
     input: &mut S,
@@ -87,13 +88,14 @@ pub fn script_to<S: Source, W: Sink, E: Sink>(
     requires input_works { S.failed input.old ≡ false }
     requires out_works { W.failed out.old ≡ false }
     requires err_works { E.failed err.old ≡ false }
-    ensures { Ends (record {
+    ensures ends { Ends (record {
       input = S.left input.old;
       before = W.held out.old;
       after = W.held out.new;
       source_failed = S.failed input.new;
       sink_failed = W.failed out.new;
     }) (E.held err.old) (E.held err.new) (E.failed err.new) result }
+    ensures bounded { S.reads input.new ≤ S.reads input.old + MOST_READ }
 {
     match script(alloc, input, out) {
         Ok(()) => 0,

@@ -1,5 +1,6 @@
 //! The command `threads` over devices.
-ghost use Rattle.std.specs.Prelude.{◌≡◌, ◌≤◌, false, decimal};
+ghost use Rattle.std.specs.Prelude.{◌≡◌, ◌≤◌, ◌+◌, false, decimal};
+ghost use Rattle.stm_devices.specs.declared.transfer.TheConstants.{MOST_READ};
 ghost use Rattle.stm_devices.specs.Transfers.{HasWritten};
 ghost use Rattle.stm_jobs.specs.declared.running.JobsFault.TheVariants.{Audit};
 ghost use Rattle.stmrun.specs.Threading.{fault_status, fault_message, SaysOf, Ends};
@@ -74,7 +75,7 @@ fn tell<E: Sink>(err: &mut E, fault: &JobsFault) -> u8
 /// a thread was refused, `input` or `out` failed, or the end of a job does not stand. On `err` it says what went wrong, and takes no memory
 /// for it: `stmrun: bad scenario at PLACE: CAUSE`, `stmrun: out of memory`, `stmrun: device fault`, `stmrun: no thread` or
 /// `stmrun: audit JOB`, whole where `err` then has not failed. That `err` fails changes no status. None of the devices has failed before.
-/// Nothing is said of whether it returns.
+/// `input` is read at most 16777217 times. Nothing is said of whether it returns.
 pub fn threads_to<R: Threads + Wait + Sync, S: Source, W: Sink, E: Sink>(
     rt: &R,
     alloc: Global,
@@ -87,13 +88,14 @@ pub fn threads_to<R: Threads + Wait + Sync, S: Source, W: Sink, E: Sink>(
     requires input_works { S.failed input.old ≡ false }
     requires out_works { W.failed out.old ≡ false }
     requires err_works { E.failed err.old ≡ false }
-    ensures { Ends (record {
+    ensures ends { Ends (record {
       input = S.left input.old;
       before = W.held out.old;
       after = W.held out.new;
       source_failed = S.failed input.new;
       sink_failed = W.failed out.new;
     }) (E.held err.old) (E.held err.new) (E.failed err.new) result }
+    ensures bounded { S.reads input.new ≤ S.reads input.old + MOST_READ }
 {
     match run_jobs(rt, alloc, input, workers, out) {
         Ok(()) => 0,

@@ -6,19 +6,19 @@ use Rattle.stm_reports.specs.Reading.{report_in}
 use Rattle.stm_check.proofs.JudgingLemmas.{report_told}
 use Rattle.stm_check.proofs.judging.report_of.Goals as goal
 
-pub returns-in-Ok-read_report : goal.returns-in-Ok-read_report
-returns-in-Ok-read_report g c = (
-  c.in-Ok.ensures.0,
+pub returns-in-Ok-read_report-clause-report : goal.returns-in-Ok-read_report-clause-report
+returns-in-Ok-read_report-clause-report g c = (
+  c.in-Ok.ensures.bytes.0,
   report_told c.as_slice.result.now (g.S.Source.left c.args.source.now) (Ok c.in-Ok-read_report.report)
       (subst (λ (bytes : List ℕ). IfSome (g.S.Source.left c.args.source.now) (λ all. bytes ≡ take MOST_READ all)) (sym c.as_slice.ensures.value)
-      c.in-Ok.ensures.1) c.in-Ok-read_report.ensures.exact,
+      c.in-Ok.ensures.bytes.1) c.in-Ok-read_report.ensures.exact,
 )
 
-pub returns : goal.returns
-returns g c = (
-  c.in-Ok.ensures.0,
+pub returns-clause-report : goal.returns-clause-report
+returns-clause-report g c = (
+  c.in-Ok.ensures.bytes.0,
   report_told c.as_slice.result.now (g.S.Source.left c.args.source.now) (Err c.in-Err-Bad.fault)
       (subst (λ (bytes : List ℕ). IfSome (g.S.Source.left c.args.source.now) (λ all. bytes ≡ take MOST_READ all)) (sym c.as_slice.ensures.value)
-      c.in-Ok.ensures.1)
+      c.in-Ok.ensures.bytes.1)
       (subst (λ (e : ReadError). TellsFault e (report_in c.as_slice.result.now)) c.in-Err-Bad.field-0-is c.in-Err-Bad.ensures.exact),
 )

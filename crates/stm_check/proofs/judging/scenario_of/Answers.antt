@@ -6,20 +6,20 @@ use Rattle.stm_texts.specs.Reading.{scenario_in}
 use Rattle.stm_check.proofs.JudgingLemmas.{scenario_told}
 use Rattle.stm_check.proofs.judging.scenario_of.Goals as goal
 
-pub returns-in-Ok-read_scenario : goal.returns-in-Ok-read_scenario
-returns-in-Ok-read_scenario g c = (
-  c.in-Ok.ensures.0,
+pub returns-in-Ok-read_scenario-clause-scenario : goal.returns-in-Ok-read_scenario-clause-scenario
+returns-in-Ok-read_scenario-clause-scenario g c = (
+  c.in-Ok.ensures.bytes.0,
   scenario_told c.as_slice.result.now (g.S.Source.left c.args.source.now) (Ok c.in-Ok-read_scenario.scenario)
       (subst (λ (bytes : List ℕ). IfSome (g.S.Source.left c.args.source.now) (λ all. bytes ≡ take MOST_READ all)) (sym c.as_slice.ensures.value)
-      c.in-Ok.ensures.1) c.in-Ok-read_scenario.ensures.exact,
+      c.in-Ok.ensures.bytes.1) c.in-Ok-read_scenario.ensures.exact,
   c.in-Ok-read_scenario.ensures.opening,
 )
 
-pub returns : goal.returns
-returns g c = (
-  c.in-Ok.ensures.0,
+pub returns-clause-scenario : goal.returns-clause-scenario
+returns-clause-scenario g c = (
+  c.in-Ok.ensures.bytes.0,
   scenario_told c.as_slice.result.now (g.S.Source.left c.args.source.now) (Err c.in-Err-Bad.fault)
       (subst (λ (bytes : List ℕ). IfSome (g.S.Source.left c.args.source.now) (λ all. bytes ≡ take MOST_READ all)) (sym c.as_slice.ensures.value)
-      c.in-Ok.ensures.1)
+      c.in-Ok.ensures.bytes.1)
       (subst (λ (e : ReadError). TellsFault e (scenario_in c.as_slice.result.now)) c.in-Err-Bad.field-0-is c.in-Err-Bad.ensures.exact),
 )

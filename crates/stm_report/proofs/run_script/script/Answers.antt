@@ -1,8 +1,8 @@
 use Rattle.stm_report.proofs.ScriptLemmas.{Does-from_Reports}
 use Rattle.stm_report.proofs.run_script.script.Goals as goal
 
-pub returns-in-Ok : goal.returns-in-Ok
-returns-in-Ok g c =
+pub returns-in-Ok-clause-done : goal.returns-in-Ok-clause-done
+returns-in-Ok-clause-done g c =
     let did = rw c.as_slice.ensures.value at c.write_report.ensures in
     Does-from_Reports (record {
       input = g.S.Source.left c.args.source.now;
@@ -10,4 +10,4 @@ returns-in-Ok g c =
       after = g.W.Sink.held c.write_report.new.sink;
       source_failed = g.S.Source.failed c.read_all.new.source;
       sink_failed = g.W.Sink.failed c.write_report.new.sink;
-    }) c.in-Ok.bytes.items c.write_report.result c.in-Ok.ensures.1 c.in-Ok.ensures.0 did
+    }) c.in-Ok.bytes.items c.write_report.result c.in-Ok.ensures.bytes.1 c.in-Ok.ensures.bytes.0 did

@@ -18,12 +18,14 @@ use Rattle.stm_txn.specs.Standing.{Standing}
 use Rattle.stm_hall.specs.HallState.{HallState, made_over}
 use Rattle.stm_workers.specs.declared.job.Job.{Job}
 use Rattle.stm_workers.specs.declared.job_end.JobEnd.{JobEnd}
-use Rattle.stm_workers.specs.Gathered.{RanTo}
+use Rattle.stm_workers.specs.declared.gathered.FaultCause.{FaultCause}
+use Rattle.stm_workers.specs.declared.gathered.FaultCause.TheVariants.{OutOfMemory as NoMemory, Spawn as NoThread, Audit as AtFault}
+use Rattle.stm_workers.specs.Gathered.{RanTo, BrokeOff}
 use Rattle.stm_jobs.specs.declared.running.JobsFault.{JobsFault}
 use Rattle.stm_jobs.specs.declared.running.JobsFault.TheVariants.{OutOfMemory, Bad, Read, Write, Spawn, Audit}
 use Rattle.stm_jobs.specs.Accepting.{Sorted, task_of, accepted, opening_of}
 use Rattle.stm_jobs.specs.Lines.{AreLinesOf}
-use Rattle.stm_jobs.specs.Running.{AreLinesOfRun, IsBrokenOff, IsPrintedOf, fault_read, judged, Answers, Writes, Does}
+use Rattle.stm_jobs.specs.Running.{AreLinesOfRun, IsBrokenOffFor, IsBrokenOff, IsBrokenOffOf, IsPrintedOf, fault_told, fault_read, judged, Answers, Writes, Does}
 
 -- ---- the run
 
@@ -39,13 +41,45 @@ are_of_run start calls jobs text standing ends committed before after stands mad
   lines = lines;
 }
 
+-- a run from the hall over this store that was broken off is told by its cause
+pub broken_off : (start : ℕ) (calls : List WorldEvent) (jobs : List Job) (fault : JobsFault) (cause : FaultCause) (standing : Standing)
+    (before after : HallState) → standing ≡ (world_after calls (opened start)).standing → before ≡ made_over standing
+    → BrokeOff before jobs cause after → fault ≡ fault_told cause → IsBrokenOff start calls jobs fault
+broken_off start calls jobs fault cause standing before after stands made broke told =
+    subst (λ (f : JobsFault). IsBrokenOff start calls jobs f) (sym told)
+    (by_cause cause (record { after = after; broke = subst (λ (hall : HallState). BrokeOff hall jobs cause after) (made ∙ ap made_over stands) broke }))
+  where
+    by_cause : (c : FaultCause) → IsBrokenOffFor start calls jobs c → IsBrokenOff start calls jobs (fault_told c)
+    by_cause NoMemory broken = tt
+    by_cause NoThread broken = broken
+    by_cause (AtFault job) broken = broken
+
+-- one that was not is told as want of memory
+pub no_room : (start : ℕ) (calls : List WorldEvent) (jobs : List Job) (fault : JobsFault) → fault ≡ OutOfMemory → IsBrokenOff start calls jobs fault
+no_room start calls jobs fault told = subst (λ (f : JobsFault). IsBrokenOff start calls jobs f) (sym told) tt
+
 -- ---- what is answered
+
+broken_at : (s : Scenario) (sorted : Sorted) (start : ℕ) (calls : List WorldEvent) (jobs : List Job) (cause : FaultCause) → accepted s ≡ Ok sorted
+    → start ≡ opening_of s → calls ≡ sorted.calls → map task_of jobs ≡ sorted.tasks → IsBrokenOffFor start calls jobs cause → IsBrokenOffOf (Ok s) cause
+broken_at s sorted start calls jobs cause is_accepted opens called are_its broken = (
+  s,
+  refl,
+  record {
+    sorted = sorted;
+    is_accepted = is_accepted;
+    jobs = jobs;
+    are_its = are_its;
+    of_run = subst (λ (cs : List WorldEvent). IsBrokenOffFor (opening_of s) cs jobs cause) called
+        (subst (λ n. IsBrokenOffFor n calls jobs cause) opens broken);
+  },
+)
 
 module _ {X : Type 0} where
   -- of a scenario that was accepted: the lines of a run of its jobs, or a run that was broken off
   pub answers_of : (view : X → List ℕ) (s : Scenario) (sorted : Sorted) (start : ℕ) (calls : List WorldEvent) (jobs : List Job) (result : Result X JobsFault)
       → accepted s ≡ Ok sorted → start ≡ opening_of s → calls ≡ sorted.calls → map task_of jobs ≡ sorted.tasks
-      → IfOk result (λ x. AreLinesOfRun start calls jobs (view x)) → IfErr result IsBrokenOff → Answers view (Ok s) result
+      → IfOk result (λ x. AreLinesOfRun start calls jobs (view x)) → IfErr result (IsBrokenOff start calls jobs) → Answers view (Ok s) result
   answers_of view s sorted start calls jobs (Ok x) is_accepted opens called are_its printed broken =
       let from_there : AreLinesOfRun (opening_of s) calls jobs (view x) = subst (λ n. AreLinesOfRun n calls jobs (view x)) opens printed in (
         s,
@@ -59,8 +93,10 @@ module _ {X : Type 0} where
         },
       )
   answers_of view s sorted start calls jobs (Err OutOfMemory) is_accepted opens called are_its printed broken = tt
-  answers_of view s sorted start calls jobs (Err Spawn) is_accepted opens called are_its printed broken = tt
-  answers_of view s sorted start calls jobs (Err (Audit job)) is_accepted opens called are_its printed broken = tt
+  answers_of view s sorted start calls jobs (Err Spawn) is_accepted opens called are_its printed broken =
+      broken_at s sorted start calls jobs NoThread is_accepted opens called are_its broken
+  answers_of view s sorted start calls jobs (Err (Audit job)) is_accepted opens called are_its printed broken =
+      broken_at s sorted start calls jobs (AtFault job) is_accepted opens called are_its broken
   answers_of view s sorted start calls jobs (Err (Bad fault)) is_accepted opens called are_its printed broken = absurd broken
   answers_of view s sorted start calls jobs (Err Read) is_accepted opens called are_its printed broken = absurd broken
   answers_of view s sorted start calls jobs (Err Write) is_accepted opens called are_its printed broken = absurd broken
@@ -96,5 +132,7 @@ does_of d bytes (Err Read) read works did = absurd did
 does_of d bytes (Err Write) read works did =
     (works, did.0, told_at bytes d.input (λ outcome. (text : List ℕ) × IsPrintedOf outcome text × WritesFront d.before d.after text) read (did.1, did.2, did.3))
 does_of d bytes (Err OutOfMemory) read works did = (works, did.0, did.1)
-does_of d bytes (Err Spawn) read works did = (works, did.0, did.1)
-does_of d bytes (Err (Audit job)) read works did = (works, did.0, did.1)
+does_of d bytes (Err Spawn) read works did =
+    ((works, did.0, did.1), told_at bytes d.input (λ outcome. IsBrokenOffOf outcome NoThread) read did.2)
+does_of d bytes (Err (Audit job)) read works did =
+    ((works, did.0, did.1), told_at bytes d.input (λ outcome. IsBrokenOffOf outcome (AtFault job)) read did.2)

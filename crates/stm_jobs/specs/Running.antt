@@ -15,7 +15,7 @@ use Rattle.stm_workers.specs.declared.job.Job.{Job}
 use Rattle.stm_workers.specs.declared.job_end.JobEnd.{JobEnd}
 use Rattle.stm_workers.specs.declared.gathered.FaultCause.{FaultCause}
 use Rattle.stm_workers.specs.declared.gathered.FaultCause.TheVariants.{OutOfMemory as NoMemory, Spawn as NoThread, Audit as AtFault}
-use Rattle.stm_workers.specs.Gathered.{RanTo}
+use Rattle.stm_workers.specs.Gathered.{RanTo, BrokeOff}
 use Rattle.stm_jobs.specs.declared.running.JobsFault.{JobsFault}
 use Rattle.stm_jobs.specs.declared.running.JobsFault.TheVariants.{OutOfMemory, Bad, Read, Write, Spawn, Audit}
 use Rattle.stm_jobs.specs.Accepting.{Sorted, task_of, accepted, opening_of}
@@ -32,14 +32,20 @@ pub record AreLinesOfRun (start : ℕ) (calls : List WorldEvent) (jobs : List Jo
   pub ran : RanTo (made_over (world_after calls (opened start)).standing) jobs ends committed after
   pub lines : AreLinesOf (length jobs) committed after.standing.history text
 
--- a run that was broken off ends by one of these
-abbrev pub IsBrokenOff : JobsFault → Type 0
-IsBrokenOff OutOfMemory = Unit {0}
-IsBrokenOff Spawn = Unit {0}
-IsBrokenOff (Audit job) = Unit {0}
-IsBrokenOff (Bad fault) = ⊥
-IsBrokenOff Read = ⊥
-IsBrokenOff Write = ⊥
+-- the run of these jobs, from such a hall, was broken off for this cause
+pub record IsBrokenOffFor (start : ℕ) (calls : List WorldEvent) (jobs : List Job) (cause : FaultCause) : Type 0 where
+  pub after : HallState
+  pub broke : BrokeOff (made_over (world_after calls (opened start)).standing) jobs cause after
+
+-- What is told of a run of these jobs of which nothing is printed: the cause for which it was broken off. Memory may be wanted before the run and after
+-- it, too.
+abbrev pub IsBrokenOff : ℕ → List WorldEvent → List Job → JobsFault → Type 0
+IsBrokenOff start calls jobs OutOfMemory = Unit {0}
+IsBrokenOff start calls jobs Spawn = IsBrokenOffFor start calls jobs NoThread
+IsBrokenOff start calls jobs (Audit job) = IsBrokenOffFor start calls jobs (AtFault job)
+IsBrokenOff start calls jobs (Bad fault) = ⊥
+IsBrokenOff start calls jobs Read = ⊥
+IsBrokenOff start calls jobs Write = ⊥
 
 -- what is told of a run that was broken off, by its cause
 abbrev pub fault_told : FaultCause → JobsFault
@@ -60,6 +66,14 @@ pub record AreLinesOfScenario (s : Scenario) (text : List ℕ) : Type 0 where
   pub are_its : map task_of jobs ≡ sorted.tasks
   pub of_run : AreLinesOfRun (opening_of s) sorted.calls jobs text
 
+-- a scenario of jobs was accepted, and the run of them was broken off for this cause
+pub record IsBrokenOffAt (s : Scenario) (cause : FaultCause) : Type 0 where
+  pub sorted : Sorted
+  pub is_accepted : accepted s ≡ Ok sorted
+  pub jobs : List Job
+  pub are_its : map task_of jobs ≡ sorted.tasks
+  pub of_run : IsBrokenOffFor (opening_of s) sorted.calls jobs cause
+
 -- the first fault of a scenario that was read, or of reading it
 abbrev pub judged : Outcome Scenario → Outcome Sorted
 judged reading = reading >>= accepted
@@ -67,15 +81,18 @@ judged reading = reading >>= accepted
 abbrev pub IsPrintedOf : Outcome Scenario → List ℕ → Type 0
 IsPrintedOf reading text = (s : Scenario) × (reading ≡ Ok s) × AreLinesOfScenario s text
 
--- what making the lines answers, seen by view: those of a run, or the first fault, unless the run was broken off
+abbrev pub IsBrokenOffOf : Outcome Scenario → FaultCause → Type 0
+IsBrokenOffOf reading cause = (s : Scenario) × (reading ≡ Ok s) × IsBrokenOffAt s cause
+
+-- what making the lines answers, seen by view: those of a run, or the first fault, or the cause for which the run was broken off
 abbrev pub Answers : {X : Type 0} → (X → List ℕ) → Outcome Scenario → Result X JobsFault → Type 0
 Answers view reading (Ok x) = IsPrintedOf reading (view x)
 Answers view reading (Err (Bad fault)) = judged reading ≡ Err fault
 Answers view reading (Err Read) = ⊥
 Answers view reading (Err Write) = ⊥
 Answers view reading (Err OutOfMemory) = Unit {0}
-Answers view reading (Err Spawn) = Unit {0}
-Answers view reading (Err (Audit job)) = Unit {0}
+Answers view reading (Err Spawn) = IsBrokenOffOf reading NoThread
+Answers view reading (Err (Audit job)) = IsBrokenOffOf reading (AtFault job)
 
 -- what writing them does: what the sink held before and holds, whether it has failed then, and the answer
 abbrev pub Writes : {A : Type 0} → List ℕ → Option (List ℕ) → Option (List ℕ) → Bool → Result A JobsFault → Type 0
@@ -85,13 +102,13 @@ Writes bytes before after failed (Err Read) = ⊥
 Writes bytes before after failed (Err Write) =
     (failed ≡ true) × (text : List ℕ) × IsPrintedOf (scenario_in bytes) text × WritesFront before after text
 Writes bytes before after failed (Err OutOfMemory) = (failed ≡ false) × Keeps before after
-Writes bytes before after failed (Err Spawn) = (failed ≡ false) × Keeps before after
-Writes bytes before after failed (Err (Audit job)) = (failed ≡ false) × Keeps before after
+Writes bytes before after failed (Err Spawn) = (failed ≡ false) × Keeps before after × IsBrokenOffOf (scenario_in bytes) NoThread
+Writes bytes before after failed (Err (Audit job)) = (failed ≡ false) × Keeps before after × IsBrokenOffOf (scenario_in bytes) (AtFault job)
 
 -- ---- the devices
 
 -- What a run did, by its answer. At the end of a good one exactly what is printed of it was written; at a bad scenario, a run that was
--- broken off and a failed source nothing was; at a failed sink a front of the lines was.
+-- broken off, which is told by its cause, and a failed source nothing was; at a failed sink a front of the lines was.
 abbrev pub Does : {A : Type 0} → Devices → Result A JobsFault → Type 0
 Does d (Ok u) =
     (d.source_failed ≡ false) × (d.sink_failed ≡ false)
@@ -102,5 +119,5 @@ Does d (Err Write) =
     (d.source_failed ≡ false) × (d.sink_failed ≡ true)
     × IfSome d.input (λ input. (text : List ℕ) × IsPrintedOf (scenario_in input) text × WritesFront d.before d.after text)
 Does d (Err OutOfMemory) = IsUntouched d
-Does d (Err Spawn) = IsUntouched d
-Does d (Err (Audit job)) = IsUntouched d
+Does d (Err Spawn) = IsUntouched d × IfSome d.input (λ input. IsBrokenOffOf (scenario_in input) NoThread)
+Does d (Err (Audit job)) = IsUntouched d × IfSome d.input (λ input. IsBrokenOffOf (scenario_in input) (AtFault job))

@@ -5,6 +5,7 @@ ghost use Rattle.stm_history.specs.declared.revisions.TheConstants.{HIGHEST_REVI
 ghost use Rattle.stm_texts.specs.Reading.{IsOpening, scenario_in};
 ghost use Rattle.stm_world.specs.declared.event.WorldEvent.{WorldEvent};
 ghost use Rattle.stm_world.specs.World.{opened, world_after};
+ghost use Rattle.stm_jobs.specs.declared.running.JobsFault.TheVariants.{OutOfMemory};
 ghost use Rattle.stm_jobs.specs.Lines.{AreLinesOf};
 ghost use Rattle.stm_jobs.specs.Running.{AreLinesOfRun, IsBrokenOff, fault_told, Answers, Writes, Does};
 
@@ -62,8 +63,7 @@ impl From<ReadError> for JobsFault {
 
 /// The fault of a run that was broken off.
 fn fault_of(cause: FaultCause) -> JobsFault
-    ensures told { result ≡ fault_told cause }
-    ensures broken { IsBrokenOff result }
+    ensures { result ≡ fault_told cause }
 {
     match cause {
         FaultCause::OutOfMemory => JobsFault::OutOfMemory,
@@ -72,9 +72,9 @@ fn fault_of(cause: FaultCause) -> JobsFault
     }
 }
 
-/// The fault of a run that was broken off. Its hall is let go.
+/// The fault of a run that was broken off: its cause. Its hall is let go.
 fn fault_of_run(broken: RunFault) -> JobsFault
-    ensures { IsBrokenOff result }
+    ensures { result ≡ fault_told broken.cause }
 {
     let cause = broken.cause;
     drop(broken);
@@ -84,7 +84,7 @@ fn fault_of_run(broken: RunFault) -> JobsFault
 /// What is printed of a run of so many jobs.
 fn lines_of_run(alloc: Global, jobs: usize, gathered: Gathered) -> Result<String, JobsFault>
     ensures lines { IfOk result (λ text. AreLinesOf jobs gathered.committed gathered.hall.standing.history (string_bytes text)) }
-    ensures fault { IfErr result IsBrokenOff }
+    ensures fault { IfErr result (λ fault. fault ≡ OutOfMemory) }
 {
     match lines(alloc, jobs, &gathered) {
         Ok(text) => Ok(text),
@@ -103,7 +103,8 @@ fn lines_on<R: Threads + Wait + Sync>(
     requires { (1 ≤ workers) × (workers ≤ 16) }
     ensures lines { IfOk result (λ text. (start : ℕ) (calls : List WorldEvent) → store.standing ≡ (world_after calls (opened start)).standing
         → AreLinesOfRun start calls jobs.now (string_bytes text)) }
-    ensures fault { IfErr result IsBrokenOff }
+    ensures fault { IfErr result (λ fault. (start : ℕ) (calls : List WorldEvent) → store.standing ≡ (world_after calls (opened start)).standing
+        → IsBrokenOff start calls jobs.now fault) }
 {
     match run_workers(rt, alloc, jobs, workers, Hall::new(alloc, store), &NoGate) {
         Ok(gathered) => lines_of_run(alloc, jobs.len(), gathered),
@@ -122,7 +123,7 @@ fn lines_of<R: Threads + Wait + Sync>(
 ) -> Result<String, JobsFault>
     requires { (1 ≤ workers) × (workers ≤ 16) × (1 ≤ start) × (start ≤ HIGHEST_REVISION) }
     ensures lines { IfOk result (λ text. AreLinesOfRun start calls.now jobs.now (string_bytes text)) }
-    ensures fault { IfErr result IsBrokenOff }
+    ensures fault { IfErr result (IsBrokenOff start calls.now jobs.now) }
 {
     match open_store(alloc, start, calls) {
         Ok(store) => lines_on(rt, alloc, store, jobs, workers),
@@ -194,8 +195,8 @@ fn write_lines<R: Threads + Wait + Sync, W: Sink>(
 /// The scenario is read whole, and then judged as one of jobs, before anything runs. Nothing is written before the run has ended.
 /// Neither device has failed before. It fails as `Bad` with the first fault, as `OutOfMemory` where a growth was refused, as `Read` where the
 /// source has failed, as `Spawn` where a thread could not be started, and as `Audit` where the end of a job does not stand: then nothing was
-/// written. It fails as `Write` where the sink has failed: then a front of the lines was written. The source is read at most 16777217 times.
-/// Nothing is said of whether it returns.
+/// written. A run that was broken off is told by its cause. It fails as `Write` where the sink has failed: then a front of the lines was written.
+/// The source is read at most 16777217 times. Nothing is said of whether it returns.
 pub fn run_jobs<R: Threads + Wait + Sync, S: Source, W: Sink>(
     rt: &R,
     alloc: Global,

@@ -118,3 +118,13 @@ taken_shown key at answer read shows taken =
 
 pub taken_fits : (answer : TxnAnswer) (read : ReadAnswer) → AnswerFits answer → answer.answers ≡ GetAnswer read ∷ [] → ReadFits read
 taken_fits answer read fits taken = read_fits answer read fits taken
+
+-- ---- in whichever hall it was made
+
+-- the fetch of a key, as it was asked for
+pub in_some_hall : (seen : ℕ) (asked key : List ℕ) (at : ℕ) (txn : Txn) (result outcome : Result TxnAnswer FetchRefusal) → asked ≡ key →
+    txn ≡ fetch_of asked at → AnswersInSomeHall seen txn result → result ≡ outcome → AnswersInSomeHall seen (fetch_of key at) outcome
+in_some_hall seen asked key at txn result outcome same is by came =
+    subst (λ (k : List ℕ). AnswersInSomeHall seen (fetch_of k at) outcome) same
+    (subst (λ (t : Txn). AnswersInSomeHall seen t outcome) is
+    (subst (λ (r : Result TxnAnswer FetchRefusal). AnswersInSomeHall seen txn r) came by))

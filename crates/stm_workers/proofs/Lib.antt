@@ -3,6 +3,7 @@ pub mod RoundLemmas
 pub mod SeatLemmas
 pub mod AskLemmas
 pub mod NextLemmas
+pub mod AttemptLemmas
 pub mod TriedLemmas
 pub mod AuditLemmas
 pub mod RunLemmas

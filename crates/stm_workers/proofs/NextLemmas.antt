@@ -51,6 +51,41 @@ pub faulted_is_not_done : (program : ProgramTree) (level : Level) (known : Known
 faulted_is_not_done program level known run told =
     let reads : List ReadAnswer = settled program known in faulted_by program level reads (run_on program reads) run told
 
+-- and it is the program's run on what the attempt has read
+aborted_run_at : (program : ProgramTree) (level : Level) (reads : List ReadAnswer) (run aborted : Run) (end : End) →
+    next_at_end program level reads run end ≡ Aborted aborted → run ≡ aborted
+aborted_run_at program level reads run aborted DoneEnd told = absurd (cc)
+aborted_run_at program level reads run aborted (AbortedEnd text) told = cc
+aborted_run_at program level reads run aborted (FaultedEnd fault) told = absurd (cc)
+
+aborted_run : (program : ProgramTree) (level : Level) (reads : List ReadAnswer) (x : Answered) (aborted : Run) →
+    next_after program level reads x ≡ Aborted aborted → x ≡ Ended aborted
+aborted_run program level reads (Wants k trace) aborted told = absurd (cc)
+aborted_run program level reads (Ended run) aborted told =
+    ap (λ (r : Run). Ended r) (aborted_run_at program level reads run aborted run.end told)
+
+pub aborted_is_run : (program : ProgramTree) (level : Level) (known : Known) (run : Run) → next_of program level known ≡ Aborted run →
+    run_on program (settled program known) ≡ Ended run
+aborted_is_run program level known run told =
+    let reads : List ReadAnswer = settled program known in aborted_run program level reads (run_on program reads) run told
+
+faulted_run_at : (program : ProgramTree) (level : Level) (reads : List ReadAnswer) (run faulted : Run) (end : End) →
+    next_at_end program level reads run end ≡ Faulted faulted → run ≡ faulted
+faulted_run_at program level reads run faulted DoneEnd told = absurd (cc)
+faulted_run_at program level reads run faulted (AbortedEnd text) told = absurd (cc)
+faulted_run_at program level reads run faulted (FaultedEnd fault) told = cc
+
+faulted_run : (program : ProgramTree) (level : Level) (reads : List ReadAnswer) (x : Answered) (faulted : Run) →
+    next_after program level reads x ≡ Faulted faulted → x ≡ Ended faulted
+faulted_run program level reads (Wants k trace) faulted told = absurd (cc)
+faulted_run program level reads (Ended run) faulted told =
+    ap (λ (r : Run). Ended r) (faulted_run_at program level reads run faulted run.end told)
+
+pub faulted_is_run : (program : ProgramTree) (level : Level) (known : Known) (run : Run) → next_of program level known ≡ Faulted run →
+    run_on program (settled program known) ≡ Ended run
+faulted_is_run program level known run told =
+    let reads : List ReadAnswer = settled program known in faulted_run program level reads (run_on program reads) run told
+
 -- ---- what is ready
 
 -- what is ready has the attempt's program and level

@@ -1,4 +1,5 @@
 pub mod Tried
+pub mod Attempts
 pub mod Codes
 pub mod Ends
 pub mod Marks

@@ -18,7 +18,9 @@ use Rattle.stm_attempt.specs.ReadyRun.{ReadyRun}
 use Rattle.stm_entries.specs.declared.entry.Entry.{Entry}
 use Rattle.stm_entries.specs.declared.entry.Entry.TheVariants.{Program, Foreign, Grant, Renew, Revoke, Expire}
 use Rattle.stm_hall.specs.declared.refusal.FetchRefusal.{FetchRefusal}
+use Rattle.stm_hall.specs.declared.refusal.CommitRefusal.{CommitRefusal}
 use Rattle.stm_hall.specs.Fetching.{fetched, FetchTells}
+use Rattle.stm_hall.specs.Verdicts.{verdict_of, CommitTells}
 use Rattle.stm_hall.specs.declared.verdict.Verdict.{Verdict}
 use Rattle.stm_hall.specs.declared.verdict.Verdict.TheVariants.{Committed, Failed}
 use Rattle.stm_hall.specs.HallState.{HallState, made_over}
@@ -111,6 +113,10 @@ EachAtItsPlace ended ends = All (λ (e : EndOf). slice_get ends e.job ≡ Some e
 -- what a fetch answered, in whichever hall it was made
 abbrev pub AnswersInSomeHall : ℕ → Txn → Result TxnAnswer FetchRefusal → Type 0
 AnswersInSomeHall seen txn result = (s : Standing) × FetchTells (fetched s seen txn) result
+
+-- the verdict on a ready attempt, or its refusal, in whichever hall it was sent
+abbrev pub JudgedInSomeHall : ReadyRun → Result Verdict CommitRefusal → Type 0
+JudgedInSomeHall ready result = (before : HallState) × (after : HallState) × CommitTells (verdict_of before ready) before result after
 
 -- how many commits a verdict counts
 abbrev pub committed_by : Verdict → ℕ

@@ -1,5 +1,5 @@
 //! One job of a worker, from its first attempt to its end.
-ghost use Rattle.std.specs.Prelude.{◌≡◌, ℕ, ◌+◌, ◌<◌, ◌≤◌, true, if◌then◌else◌, [], length, IfOk, IfSome, OnOk, OnErr};
+ghost use Rattle.std.specs.Prelude.{◌≡◌, ◌⊎◌, ℕ, ◌+◌, ◌<◌, ◌≤◌, true, if◌then◌else◌, [], ◌∷◌, ◌++◌, length, slice_get, Ok, Err, Some, None, IfOk, IfErr, IfSome, OnOk, OnErr};
 ghost use Rattle.stm_draw.specs.Draw.{drew};
 ghost use Rattle.stm_draw.specs.Seats.{IsSeatAt, seat_view, table_id, table_size};
 ghost use Rattle.stm_txn.specs.Numbers.{ReadFits};
@@ -7,9 +7,13 @@ ghost use Rattle.stm_compile.specs.Levels.{is_serializable};
 ghost use Rattle.stm_attempt.specs.AttemptState.{begun};
 ghost use Rattle.stm_calls.specs.Prefetch.{MayBePrefetched};
 ghost use Rattle.stm_hall.specs.Verdicts.{CanGoOn};
+ghost use Rattle.stm_workers.specs.declared.stop.Stop.TheVariants.{OutOfMemory};
+ghost use Rattle.stm_workers.specs.Attempts.{state_of, next_attempt, end_after, IsAnswered, IsUnanswered, IsTurnedAway, IsFetch, IsReadyAt, IsEvaluated};
+ghost use Rattle.stm_workers.specs.Attempts.{HasTried, HasStopped, IsStop, IsNextAttempt, HasFailed, HasCommitted, HasEnded, ComesTo, EndsByVerdict};
+ghost use Rattle.stm_workers.specs.Attempts.{HasComeAt, BringsToEnd};
 ghost use Rattle.stm_workers.specs.Tried.{IfEnded, IfAgain};
 ghost use Rattle.stm_workers.specs.Rounds.{committed_by, counted_end, greatest_carried, seen_after, shown_at};
-ghost use Rattle.stm_workers.specs.Rounds.{committed_in, drawing, is_run_of_some, jobs_of, IsOfJob, IsRunOfJob};
+ghost use Rattle.stm_workers.specs.Rounds.{committed_in, drawing, is_run_of_some, jobs_of, IsOfJob, IsRunOfJob, JudgedInSomeHall};
 
 use crate::auditing::job_at;
 use crate::desk::{Desk, Round};
@@ -88,7 +92,7 @@ fn next_attempt(
     answers: Sequence<ReadAnswer>,
 ) -> Result<Attempt, AllocError>
     requires { MayBePrefetched answers }
-    ensures begun { IfOk result (λ attempt. attempt ≡ begun job.now.level (if is_serializable job.now.level then answers else [])) }
+    ensures begun { IfOk result (λ attempt. attempt ≡ next_attempt job.now answers) }
     ensures is_its { IfOk result (IsOfJob job.now) }
 {
     match job.level {
@@ -105,7 +109,10 @@ fn after_verdict(alloc: Global, job: &Job, verdict: Verdict) -> Result<Tried, St
     requires { CanGoOn verdict }
     ensures ended { IfOk result (IfEnded (λ end. counted_end end ≡ committed_by verdict)) }
     ensures again { IfOk result (IfAgain (λ next. IsOfJob job.now next × (committed_by verdict ≡ 0))) }
+    ensures told { IfOk result (IfEnded (λ end. (end ≡ end_after verdict) × (committed_by verdict ≡ 1))) }
+    ensures next { IfOk result (IfAgain (IsNextAttempt job.now verdict)) }
     ensures stopped { OnErr result (committed_by verdict ≡ 0) }
+    ensures want { IfErr result (λ stop. stop ≡ OutOfMemory) }
 {
     match verdict {
         Verdict::Committed { index, revision } => {
@@ -120,7 +127,8 @@ fn after_verdict(alloc: Global, job: &Job, verdict: Verdict) -> Result<Tried, St
 
 /// What the verdict on a last attempt makes of its job.
 fn end_of_last(verdict: Verdict) -> JobEnd
-    ensures { counted_end result ≡ committed_by verdict }
+    ensures counted { counted_end result ≡ committed_by verdict }
+    ensures told { result ≡ end_after verdict }
 {
     match verdict {
         Verdict::Committed { index, revision } => JobEnd::Committed { index, revision },
@@ -160,6 +168,8 @@ impl<'a, R: Round, W: Wait, G: Gate> Floor<'a, R, W, G> {
         ensures seen { IfOk result (λ answer. (seen.old ≤ answer.revision) × (seen.new ≡ answer.revision)) }
         ensures stopped { OnErr result (seen.new ≡ seen.old) }
         ensures never_falls { seen.old ≤ seen.new }
+        ensures answered { IfOk result (IsAnswered seen.old key.now at) }
+        ensures refused { IfErr result (λ stop. (stop ≡ OutOfMemory) ⊎ IsUnanswered seen.old key.now at stop) }
     {
         let txn = read_one(self.alloc, key.as_str(), at)?;
         // Under the lock: one key is looked up, and its value copied.
@@ -186,6 +196,9 @@ impl<'a, R: Round, W: Wait, G: Gate> Floor<'a, R, W, G> {
         ensures attempt { OnOk result (IsOfJob job.now attempt.new) }
         ensures ready { IfOk result (λ found. IfSome found (λ ready. IsRunOfJob job.now ready)) }
         ensures never_falls { seen.old ≤ seen.new }
+        ensures fetch { IfOk result (λ found. found ≡ None → IsFetch job.now (state_of attempt.old seen.old) (state_of attempt.new seen.new)) }
+        ensures is_ready { IfOk result (λ found. IfSome found (λ ready. IsReadyAt job.now (state_of attempt.old seen.old) ready × (seen.new ≡ seen.old))) }
+        ensures stops { IfErr result (λ stop. (stop ≡ OutOfMemory) ⊎ (IsStop job.now (state_of attempt.old seen.old) stop × (seen.new ≡ seen.old))) }
     {
         let next = attempt.advance(&job.program)?;
         match next {
@@ -213,6 +226,8 @@ impl<'a, R: Round, W: Wait, G: Gate> Floor<'a, R, W, G> {
         ensures attempt { OnOk result (IsOfJob job.now attempt.new) }
         ensures ready { IfOk result (λ ready. IsRunOfJob job.now ready) }
         ensures never_falls { seen.old ≤ seen.new }
+        ensures evaluated { IfOk result (λ ready. IsEvaluated job.now (state_of attempt.old seen.old) ready seen.new) }
+        ensures stops { IfErr result (λ stop. HasStopped job.now (state_of attempt.old seen.old) stop seen.new) }
     {
         for _ in self.rt.forever() {
             if let Some(ready) = self.go_on(place, job, attempt, seen)? {
@@ -230,6 +245,8 @@ impl<'a, R: Round, W: Wait, G: Gate> Floor<'a, R, W, G> {
         ensures committed { IfOk result (λ verdict. share.new.amount ≡ share.old.amount + committed_by verdict) }
         ensures stopped { OnErr result (share.new.amount ≡ share.old.amount) }
         ensures answers { IfOk result CanGoOn }
+        ensures judged { IfOk result (λ verdict. JudgedInSomeHall ready.now (Ok verdict)) }
+        ensures refused { IfErr result (λ stop. (stop ≡ OutOfMemory) ⊎ IsTurnedAway ready.now stop) }
     {
         let prepared = prepare(self.alloc, ready)?;
         self.gate.before_commit(place);
@@ -261,6 +278,8 @@ impl<'a, R: Round, W: Wait, G: Gate> Floor<'a, R, W, G> {
         ensures answers { IfOk result CanGoOn }
         ensures carried { IfOk result (λ verdict. (before : ℕ) × (seen.old ≤ before) × (seen.new ≡ seen_after before verdict)) }
         ensures never_falls { seen.old ≤ seen.new }
+        ensures tried { IfOk result (λ verdict. HasTried job.now (state_of attempt.old seen.old) verdict seen.new) }
+        ensures stops { IfErr result (λ stop. HasStopped job.now (state_of attempt.old seen.old) stop seen.new) }
     {
         let ready = self.evaluate(place, job, attempt, seen)?;
         let verdict = self.send(place, share, &ready)?;
@@ -285,6 +304,9 @@ impl<'a, R: Round, W: Wait, G: Gate> Floor<'a, R, W, G> {
         ensures again { IfOk result (IfAgain (λ next. IsOfJob job.now next × (share.new.amount ≡ share.old.amount))) }
         ensures stopped { OnErr result (share.new.amount ≡ share.old.amount) }
         ensures never_falls { seen.old ≤ seen.new }
+        ensures commits { IfOk result (IfEnded (λ end. HasCommitted job.now (state_of attempt.old seen.old) end seen.new)) }
+        ensures fails { IfOk result (IfAgain (λ next. HasFailed job.now (state_of attempt.old seen.old) (state_of next seen.new))) }
+        ensures stops { IfErr result (λ stop. HasStopped job.now (state_of attempt.old seen.old) stop seen.new) }
     {
         let verdict = self.try_once(place, job, share, attempt, seen)?;
         after_verdict(self.alloc, job, verdict)
@@ -307,6 +329,9 @@ impl<'a, R: Round, W: Wait, G: Gate> Floor<'a, R, W, G> {
         ensures again { IfOk result (IfAgain (λ next. IsOfJob job.now next × (share.new.amount ≡ share.old.amount))) }
         ensures stopped { OnErr result (share.new.amount ≡ share.old.amount) }
         ensures never_falls { seen.old ≤ seen.new }
+        ensures commits { IfOk result (IfEnded (λ end. HasCommitted job.now (state_of attempt seen.old) end seen.new)) }
+        ensures fails { IfOk result (IfAgain (λ next. HasFailed job.now (state_of attempt seen.old) (state_of next seen.new))) }
+        ensures stops { IfErr result (λ stop. HasStopped job.now (state_of attempt seen.old) stop seen.new) }
     {
         let mut attempt = attempt;
         let tried = self.try_for_next(place, job, share, &mut attempt, seen);
@@ -330,6 +355,8 @@ impl<'a, R: Round, W: Wait, G: Gate> Floor<'a, R, W, G> {
         ensures counted { IfOk result (λ end. share.new.amount ≡ share.old.amount + counted_end end) }
         ensures stopped { OnErr result (share.new.amount ≡ share.old.amount) }
         ensures never_falls { seen.old ≤ seen.new }
+        ensures ends { IfOk result (λ end. HasEnded job.now (state_of attempt.old seen.old) end seen.new) }
+        ensures stops { IfErr result (λ stop. HasStopped job.now (state_of attempt.old seen.old) stop seen.new) }
     {
         let verdict = self.try_once(place, job, share, attempt, seen)?;
         Ok(end_of_last(verdict))
@@ -351,6 +378,8 @@ impl<'a, R: Round, W: Wait, G: Gate> Floor<'a, R, W, G> {
         ensures counted { IfOk result (λ end. share.new.amount ≡ share.old.amount + counted_end end) }
         ensures stopped { OnErr result (share.new.amount ≡ share.old.amount) }
         ensures never_falls { seen.old ≤ seen.new }
+        ensures ends { IfOk result (λ end. HasEnded job.now (state_of attempt seen.old) end seen.new) }
+        ensures stops { IfErr result (λ stop. HasStopped job.now (state_of attempt seen.old) stop seen.new) }
     {
         let mut attempt = attempt;
         let end = self.try_for_end(place, job, share, &mut attempt, seen);
@@ -372,9 +401,11 @@ impl<'a, R: Round, W: Wait, G: Gate> Floor<'a, R, W, G> {
         ensures counted { IfOk result (λ end. share.new.amount ≡ share.old.amount + counted_end end) }
         ensures stopped { OnErr result (share.new.amount ≡ share.old.amount) }
         ensures never_falls { seen.old ≤ seen.new }
+        ensures ends { IfOk result (λ end. ComesTo job.now seen.old (EndsByVerdict job.now end seen.new)) }
+        ensures stops { IfErr result (λ stop. ComesTo job.now seen.old (λ failed last. HasStopped job.now last stop seen.new)) }
     {
         let mut attempt = first_attempt(self.alloc, job);
-        for _ in 1..job.limit {
+        for _number in 1..job.limit {
             match self.try_again(place, job, share, attempt, seen)? {
                 Tried::Ended(end) => return Ok(end),
                 Tried::Again(next) => attempt = next,
@@ -395,6 +426,7 @@ impl<'a, R: Round, W: Wait, G: Gate> Floor<'a, R, W, G> {
         ensures parts { share.new.parts ≡ share.old.parts }
         ensures counted { IfOk result (λ end. share.new.amount ≡ share.old.amount + counted_end end) }
         ensures never_falls { seen.old ≤ seen.new }
+        ensures came { IfOk result (λ end. HasComeAt self.now.jobs.now place seen.old end seen.new) }
     {
         let job = job_at(self.jobs, place);
         match self.attempt(place, job, share, seen) {
@@ -416,7 +448,8 @@ impl<'a, R: Round, W: Wait, G: Gate> Floor<'a, R, W, G> {
         requires seated { IsSeatAt R.table R.size seat }
         requires drawn { seat_view seat ≡ drew (drawing R.size (jobs_of ended.items)) job }
         requires counted { (share.parts ≡ 1) × (share.amount ≡ committed_in ended.items) }
-        ensures { IfOk result (λ worker. seen ≤ worker.seen) }
+        ensures seen { IfOk result (λ worker. seen ≤ worker.seen) }
+        ensures came { IfOk result (λ worker. BringsToEnd self.now.jobs.now job seen ended.items worker.seen worker.ended.items) }
     {
         let mut share = share;
         let mut most = seen;

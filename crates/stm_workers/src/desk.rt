@@ -7,7 +7,7 @@ ghost use Rattle.stm_hall.specs.Fetching.{OnlyReads, FetchTells, fetched};
 ghost use Rattle.stm_hall.specs.Prepared.{IsPreparedFor};
 ghost use Rattle.stm_hall.specs.Verdicts.{CanGoOn, CommitTells, verdict_of};
 ghost use Rattle.stm_workers.specs.Ends.{commits_in};
-ghost use Rattle.stm_workers.specs.Rounds.{HasGoneOn, AnswersInSomeHall, committed_by, is_run_of_some, takes_commits_of};
+ghost use Rattle.stm_workers.specs.Rounds.{HasGoneOn, AnswersInSomeHall, JudgedInSomeHall, committed_by, is_run_of_some, takes_commits_of};
 
 use std::marker::Brand;
 use std::sync::ledger::{Book, Ledger, Share};
@@ -103,6 +103,7 @@ impl<R: Round> Desk<R> {
         requires is_its { IsPreparedFor prepared ready.now }
         requires of_a_job { is_run_of_some R.jobs ready.now.program ready.now.level ≡ true }
         ensures told { CommitTells (verdict_of self.old.hall ready.now) self.old.hall result self.new.hall }
+        ensures judged { JudgedInSomeHall ready.now result }
         ensures parts { mine.new.parts ≡ mine.old.parts }
         ensures committed { IfOk result (λ verdict. mine.new.amount ≡ mine.old.amount + committed_by verdict) }
         ensures refused { OnErr result (mine.new.amount ≡ mine.old.amount) }

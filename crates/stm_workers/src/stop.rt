@@ -1,8 +1,11 @@
 //! Why a job goes no further.
-ghost use Rattle.std.specs.Prelude.{◌≡◌, ◌≢◌, ◌↔◌, false, IfOk, IfErr, OnOk, IsTrue};
+ghost use Rattle.std.specs.Prelude.{◌≡◌, ◌≢◌, ◌↔◌, false, Some, IfOk, IfErr, OnOk, IsTrue};
 ghost use Rattle.stm_meaning.specs.declared.run.End.TheVariants.{Done};
 ghost use Rattle.stm_txn.specs.declared.refusal.Refusal.TheVariants.{OutOfMemory as Want};
+ghost use Rattle.stm_hall.specs.declared.refusal.FetchRefusal.TheVariants.{Store as FetchRefused};
+ghost use Rattle.stm_hall.specs.declared.refusal.CommitRefusal.TheVariants.{Store as CommitRefused};
 ghost use Rattle.stm_workers.specs.Ends.{is_committed};
+ghost use Rattle.stm_workers.specs.Attempts.{end_told, fetch_refusal_told, commit_refusal_told, job_end_told};
 
 use crate::job_end::{JobEnd, JobRefusal};
 use crate::store_refusal::StoreRefusal;
@@ -43,22 +46,31 @@ fn is_want(cause: Refusal) -> bool
 impl Stop {
     ghost use Rattle.stm_workers.specs.declared.stop.Stop.TheVariants.{OutOfMemory};
 
-    /// A call that the store refused.
-    fn of_store(cause: Refusal) -> Stop {
+    /// A call that the store refused: want of memory is told as such, and each other cause as itself.
+    fn of_store(cause: Refusal) -> Stop
+        ensures fetch { fetch_refusal_told result ≡ Some (FetchRefused cause) }
+        ensures commit { commit_refusal_told result ≡ Some (CommitRefused cause) }
+    {
         if is_want(cause) {
             return Stop::OutOfMemory;
         }
         Stop::Refused(JobRefusal::Store(StoreRefusal::of(cause)))
     }
 
-    pub fn of_fetch(refusal: FetchRefusal) -> Stop {
+    /// A fetch that the hall refused.
+    pub fn of_fetch(refusal: FetchRefusal) -> Stop
+        ensures { fetch_refusal_told result ≡ Some refusal }
+    {
         match refusal {
             FetchRefusal::Behind { seen, now } => Stop::Refused(JobRefusal::Behind { seen, now }),
             FetchRefusal::Store(cause) => Stop::of_store(cause),
         }
     }
 
-    pub fn of_commit(refusal: CommitRefusal) -> Stop {
+    /// A commit that the hall refused.
+    pub fn of_commit(refusal: CommitRefusal) -> Stop
+        ensures { commit_refusal_told result ≡ Some refusal }
+    {
         match refusal {
             CommitRefusal::Unvouched { key } => Stop::Refused(JobRefusal::Unvouched { key }),
             CommitRefusal::Store(cause) => Stop::of_store(cause),
@@ -68,6 +80,7 @@ impl Stop {
     /// An end of a run other than its last statement.
     fn of_end(end: End) -> Stop
         requires { end ≢ Done }
+        ensures { end_told result ≡ Some end }
     {
         match end {
             End::Done => unreachable!(),
@@ -79,6 +92,7 @@ impl Stop {
     /// A run that came to an end other than its last statement.
     pub fn of_run(run: Run) -> Stop
         requires { run.end ≢ Done }
+        ensures { end_told result ≡ Some run.end }
     {
         Stop::of_end(run.end)
     }
@@ -86,6 +100,7 @@ impl Stop {
     /// The job's end, where it is one: want of memory is none.
     pub fn end(self) -> Result<JobEnd, AllocError>
         ensures end { IfOk result (λ end. is_committed end ≡ false) }
+        ensures told { IfOk result (λ end. job_end_told self ≡ Some end) }
         ensures want { IfErr result (λ error. self ≡ OutOfMemory) }
         ensures no_want { OnOk result (self ≢ OutOfMemory) }
     {

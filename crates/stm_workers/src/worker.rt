@@ -78,7 +78,8 @@ impl<R: Round> Busy<R> {
         requires seated { IsSeatAt R.table R.size seat }
         requires one_left { seat_view seat ≡ drawing R.size (jobs_of ended.items) }
         requires counted { (share.parts ≡ 1) × (share.amount ≡ committed_in ended.items) }
-        ensures { result.seen ≡ seen }
+        ensures seen { result.seen ≡ seen }
+        ensures ended { result.ended.items ≡ ended.items }
     {
         Busy {
             seat,

@@ -7,6 +7,8 @@ ghost use Rattle.std.specs.Prelude.{◌≤◌};
 mod arguments;
 mod checking;
 #[cfg(test)]
+mod checking_tests;
+#[cfg(test)]
 mod file_tests;
 mod files;
 #[cfg(test)]

@@ -1,6 +1,6 @@
 use Rattle.std.proofs.Common.{string_bytes}
-use Rattle.std.proofs.lemmas.Result.{IfOk-weaker}
-use Rattle.stm_jobs.proofs.RunLemmas.{are_of_run}
+use Rattle.std.proofs.lemmas.Result.{IfOk-weaker, IfErr-weaker}
+use Rattle.stm_jobs.proofs.RunLemmas.{are_of_run, broken_off, no_room}
 use Rattle.stm_jobs.proofs.running.lines_on.Goals as goal
 
 pub returns-in-Ok-clause-lines : goal.returns-in-Ok-clause-lines
@@ -10,3 +10,13 @@ returns-in-Ok-clause-lines g c =
     are_of_run start calls c.args.jobs.now (string_bytes text) c.args.store.standing c.in-Ok.gathered.ends.items c.in-Ok.gathered.committed c.new.result
     c.in-Ok.gathered.hall stands c.new.ensures c.in-Ok.ensures.ok printed)
     c.lines_of_run.ensures.lines
+
+pub returns-in-Ok-clause-fault : goal.returns-in-Ok-clause-fault
+returns-in-Ok-clause-fault g c =
+    IfErr-weaker c.lines_of_run.result _ _ (λ fault told start calls stands. no_room start calls c.args.jobs.now fault told) c.lines_of_run.ensures.fault
+
+-- its cause is told
+pub returns-in-Err-clause-fault : goal.returns-in-Err-clause-fault
+returns-in-Err-clause-fault g c = λ start calls stands.
+    broken_off start calls c.args.jobs.now c.fault_of_run.result c.in-Err.broken.cause c.args.store.standing c.new.result c.in-Err.broken.hall stands
+    c.new.ensures c.in-Err.ensures.fault c.fault_of_run.ensures

@@ -1,5 +1,6 @@
 use Rattle.stm_workers.specs.Rounds.{committed_by}
 use Rattle.stm_workers.proofs.TriedLemmas.{ended_counts, again_counts, stopped_counts}
+use Rattle.stm_workers.proofs.AttemptLemmas.{commits_by, fails_by, stops_by}
 use Rattle.stm_workers.proofs.attempts.Floor.try_for_next.Goals as goal
 
 -- the end counts what the verdict did
@@ -17,3 +18,14 @@ pub returns-clause-stopped : goal.returns-clause-stopped
 returns-clause-stopped g c =
     stopped_counts c.after_verdict.result c.args.share.now.amount c.try_once.new.share.amount (committed_by c.in_ok-verdict.verdict)
     c.in_ok-verdict.ensures.committed c.after_verdict.ensures.stopped
+
+-- ---- what it comes to
+
+pub returns-clause-commits : goal.returns-clause-commits
+returns-clause-commits g c = commits_by _ _ _ _ _ c.in_ok-verdict.ensures.tried c.after_verdict.ensures.told
+
+pub returns-clause-fails : goal.returns-clause-fails
+returns-clause-fails g c = fails_by _ _ _ _ _ c.in_ok-verdict.ensures.tried c.after_verdict.ensures.next
+
+pub returns-clause-stops : goal.returns-clause-stops
+returns-clause-stops g c = stops_by _ _ _ _ c.after_verdict.ensures.want

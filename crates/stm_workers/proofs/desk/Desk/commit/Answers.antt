@@ -1,5 +1,7 @@
+use Rattle.std.proofs.lemmas.Result.{err_from_is_err_and}
 use Rattle.stm_workers.specs.Ends.{commits_in}
 use Rattle.stm_workers.specs.Rounds.{committed_by}
+use Rattle.stm_workers.proofs.AttemptLemmas.{refused_so}
 use Rattle.stm_workers.proofs.RoundLemmas.{goes_further, same_count, same_takes, adds_up, verdict_adds, verdict_takes}
 use Rattle.stm_workers.proofs.desk.Desk.commit.Goals as goal
 
@@ -26,3 +28,12 @@ invariant_of-self-2 g c =
           old.commits.total c.count.new.commits.total (committed_by c.in_ok-verdict.verdict)
           (verdict_adds old.hall c.commit_prepared.new.self c.args.ready.now c.in_ok-verdict.verdict came) old.counted c.count.ensures.total;
     }
+
+pub returns-in_err-verdict-clause-judged : goal.returns-in_err-verdict-clause-judged
+returns-in_err-verdict-clause-judged g c =
+    let exit = err_from_is_err_and c.from_residual.result c.from_residual.ensures.1 in
+    refused_so c.args.ready.now c.args.self.now.hall c.commit_prepared.new.self c.from_residual.result exit.0 c.in_err-verdict.field-0.0 exit.1 exit.2
+    c.in_err-verdict.ensures.verdict
+
+pub returns-clause-judged : goal.returns-clause-judged
+returns-clause-judged g c = (c.args.self.now.hall, c.commit_prepared.new.self, c.in_ok-verdict.ensures.verdict)

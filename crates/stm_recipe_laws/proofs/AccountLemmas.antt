@@ -30,11 +30,11 @@ use Rattle.stm_recipes.specs.Alone.{Deed, deed_of, aborted, put_number, put_adde
 use Rattle.stm_recipes.proofs.AccountRuns.{transfer_alone, deposit_alone, written_in_range, difference_in_range}
 use Rattle.stm_recipe_laws.specs.Accounts.{number_of, balance_now, sum_over, total_now, AreAccounts, IsAmong, IsTransfer, IsDeposit}
 use Rattle.stm_recipe_laws.specs.Accounts.{IsOfAccounts, Transfers, Deposits, Leaves, AreOfAccounts, amount_of, deposits_of, TotalsGrowByDeposits}
-use Rattle.stm_recipe_laws.specs.Accounts.{CountedTotalsGrow}
+use Rattle.stm_recipe_laws.specs.Accounts.{counted_total, CountedTotals}
 use Rattle.stm_recipe_laws.proofs.CommitLemmas.{Committed, committed, now_is_known}
 use Rattle.stm_recipe_laws.proofs.KeyLemmas.{last_write-cons, change_by, left_of_key}
-use Rattle.stm_recipe_laws.proofs.AccountNumbers.{read_back, Reading, as_written, as_counted}
-use Rattle.stm_recipe_laws.proofs.SumLemmas.{has_balance, sums_agree, sum_moves}
+use Rattle.stm_recipe_laws.proofs.AccountNumbers.{read_back, number_is, Reading, as_written, as_counted}
+use Rattle.stm_recipe_laws.proofs.SumLemmas.{HasParts, parts_of, has_balance, sums_agree, sum_moves}
 
 named : (accounts : List (List ℕ)) (account : List ℕ) → AreAccounts accounts → IsAmong account accounts → 0 < length account
 named [] account are among = absurd among
@@ -338,5 +338,13 @@ total_of_state h entries (a ∷ accounts) is =
 pub totals_grow_by_deposits : TotalsGrowByDeposits
 totals_grow_by_deposits = record { grows = entries_move as_written; is_total = total_of_state }
 
-pub counted_totals_grow : CountedTotalsGrow
-counted_totals_grow = entries_move as_counted
+-- where each account has a number, it counts as that
+counted_as_written : (h : History) (accounts : List (List ℕ)) (total : ℤ) → total_now h accounts ≡ Some total → counted_total h accounts ≡ Some total
+counted_as_written h [] total sums = sums
+counted_as_written h (a ∷ accounts) total sums =
+    let p : HasParts (balance_now h a) (total_now h accounts) total = parts_of (balance_now h a) (total_now h accounts) total sums in
+    ap (λ o. sum_of o (counted_total h accounts)) (as_counted.written (key_now h a) p.here (number_is (key_now h a) p.here p.first_is))
+    ∙ ap (sum_of (Some p.here)) (counted_as_written h accounts p.others p.rest_is) ∙ ap (λ z. Some z) p.adds
+
+pub counted_totals : CountedTotals
+counted_totals = record { grow = entries_move as_counted; are_totals = counted_as_written }

@@ -18,7 +18,7 @@ use Rattle.stm_recipe_laws.specs.Accounts.{total_now, counted_total, AreAccounts
 use Rattle.stm_recipe_laws.specs.Queues.{Absent, HoldsItems, AreOfQueue, all_added, all_taken, Kept}
 use Rattle.stm_recipe_laws.specs.Slots.{IsReservation, AreOfSlot, IsFreed}
 use Rattle.stm_recipe_laws.specs.Worlds.{entries_after, history_after, RecipesInWorlds}
-use Rattle.stm_recipe_laws.proofs.AccountLemmas.{totals_grow_by_deposits, counted_totals_grow}
+use Rattle.stm_recipe_laws.proofs.AccountLemmas.{totals_grow_by_deposits, counted_totals}
 use Rattle.stm_recipe_laws.proofs.QueueLemmas.{queues_keep_their_items}
 use Rattle.stm_recipe_laws.proofs.SlotLemmas.{slots_are_freed_between}
 
@@ -58,7 +58,7 @@ deposits start events accounts es are parts of =
     let sum : ℤ = deposits_of accounts es (opening start) of in
     let from_none : pos 0 +ℤ sum ≡ sum = omega (arith, ints) in
     ap (λ (r : Replayed). counted_total r.history accounts) (sym l.replays ∙ ap (λ (xs : List Entry). replay xs (opening start)) parts)
-    ∙ counted_totals_grow accounts es (opening start) (pos 0) are legal of (none_deposited start accounts) ∙ ap (λ (z : ℤ). Some z) from_none
+    ∙ counted_totals.grow accounts es (opening start) (pos 0) are legal of (none_deposited start accounts) ∙ ap (λ (z : ℤ). Some z) from_none
 
 -- a queue of a store that opens holds nothing
 holds_nothing : (start : ℕ) (queue : List ℕ) → HoldsItems (opening start).history queue []

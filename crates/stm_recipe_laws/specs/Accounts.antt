@@ -107,9 +107,9 @@ pub record TotalsGrowByDeposits : Type 0 where
   pub is_total : (h : History) (entries : List StateEntry) (accounts : List (List ℕ)) → IsStateOf h entries
       → total_of entries accounts ≡ total_now h accounts
 
--- It is so, too, where an absent account counts as 0: so also of accounts that the deposits make.
-abbrev pub CountedTotalsGrow : Type 0
-CountedTotalsGrow =
-    (accounts : List (List ℕ)) (es : List Entry) (r : Replayed) (total : ℤ) → AreAccounts accounts → AreLegal es r
-    → (of : AreOfAccounts accounts es r) → counted_total r.history accounts ≡ Some total
-    → counted_total (replay es r).history accounts ≡ Some (total +ℤ deposits_of accounts es r of)
+-- It is so, too, where an absent account counts as 0: so also of accounts that the deposits make. Where each has a number, this is the total.
+pub record CountedTotals : Type 0 where
+  pub grow : (accounts : List (List ℕ)) (es : List Entry) (r : Replayed) (total : ℤ) → AreAccounts accounts → AreLegal es r
+      → (of : AreOfAccounts accounts es r) → counted_total r.history accounts ≡ Some total
+      → counted_total (replay es r).history accounts ≡ Some (total +ℤ deposits_of accounts es r of)
+  pub are_totals : (h : History) (accounts : List (List ℕ)) (total : ℤ) → total_now h accounts ≡ Some total → counted_total h accounts ≡ Some total

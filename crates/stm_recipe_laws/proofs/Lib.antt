@@ -2,6 +2,7 @@ pub mod CommitLemmas
 pub mod KeyLemmas
 pub mod SlotLemmas
 pub mod SumLemmas
+pub mod AccountNumbers
 pub mod AccountLemmas
 pub mod QueueKeys
 pub mod QueueLemmas
@@ -9,3 +10,4 @@ pub mod WrongEntries
 pub mod Readers
 pub mod WorldLemmas
 pub mod WorkedExamples
+pub mod WorldExamples

@@ -12,7 +12,7 @@ use Rattle.stm_steps.specs.Values.{written_number, is_in_range}
 use Rattle.stm_recipes.specs.Names.{head_key, tail_key, items_key}
 use Rattle.stm_recipes.specs.Alone.{or_zero}
 use Rattle.stm_recipe_laws.specs.Queues.{place_of}
-use Rattle.stm_recipe_laws.proofs.AccountLemmas.{read_back}
+use Rattle.stm_recipe_laws.proofs.AccountNumbers.{read_back}
 
 pub small_in_range : (n : ℕ) → n < 2 ^ 63 → is_in_range (pos n) ≡ true
 small_in_range n small = lt-ltb n (2 ^ 63) small

@@ -51,15 +51,15 @@ changed revisions = record { opening = 1; revisions = revisions }
 abbrev with_no_lease : List (List Change) → Replayed
 with_no_lease revisions = record { history = changed revisions; live = finmap.empty }
 
-some : 0 < 1
+pub some : 0 < 1
 some = omega arith
 
 -- ---- accounts: a has 10 and b has 5; a pays 3 to b, and 7 are added to b
 
-abbrev accounts : List (List ℕ)
+abbrev pub accounts : List (List ℕ)
 accounts = codes "a" ∷ codes "b" ∷ []
 
-are_accounts : AreAccounts accounts
+pub are_accounts : AreAccounts accounts
 are_accounts = (some, (refl, tt), (some, tt, tt))
 
 abbrev opened_accounts : List (List Change)

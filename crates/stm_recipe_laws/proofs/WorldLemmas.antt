@@ -1,6 +1,8 @@
 -- Recipes over all that happens in a world.
 use Rattle.std.proofs.Common.{◌≡◌, ℕ, ◌<◌, List, [], ◌∷◌, ◌++◌, length, Some, refl, sym, ◌∙◌, ap, subst, arith}
-use Rattle.std.specs.Prelude.{ℤ, ◌+ℤ◌}
+use Rattle.std.specs.Prelude.{ℤ, pos, ◌+ℤ◌}
+use Rattle.std.proofs.lemmas.Int.{ints}
+use Rattle.stm_steps.specs.Values.{written_number}
 use Rattle.stm_compile.proofs.AgreeLemmas.{commit_is_the_run_now}
 use Rattle.stm_compile.proofs.ConflictLemmas.{failed_compares_conflict}
 use Rattle.stm_entries.specs.declared.entry.Entry.{Entry}
@@ -8,14 +10,15 @@ use Rattle.stm_entries.specs.Legal.{AreLegal}
 use Rattle.stm_entries.specs.Replay.{replay, replay_entry}
 use Rattle.stm_entries.specs.Replayed.{Replayed, opening, without_moment}
 use Rattle.stm_entries.proofs.Replaying.{replay_goes_on, all_legal, front_legal, rest_legal}
+use Rattle.stm_recipes.specs.Accounts.{sum_of}
 use Rattle.stm_world.specs.declared.event.WorldEvent.{WorldEvent}
 use Rattle.stm_world.specs.World.{opened, world_after}
 use Rattle.stm_world.proofs.Headlines.{headline}
-use Rattle.stm_recipe_laws.specs.Accounts.{total_now, AreAccounts, AreOfAccounts, deposits_of}
+use Rattle.stm_recipe_laws.specs.Accounts.{total_now, counted_total, AreAccounts, AreOfAccounts, deposits_of}
 use Rattle.stm_recipe_laws.specs.Queues.{Absent, HoldsItems, AreOfQueue, all_added, all_taken, Kept}
 use Rattle.stm_recipe_laws.specs.Slots.{IsReservation, AreOfSlot, IsFreed}
 use Rattle.stm_recipe_laws.specs.Worlds.{entries_after, history_after, RecipesInWorlds}
-use Rattle.stm_recipe_laws.proofs.AccountLemmas.{totals_grow_by_deposits}
+use Rattle.stm_recipe_laws.proofs.AccountLemmas.{totals_grow_by_deposits, counted_totals}
 use Rattle.stm_recipe_laws.proofs.QueueLemmas.{queues_keep_their_items}
 use Rattle.stm_recipe_laws.proofs.SlotLemmas.{slots_are_freed_between}
 
@@ -41,19 +44,36 @@ totals start events accounts front rest total are parts of sums =
     (sym l.replays ∙ ap (λ (es : List Entry). replay es (opening start)) parts ∙ replay_goes_on front rest (opening start))
     ∙ totals_grow_by_deposits.grows accounts rest at total are legal of sums
 
+-- accounts of a store that opens count as 0
+none_deposited : (start : ℕ) (accounts : List (List ℕ)) → counted_total (opening start).history accounts ≡ Some (pos 0)
+unfolding written_number
+none_deposited start [] = refl
+none_deposited start (a ∷ accounts) = ap (sum_of (Some (pos 0))) (none_deposited start accounts)
+
+deposits : (start : ℕ) (events : List WorldEvent) (accounts : List (List ℕ)) (es : List Entry) → AreAccounts accounts → entries_after start events ≡ es →
+    (of : AreOfAccounts accounts es (opening start)) → counted_total (history_after start events) accounts ≡ Some (deposits_of accounts es (opening start) of)
+deposits start events accounts es are parts of =
+    let l : Leads start events = leads start events in
+    let legal : AreLegal es (opening start) = subst (λ (xs : List Entry). AreLegal xs (opening start)) parts l.legal in
+    let sum : ℤ = deposits_of accounts es (opening start) of in
+    let from_none : pos 0 +ℤ sum ≡ sum = omega (arith, ints) in
+    ap (λ (r : Replayed). counted_total r.history accounts) (sym l.replays ∙ ap (λ (xs : List Entry). replay xs (opening start)) parts)
+    ∙ counted_totals.grow accounts es (opening start) (pos 0) are legal of (none_deposited start accounts) ∙ ap (λ (z : ℤ). Some z) from_none
+
 -- a queue of a store that opens holds nothing
 holds_nothing : (start : ℕ) (queue : List ℕ) → HoldsItems (opening start).history queue []
 holds_nothing start queue =
     record { head = 0; tail = 0; is_head = Absent refl refl; is_tail = Absent refl refl; in_range = omega arith; count = refl; each = tt }
 
-items : (start : ℕ) (events : List WorldEvent) (queue : List ℕ) → 0 < length queue → (of : AreOfQueue queue (entries_after start events) (opening start)) →
-    Kept queue [] (all_taken queue (entries_after start events) (opening start) of) (all_added queue (entries_after start events) (opening start) of)
-    (history_after start events)
-items start events queue named of =
+items : (start : ℕ) (events : List WorldEvent) (queue : List ℕ) (es : List Entry) → 0 < length queue → entries_after start events ≡ es →
+    (of : AreOfQueue queue es (opening start)) →
+    Kept queue [] (all_taken queue es (opening start) of) (all_added queue es (opening start) of) (history_after start events)
+items start events queue es named are of =
     let l : Leads start events = leads start events in
-    let es : List Entry = entries_after start events in
-    subst (λ (r : Replayed). Kept queue [] (all_taken queue es (opening start) of) (all_added queue es (opening start) of) r.history) l.replays
-    (queues_keep_their_items queue es (opening start) [] named l.legal of (holds_nothing start queue))
+    let legal : AreLegal es (opening start) = subst (λ (xs : List Entry). AreLegal xs (opening start)) are l.legal in
+    subst (λ (r : Replayed). Kept queue [] (all_taken queue es (opening start) of) (all_added queue es (opening start) of) r.history)
+    (ap (λ (xs : List Entry). replay xs (opening start)) (sym are) ∙ l.replays)
+    (queues_keep_their_items queue es (opening start) [] named legal of (holds_nothing start queue))
 
 holders : (start : ℕ) (events : List WorldEvent) (slot : List ℕ) (front between rest : List Entry) (first second : Entry) → 0 < length slot →
     entries_after start events ≡ front ++ (first ∷ between ++ second ∷ rest) → IsReservation slot first → IsReservation slot second →
@@ -70,4 +90,4 @@ holders start events slot front between rest first second named parts reserves a
     slots_are_freed_between slot first second between at named (legal.0, both) reserves again of
 
 pub recipes_in_worlds : RecipesInWorlds
-recipes_in_worlds = record { totals = totals; items = items; holders = holders }
+recipes_in_worlds = record { totals = totals; deposits = deposits; items = items; holders = holders }

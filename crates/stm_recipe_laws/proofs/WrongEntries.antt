@@ -1,17 +1,15 @@
 -- Wrong entries of recipes are none.
-use Rattle.std.proofs.Common.{◌≡◌, ◌≢◌, ℕ, ◌+◌, ◌<◌, zero, suc, List, [], ◌∷◌, ◌++◌, length, Option, Some, None, Bool, true, false, cond, Ok, Err, refl, sym}
+use Rattle.std.proofs.Common.{◌≡◌, ◌≢◌, ℕ, ◌+◌, ◌<◌, zero, suc, List, [], ◌∷◌, ◌++◌, length, Option, Some, None, Bool, true, false, cond, refl, sym}
 use Rattle.std.proofs.Common.{◌∙◌, ap, arith, codes}
-use Rattle.std.specs.Prelude.{ℤ, pos, ◌+ℤ◌, int_lt, not, bytes_eq, is_some, slice_get, Result}
+use Rattle.std.specs.Prelude.{ℤ, pos, ◌+ℤ◌, int_lt, not, bytes_eq, is_some, slice_get}
 use Rattle.std.proofs.lemmas.List.{length-append}
 use Rattle.std.proofs.lemmas.Option.{same_Some}
 use Rattle.stm_history.specs.declared.key_state.KeyState.{KeyState}
 use Rattle.stm_history.specs.History.{History, key_now, value_of as value_now}
 use Rattle.stm_program.specs.declared.write.Write.TheVariants.{Del}
-use Rattle.stm_steps.specs.declared.fault.Fault.{Fault}
-use Rattle.stm_steps.specs.declared.fault.Fault.TheVariants.{NotANumber}
 use Rattle.stm_steps.specs.Values.{written_number}
 use Rattle.stm_meaning.specs.declared.run.Run.{Run}
-use Rattle.stm_meaning.specs.declared.run.End.TheVariants.{Done as DoneEnd, Aborted as AbortedEnd, Faulted as FaultedEnd}
+use Rattle.stm_meaning.specs.declared.run.End.TheVariants.{Done as DoneEnd, Aborted as AbortedEnd}
 use Rattle.stm_meaning.specs.Leaves.{value_in}
 use Rattle.stm_compile.specs.Answers.{state_now}
 use Rattle.stm_entries.specs.declared.entry.Entry.{Entry}
@@ -19,7 +17,7 @@ use Rattle.stm_entries.specs.Legal.{IsLegal, AreLegal}
 use Rattle.stm_entries.specs.Replay.{replay, replay_entry}
 use Rattle.stm_entries.specs.Replayed.{Replayed}
 use Rattle.stm_entries.proofs.Replaying.{rest_legal}
-use Rattle.stm_recipes.specs.Accounts.{transfer_program, written_or_none}
+use Rattle.stm_recipes.specs.Accounts.{transfer_program}
 use Rattle.stm_recipes.specs.Slots.{release_program}
 use Rattle.stm_recipes.specs.Alone.{Deed, deed_of, done, aborted, moved_or_refused, transferred, released}
 use Rattle.stm_recipes.proofs.AccountRuns.{transfer_alone}
@@ -30,28 +28,13 @@ use Rattle.stm_recipe_laws.specs.Queues.{all_added, all_taken, HoldsItems, AreOf
 use Rattle.stm_recipe_laws.specs.Slots.{IsReservation, is_held, IsHeldBy}
 use Rattle.stm_recipe_laws.specs.WrongEntries.{can_pay, WrongTransfers, WrongDequeues, AllLeaveSlot, WrongReservations}
 use Rattle.stm_recipe_laws.proofs.CommitLemmas.{Committed, committed, now_is_known}
-use Rattle.stm_recipe_laws.proofs.AccountLemmas.{number_is, enough_by, totals_grow_by_deposits}
+use Rattle.stm_recipe_laws.proofs.AccountNumbers.{number_is, as_written}
+use Rattle.stm_recipe_laws.proofs.AccountLemmas.{enough_by, number_found, totals_grow_by_deposits}
 use Rattle.stm_recipe_laws.proofs.QueueKeys.{keys_differ}
 use Rattle.stm_recipe_laws.proofs.QueueLemmas.{nothing_to_take, queues_keep_their_items}
 use Rattle.stm_recipe_laws.proofs.SlotLemmas.{reservations_take_free_slots, held_is_held}
 
 -- ---- accounts
-
-no_number : (r : Result ℤ Fault) → written_or_none r ≡ None → (fault : Fault) × (r ≡ Err fault)
-no_number (Ok z) none = absurd (cc)
-no_number (Err fault) none = (fault, refl)
-
--- what an account without a number holds
-no_balance : (s : Option KeyState) → number_of s ≡ None → (fault : Fault) × (written_number (value_now s) ≡ Err fault)
-unfolding written_number
-no_balance None none = (NotANumber, refl)
-no_balance (Some s) none = no_number (written_number s.value) none
-
-faulted_not_done : (from to : List ℕ) (amount : ℕ) (values : List ℕ → List ℕ) (fault : Fault) (run : Run) → run.end ≡ DoneEnd →
-    deed_of run ≡ moved_or_refused from to amount values (Err fault) → ⊥
-faulted_not_done from to amount values fault run ended deed =
-    let faults : run.end ≡ FaultedEnd fault = ap (λ (d : Deed). d.end) deed in
-    absurd (cc)
 
 is_short : (short : Bool) → not short ≡ false → short ≡ true
 is_short true e = refl
@@ -61,8 +44,9 @@ is_short false e = absurd (cc)
 cannot_pay : (o : Option ℤ) (account : Option KeyState) (from to : List ℕ) (amount : ℕ) (values : List ℕ → List ℕ) (run : Run) → number_of account ≡ o →
     can_pay o amount ≡ false → run.end ≡ DoneEnd → deed_of run ≡ moved_or_refused from to amount values (written_number (value_now account)) → ⊥
 cannot_pay None account from to amount values run is short ended deed =
-    let none = no_balance account is in
-    faulted_not_done from to amount values none.0 run ended (deed ∙ ap (moved_or_refused from to amount values) none.1)
+    let found = number_found from to amount values (written_number (value_now account)) run ended deed in
+    let both : None ≡ Some found.0 = sym is ∙ as_written.written account found.0 found.1 in
+    absurd (cc)
 cannot_pay (Some balance) account from to amount values run is short ended deed =
     let enough : int_lt balance (pos amount) ≡ false =
     (enough_by (int_lt balance (pos amount)) from to amount values balance run ended

@@ -4,7 +4,7 @@
 use Rattle.std.specs.Prelude.{◌≡◌, ◌⊎◌, ℕ, ◌<◌, ℤ, pos, ◌+ℤ◌, bytes_eq, false, List, [], ◌∷◌, length, Option, None, Some}
 use Rattle.std.specs.List.{AllByRecursion}
 use Rattle.stm_history.specs.declared.key_state.KeyState.{KeyState}
-use Rattle.stm_history.specs.History.{History, key_now}
+use Rattle.stm_history.specs.History.{History, key_now, value_of}
 use Rattle.stm_steps.specs.Values.{written_number}
 use Rattle.stm_entries.specs.declared.entry.Entry.{Entry}
 use Rattle.stm_entries.specs.Replayed.{Replayed}
@@ -12,6 +12,7 @@ use Rattle.stm_entries.specs.Replay.{replay, replay_entry}
 use Rattle.stm_entries.specs.Legal.{AreLegal}
 use Rattle.stm_calls.specs.StateOf.{IsStateOf}
 use Rattle.stm_meaning.specs.declared.state.StateEntry.{StateEntry}
+use Rattle.stm_recipes.specs.Alone.{or_zero}
 use Rattle.stm_recipes.specs.Accounts.{transfer_program, deposit_program, written_or_none, sum_of, total_of}
 use Rattle.stm_recipe_laws.specs.Commits.{IsCommitOf}
 
@@ -31,6 +32,14 @@ sum_over balance (account ∷ accounts) = sum_of (balance account) (sum_over bal
 -- what accounts have in all, now
 abbrev pub total_now : History → List (List ℕ) → Option ℤ
 total_now h accounts = sum_over (balance_now h) accounts
+
+-- what an account counts as where a deposit adds to it: one that is absent, or has an empty value, counts as 0
+abbrev pub counted : Option KeyState → Option ℤ
+counted s = written_or_none (written_number (or_zero (value_of s)))
+
+-- what accounts have in all, where an absent one counts as 0
+abbrev pub counted_total : History → List (List ℕ) → Option ℤ
+counted_total h accounts = sum_over (λ account. counted (key_now h account)) accounts
 
 -- ---- accounts
 
@@ -97,3 +106,10 @@ pub record TotalsGrowByDeposits : Type 0 where
       → total_now (replay es r).history accounts ≡ Some (total +ℤ deposits_of accounts es r of)
   pub is_total : (h : History) (entries : List StateEntry) (accounts : List (List ℕ)) → IsStateOf h entries
       → total_of entries accounts ≡ total_now h accounts
+
+-- It is so, too, where an absent account counts as 0: so also of accounts that the deposits make. Where each has a number, this is the total.
+pub record CountedTotals : Type 0 where
+  pub grow : (accounts : List (List ℕ)) (es : List Entry) (r : Replayed) (total : ℤ) → AreAccounts accounts → AreLegal es r
+      → (of : AreOfAccounts accounts es r) → counted_total r.history accounts ≡ Some total
+      → counted_total (replay es r).history accounts ≡ Some (total +ℤ deposits_of accounts es r of)
+  pub are_totals : (h : History) (accounts : List (List ℕ)) (total : ℤ) → total_now h accounts ≡ Some total → counted_total h accounts ≡ Some total

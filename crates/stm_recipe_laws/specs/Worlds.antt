@@ -6,7 +6,7 @@ use Rattle.stm_entries.specs.Replayed.{opening}
 use Rattle.stm_entries.specs.Replay.{replay, replay_entry}
 use Rattle.stm_world.specs.declared.event.WorldEvent.{WorldEvent}
 use Rattle.stm_world.specs.World.{opened, world_after}
-use Rattle.stm_recipe_laws.specs.Accounts.{total_now, AreAccounts, AreOfAccounts, deposits_of}
+use Rattle.stm_recipe_laws.specs.Accounts.{total_now, counted_total, AreAccounts, AreOfAccounts, deposits_of}
 use Rattle.stm_recipe_laws.specs.Queues.{AreOfQueue, all_added, all_taken, Kept}
 use Rattle.stm_recipe_laws.specs.Slots.{IsReservation, AreOfSlot, IsFreed}
 
@@ -24,11 +24,14 @@ pub record RecipesInWorlds : Type 0 where
       → entries_after start events ≡ front ++ rest → (of : AreOfAccounts accounts rest (replay front (opening start)))
       → total_now (replay front (opening start)).history accounts ≡ Some total
       → total_now (history_after start events) accounts ≡ Some (total +ℤ deposits_of accounts rest (replay front (opening start)) of)
+  -- what accounts have in all, an absent one counting as 0, is what was deposited
+  pub deposits : (start : ℕ) (events : List WorldEvent) (accounts : List (List ℕ)) (es : List Entry) → AreAccounts accounts
+      → entries_after start events ≡ es → (of : AreOfAccounts accounts es (opening start))
+      → counted_total (history_after start events) accounts ≡ Some (deposits_of accounts es (opening start) of)
   -- the items that were taken, and then those that the queue holds, are those that were added, in order
-  pub items : (start : ℕ) (events : List WorldEvent) (queue : List ℕ) → 0 < length queue
-      → (of : AreOfQueue queue (entries_after start events) (opening start))
-      → Kept queue [] (all_taken queue (entries_after start events) (opening start) of) (all_added queue (entries_after start events) (opening start) of)
-      (history_after start events)
+  pub items : (start : ℕ) (events : List WorldEvent) (queue : List ℕ) (es : List Entry) → 0 < length queue → entries_after start events ≡ es
+      → (of : AreOfQueue queue es (opening start))
+      → Kept queue [] (all_taken queue es (opening start) of) (all_added queue es (opening start) of) (history_after start events)
   -- between two reservations of a slot it is freed
   pub holders : (start : ℕ) (events : List WorldEvent) (slot : List ℕ) (front between rest : List Entry) (first second : Entry) → 0 < length slot
       → entries_after start events ≡ front ++ (first ∷ between ++ second ∷ rest) → IsReservation slot first → IsReservation slot second

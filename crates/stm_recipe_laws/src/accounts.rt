@@ -1,5 +1,5 @@
 //! The laws of accounts. Each function does nothing: its contract is the law.
-ghost use Rattle.stm_recipe_laws.specs.Accounts.{TotalsGrowByDeposits};
+ghost use Rattle.stm_recipe_laws.specs.Accounts.{CountedTotals, TotalsGrowByDeposits};
 ghost use Rattle.stm_recipe_laws.specs.WrongEntries.{WrongTransfers};
 
 /// Where accounts, each named once, have a total and are changed only by transfers among them and by deposits to them, at levels that
@@ -10,6 +10,12 @@ ghost use Rattle.stm_recipe_laws.specs.WrongEntries.{WrongTransfers};
 /// that there is none.
 pub fn totals_grow_by_deposits()
     ensures { TotalsGrowByDeposits }
+{}
+
+/// What accounts have in all grows by the deposits, too, where an absent account, or one with an empty value, counts as 0, as it does for a
+/// deposit: so it is said also of accounts that the deposits make. Where each account has a number, this is the total.
+pub fn counted_totals_grow_by_deposits()
+    ensures { CountedTotals }
 {}
 
 /// Some entries of accounts that are none: a transfer of more than the paying account has, or from one that has no number; and a

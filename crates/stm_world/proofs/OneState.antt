@@ -10,7 +10,7 @@ use Rattle.stm_attempt.specs.Fetches.{base_of, AllShow, HaveOneBase}
 use Rattle.stm_world.specs.Task.{Task}
 use Rattle.stm_world.specs.Headline.{AreOfOneState}
 
-all_show : (r : ℕ) (answers : List ReadAnswer) → AllShow r answers → AllByRecursion (λ (a : ReadAnswer). a.of_rev ≡ r) answers
+pub all_show : (r : ℕ) (answers : List ReadAnswer) → AllShow r answers → AllByRecursion (λ (a : ReadAnswer). a.of_rev ≡ r) answers
 all_show r [] all = tt
 all_show r (a ∷ answers) all = (all.0, all_show r answers all.1)
 

@@ -11,7 +11,7 @@ use Rattle.stm_program.specs.Syntax.{Put as PutStatement, Emit, Abort}
 use Rattle.stm_program.specs.Writes.{last_write, latest_writes}
 use Rattle.stm_program.specs.declared.operator.Operator.TheVariants.{Add, Sub, Div}
 use Rattle.stm_program.specs.declared.level.Level.{Level}
-use Rattle.stm_program.specs.declared.level.Level.TheVariants.{Serializable, RepeatableReads}
+use Rattle.stm_program.specs.declared.level.Level.TheVariants.{SerializableSnapshot, Serializable, RepeatableReads}
 use Rattle.stm_program.specs.declared.write.Write.TheVariants.{Put as PutWrite}
 use Rattle.stm_steps.specs.Session.{fresh}
 use Rattle.stm_steps.specs.Steps.{get_key}
@@ -157,6 +157,29 @@ torn_read_faults : replies_to (raced RepeatableReads 1) (opened 1)
 unfolding start_runner fetch commit step_live settle run_over run_block evaluate key_in num_of written_number arithmetic computed get_key last_write latest_writes fresh
 torn_read_faults = refl
 
+-- a program that reads x and writes another key
+abbrev copy_to : List ℕ → ProgramTree
+copy_to key = of_statements (Then (PutStatement (Text key) (Get (Text (codes "x"))) 0) EndBlock)
+
+abbrev one_is_put : ℕ → Result Reply Denied
+one_is_put revision = Ok (TxnDone (record { succeeded = true; revision = revision; answers = PutAnswer ∷ []; failed = None }))
+
+abbrev overwritten : Level → List WorldEvent
+overwritten level = both_put (codes "1") ∷ Start (copy_to (codes "y")) level 1 ∷ Step 1 ∷ puts (put (codes "y") ∷ []) ∷ Step 1 ∷ []
+
+-- at serializable snapshot a key that is written alone is in conflict, too: x was read at 2, and y is put at 3
+written_key_conflicts : replies_to (overwritten SerializableSnapshot) (opened 1)
+    ≡ both_are_put 2 ∷ Ok (Started 1) ∷ Ok (Fetched 1 (codes "x") 2 2 2) ∷ one_is_put 3 ∷ Ok (GaveUp 1 1 (codes "y") 2 3) ∷ []
+unfolding start_runner fetch commit step_live settle run_over run_block evaluate key_in put_of get_key last_write latest_writes fresh
+written_key_conflicts = refl
+
+-- at serializable it is not compared
+written_key_commits : replies_to (overwritten Serializable) (opened 1)
+    ≡ both_are_put 2 ∷ Ok (Started 1) ∷ Ok (Fetched 1 (codes "x") 2 2 2) ∷ one_is_put 3
+    ∷ Ok (Committed 1 4 1 [] (seen.Get (codes "x") (codes "1") ∷ []) []) ∷ []
+unfolding start_runner fetch commit step_live settle run_over run_block evaluate key_in put_of get_key last_write latest_writes fresh
+written_key_commits = refl
+
 -- ---- the conflict is a real one
 
 abbrev line : WorldEvent → Result Reply Denied → Line
@@ -219,8 +242,7 @@ one_give_up : failed_commits 1 (line (Step 1) (Ok (GaveUp 1 1 (codes "x") 2 3)) 
 one_give_up = refl
 
 -- a change of another key leaves room
-with_room : now (store 1 (line (puts (put (codes "z") ∷ []))
-    (Ok (TxnDone (record { succeeded = true; revision = 4; answers = PutAnswer ∷ []; failed = None }))) ∷ failed_once)).history ≡ 4
+with_room : now (store 1 (line (puts (put (codes "z") ∷ [])) (one_is_put 4) ∷ failed_once)).history ≡ 4
 with_room = refl
 
 -- ---- an abort of an earlier state
@@ -309,7 +331,7 @@ second_conflict events =
 -- ---- entries are appended to those of a world that has run before
 
 abbrev copy : ProgramTree
-copy = of_statements (Then (PutStatement (Text (codes "z")) (Get (Text (codes "x"))) 0) EndBlock)
+copy = copy_to (codes "z")
 
 abbrev with_x : World
 with_x = world_after (puts (put (codes "x") ∷ []) ∷ []) (opened 1)

@@ -36,7 +36,7 @@ use Rattle.stm_compile.specs.Conflicts.{Seen, seen_by, seen_of_read, seen_of_wri
 use Rattle.stm_compile.proofs.ConflictLemmas.{mod_at_small}
 use Rattle.stm_attempt.specs.Known.{Known}
 use Rattle.stm_attempt.specs.Settled.{run_on}
-use Rattle.stm_attempt.specs.Fetches.{base_of, AllShow, HaveOneBase}
+use Rattle.stm_attempt.specs.Fetches.{base_of, HaveOneBase}
 use Rattle.stm_entries.specs.declared.entry.Entry.{Entry}
 use Rattle.stm_entries.specs.Replayed.{without_moment}
 use Rattle.stm_entries.specs.Replay.{replay}
@@ -49,6 +49,7 @@ use Rattle.stm_world.specs.Log.{Line, begun, running, store, known_after, told}
 use Rattle.stm_world.specs.Doomed.{FailedCommit, NamesAConflict, IsRealFailure, Stopped, IsEndOnOneState, IsRealStop, since, failed_commits}
 use Rattle.stm_world.specs.Doomed.{FailuresMoveOn}
 use Rattle.stm_world.specs.WrongFailures.{reads_of, WrongFailures, WrongRuns}
+use Rattle.stm_world.proofs.OneState.{all_show}
 use Rattle.stm_world.proofs.Served.{KnowsAll, one_more, found_all, served_all}
 use Rattle.stm_world.proofs.MovingOn.{both_seen, seen_at_index, above_all}
 
@@ -402,10 +403,6 @@ ends_as start log stopped task runs serializable real =
     let same : real.task ≡ task = same_Some real.task task (sym real.runs ∙ runs) in
     subst (λ (t : Task). IsEndOnOneState (store start log).history t (reads_of start log stopped.runner t) stopped.end) same
     (real.of_one_state (subst (λ (t : Task). is_serializable t.level ≡ true) (sym same) serializable))
-
-all_show : (r : ℕ) (answers : List ReadAnswer) → AllShow r answers → AllByRecursion (λ (a : ReadAnswer). a.of_rev ≡ r) answers
-all_show r [] all = tt
-all_show r (a ∷ answers) all = (all.0, all_show r answers all.1)
 
 shows_base : (reads : List ReadAnswer) (key : List ℕ) (a : ReadAnswer) → HaveOneBase reads → answer_in key reads ≡ Some a → a.of_rev ≡ base_of reads
 shows_base [] key a one found = absurd (cc)

@@ -7,11 +7,15 @@ ghost use Rattle.std.specs.Prelude.{◌≤◌};
 mod arguments;
 mod checking;
 #[cfg(test)]
+mod device_tests;
+#[cfg(test)]
 mod file_tests;
 mod files;
 mod scripting;
 #[cfg(test)]
 mod tests;
+#[cfg(test)]
+mod text_tests;
 mod threading;
 #[cfg(test)]
 mod threading_tests;

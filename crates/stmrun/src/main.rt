@@ -9,6 +9,8 @@ mod checking;
 #[cfg(test)]
 mod checking_tests;
 #[cfg(test)]
+mod device_tests;
+#[cfg(test)]
 mod file_tests;
 mod files;
 #[cfg(test)]
@@ -19,6 +21,8 @@ mod recipes;
 mod scripting;
 #[cfg(test)]
 mod tests;
+#[cfg(test)]
+mod text_tests;
 mod threading;
 #[cfg(test)]
 mod threading_tests;

@@ -1,5 +1,5 @@
 //! Attempts.
-ghost use Rattle.std.specs.Prelude.{◌≡◌, true, None, Some, [], All, IfOk, OnOk, OnErr};
+ghost use Rattle.std.specs.Prelude.{◌≡◌, true, None, Some, [], All, take, IfOk, OnOk, OnErr};
 ghost use Rattle.stm_txn.specs.Numbers.{ReadFits};
 ghost use Rattle.stm_compile.specs.Levels.{is_serializable};
 ghost use Rattle.stm_attempt.specs.Known.{HaveDistinctKeys};
@@ -9,6 +9,7 @@ use crate::next::Next;
 use crate::progress::{Progress, go_on, put};
 use std::alloc::{AllocError, Global};
 use std::marker::Model;
+use std::mem;
 use stm_compile::ReadSet;
 use stm_history::{ReadAnswer, Sequence};
 use stm_program::{Level, Program};
@@ -47,6 +48,15 @@ impl Model for Attempt {
     ghost use Rattle.stm_attempt.specs.Progress.{IsAttempt};
 
     ghost invariant = { λ a. HaveDistinctKeys a.prefetched × IsAttempt a.program a.reads a.prefetched a.told a.progress };
+}
+
+/// The first answers of these. It takes no memory.
+fn first_of(answers: ReadSet, count: usize) -> Sequence<ReadAnswer>
+    ensures { result ≡ take count answers }
+{
+    let mut first = answers.into_answers().into_vec();
+    first.truncate(count);
+    Sequence::of(first)
 }
 
 impl Attempt {
@@ -185,5 +195,18 @@ impl Attempt {
         self.reads.add(answer)?;
         self.told = self.reads.len();
         Ok(())
+    }
+
+    /// Takes out what the attempt has read, in the order of first reads. It is then as before its first `advance`. It takes no memory.
+    pub fn take_reads(&mut self) -> Sequence<ReadAnswer>
+        ensures reads { result ≡ self.old.known.reads }
+        ensures anew { self.new ≡ begun self.old.level self.old.known.prefetched }
+    {
+        let told = self.told;
+        let reads = mem::replace(&mut self.reads, ReadSet::new(self.alloc));
+        self.program = None;
+        self.told = 0;
+        put(&mut self.progress, Progress::Fresh);
+        first_of(reads, told)
     }
 }

@@ -7,4 +7,5 @@ pub mod Entering
 pub mod Laws
 pub mod Names
 pub mod Prepared
+pub mod Showing
 pub use Rattle.stm_calls.specs.StateOf

@@ -1,5 +1,5 @@
 //! The hall.
-ghost use Rattle.std.specs.Prelude.{◌≡◌, ◌≤◌, None, IfOk, IfErr};
+ghost use Rattle.std.specs.Prelude.{◌≡◌, ◌≤◌, ◌↔◌, None, IfOk, IfErr, IsTrue};
 ghost use Rattle.stm_history.specs.History.{now};
 ghost use Rattle.stm_txn.specs.Numbers.{AnswerFits};
 ghost use Rattle.stm_calls.specs.StateOf.{IsStateOf};
@@ -10,18 +10,21 @@ ghost use Rattle.stm_hall.specs.Laws.{GoesOn};
 ghost use Rattle.stm_hall.specs.Fetching.{OnlyReads, fetched, FetchTells};
 ghost use Rattle.stm_hall.specs.Prepared.{IsPreparedFor};
 ghost use Rattle.stm_hall.specs.Verdicts.{verdict_of, CommitTells, CanGoOn};
+ghost use Rattle.stm_hall.specs.Showing.{IsShown};
 ghost use Rattle.stm_hall.specs.Entering.{made, TxnTells, IsAdvanced, HasStopped};
 
 use crate::changed::is_changed_above;
 use crate::log::Log;
 use crate::prepared::Prepared;
 use crate::refusal::{CommitRefusal, FetchRefusal};
+use crate::showing::is_shown;
 use crate::verdict::Verdict;
 use std::alloc::{AllocError, Global};
 use std::marker::Model;
 use stm_attempt::Ready;
 use stm_calls::state_of;
 use stm_entries::Entry;
+use stm_history::ReadAnswer;
 use stm_meaning::State;
 use stm_txn::{AdvanceRefused, Expired, Refusal, Store, Txn, TxnAnswer};
 
@@ -153,6 +156,14 @@ impl Hall {
         ensures { result ≡ changes_above self.now.standing.history.opening since key.now self.now.standing.history.revisions }
     {
         is_changed_above(self.log.store.keys(), key, since)
+    }
+
+    /// Whether an answer is true of the history: it shows its key as it was at a revision that the counter has reached, and that is no 0, which names
+    /// the current one. It takes no memory.
+    pub fn shows(&self, answer: &ReadAnswer) -> bool
+        ensures { IsTrue result ↔ IsShown self.now.standing.history answer.now }
+    {
+        is_shown(self.log.store.keys(), answer)
     }
 
     /// What changed the store since the hall was made, the first first. It takes no memory.

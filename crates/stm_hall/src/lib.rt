@@ -14,6 +14,7 @@ pub mod laws;
 mod log;
 mod prepared;
 mod refusal;
+mod showing;
 mod verdict;
 mod vouching;
 

@@ -19,7 +19,8 @@ use Rattle.stm_workers.specs.Rounds.{committed_by, JudgedInSomeHall}
 use Rattle.stm_workers.specs.Tried.{IfEnded, IfAgain}
 use Rattle.stm_workers.specs.Attempts.{JobState, state_of, job_end_told, end_after, IsUnanswered, IsTurnedAway, IsFetch, HasFetched, IsEvaluated, HasTried}
 use Rattle.stm_workers.specs.Attempts.{IsStop, HasStopped, IsNextAttempt, HasFailed, HaveFailed, HasCommitted, HasEnded, ComesTo, EndsByVerdict}
-use Rattle.stm_workers.specs.Attempts.{EndsByStop, HasCome, HasComeAt}
+use Rattle.stm_workers.specs.declared.worker.EndOf.{EndOf}
+use Rattle.stm_workers.specs.Attempts.{EndsByStop, HasCome, HasComeAt, HasItsRun}
 
 -- ---- one attempt
 
@@ -184,3 +185,7 @@ come_there jobs place job seen end after at came other is =
 
     same : (x y : Job) → Some x ≡ Some y → x ≡ y
     same x y e = ap (job_or x) e
+
+-- and so has the run of which it is one
+pub some_run : (jobs its : List Job) (ended : EndOf) (seen after : ℕ) → jobs ≡ its → HasComeAt jobs ended.job seen ended.end after → HasItsRun its ended
+some_run jobs its ended seen after are came job at = ∣ (seen, after, came job (ap (λ (js : List Job). slice_get js ended.job) are ∙ at)) ∣₁

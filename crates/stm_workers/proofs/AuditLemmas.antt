@@ -4,13 +4,17 @@ use Rattle.std.proofs.Common.{slice_get, get_or, set, ◌↔◌, refl, sym, ◌�
 use Rattle.std.proofs.lemmas.Bool.{cases_lt}
 use Rattle.std.proofs.lemmas.List.{get_or-set_same, get_or-set_other}
 use Rattle.stm_entries.specs.declared.entry.Entry.{Entry}
+use Rattle.stm_history.specs.declared.key_state.ReadAnswer.{ReadAnswer}
+use Rattle.stm_history.specs.History.{History, now}
 use Rattle.stm_hall.specs.HallState.{HallState}
+use Rattle.stm_hall.specs.Showing.{IsShown, AreShownAt}
 use Rattle.stm_workers.specs.declared.begun.Begun.{Begun}
 use Rattle.stm_workers.specs.declared.job.Job.{Job}
 use Rattle.stm_workers.specs.declared.job_end.JobEnd.{JobEnd}
 use Rattle.stm_workers.specs.declared.job_end.JobEnd.TheVariants.{Committed, Aborted, Faulted, Refused, GaveUp}
+use Rattle.stm_workers.specs.Ends.{AreOfOneState}
 use Rattle.stm_workers.specs.Ends.{entry_named, names_entry, IsCommitOf, IsBorneOut, BorneOutAt, IsNew, StandsAt, AllStand}
-use Rattle.stm_workers.specs.Marks.{NamesWithin, IsNewAt, is_marked, is_named_before}
+use Rattle.stm_workers.specs.Marks.{NamesWithin, IsNewAt, is_marked, is_named_before, revision_of}
 use Rattle.stm_workers.proofs.EndLaws.{named, there, within}
 
 -- ---- the entry that an end names
@@ -21,15 +25,15 @@ index_or_none other (Some index) = index
 
 pub names_it : (index : ℕ) (end : JobEnd) → entry_named end ≡ Some index → names_entry index end ≡ true
 names_it index (Committed own revision) is = eq-eqb own index (ap (index_or_none own) is)
-names_it index (Aborted text) is = absurd (cc)
-names_it index (Faulted fault) is = absurd (cc)
+names_it index (Aborted text reads) is = absurd (cc)
+names_it index (Faulted fault reads) is = absurd (cc)
 names_it index (Refused cause) is = absurd (cc)
 names_it index (GaveUp key) is = absurd (cc)
 
 pub is_named : (index : ℕ) (end : JobEnd) → names_entry index end ≡ true → entry_named end ≡ Some index
 is_named index (Committed own revision) is = ap (λ (n : ℕ). Some n) (eqb-true own index is)
-is_named index (Aborted text) is = absurd (cc)
-is_named index (Faulted fault) is = absurd (cc)
+is_named index (Aborted text reads) is = absurd (cc)
+is_named index (Faulted fault reads) is = absurd (cc)
 is_named index (Refused cause) is = absurd (cc)
 is_named index (GaveUp key) is = absurd (cc)
 
@@ -120,8 +124,8 @@ named_is_there begun hall job (Committed own revision) index borne names =
     let same : own ≡ index = ap (index_or_none own) names in
     subst (λ (n : ℕ). n < length hall.entries) same
     (commit_is_there job revision (slice_get hall.entries own) hall.entries own refl borne.1)
-named_is_there begun hall job (Aborted text) index borne names = absurd (cc)
-named_is_there begun hall job (Faulted fault) index borne names = absurd (cc)
+named_is_there begun hall job (Aborted text reads) index borne names = absurd (cc)
+named_is_there begun hall job (Faulted fault reads) index borne names = absurd (cc)
 named_is_there begun hall job (Refused cause) index borne names = absurd (cc)
 named_is_there begun hall job (GaveUp key) index borne names = absurd (cc)
 
@@ -266,3 +270,67 @@ set_marks marks own index low = by_test (own == index) refl
         get_or-set_other marks own index true false
         (λ (same : index ≡ own). let both : false ≡ true = sym is ∙ eq-eqb own index (sym same) in absurd (cc))
         ∙ sym (ap (λ b. b || get_or marks index false) is)
+
+-- ---- what was read
+
+abbrev pub ShownAt : History → ℕ → ReadAnswer → Type 0
+ShownAt h r read = (read.of_rev ≡ r) × IsShown h read
+
+-- the answer at a place is shown
+abbrev pub ShownThere : History → ℕ → List ReadAnswer → ℕ → Type 0
+ShownThere h r reads place = (read : ReadAnswer) → slice_get reads place ≡ Some read → ShownAt h r read
+
+same_answer : (x y : ReadAnswer) → Some x ≡ Some y → x ≡ y
+same_answer x y is = ap (answer_or x) is
+  where
+    answer_or : ReadAnswer → Option ReadAnswer → ReadAnswer
+    answer_or other None = other
+    answer_or other (Some a) = a
+
+pub shown_there : (h : History) (r : ℕ) (reads : List ReadAnswer) (place : ℕ) (read : ReadAnswer) → slice_get reads place ≡ Some read → ShownAt h r read →
+    ShownThere h r reads place
+shown_there h r reads place read at shown other is = subst (λ (a : ReadAnswer). ShownAt h r a) (same_answer read other (sym at ∙ is)) shown
+
+-- each is, so all are
+pub all_shown : (h : History) (r : ℕ) (reads : List ReadAnswer) → ((place : ℕ) → place < length reads → ShownThere h r reads place) → AreShownAt h r reads
+all_shown h r [] each = tt
+all_shown h r (a ∷ reads) each = (each 0 (omega arith) a refl, all_shown h r reads (λ place low. each (suc place) (omega arith)))
+
+pub each_shown : (h : History) (r : ℕ) (reads : List ReadAnswer) (place : ℕ) (read : ReadAnswer) → AreShownAt h r reads → slice_get reads place ≡ Some read →
+    ShownAt h r read
+each_shown h r [] place read shown at = absurd (cc)
+each_shown h r (a ∷ reads) zero read shown at = subst (λ (x : ReadAnswer). ShownAt h r x) (same_answer a read at) shown.0
+each_shown h r (a ∷ reads) (suc place) read shown at = each_shown h r reads place read shown.1 at
+
+-- the revision that reads of one state are of
+pub of_its_revision : (begun : Begun) (hall : HallState) (reads : List ReadAnswer) → AreOfOneState begun hall reads →
+    (begun.revision ≤ revision_of begun.revision reads) × (revision_of begun.revision reads ≤ now hall.standing.history)
+    × AreShownAt hall.standing.history (revision_of begun.revision reads) reads
+of_its_revision begun hall [] one =
+    let low = one.begins in let high = one.reached in (omega arith, omega (arith, low, high), tt)
+of_its_revision begun hall (a ∷ reads) one =
+    subst (λ (r : ℕ). (begun.revision ≤ r) × (r ≤ now hall.standing.history) × AreShownAt hall.standing.history r (a ∷ reads)) (sym one.shown.0.0)
+    (one.begins, one.reached, one.shown)
+
+-- what the tests say of it
+pub before_the_run : (begun : Begun) (hall : HallState) (reads : List ReadAnswer) (revision : ℕ) → revision ≡ revision_of begun.revision reads →
+    revision < begun.revision → (false ≡ true) ↔ AreOfOneState begun hall reads
+before_the_run begun hall reads revision is early = (
+  (λ yes. absurd (cc)),
+  (λ one. let low = (of_its_revision begun hall reads one).0 in absurd (omega (arith, low, is, early))),
+)
+
+pub above_the_counter : (begun : Begun) (hall : HallState) (reads : List ReadAnswer) (revision counter : ℕ) → revision ≡ revision_of begun.revision reads →
+    counter ≡ now hall.standing.history → counter < revision → (false ≡ true) ↔ AreOfOneState begun hall reads
+above_the_counter begun hall reads revision counter is counts late = (
+  (λ yes. absurd (cc)),
+  (λ one. let high = (of_its_revision begun hall reads one).1 in absurd (omega (arith, high, is, counts, late))),
+)
+
+pub shown_at_its_revision : (begun : Begun) (hall : HallState) (reads : List ReadAnswer) (revision counter : ℕ) (b : Bool) →
+    revision ≡ revision_of begun.revision reads → counter ≡ now hall.standing.history → begun.revision ≤ revision → revision ≤ counter →
+    (b ≡ true) ↔ AreShownAt hall.standing.history revision reads → (b ≡ true) ↔ AreOfOneState begun hall reads
+shown_at_its_revision begun hall reads revision counter b is counts low high test = (
+  (λ yes. record { revision = revision; begins = low; reached = omega (arith, counts, high); shown = test.0 yes }),
+  (λ one. test.1 (subst (λ (r : ℕ). AreShownAt hall.standing.history r reads) (sym is) (of_its_revision begun hall reads one).2)),
+)

@@ -1,4 +1,5 @@
 pub mod EndLaws
+pub mod StopLaws
 pub mod RoundLemmas
 pub mod SeatLemmas
 pub mod AskLemmas

@@ -126,3 +126,8 @@ begun_is_of job answers new is = subst (IsOfJob job) (sym is) (tt, refl)
 pub waits_for : (attempt : AttemptState) (next : Next) (key : List ℕ) (at : ℕ) (answer : ReadAnswer) → awaited attempt ≡ key_asked next →
     next ≡ Fetch key at → answer.key ≡ key → awaited attempt ≡ Some answer.key
 waits_for attempt next key at answer asked is same = asked ∙ ap key_asked is ∙ ap (λ (k : List ℕ). Some k) (sym same)
+
+-- what is taken out of an attempt that went on is what it has settled on
+pub reads_taken : (program : ProgramTree) (old new : AttemptState) (reads : List ReadAnswer) → new ≡ advanced program old → reads ≡ new.known.reads →
+    reads ≡ settled program old.known
+reads_taken program old new reads is taken = taken ∙ ap (λ (a : AttemptState). a.known.reads) is

@@ -7,6 +7,8 @@ use Rattle.stm_workers.specs.declared.job_end.JobEnd.{JobEnd}
 use Rattle.stm_workers.specs.declared.gathered.FaultCause.{FaultCause}
 use Rattle.stm_workers.specs.declared.gathered.FaultCause.TheVariants.{OutOfMemory, Spawn, Audit}
 use Rattle.stm_workers.specs.Ends.{begun_at, commits_in, is_committed, AllStand, StandsAt, TookCommitsOf}
+use Rattle.stm_workers.specs.declared.worker.EndOf.{EndOf}
+use Rattle.stm_workers.specs.Attempts.{HasItsRun, HaveTheirRuns}
 use Rattle.stm_workers.specs.Gathered.{RanTo, IsAtFault, OnAudit, BrokeOff}
 use Rattle.stm_workers.specs.declared.lost.Lost.{Lost}
 use Rattle.stm_workers.specs.declared.lost.Lost.TheVariants.{OutOfMemory as NoMemory, Spawn as NoThread}
@@ -18,12 +20,13 @@ use Rattle.stm_workers.proofs.RoundLemmas.{goes_on, has_not_gone, took_commits, 
 pub ran_to : (before after : HallState) (jobs : List Job) (ends : List JobEnd) (begun : Begun) (committed : ℕ) → begun ≡ begun_at before →
     HasGoneOn before after → TookCommitsOf jobs before after → length ends ≡ length jobs →
     commits_in after.entries ≡ commits_in before.entries + count_by is_committed ends →
-    committed ≡ count_by is_committed ends → AllStand begun after jobs ends → RanTo before jobs ends committed after
-ran_to before after jobs ends begun committed began gone takes places commits counted stand = record {
+    committed ≡ count_by is_committed ends → AllStand begun after jobs ends → HaveTheirRuns jobs ends → RanTo before jobs ends committed after
+ran_to before after jobs ends begun committed began gone takes places commits counted stand ran = record {
   places = places;
   counted = counted;
   commits = commits ∙ ap (λ (n : ℕ). commits_in before.entries + n) (sym counted);
   stand = subst (λ (b : Begun). AllStand b after jobs ends) began stand;
+  ran = ran;
   takes = takes;
   goes_on = goes_on before after gone;
 }

@@ -1,6 +1,6 @@
 -- What workers have drawn, and the ends of what they drew.
 use Rattle.std.proofs.Common.{◌≡◌, ℕ, zero, suc, ◌+◌, ◌<◌, ◌≤◌, Bool, eqb, List, [], ◌∷◌, ◌++◌, length, cond, refl, sym, ◌∙◌, ap, subst, arith}
-use Rattle.std.proofs.Common.{Some, slice_get, slice_index_or, ⊎_elim, eq-eqb, ne_eqb, lt-ltb, le-ltb}
+use Rattle.std.proofs.Common.{Option, None, Some, All, slice_get, slice_index_or, ⊎_elim, eq-eqb, ne_eqb, lt-ltb, le-ltb}
 use Rattle.std.proofs.lemmas.Bool.{cases_eq, cases_lt}
 use Rattle.std.proofs.Common.{count_by, sum_by}
 use Rattle.std.proofs.lemmas.List.{map-append}
@@ -15,6 +15,8 @@ use Rattle.stm_draw.specs.Seats.{IsSeatAt}
 use Rattle.stm_draw.specs.Draw.{EachOnce, Knows, times, once_below, fresh, given, drew, joined, after_none}
 use Rattle.stm_draw.proofs.Counted.{as_many}
 use Rattle.stm_workers.specs.declared.job_end.JobEnd.{JobEnd}
+use Rattle.stm_workers.specs.declared.job.Job.{Job}
+use Rattle.stm_workers.specs.Attempts.{HasSomeRun, HasItsRun, HaveTheirRuns}
 use Rattle.stm_workers.specs.declared.worker.EndOf.{EndOf}
 use Rattle.stm_workers.specs.Ends.{is_committed}
 use Rattle.stm_workers.specs.Rounds.{jobs_of, committed_in, ends_in, counted_end, drawing, used_up, EachAtItsPlace}
@@ -268,3 +270,28 @@ sorted_places ended sorted ends each moved rises are =
     ap (λ (l : List JobEnd). slice_get l (slice_index_or sorted k d).job) are
     ∙ ap (λ (n : ℕ). slice_get (ends_in sorted) n) job
     ∙ end_there sorted k d low)
+
+ended_at : (es : List EndOf) (k : ℕ) (end : JobEnd) → slice_get (ends_in es) k ≡ Some end →
+    (k < length es) × ((d : EndOf) → (slice_index_or es k d).end ≡ end)
+ended_at [] k end is = absurd (cc)
+ended_at (e ∷ es) zero end is = (omega arith, λ d. same e.end end is)
+  where
+    end_or : JobEnd → Option JobEnd → JobEnd
+    end_or other None = other
+    end_or other (Some x) = x
+
+    same : (x y : JobEnd) → Some x ≡ Some y → x ≡ y
+    same x y both = ap (end_or x) both
+ended_at (e ∷ es) (suc k) end is = let r = ended_at es k end is in (let low = r.0 in omega (arith, low), r.1)
+
+-- so each job has come to the end at its place
+pub sorted_ran : (ended sorted : List EndOf) (ends : List JobEnd) → EachOnce (length ended) (jobs_of ended) → IsPermutation ended sorted →
+    IsNonDecreasingBy (λ (e : EndOf). e.job) sorted → ends ≡ ends_in sorted → (jobs : List Job) → All (HasItsRun jobs) ended → HaveTheirRuns jobs ends
+sorted_ran ended sorted ends each moved rises are jobs ran place job end job_is end_is =
+    let here = ended_at sorted place end (ap (λ (l : List JobEnd). slice_get l place) (sym are) ∙ end_is) in
+    let own : EndOf = record { job = place; end = end } in
+    let found : (slice_index_or sorted place own).job ≡ 0 + place =
+    in_order sorted 0 (length ended) rises (are_from_zero (length ended) ended sorted each moved) place own here.0 in
+    let its : (slice_index_or sorted place own).job ≡ place = omega (arith, found) in
+    subst (λ (e : JobEnd). HasSomeRun job e) (here.1 own)
+    (All-permutation (HasItsRun jobs) ended sorted moved ran place own here.0 job (ap (λ (n : ℕ). slice_get jobs n) its ∙ job_is))

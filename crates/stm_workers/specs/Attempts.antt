@@ -40,9 +40,16 @@ use Rattle.stm_workers.specs.Rounds.{AnswersInSomeHall, JudgedInSomeHall, commit
 -- the end of a run
 abbrev pub end_told : Stop → Option End
 end_told OutOfMemory = None
-end_told (Aborted text) = Some (AbortedEnd text)
-end_told (Faulted fault) = Some (FaultedEnd fault)
+end_told (Aborted text reads) = Some (AbortedEnd text)
+end_told (Faulted fault reads) = Some (FaultedEnd fault)
 end_told (Refused refusal) = None
+
+-- and what that was on
+abbrev pub reads_told : Stop → Option (List ReadAnswer)
+reads_told OutOfMemory = None
+reads_told (Aborted text reads) = Some reads
+reads_told (Faulted fault reads) = Some reads
+reads_told (Refused refusal) = None
 
 -- the hall's refusal of a fetch
 abbrev pub fetch_refusal_told : Stop → Option FetchRefusal
@@ -50,8 +57,8 @@ fetch_refusal_told OutOfMemory = Some (FetchRefused Want)
 fetch_refusal_told (Refused (Store refusal)) = Some (FetchRefused refusal.cause)
 fetch_refusal_told (Refused (Behind seen now)) = Some (FetchBehind seen now)
 fetch_refusal_told (Refused (Unvouched key)) = None
-fetch_refusal_told (Aborted text) = None
-fetch_refusal_told (Faulted fault) = None
+fetch_refusal_told (Aborted text reads) = None
+fetch_refusal_told (Faulted fault reads) = None
 
 -- the hall's refusal of a commit
 abbrev pub commit_refusal_told : Stop → Option CommitRefusal
@@ -59,14 +66,14 @@ commit_refusal_told OutOfMemory = Some (CommitRefused Want)
 commit_refusal_told (Refused (Store refusal)) = Some (CommitRefused refusal.cause)
 commit_refusal_told (Refused (Behind seen now)) = None
 commit_refusal_told (Refused (Unvouched key)) = Some (CommitUnvouched key)
-commit_refusal_told (Aborted text) = None
-commit_refusal_told (Faulted fault) = None
+commit_refusal_told (Aborted text reads) = None
+commit_refusal_told (Faulted fault reads) = None
 
 -- the end of a job, which want of memory is not
 abbrev pub job_end_told : Stop → Option JobEnd
 job_end_told OutOfMemory = None
-job_end_told (Aborted text) = Some (AbortedJob text)
-job_end_told (Faulted fault) = Some (FaultedJob fault)
+job_end_told (Aborted text reads) = Some (AbortedJob text reads)
+job_end_told (Faulted fault reads) = Some (FaultedJob fault reads)
 job_end_told (Refused refusal) = Some (RefusedJob refusal)
 
 -- the end of a job by the verdict on its last commit
@@ -147,6 +154,7 @@ pub record IsEndOfRun (job : Job) (at : JobState) (stop : Stop) : Type 0 where
   pub run : Run
   pub is_run : run_on job.program (settled job.program at.attempt.known) ≡ EndedRun run
   pub told : end_told stop ≡ Some run.end
+  pub reads : reads_told stop ≡ Some (settled job.program at.attempt.known)
 
 -- the key that it wants is refused
 pub record IsFetchRefused (job : Job) (at : JobState) (stop : Stop) : Type 0 where
@@ -244,3 +252,18 @@ pub record BringsToEnd (jobs : List Job) (place seen : ℕ) (before : List EndOf
   pub end : JobEnd
   pub ended : after ≡ before ++ record { job = place; end = end } ∷ []
   pub came : HasComeAt jobs place seen end seen_then
+
+-- ---- the ends of jobs
+
+-- a job has come to this end, whatever its worker had seen before and after
+abbrev pub HasSomeRun : Job → JobEnd → Type 0
+HasSomeRun job end = ∥ ((seen : ℕ) × (after : ℕ) × HasCome job seen end after) ∥₁
+
+-- the job whose end this is has come to it
+abbrev pub HasItsRun : List Job → EndOf → Type 0
+HasItsRun jobs ended = (job : Job) → slice_get jobs ended.job ≡ Some job → HasSomeRun job ended.end
+
+-- each job has come to the end at its place
+abbrev pub HaveTheirRuns : List Job → List JobEnd → Type 0
+HaveTheirRuns jobs ends =
+    (place : ℕ) (job : Job) (end : JobEnd) → slice_get jobs place ≡ Some job → slice_get ends place ≡ Some end → HasSomeRun job end

@@ -4,12 +4,14 @@
 -- so many commits at most, and then tells the key over which the last one failed, is our own; so is the look at all ends once the
 -- threads have ended.
 use Rattle.std.specs.Prelude.{◌≡◌, ℕ, ◌+◌, ◌<◌, ◌≤◌, ◌==◌, Bool, true, false, List, length, Option, None, Some, option_and_then, slice_get, count_by}
+use Rattle.stm_history.specs.declared.key_state.ReadAnswer.{ReadAnswer}
 use Rattle.stm_history.specs.History.{now}
-use Rattle.stm_compile.specs.Levels.{is_comparing}
+use Rattle.stm_compile.specs.Levels.{is_comparing, is_serializable}
 use Rattle.stm_compile.specs.Conflicts.{IsChangedAbove}
 use Rattle.stm_entries.specs.declared.entry.Entry.{Entry}
 use Rattle.stm_entries.specs.declared.entry.Entry.TheVariants.{Program, Foreign, Grant, Renew, Revoke, Expire}
 use Rattle.stm_hall.specs.HallState.{HallState}
+use Rattle.stm_hall.specs.Showing.{AreShownAt}
 use Rattle.stm_workers.specs.declared.job.Job.{Job}
 use Rattle.stm_workers.specs.declared.job_end.JobEnd.{JobEnd}
 use Rattle.stm_workers.specs.declared.job_end.JobEnd.TheVariants.{Committed, Aborted, Faulted, Refused, GaveUp}
@@ -61,24 +63,24 @@ TookCommitsOf jobs before after =
 
 abbrev pub is_committed : JobEnd → Bool
 is_committed (Committed index revision) = true
-is_committed (Aborted text) = false
-is_committed (Faulted fault) = false
+is_committed (Aborted text reads) = false
+is_committed (Faulted fault reads) = false
 is_committed (Refused cause) = false
 is_committed (GaveUp key) = false
 
 -- the entry that an end names
 abbrev pub entry_named : JobEnd → Option ℕ
 entry_named (Committed index revision) = Some index
-entry_named (Aborted text) = None
-entry_named (Faulted fault) = None
+entry_named (Aborted text reads) = None
+entry_named (Faulted fault reads) = None
 entry_named (Refused cause) = None
 entry_named (GaveUp key) = None
 
 -- the entry that it names is this one
 abbrev pub names_entry : ℕ → JobEnd → Bool
 names_entry index (Committed named revision) = named == index
-names_entry index (Aborted text) = false
-names_entry index (Faulted fault) = false
+names_entry index (Aborted text reads) = false
+names_entry index (Faulted fault reads) = false
 names_entry index (Refused cause) = false
 names_entry index (GaveUp key) = false
 
@@ -88,13 +90,25 @@ abbrev pub IsGivenUp : Begun → HallState → Job → List ℕ → Type 0
 IsGivenUp begun hall job key =
     (is_comparing job.level ≡ true) × IsChangedAbove hall.standing.history begun.revision key × (begun.revision + job.limit ≤ now hall.standing.history)
 
--- What an end says is so: a commit is an entry made since the hall was handed in, and who gave up could. Of the other ends nothing is
--- said.
+-- What was read is of one state of the hall's history: at this revision, which is not before the one at which the hall was handed in. Where nothing was
+-- read, any state serves.
+pub record AreOfOneState (begun : Begun) (hall : HallState) (reads : List ReadAnswer) : Type 0 where
+  pub revision : ℕ
+  pub begins : begun.revision ≤ revision
+  pub reached : revision ≤ now hall.standing.history
+  pub shown : AreShownAt hall.standing.history revision reads
+
+-- a job may have aborted, or come to a fault, on these reads: at a serializable level they are of one state
+abbrev pub MayHaveStopped : Begun → HallState → Job → List ReadAnswer → Type 0
+MayHaveStopped begun hall job reads = is_serializable job.level ≡ true → AreOfOneState begun hall reads
+
+-- What an end says is so: a commit is an entry made since the hall was handed in, who gave up could, and so could who aborted or came to a fault. Of a
+-- refusal nothing is said.
 abbrev pub IsBorneOut : Begun → HallState → Job → JobEnd → Type 0
 IsBorneOut begun hall job (Committed index revision) = (begun.entries ≤ index) × IsCommitOf job revision (slice_get hall.entries index)
 IsBorneOut begun hall job (GaveUp key) = IsGivenUp begun hall job key
-IsBorneOut begun hall job (Aborted text) = Unit {0}
-IsBorneOut begun hall job (Faulted fault) = Unit {0}
+IsBorneOut begun hall job (Aborted text reads) = MayHaveStopped begun hall job reads
+IsBorneOut begun hall job (Faulted fault reads) = MayHaveStopped begun hall job reads
 IsBorneOut begun hall job (Refused cause) = Unit {0}
 
 abbrev pub BorneOutAt : Begun → HallState → List Job → List JobEnd → ℕ → Type 0

@@ -9,9 +9,10 @@ use Rattle.stm_workers.specs.declared.job.Job.{Job}
 use Rattle.stm_workers.specs.declared.job_end.JobEnd.{JobEnd}
 use Rattle.stm_workers.specs.declared.gathered.FaultCause.{FaultCause}
 use Rattle.stm_workers.specs.declared.gathered.FaultCause.TheVariants.{OutOfMemory, Spawn, Audit}
+use Rattle.stm_workers.specs.Attempts.{HaveTheirRuns}
 use Rattle.stm_workers.specs.Ends.{begun_at, commits_in, is_committed, AllStand, StandsAt, TookCommitsOf}
 
--- The jobs were run on this hall: each has its end at its place, and each end stands. The commits among the entries are those that
+-- The jobs were run on this hall: each has its end at its place, to which it has come, and each end stands. The commits among the entries are those that
 -- were there and one for each job that committed. The entries that were there and the opening state stay, and the others are commits of
 -- the jobs.
 pub record RanTo (before : HallState) (jobs : List Job) (ends : List JobEnd) (committed : ℕ) (after : HallState) : Type 0 where
@@ -19,6 +20,7 @@ pub record RanTo (before : HallState) (jobs : List Job) (ends : List JobEnd) (co
   pub counted : committed ≡ count_by is_committed ends
   pub commits : commits_in after.entries ≡ commits_in before.entries + committed
   pub stand : AllStand (begun_at before) after jobs ends
+  pub ran : HaveTheirRuns jobs ends
   pub takes : TookCommitsOf jobs before after
   pub goes_on : GoesOn before after
 

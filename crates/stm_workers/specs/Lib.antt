@@ -6,3 +6,4 @@ pub mod Marks
 pub mod Gathered
 pub mod Rounds
 pub mod Causes
+pub mod Stops

@@ -1,5 +1,6 @@
--- How an audit finds entries that two ends name: it marks each entry that an end names, from the first end on.
+-- How an audit finds entries that two ends name: it marks each entry that an end names, from the first end on. And at which revision it looks at reads.
 use Rattle.std.specs.Prelude.{◌≡◌, ℕ, zero, suc, ◌<◌, ◌||◌, Bool, false, List, [], ◌∷◌, Option, None, Some, get_or, option_and_then, slice_get}
+use Rattle.stm_history.specs.declared.key_state.ReadAnswer.{ReadAnswer}
 use Rattle.stm_workers.specs.declared.job_end.JobEnd.{JobEnd}
 use Rattle.stm_workers.specs.Ends.{entry_named, names_entry, IsNew}
 
@@ -21,3 +22,8 @@ abbrev pub is_named_before : ℕ → ℕ → List JobEnd → Bool
 is_named_before index zero ends = false
 is_named_before index (suc n) [] = false
 is_named_before index (suc n) (end ∷ ends) = names_entry index end || is_named_before index n ends
+
+-- the revision that reads are of: the one that the first of them shows, and where nothing was read this one
+abbrev pub revision_of : ℕ → List ReadAnswer → ℕ
+revision_of since [] = since
+revision_of since (first ∷ reads) = first.of_rev

@@ -1,5 +1,5 @@
 //! One job of a worker, from its first attempt to its end.
-ghost use Rattle.std.specs.Prelude.{◌≡◌, ◌⊎◌, ℕ, ◌+◌, ◌<◌, ◌≤◌, true, if◌then◌else◌, [], ◌∷◌, ◌++◌, length, slice_get, Ok, Err, Some, None, IfOk, IfErr, IfSome, OnOk, OnErr};
+ghost use Rattle.std.specs.Prelude.{◌≡◌, ◌⊎◌, ℕ, ◌+◌, ◌<◌, ◌≤◌, true, if◌then◌else◌, [], ◌∷◌, ◌++◌, length, slice_get, All, Ok, Err, Some, None, IfOk, IfErr, IfSome, OnOk, OnErr};
 ghost use Rattle.stm_draw.specs.Draw.{drew};
 ghost use Rattle.stm_draw.specs.Seats.{IsSeatAt, seat_view, table_id, table_size};
 ghost use Rattle.stm_txn.specs.Numbers.{ReadFits};
@@ -10,7 +10,7 @@ ghost use Rattle.stm_hall.specs.Verdicts.{CanGoOn};
 ghost use Rattle.stm_workers.specs.declared.stop.Stop.TheVariants.{OutOfMemory};
 ghost use Rattle.stm_workers.specs.Attempts.{state_of, next_attempt, end_after, IsAnswered, IsUnanswered, IsTurnedAway, IsFetch, IsReadyAt, IsEvaluated};
 ghost use Rattle.stm_workers.specs.Attempts.{HasTried, HasStopped, IsStop, IsNextAttempt, HasFailed, HasCommitted, HasEnded, ComesTo, EndsByVerdict};
-ghost use Rattle.stm_workers.specs.Attempts.{HasComeAt, BringsToEnd};
+ghost use Rattle.stm_workers.specs.Attempts.{HasComeAt, BringsToEnd, HasItsRun};
 ghost use Rattle.stm_workers.specs.Tried.{IfEnded, IfAgain};
 ghost use Rattle.stm_workers.specs.Rounds.{committed_by, counted_end, greatest_carried, seen_after, shown_at};
 ghost use Rattle.stm_workers.specs.Rounds.{committed_in, drawing, is_run_of_some, jobs_of, IsOfJob, IsRunOfJob, JudgedInSomeHall};
@@ -203,8 +203,8 @@ impl<'a, R: Round, W: Wait, G: Gate> Floor<'a, R, W, G> {
         let next = attempt.advance(&job.program)?;
         match next {
             Next::Ready(ready) => Ok(Some(ready)),
-            Next::Aborted(run) => Err(Stop::of_run(run)),
-            Next::Faulted(run) => Err(Stop::of_run(run)),
+            Next::Aborted(run) => Err(Stop::of_run(run, attempt.take_reads())),
+            Next::Faulted(run) => Err(Stop::of_run(run, attempt.take_reads())),
             Next::Fetch { key, at } => {
                 self.gate.before_fetch(place);
                 let answer = self.ask(&key, at, seen)?;
@@ -448,6 +448,7 @@ impl<'a, R: Round, W: Wait, G: Gate> Floor<'a, R, W, G> {
         requires seated { IsSeatAt R.table R.size seat }
         requires drawn { seat_view seat ≡ drew (drawing R.size (jobs_of ended.items)) job }
         requires counted { (share.parts ≡ 1) × (share.amount ≡ committed_in ended.items) }
+        requires ran { All (HasItsRun R.jobs) ended.items }
         ensures seen { IfOk result (λ worker. seen ≤ worker.seen) }
         ensures came { IfOk result (λ worker. BringsToEnd self.now.jobs.now job seen ended.items worker.seen worker.ended.items) }
     {

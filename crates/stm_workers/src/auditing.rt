@@ -1,15 +1,17 @@
 //! The look at the ends of jobs, once nobody is at the hall.
 ghost use Rattle.std.specs.Prelude.{◌≡◌, ◌+◌, ◌<◌, ◌≤◌, ◌↔◌, ◌||◌, ℕ, true, false, length, get_or, set, slice_get, IfOk, IfSome, IfNone, IsTrue, Some};
 ghost use Rattle.stm_compile.specs.Levels.{is_comparing};
+ghost use Rattle.stm_hall.specs.Showing.{IsShown, AreShownAt};
+ghost use Rattle.stm_workers.specs.Ends.{AreOfOneState, MayHaveStopped};
 ghost use Rattle.stm_workers.specs.Ends.{entry_named, names_entry, IsCommitOf, IsGivenUp, IsBorneOut, BorneOutAt, StandsAt, AllStand};
-ghost use Rattle.stm_workers.specs.Marks.{NamesWithin, IsNewAt, is_marked};
+ghost use Rattle.stm_workers.specs.Marks.{NamesWithin, IsNewAt, is_marked, revision_of};
 
 use crate::begun::Begun;
 use crate::job::Job;
 use crate::job_end::JobEnd;
 use std::alloc::{AllocError, Global};
 use stm_entries::Entry;
-use stm_hall::Hall;
+use stm_hall::{Hall, ReadAnswer};
 use stm_program::Level;
 
 /// Whether an entry is a commit of this job after which the store's revision was this.
@@ -91,6 +93,72 @@ fn may_have_given_up(hall: &Hall, begun: Begun, job: &Job, key: &str) -> bool
     hall.is_changed_above(key, begun.revision)
 }
 
+/// The revision that reads are of: the one that the first of them shows, and where nothing was read the one from which the run went on.
+fn revision_of(begun: Begun, reads: &[ReadAnswer]) -> u64
+    ensures { result ≡ revision_of begun.revision reads.now }
+{
+    match reads {
+        [] => begun.revision,
+        [first, ..] => first.of_rev,
+    }
+}
+
+/// Whether the hall's history shows an answer at this revision.
+fn is_shown_at(hall: &Hall, revision: u64, read: &ReadAnswer) -> bool
+    ensures { IsTrue result ↔ ((read.now.of_rev ≡ revision) × IsShown hall.now.standing.history read.now) }
+{
+    if read.of_rev != revision {
+        return false;
+    }
+    hall.shows(read)
+}
+
+/// The answer at a place.
+fn read_at(reads: &[ReadAnswer], place: usize) -> &ReadAnswer
+    requires { place < length reads.now }
+    ensures { slice_get reads.now place ≡ Some result.now }
+{
+    &reads[place]
+}
+
+/// Whether it shows each of these at this revision.
+fn are_shown_at(hall: &Hall, revision: u64, reads: &[ReadAnswer]) -> bool
+    ensures { IsTrue result ↔ AreShownAt hall.now.standing.history revision reads.now }
+{
+    for place in 0..reads.len() {
+        if !is_shown_at(hall, revision, read_at(reads, place)) {
+            return false;
+        }
+    }
+    true
+}
+
+/// Whether reads are of one state of the hall's history since the run began.
+fn are_of_one_state(hall: &Hall, begun: Begun, reads: &[ReadAnswer]) -> bool
+    ensures { IsTrue result ↔ AreOfOneState begun hall.now reads.now }
+{
+    let revision = revision_of(begun, reads);
+    if revision < begun.revision {
+        return false;
+    }
+    if hall.revision() < revision {
+        return false;
+    }
+    are_shown_at(hall, revision, reads)
+}
+
+/// Whether a job may have aborted, or come to a fault, on these reads.
+fn may_have_stopped(hall: &Hall, begun: Begun, job: &Job, reads: &[ReadAnswer]) -> bool
+    ensures { IsTrue result ↔ MayHaveStopped begun hall.now job.now reads.now }
+{
+    match job.level {
+        Level::SerializableSnapshot => are_of_one_state(hall, begun, reads),
+        Level::Serializable => are_of_one_state(hall, begun, reads),
+        Level::RepeatableReads => true,
+        Level::ReadCommitted => true,
+    }
+}
+
 /// Whether what an end says of the hall is so.
 fn is_borne_out(hall: &Hall, begun: Begun, job: &Job, end: &JobEnd) -> bool
     ensures { IsTrue result ↔ IsBorneOut begun hall.now job.now end.now }
@@ -100,8 +168,8 @@ fn is_borne_out(hall: &Hall, begun: Begun, job: &Job, end: &JobEnd) -> bool
             has_commit(hall.entries(), begun, job, *index, *revision)
         }
         JobEnd::GaveUp { key } => may_have_given_up(hall, begun, job, key.as_str()),
-        JobEnd::Aborted(_) => true,
-        JobEnd::Faulted(_) => true,
+        JobEnd::Aborted { reads, .. } => may_have_stopped(hall, begun, job, reads.as_slice()),
+        JobEnd::Faulted { reads, .. } => may_have_stopped(hall, begun, job, reads.as_slice()),
         JobEnd::Refused(_) => true,
     }
 }
@@ -164,8 +232,8 @@ fn mark(marks: &mut Vec<bool>, end: &JobEnd) -> bool
 {
     match end {
         JobEnd::Committed { index, .. } => set_mark(marks, *index),
-        JobEnd::Aborted(_) => false,
-        JobEnd::Faulted(_) => false,
+        JobEnd::Aborted { .. } => false,
+        JobEnd::Faulted { .. } => false,
         JobEnd::Refused(_) => false,
         JobEnd::GaveUp { .. } => false,
     }

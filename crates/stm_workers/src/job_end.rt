@@ -1,6 +1,6 @@
 //! How a job ends.
 use crate::store_refusal::StoreRefusal;
-use stm_history::Text;
+use stm_history::{ReadAnswer, Sequence, Text};
 use stm_meaning::Fault;
 
 /// The end of a job. Want of memory is none: it ends the run of all jobs.
@@ -13,10 +13,20 @@ pub enum JobEnd {
         /// The store's revision after it.
         revision: u64,
     },
-    /// The program ended by `abort`, with this text.
-    Aborted(Text),
+    /// The program ended by `abort`.
+    Aborted {
+        /// Its text.
+        text: Text,
+        /// What its last attempt had read, in the order of first reads.
+        reads: Sequence<ReadAnswer>,
+    },
     /// The program ended by a fault.
-    Faulted(Fault),
+    Faulted {
+        /// The fault.
+        fault: Fault,
+        /// What its last attempt had read, in the order of first reads.
+        reads: Sequence<ReadAnswer>,
+    },
     /// A fetch or a commit was refused.
     Refused(JobRefusal),
     /// Its last commit failed, and it may send no more.

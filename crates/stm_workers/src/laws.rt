@@ -1,7 +1,14 @@
-//! A law of the ends of jobs. The function does nothing: its contract is the law.
+//! The laws of the ends of jobs. Each function does nothing: its contract is the law.
 ghost use Rattle.stm_workers.specs.Ends.{CommitsAreApart};
+ghost use Rattle.stm_workers.specs.Stops.{StopsAreOfOneState};
 
 /// Where all ends stand, each commit among them is an entry of its own.
 pub fn commits_are_apart()
     ensures { CommitsAreApart }
+{}
+
+/// Of a job at a serializable level that aborted or came to a fault, there is a state of the hall's history since it was handed in on which its
+/// program, run alone, ends so.
+pub fn stops_are_of_one_state()
+    ensures { StopsAreOfOneState }
 {}

@@ -28,5 +28,6 @@ pub use job::Job;
 pub use job_end::{JobEnd, JobRefusal};
 pub use run::{MOST_WORKERS, run_workers};
 pub use stm_draw::{JobSeat, JobTable};
-pub use stm_hall::{CommitRefusal, FetchRefusal, Hall, Verdict};
+pub use stm_hall::{CommitRefusal, FetchRefusal, Hall, ReadAnswer, Sequence, Text, Verdict};
+pub use stm_meaning::Fault;
 pub use store_refusal::StoreRefusal;

@@ -1,10 +1,12 @@
 //! The run of jobs by several threads.
-ghost use Rattle.std.specs.Prelude.{◌≡◌, ◌≢◌, ◌+◌, ◌≤◌, ◌<◌, length, vec_len, vec_capacity, count_by, IfOk, IfErr, OnOk};
+ghost use Rattle.std.specs.Prelude.{◌≡◌, ◌≢◌, ◌+◌, ◌≤◌, ◌<◌, List, All, length, vec_len, vec_capacity, count_by, IfOk, IfErr, OnOk};
 ghost use Rattle.stm_draw.specs.Draw.{size_of, newcomer, EachOnce};
 ghost use Rattle.stm_draw.specs.Seats.{IsSeatAt, seat_view, table_id, table_size};
 ghost use Rattle.stm_workers.specs.declared.lost.Lost.TheVariants.{OutOfMemory, Spawn};
 ghost use Rattle.stm_workers.specs.declared.gathered.FaultCause.TheVariants.{Spawn as NoThread};
 ghost use Rattle.stm_workers.specs.Ends.{begun_at, commits_in, is_committed, StandsAt, AllStand, TookCommitsOf};
+ghost use Rattle.stm_workers.specs.declared.job.Job.{Job as AnyJob};
+ghost use Rattle.stm_workers.specs.Attempts.{HasItsRun, HaveTheirRuns};
 ghost use Rattle.stm_workers.specs.Gathered.{RanTo, OnAudit, BrokeOff};
 ghost use Rattle.stm_workers.specs.Rounds.{committed_in, ends_in, jobs_of, EachAtItsPlace, HasGoneOn};
 
@@ -150,6 +152,7 @@ fn in_places(alloc: Global, ended: Vec<EndOf>) -> Result<Vec<JobEnd>, Lost>
     ensures places { IfOk result (λ ends. EachAtItsPlace ended.items ends.items) }
     ensures length { IfOk result (λ ends. length ends.items ≡ length ended.items) }
     ensures counted { IfOk result (λ ends. count_by is_committed ends.items ≡ committed_in ended.items) }
+    ensures ran { IfOk result (λ ends. (jobs : List AnyJob) → All (HasItsRun jobs) ended.items → HaveTheirRuns jobs ends.items) }
     ensures fault { IfErr result (λ lost. lost ≡ OutOfMemory) }
 {
     let mut ended = ended;
@@ -180,6 +183,7 @@ fn run_round<R: Round + Send + Sync, W: Threads + Wait + Sync, G: Gate + Sync>(
     ensures takes { TookCommitsOf jobs.now hall result.1 }
     ensures places { IfOk result.0 (λ ends. length ends.items ≡ length jobs.now) }
     ensures commits { IfOk result.0 (λ ends. commits_in result.1.entries ≡ commits_in hall.entries + count_by is_committed ends.items) }
+    ensures ran { IfOk result.0 (λ ends. HaveTheirRuns jobs.now ends.items) }
 {
     let (book, share) = blank.open::<R>();
     let desk = Mutex::new(Desk::new(hall, book));
@@ -264,10 +268,15 @@ fn begin(hall: &Hall) -> Begun
 /// A worker draws a job, evaluates it without the lock, and holds the lock for one fetch or one commit at a time. Each job is drawn once.
 /// After a commit that failed a job is attempted again, until it has sent as many commits as it may.
 ///
-/// At `Ok` each job has its end at its place, each end stands in the hall, and the hall has the entries that it had, with one commit
-/// for each job that committed, and nothing else. `OutOfMemory`: a growth was refused, in a worker, in the hall, or here. `Spawn`: a thread
-/// could not be started. `Audit`: the end of this job does not stand. At each of these all threads have ended, and the hall has what was
-/// committed until then, all of it of these jobs. Nothing is said of which job goes first, nor that it returns.
+/// At `Ok` each job has its end at its place, to which it has come as it should: each fetch was asked for with what its worker had seen, it sent
+/// at most as many commits as it may, and it gave up only where so many failed (`HasCome` of the specs). Each end stands in the hall, and the
+/// hall has the entries that it had, with one commit for each job that committed, and nothing else. What a job at a serializable level had read
+/// when it aborted or came to a fault is of one state of the hall's history since it was handed in, and its program, run alone on that state,
+/// ends so (`laws::stops_are_of_one_state`).
+///
+/// `OutOfMemory`: a growth was refused, in a worker, in the hall, or here. `Spawn`: a thread could not be started. `Audit`: the end of this job
+/// does not stand. At each of these all threads have ended, and the hall has what was committed until then, all of it of these jobs. Nothing is
+/// said of which job goes first, nor that it returns.
 pub fn run_workers<W: Threads + Wait + Sync, G: Gate + Sync>(
     rt: &W,
     alloc: Global,

@@ -5,13 +5,13 @@ ghost use Rattle.stm_txn.specs.declared.refusal.Refusal.TheVariants.{OutOfMemory
 ghost use Rattle.stm_hall.specs.declared.refusal.FetchRefusal.TheVariants.{Store as FetchRefused};
 ghost use Rattle.stm_hall.specs.declared.refusal.CommitRefusal.TheVariants.{Store as CommitRefused};
 ghost use Rattle.stm_workers.specs.Ends.{is_committed};
-ghost use Rattle.stm_workers.specs.Attempts.{end_told, fetch_refusal_told, commit_refusal_told, job_end_told};
+ghost use Rattle.stm_workers.specs.Attempts.{end_told, reads_told, fetch_refusal_told, commit_refusal_told, job_end_told};
 
 use crate::job_end::{JobEnd, JobRefusal};
 use crate::store_refusal::StoreRefusal;
 use std::alloc::AllocError;
 use stm_hall::{CommitRefusal, FetchRefusal};
-use stm_history::Text;
+use stm_history::{ReadAnswer, Sequence, Text};
 use stm_meaning::{End, Fault, Run};
 use stm_txn::Refusal;
 
@@ -20,8 +20,16 @@ use stm_txn::Refusal;
 pub(crate) enum Stop {
     /// A growth was refused, which is no end.
     OutOfMemory,
-    Aborted(Text),
-    Faulted(Fault),
+    /// The program ended by `abort`, on these reads.
+    Aborted {
+        text: Text,
+        reads: Sequence<ReadAnswer>,
+    },
+    /// The program ended by a fault, on these reads.
+    Faulted {
+        fault: Fault,
+        reads: Sequence<ReadAnswer>,
+    },
     Refused(JobRefusal),
 }
 
@@ -77,24 +85,26 @@ impl Stop {
         }
     }
 
-    /// An end of a run other than its last statement.
-    fn of_end(end: End) -> Stop
+    /// An end of a run on these reads, other than its last statement.
+    fn of_end(end: End, reads: Sequence<ReadAnswer>) -> Stop
         requires { end ≢ Done }
-        ensures { end_told result ≡ Some end }
+        ensures end { end_told result ≡ Some end }
+        ensures reads { reads_told result ≡ Some reads }
     {
         match end {
             End::Done => unreachable!(),
-            End::Aborted(text) => Stop::Aborted(text),
-            End::Faulted(fault) => Stop::Faulted(fault),
+            End::Aborted(text) => Stop::Aborted { text, reads },
+            End::Faulted(fault) => Stop::Faulted { fault, reads },
         }
     }
 
-    /// A run that came to an end other than its last statement.
-    pub fn of_run(run: Run) -> Stop
+    /// A run on these reads that came to an end other than its last statement.
+    pub fn of_run(run: Run, reads: Sequence<ReadAnswer>) -> Stop
         requires { run.end ≢ Done }
-        ensures { end_told result ≡ Some run.end }
+        ensures end { end_told result ≡ Some run.end }
+        ensures reads { reads_told result ≡ Some reads }
     {
-        Stop::of_end(run.end)
+        Stop::of_end(run.end, reads)
     }
 
     /// The job's end, where it is one: want of memory is none.
@@ -106,8 +116,8 @@ impl Stop {
     {
         match self {
             Stop::OutOfMemory => Err(AllocError),
-            Stop::Aborted(text) => Ok(JobEnd::Aborted(text)),
-            Stop::Faulted(fault) => Ok(JobEnd::Faulted(fault)),
+            Stop::Aborted { text, reads } => Ok(JobEnd::Aborted { text, reads }),
+            Stop::Faulted { fault, reads } => Ok(JobEnd::Faulted { fault, reads }),
             Stop::Refused(refusal) => Ok(JobEnd::Refused(refusal)),
         }
     }

@@ -1,7 +1,8 @@
 //! What a worker has, and who starts the workers and takes in what they hand back.
-ghost use Rattle.std.specs.Prelude.{◌≡◌, ◌+◌, ◌<◌, ◌≤◌, [], OnOk};
+ghost use Rattle.std.specs.Prelude.{◌≡◌, ◌+◌, ◌<◌, ◌≤◌, [], All, OnOk};
 ghost use Rattle.stm_draw.specs.Draw.{newcomer, EachOnce};
 ghost use Rattle.stm_draw.specs.Seats.{IsSeatAt, seat_view, table_id, table_size};
+ghost use Rattle.stm_workers.specs.Attempts.{HasItsRun};
 ghost use Rattle.stm_workers.specs.Rounds.{jobs_of, committed_in, drawing, used_up};
 
 use crate::desk::Round;
@@ -29,6 +30,7 @@ pub(crate) struct Busy<R: Round> {
     ghost seated: { IsSeatAt R.table R.size seat },
     ghost one_left: { seat_view seat ≡ drawing R.size (jobs_of ended.items) },
     ghost counted: { (share.parts ≡ 1) × (share.amount ≡ committed_in ended.items) },
+    ghost ran: { All (HasItsRun R.jobs) ended.items },
 }
 
 /// A worker that found no job left.
@@ -40,6 +42,7 @@ pub(crate) struct Idle<R: Round> {
     ghost seated: { IsSeatAt R.table R.size seat },
     ghost none_left: { seat_view seat ≡ used_up R.size (jobs_of ended.items) },
     ghost counted: { (share.parts ≡ 1) × (share.amount ≡ committed_in ended.items) },
+    ghost ran: { All (HasItsRun R.jobs) ended.items },
 }
 
 /// A worker after it looked for a job.
@@ -61,6 +64,7 @@ pub(crate) struct Chief<R: Round> {
     ghost seated: { IsSeatAt R.table R.size seat },
     ghost drawn: { (seat_view seat).drawn ≡ jobs_of ended.items },
     ghost counted: { share.amount ≡ committed_in ended.items },
+    ghost ran: { All (HasItsRun R.jobs) ended.items },
     ghost even: { (seat_view seat).past + (seat_view seat).left ≡ share.parts },
 }
 
@@ -78,6 +82,7 @@ impl<R: Round> Busy<R> {
         requires seated { IsSeatAt R.table R.size seat }
         requires one_left { seat_view seat ≡ drawing R.size (jobs_of ended.items) }
         requires counted { (share.parts ≡ 1) × (share.amount ≡ committed_in ended.items) }
+        requires ran { All (HasItsRun R.jobs) ended.items }
         ensures seen { result.seen ≡ seen }
         ensures ended { result.ended.items ≡ ended.items }
     {
@@ -96,6 +101,7 @@ impl<R: Round> Idle<R> {
         requires seated { IsSeatAt R.table R.size seat }
         requires none_left { seat_view seat ≡ used_up R.size (jobs_of ended.items) }
         requires counted { (share.parts ≡ 1) × (share.amount ≡ committed_in ended.items) }
+        requires ran { All (HasItsRun R.jobs) ended.items }
     {
         Idle { seat, share, ended }
     }
@@ -160,6 +166,7 @@ impl<R: Round> Whole<R> {
     pub fn parts(self) -> (Share<R>, Vec<EndOf>)
         ensures share { (result.0.parts ≡ R.size.seats) × (result.0.amount ≡ committed_in result.1.items) }
         ensures each_once { EachOnce R.size.jobs (jobs_of result.1.items) }
+        ensures ran { All (HasItsRun R.jobs) result.1.items }
     {
         let Whole { chief } = self;
         let Chief { seat, share, ended } = chief;

@@ -8,12 +8,12 @@ use std::thread::Threads;
 use stm_history::Text;
 use stm_program::Level;
 use stm_txn::{Op, ShortList, Store, Txn};
-use stm_workers::{Gathered, Hall, Job, JobEnd, JobRefusal, NoGate, run_workers};
+use stm_workers::{Gathered, Hall, Job, JobEnd, JobRefusal, NoGate, ReadAnswer, run_workers};
 
 /// Two of the five jobs commit, and each other one ends in a way of its own.
 const JOBS: [(Level, &str); 5] = [
     (Level::Serializable, r#"[["put","b",["get","a"],0]]"#),
-    (Level::Serializable, r#"[["abort","no"]]"#),
+    (Level::Serializable, r#"[["abort",["get","a"]]]"#),
     (Level::RepeatableReads, r#"[["emit",["div",1,0]]]"#),
     (Level::ReadCommitted, r#"[["put","c","1",9]]"#),
     (Level::SerializableSnapshot, r#"[["del","x"]]"#),
@@ -83,12 +83,21 @@ fn tell_refusal(told: &mut String, refusal: &JobRefusal) -> Result<(), AllocErro
     }
 }
 
+/// An abort, with the keys that the job had read, each at its revision.
+fn tell_abort(told: &mut String, text: &str, reads: &[ReadAnswer]) -> Result<(), AllocError> {
+    write!(told, "abort {text}")?;
+    for read in reads {
+        write!(told, " on {} of {}", read.key, read.of_rev)?;
+    }
+    told.push_str("; ")
+}
+
 /// How a job ended: a commit with the index of its entry, and the store's revision after it.
 fn tell_end(told: &mut String, end: &JobEnd) -> Result<(), AllocError> {
     match end {
         JobEnd::Committed { index, revision } => write!(told, "commit {index} at {revision}; "),
-        JobEnd::Aborted(text) => write!(told, "abort {text}; "),
-        JobEnd::Faulted(fault) => write!(told, "{}; ", fault.name()),
+        JobEnd::Aborted { text, reads } => tell_abort(told, text.as_str(), reads.as_slice()),
+        JobEnd::Faulted { fault, reads } => write!(told, "{} on {}; ", fault.name(), reads.len()),
         JobEnd::Refused(refusal) => tell_refusal(told, refusal),
         JobEnd::GaveUp { key } => write!(told, "gave up over {key}; "),
     }
@@ -154,7 +163,7 @@ fn ends_stand_at_the_places_of_their_jobs(rt: HostRuntime) -> Result<(), Fail> {
     let told = told_of_five(&rt, rt.alloc())?;
     assert_eq!(rt;
         told.as_str(),
-        "commit 1 at 3; abort no; ZeroDivisor; refused LeaseNotFound; commit 2 at 3; 2 committed, 3 entries"
+        "commit 1 at 3; abort 1 on a of 3; ZeroDivisor on 0; refused LeaseNotFound; commit 2 at 3; 2 committed, 3 entries"
     );
     Ok(())
 }

@@ -13,15 +13,17 @@ returns-in-GaveUp c =
     subst (λ (e : JobEnd). (c.may_have_given_up.result ≡ true) ↔ IsBorneOut c.args.begun c.args.hall.now c.args.job.now e) (sym c.in-GaveUp.is)
     (rw c.as_str.ensures at c.may_have_given_up.ensures)
 
--- nothing is said of the others
 pub returns-in-Aborted : goal.returns-in-Aborted
 returns-in-Aborted c =
-    subst (λ (e : JobEnd). (true ≡ true) ↔ IsBorneOut c.args.begun c.args.hall.now c.args.job.now e) (sym c.in-Aborted.is) ((λ yes. tt), (λ fact. refl))
+    subst (λ (e : JobEnd). (c.may_have_stopped.result ≡ true) ↔ IsBorneOut c.args.begun c.args.hall.now c.args.job.now e) (sym c.in-Aborted.is)
+    (rw c.as_slice.ensures at c.may_have_stopped.ensures)
 
 pub returns-in-Faulted : goal.returns-in-Faulted
 returns-in-Faulted c =
-    subst (λ (e : JobEnd). (true ≡ true) ↔ IsBorneOut c.args.begun c.args.hall.now c.args.job.now e) (sym c.in-Faulted.is) ((λ yes. tt), (λ fact. refl))
+    subst (λ (e : JobEnd). (c.may_have_stopped-in-Faulted.result ≡ true) ↔ IsBorneOut c.args.begun c.args.hall.now c.args.job.now e) (sym c.in-Faulted.is)
+    (rw c.as_slice-in-Faulted.ensures at c.may_have_stopped-in-Faulted.ensures)
 
+-- nothing is said of a refusal
 pub returns-in-Refused : goal.returns-in-Refused
 returns-in-Refused c =
     subst (λ (e : JobEnd). (true ≡ true) ↔ IsBorneOut c.args.begun c.args.hall.now c.args.job.now e) (sym c.in-Refused.is) ((λ yes. tt), (λ fact. refl))

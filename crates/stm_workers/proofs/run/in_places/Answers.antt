@@ -1,7 +1,7 @@
 use Rattle.std.proofs.lemmas.List.Sorted.{IsNonDecreasingBy-from_sort_by_key}
 use Rattle.std.proofs.Common.{rules}
 use Rattle.stm_workers.specs.declared.worker.EndOf.{EndOf}
-use Rattle.stm_workers.proofs.SeatLemmas.{sorted_length, sorted_counted, sorted_places}
+use Rattle.stm_workers.proofs.SeatLemmas.{sorted_length, sorted_counted, sorted_places, sorted_ran}
 use Rattle.stm_workers.proofs.run.in_places.Goals as goal
 
 pub returns-clause-places : goal.returns-clause-places
@@ -14,3 +14,8 @@ returns-clause-length c = sorted_length _ _ _ c.sort_unstable_by_key.ensures.per
 
 pub returns-clause-counted : goal.returns-clause-counted
 returns-clause-counted c = sorted_counted _ _ _ c.sort_unstable_by_key.ensures.permutation c.in_ok-ends.ensures
+
+pub returns-clause-ran : goal.returns-clause-ran
+returns-clause-ran c =
+    sorted_ran _ _ _ c.requires c.sort_unstable_by_key.ensures.permutation
+    (IsNonDecreasingBy-from_sort_by_key (λ (e : EndOf). e.job) _ c.sort_unstable_by_key.ensures.sorted (λ a r q k. search rules)) c.in_ok-ends.ensures

@@ -1,6 +1,8 @@
-use Rattle.std.proofs.Common.{ap, ◌∙◌, count_by}
+use Rattle.std.proofs.Common.{List, All, ap, sym, subst, ◌∙◌, count_by}
 use Rattle.std.proofs.lemmas.Result.{IfOk-weaker}
 use Rattle.stm_draw.specs.declared.view.Size.{Size}
+use Rattle.stm_workers.specs.declared.job.Job.{Job}
+use Rattle.stm_workers.specs.Attempts.{HasItsRun}
 use Rattle.stm_workers.specs.Ends.{is_committed}
 use Rattle.stm_workers.proofs.SeatLemmas.{an_end_each, each_of_many}
 use Rattle.stm_workers.proofs.RunLemmas.{gone_from, taken_from, round_commits}
@@ -35,3 +37,9 @@ returns-in-Err-clause-gone_on g c = gone_from c.args.hall g.R.Round.before c.hal
 pub returns-in-Err-clause-takes : goal.returns-in-Err-clause-takes
 returns-in-Err-clause-takes g c =
     taken_from c.args.jobs.now g.R.Round.jobs c.args.hall g.R.Round.before c.hall_of.result c.requires.jobs c.requires.hall c.hall_of.ensures.takes
+
+pub returns-in-Ok-clause-ran : goal.returns-in-Ok-clause-ran
+returns-in-Ok-clause-ran g c =
+    IfOk-weaker c.in_places.result _ _
+    (λ ends told. told c.args.jobs.now (subst (λ (js : List Job). All (HasItsRun js) c.parts-share.result.1.items) (sym c.requires.jobs) c.parts-share.ensures.ran))
+    c.in_places.ensures.ran

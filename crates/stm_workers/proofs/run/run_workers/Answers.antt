@@ -1,4 +1,5 @@
 use Rattle.std.proofs.Common.{◌≡◌, ◌+◌, length, count_by}
+use Rattle.stm_workers.specs.Attempts.{HaveTheirRuns}
 use Rattle.stm_workers.specs.Ends.{commits_in, is_committed}
 use Rattle.stm_workers.proofs.RunLemmas.{broke_off_early, given_up, ran_to, ran_on, fault_found, broke_on, at_ok}
 use Rattle.stm_workers.proofs.run.run_workers.Goals as goal
@@ -18,7 +19,8 @@ returns-in-Ok-gather-clause-ok g c =
     round.ensures.gone_on round.ensures.takes
     (at_ok (λ ends. length ends.items ≡ length c.args.jobs.now) round.result.0 c.in-Ok-ends.ends c.in-Ok-ends.is round.ensures.places)
     (at_ok (λ ends. commits_in round.result.1.entries ≡ commits_in c.args.hall.entries + count_by is_committed ends.items) round.result.0 c.in-Ok-ends.ends
-    c.in-Ok-ends.is round.ensures.commits) told.ends.1 told.ends.2)
+    c.in-Ok-ends.is round.ensures.commits) told.ends.1 told.ends.2
+    (at_ok (λ ends. HaveTheirRuns c.args.jobs.now ends.items) round.result.0 c.in-Ok-ends.ends c.in-Ok-ends.is round.ensures.ran))
 
 -- one does not, or there is no memory to tell
 pub returns-in-Ok-ends-clause-fault : goal.returns-in-Ok-ends-clause-fault

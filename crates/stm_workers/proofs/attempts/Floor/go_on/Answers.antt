@@ -1,6 +1,7 @@
 use Rattle.stm_workers.proofs.NextLemmas.{aborted_is_not_done, faulted_is_not_done, ready_is_of, advanced_is_of, supplied_is_of, waits_for}
-use Rattle.stm_workers.proofs.NextLemmas.{aborted_is_run, faulted_is_run}
-use Rattle.std.proofs.Common.{inl, inr, refl, ap, sym, ◌∙◌}
+use Rattle.stm_workers.proofs.NextLemmas.{aborted_is_run, faulted_is_run, reads_taken}
+use Rattle.std.proofs.Common.{List, Some, inl, inr, refl, ap, sym, ◌∙◌}
+use Rattle.stm_history.specs.declared.key_state.ReadAnswer.{ReadAnswer}
 use Rattle.std.proofs.lemmas.Result.{err_from_is_err_and}
 use Rattle.stm_attempt.specs.AttemptState.{AttemptState, supplied}
 use Rattle.stm_workers.specs.declared.stop.Stop.TheVariants.{OutOfMemory}
@@ -62,7 +63,9 @@ returns-in-Aborted-clause-stops g c = inr (
   inl (record {
     run = c.in-Aborted.run';
     is_run = aborted_is_run _ _ _ _ (sym c.in_ok-next.ensures.next ∙ c.in-Aborted.is);
-    told = c.of_run.ensures;
+    told = c.of_run.ensures.end;
+    reads = c.of_run.ensures.reads ∙ ap (λ (rs : List ReadAnswer). Some rs) (reads_taken c.args.job.now.program c.args.attempt.now c.advance.new.self
+        c.take_reads.result c.in_ok-next.ensures.ok c.take_reads.ensures.reads);
   }),
   refl,
 )
@@ -72,7 +75,10 @@ returns-in-Faulted-clause-stops g c = inr (
   inl (record {
     run = c.in-Faulted.run';
     is_run = faulted_is_run _ _ _ _ (sym c.in_ok-next.ensures.next ∙ c.in-Faulted.is);
-    told = c.of_run-in-Faulted.ensures;
+    told = c.of_run-in-Faulted.ensures.end;
+    reads = c.of_run-in-Faulted.ensures.reads
+        ∙ ap (λ (rs : List ReadAnswer). Some rs) (reads_taken c.args.job.now.program c.args.attempt.now c.advance.new.self
+        c.take_reads-in-Faulted.result c.in_ok-next.ensures.ok c.take_reads-in-Faulted.ensures.reads);
   }),
   refl,
 )

@@ -1,7 +1,9 @@
 use Rattle.std.proofs.Common.{List, sym, ap, ◌∙◌, arith}
+use Rattle.std.proofs.lemmas.List.Elements.{All-same, All-nil}
 use Rattle.stm_draw.specs.declared.view.View.{View}
 use Rattle.stm_draw.specs.Seats.{seat_view}
 use Rattle.stm_workers.specs.declared.worker.EndOf.{EndOf}
+use Rattle.stm_workers.specs.Attempts.{HasItsRun}
 use Rattle.stm_workers.specs.Rounds.{committed_in}
 use Rattle.stm_workers.proofs.SeatLemmas.{newly_equipped}
 use Rattle.stm_workers.proofs.worker.Chief.equip.Goals as goal
@@ -24,6 +26,9 @@ at_work-requires-clause-counted g c = (
   c.split_off-share.ensures.amount ∙ sym (ap (λ (es : List EndOf). committed_in es) c.new.ensures.items),
 )
 
+pub at_work-requires-clause-ran : goal.at_work-requires-clause-ran
+at_work-requires-clause-ran g c = All-same (HasItsRun g.R.Round.jobs) _ _ c.new.ensures.items (All-nil (HasItsRun g.R.Round.jobs))
+
 -- a pass and a part less
 pub invariant_of-self : goal.invariant_of-self
 invariant_of-self g c =
@@ -36,4 +41,5 @@ invariant_of-self g c =
       drawn = ap (λ (v : View). v.drawn) kept.1 ∙ old.drawn;
       counted = omega (arith, c.split_off-share.ensures.amount_left, old.counted);
       even = omega (arith, past, left, old.even, c.split_off-share.ensures.parts_left, c.requires.passes);
+      ran = old.ran;
     }

@@ -1,6 +1,8 @@
 use Rattle.std.proofs.Common.{List, sym, ap, ◌∙◌}
+use Rattle.std.proofs.lemmas.List.Elements.{All-same, All-append}
 use Rattle.stm_draw.specs.Seats.{seat_view}
 use Rattle.stm_workers.specs.declared.worker.EndOf.{EndOf}
+use Rattle.stm_workers.specs.Attempts.{HasItsRun}
 use Rattle.stm_workers.specs.Rounds.{jobs_of, committed_in}
 use Rattle.stm_workers.proofs.SeatLemmas.{drawn_together, counted_together, even_together, past_together}
 use Rattle.stm_workers.proofs.worker.Chief.take_in.Goals as goal
@@ -15,6 +17,7 @@ invariant_of-self g c =
       drawn = old.drawn ∙ sym (ap jobs_of same);
       counted = old.counted ∙ sym (ap committed_in same);
       even = old.even;
+      ran = All-same (HasItsRun g.R.Round.jobs) _ _ same old.ran;
     }
 
 -- its draws, its commits and its passes are more by those of the worker
@@ -31,6 +34,8 @@ invariant_of-self-2 g c =
           c.merge.ensures.amount
           ∙ sym (ap (λ (es : List EndOf). committed_in es) c.in_ok-append.ensures.items);
       even = even_together _ _ _ _ _ _ _ _ old.even idle.none_left c.join.ensures.view idle.counted.0 c.merge.ensures.parts;
+      ran = All-same (HasItsRun g.R.Round.jobs) _ _ c.in_ok-append.ensures.items
+          (All-append (HasItsRun g.R.Round.jobs) old.ended.items idle.ended.items old.ran idle.ran);
     }
 
 pub returns-clause-past : goal.returns-clause-past

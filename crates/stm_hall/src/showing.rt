@@ -1,0 +1,44 @@
+//! Whether the history shows an answer.
+ghost use Rattle.std.specs.Prelude.{◌≡◌, ◌↔◌, IsTrue};
+ghost use Rattle.std.specs.Option.{option_copied};
+ghost use Rattle.stm_hall.specs.Showing.{IsShown};
+
+use stm_history::{KeyState, ReadAnswer};
+use stm_keys::Keys;
+
+/// Whether two states of a key are the same.
+fn are_same(left: &KeyState, right: &KeyState) -> bool
+    ensures { IsTrue result ↔ left.now ≡ right.now }
+{
+    left.create_rev == right.create_rev
+        && left.mod_rev == right.mod_rev
+        && left.version == right.version
+        && left.lease == right.lease
+        && left.value == right.value
+}
+
+/// Whether a key is absent twice, or has the same state.
+fn is_same_state(left: Option<&KeyState>, right: &Option<KeyState>) -> bool
+    ensures { IsTrue result ↔ option_copied left.entry ≡ right.now }
+{
+    match left {
+        None => right.is_none(),
+        Some(state) => match right {
+            None => false,
+            Some(other) => are_same(state, other),
+        },
+    }
+}
+
+/// Whether an answer is true of the history, at a revision that is no 0.
+pub(crate) fn is_shown(keys: &Keys, answer: &ReadAnswer) -> bool
+    ensures { IsTrue result ↔ IsShown keys.now.history answer.now }
+{
+    if answer.of_rev == 0 {
+        return false;
+    }
+    match keys.get_at(answer.key.as_str(), answer.of_rev) {
+        Ok(found) => is_same_state(found, &answer.kv),
+        Err(_) => false,
+    }
+}

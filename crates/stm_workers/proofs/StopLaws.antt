@@ -1,0 +1,186 @@
+-- The law of jobs that aborted or came to a fault.
+use Rattle.std.proofs.Common.{◌≡◌, ◌⊎◌, inl, inr, ℕ, ◌≤◌, true, List, [], ◌∷◌, Option, Some, None, slice_get, refl, sym, ◌∙◌, ap, subst}
+use Rattle.std.proofs.Math.Logic.{∥∥₁_elim}
+use Rattle.std.specs.Coded.{Coded-set}
+use Rattle.std.specs.List.{AllByRecursion}
+use Rattle.std.proofs.lemmas.List.Elements.{All-from_recursion}
+use mathlib.Core.HLevel.{⊥_prop}
+use Rattle.stm_history.specs.declared.key_state.ReadAnswer.{ReadAnswer}
+use Rattle.stm_history.specs.History.{History}
+use Rattle.stm_program.specs.Syntax.{ProgramTree}
+use Rattle.stm_meaning.specs.contracts.run.End as ends
+use Rattle.stm_meaning.specs.declared.run.End.{End}
+use Rattle.stm_meaning.specs.declared.run.End.TheVariants.{Aborted as AbortedEnd, Faulted as FaultedEnd}
+use Rattle.stm_meaning.specs.declared.run.Run.{Run}
+use Rattle.stm_meaning.specs.declared.run.Answered.{Answered}
+use Rattle.stm_meaning.specs.declared.run.Answered.TheVariants.{Ended as EndedRun, Wants}
+use Rattle.stm_meaning.specs.Laws.{IsContinuedBy}
+use Rattle.stm_meaning.specs.Meaning.{run_over}
+use Rattle.stm_compile.specs.Answers.{state_as_of, AreTrue}
+use Rattle.stm_compile.specs.Levels.{is_serializable}
+use Rattle.stm_compile.proofs.AgreeLemmas.{answers_of_one_revision}
+use Rattle.stm_attempt.specs.Settled.{run_on}
+use Rattle.stm_hall.specs.declared.refusal.FetchRefusal.{FetchRefusal}
+use Rattle.stm_hall.specs.declared.refusal.CommitRefusal.{CommitRefusal}
+use Rattle.stm_hall.specs.declared.verdict.Verdict.{Verdict}
+use Rattle.stm_hall.specs.declared.verdict.Verdict.TheVariants.{Committed, Failed}
+use Rattle.stm_hall.specs.HallState.{HallState}
+use Rattle.stm_hall.specs.Showing.{AreShownAt}
+use Rattle.stm_workers.specs.declared.begun.Begun.{Begun}
+use Rattle.stm_workers.specs.declared.job.Job.{Job}
+use Rattle.stm_workers.specs.declared.job_end.JobEnd.{JobEnd}
+use Rattle.stm_workers.specs.declared.job_end.JobEnd.TheVariants.{Committed as CommittedJob, Aborted as AbortedJob, Faulted as FaultedJob, Refused as RefusedJob}
+use Rattle.stm_workers.specs.declared.job_end.JobEnd.TheVariants.{GaveUp}
+use Rattle.stm_workers.specs.declared.stop.Stop.{Stop}
+use Rattle.stm_workers.specs.declared.stop.Stop.TheVariants.{OutOfMemory, Aborted, Faulted, Refused}
+use Rattle.stm_workers.specs.Ends.{begun_at, AreOfOneState, MayHaveStopped, IsBorneOut}
+use Rattle.stm_workers.specs.Attempts.{JobState, end_told, reads_told, fetch_refusal_told, commit_refusal_told, job_end_told, end_after}
+use Rattle.stm_workers.specs.Attempts.{IsStop, StopsAt, EndsByStop, EndsByVerdict, HasCome, HasSomeRun}
+use Rattle.stm_workers.specs.Gathered.{RanTo}
+use Rattle.stm_workers.specs.Stops.{IsEndAlone, OnStop, StopsAreOfOneState}
+
+-- ---- the run on what was read
+
+all_show : (h : History) (r : ℕ) (reads : List ReadAnswer) → AreShownAt h r reads → AllByRecursion (λ (a : ReadAnswer). a.of_rev ≡ r) reads
+all_show h r [] shown = tt
+all_show h r (a ∷ reads) shown = (shown.0.0, all_show h r reads shown.1)
+
+all_true : (h : History) (r : ℕ) (reads : List ReadAnswer) → AreShownAt h r reads → AreTrue h reads
+all_true h r [] shown = tt
+all_true h r (a ∷ reads) shown = (shown.0.1.1, all_true h r reads shown.1)
+
+-- it is the run on the state there
+run_alone : (h : History) (r : ℕ) (program : ProgramTree) (reads : List ReadAnswer) (run : Run) → AreShownAt h r reads → run_on program reads ≡ EndedRun run →
+    run_over (state_as_of h r) program.statements ≡ EndedRun run
+run_alone h r program reads run shown is =
+    subst (λ (x : Answered). IsContinuedBy x (run_over (state_as_of h r) program.statements)) is
+    (answers_of_one_revision h r reads program.statements (all_true h r reads shown)
+    (All-from_recursion (λ (a : ReadAnswer). a.of_rev ≡ r) reads (all_show h r reads shown)))
+
+-- ---- the run that a stop tells
+
+-- a run comes to an end
+abbrev RunsTo : Answered → End → Type 0
+RunsTo x end = (run : Run) × (x ≡ EndedRun run) × (run.end ≡ end)
+
+some_of : {A : Type 0} (x y : A) → Some x ≡ Some y → x ≡ y
+some_of {A} x y is = ap (value_or x) is
+  where
+    value_or : A → Option A → A
+    value_or other None = other
+    value_or other (Some a) = a
+
+-- what tells an end tells no refusal
+no_fetch : (stop : Stop) (end : End) (cause : FetchRefusal) → end_told stop ≡ Some end → fetch_refusal_told stop ≡ Some cause → ⊥
+no_fetch OutOfMemory end cause tells told = absurd (cc)
+no_fetch (Aborted text reads) end cause tells told = absurd (cc)
+no_fetch (Faulted fault reads) end cause tells told = absurd (cc)
+no_fetch (Refused refusal) end cause tells told = absurd (cc)
+
+no_commit : (stop : Stop) (end : End) (cause : CommitRefusal) → end_told stop ≡ Some end → commit_refusal_told stop ≡ Some cause → ⊥
+no_commit OutOfMemory end cause tells told = absurd (cc)
+no_commit (Aborted text reads) end cause tells told = absurd (cc)
+no_commit (Faulted fault reads) end cause tells told = absurd (cc)
+no_commit (Refused refusal) end cause tells told = absurd (cc)
+
+by_stop : (job : Job) (at : JobState) (stop : Stop) (reads : List ReadAnswer) (end : End) → end_told stop ≡ Some end → reads_told stop ≡ Some reads →
+    IsStop job at stop → RunsTo (run_on job.program reads) end
+by_stop job at stop reads end tells on (inl ended) = (
+  ended.run,
+  subst (λ (rs : List ReadAnswer). run_on job.program rs ≡ EndedRun ended.run) (some_of _ _ (sym ended.reads ∙ on)) ended.is_run,
+  some_of _ _ (sym ended.told ∙ tells),
+)
+by_stop job at stop reads end tells on (inr (inl refused)) = absurd (no_fetch stop end refused.refused.cause tells refused.refused.told)
+by_stop job at stop reads end tells on (inr (inr refused)) = absurd (no_commit stop end refused.refused.cause tells refused.refused.told)
+
+-- ---- the run that an end of a job tells
+
+-- what an end tells of a run
+abbrev told_end : JobEnd → Option End
+told_end (CommittedJob index revision) = None
+told_end (AbortedJob text reads) = Some (AbortedEnd text)
+told_end (FaultedJob fault reads) = Some (FaultedEnd fault)
+told_end (RefusedJob cause) = None
+told_end (GaveUp key) = None
+
+abbrev told_reads : JobEnd → Option (List ReadAnswer)
+told_reads (CommittedJob index revision) = None
+told_reads (AbortedJob text reads) = Some reads
+told_reads (FaultedJob fault reads) = Some reads
+told_reads (RefusedJob cause) = None
+told_reads (GaveUp key) = None
+
+-- a verdict tells none
+not_by_verdict : (verdict : Verdict) (end : End) → told_end (end_after verdict) ≡ Some end → ⊥
+not_by_verdict (Committed index revision) end told = absurd (cc)
+not_by_verdict (Failed key seen modified answers) end told = absurd (cc)
+
+-- a stop tells what its end does
+same_told : (stop : Stop) (job_end : JobEnd) → job_end_told stop ≡ Some job_end → (end_told stop ≡ told_end job_end) × (reads_told stop ≡ told_reads job_end)
+same_told OutOfMemory job_end told = absurd (cc)
+same_told (Aborted text reads) job_end told =
+    let same = some_of _ _ told in (ap told_end same, ap told_reads same)
+same_told (Faulted fault reads) job_end told =
+    let same = some_of _ _ told in (ap told_end same, ap told_reads same)
+same_told (Refused refusal) job_end told =
+    let same = some_of _ _ told in (ap told_end same, ap told_reads same)
+
+by_come : (job : Job) (seen : ℕ) (job_end : JobEnd) (after : ℕ) (end : End) (reads : List ReadAnswer) → told_end job_end ≡ Some end →
+    told_reads job_end ≡ Some reads → HasCome job seen job_end after → RunsTo (run_on job.program reads) end
+by_come job seen job_end after end reads tells on (inl came) =
+    absurd (not_by_verdict came.then_is.verdict end (sym (ap told_end came.then_is.told) ∙ tells))
+by_come job seen job_end after end reads tells on (inr came) =
+    let same = same_told came.then_is.stop job_end came.then_is.told in
+    by_stop job came.then_is.stopped.at came.then_is.stop reads end (same.0 ∙ tells) (same.1 ∙ on) came.then_is.stopped.is_stop
+
+-- a run that is known to be there is there: it is the one that the program has
+the_run : {A : Type 0} (x : Answered) (end : End) → ∥ A ∥₁ → (A → RunsTo x end) → RunsTo x end
+the_run {A} (Wants key trace) end some is = absurd (∥∥₁_elim some ⊥_prop (λ (a : A). none (is a).0 (is a).1))
+  where
+    none : (run : Run) → Wants key trace ≡ EndedRun run → ⊥
+    none run told = absurd (cc)
+the_run {A} (EndedRun own) end some is = (own, refl, ∥∥₁_elim some (Coded-set ends.the_row.coded own.end end) (λ (a : A). same (is a)))
+  where
+    same : RunsTo (EndedRun own) end → own.end ≡ end
+    same told = let one : own ≡ told.0 = run_of own told.0 told.1 in ap (λ (r : Run). r.end) one ∙ told.2
+      where
+        run_or : Run → Answered → Run
+        run_or other (EndedRun r) = r
+        run_or other (Wants key trace) = other
+
+        run_of : (x y : Run) → EndedRun x ≡ EndedRun y → x ≡ y
+        run_of x y told = ap (run_or x) told
+
+runs_to : (job : Job) (job_end : JobEnd) (end : End) (reads : List ReadAnswer) → told_end job_end ≡ Some end → told_reads job_end ≡ Some reads →
+    HasSomeRun job job_end → RunsTo (run_on job.program reads) end
+runs_to job job_end end reads tells on some =
+    the_run (run_on job.program reads) end some (λ came. by_come job came.0 job_end came.1 end reads tells on came.2)
+
+-- ---- the law
+
+-- the run on reads of one state
+ends_alone : (begun : Begun) (hall : HallState) (job : Job) (reads : List ReadAnswer) (end : End) → AreOfOneState begun hall reads →
+    RunsTo (run_on job.program reads) end → IsEndAlone begun hall job end
+ends_alone begun hall job reads end one ran = record {
+  revision = one.revision;
+  begins = one.begins;
+  reached = one.reached;
+  run = ran.0;
+  alone = run_alone hall.standing.history one.revision job.program reads ran.0 one.shown ran.1;
+  ends = ran.2;
+}
+
+on_stop : (begun : Begun) (hall : HallState) (job : Job) (job_end : JobEnd) → is_serializable job.level ≡ true → HasSomeRun job job_end →
+    IsBorneOut begun hall job job_end → OnStop job_end (IsEndAlone begun hall job)
+on_stop begun hall job (CommittedJob index revision) serializable some borne = tt
+on_stop begun hall job (AbortedJob text reads) serializable some borne =
+    ends_alone begun hall job reads (AbortedEnd text) (borne serializable) (runs_to job (AbortedJob text reads) (AbortedEnd text) reads refl refl some)
+on_stop begun hall job (FaultedJob fault reads) serializable some borne =
+    ends_alone begun hall job reads (FaultedEnd fault) (borne serializable) (runs_to job (FaultedJob fault reads) (FaultedEnd fault) reads refl refl some)
+on_stop begun hall job (RefusedJob cause) serializable some borne = tt
+on_stop begun hall job (GaveUp key) serializable some borne = tt
+
+pub stops_are_of_one_state : StopsAreOfOneState
+stops_are_of_one_state before jobs ends committed after ran place job job_end job_is end_is serializable =
+    on_stop (begun_at before) after job job_end serializable (ran.ran place job job_end job_is end_is)
+    (ran.stand place job job_end job_is end_is).borne_out

@@ -9,7 +9,7 @@ use Rattle.stm_steps.specs.Values.{text_in, key_in, arithmetic, concatenated, te
 use Rattle.stm_steps.specs.Session.{Session, with_variable, with_output, with_write}
 use Rattle.stm_steps.specs.Outcome.{Outcome, Gives, and_then, given}
 use Rattle.stm_steps.specs.Steps.{get_key, rev_key}
-use Rattle.stm_meaning.specs.Meaning.{evaluate, holds, unless_false, unless_true, branch, repeat, aborts, run_statement, run_block}
+use Rattle.stm_steps.specs.Meaning.{evaluate, holds, unless_false, unless_true, branch, repeat, aborts, run_statement, run_block}
 use Rattle.stm_machine.specs.declared.focus.Item.TheVariants.{Value as ValueItem, Truth as TruthItem, Nothing}
 use Rattle.stm_machine.specs.declared.focus.Focus.TheVariants.{Evaluate, Test}
 use Rattle.stm_machine.specs.declared.frame.Frame.{Frame}

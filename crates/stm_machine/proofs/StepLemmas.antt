@@ -13,8 +13,8 @@ use Rattle.stm_steps.specs.Session.{Session, fresh}
 use Rattle.stm_steps.specs.Outcome.{Outcome, Gives, Stops, found_or_wanted}
 use Rattle.stm_steps.specs.Steps.{get_answered, rev_answered, get_of, get_key, rev_key, run_of}
 use Rattle.stm_program.specs.Writes.{last_write}
-use Rattle.stm_meaning.specs.Meaning.{answered, run_block, run_over}
-use Rattle.stm_meaning.specs.Laws.{AgreesWith}
+use Rattle.stm_steps.specs.Meaning.{answered, run_block, run_over}
+use Rattle.stm_steps.specs.Answer.{AgreesWith}
 use Rattle.stm_machine.specs.declared.focus.Item.{Item}
 use Rattle.stm_machine.specs.declared.focus.Item.TheVariants.{Value as ValueItem}
 use Rattle.stm_machine.specs.declared.focus.Focus.{Focus}

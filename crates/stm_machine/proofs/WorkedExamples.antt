@@ -1,17 +1,18 @@
 -- Worked examples of the machine, computed by the definitions: a program that emits the value of a key with an "x" behind it.
-use Rattle.std.proofs.Common.{◌≡◌, refl, ℕ, zero, suc, [], ◌∷◌}
+use Rattle.std.proofs.Common.{◌≡◌, refl, ℕ, zero, suc, List, [], ◌∷◌}
 use Rattle.std.specs.Prelude.{codes, Option, None, Some}
 use Rattle.stm_program.specs.Syntax as tree
 use Rattle.stm_program.specs.Syntax.{Block, End, Then}
 use Rattle.stm_program.specs.Writes.{last_write}
+use Rattle.stm_steps.specs.declared.value.Value.{Value}
 use Rattle.stm_steps.specs.declared.value.Value.TheVariants.{Text}
-use Rattle.stm_steps.specs.declared.run.Answered.TheVariants.{Wants}
+use Rattle.stm_steps.specs.declared.run.Answered.{Answered}
+use Rattle.stm_steps.specs.declared.run.Answered.TheVariants.{Ended, Wants}
 use Rattle.stm_steps.specs.Answer.{Lookup}
 use Rattle.stm_steps.specs.Values.{key_in, concatenated}
 use Rattle.stm_steps.specs.Session.{fresh}
 use Rattle.stm_steps.specs.Steps.{get_key}
-use Rattle.stm_meaning.specs.Meaning.{evaluate, run_block, answered}
-use Rattle.stm_meaning.proofs.ExampleRuns.{output_of}
+use Rattle.stm_steps.specs.Meaning.{evaluate, run_block, answered}
 use Rattle.stm_machine.specs.declared.focus.Focus.TheVariants.{Get}
 use Rattle.stm_machine.specs.declared.frame.Frame.TheVariants.{Operand, Argument, Next}
 use Rattle.stm_machine.specs.declared.frame.OperandFrame.TheVariants.{CatLeft}
@@ -21,6 +22,10 @@ use Rattle.stm_machine.specs.State.{MachineState, state_of, started}
 use Rattle.stm_machine.specs.Finish.{finish}
 use Rattle.stm_machine.specs.Moves.{begin_expression, begin_statement, begin_block, take_operand, take_nothing}
 use Rattle.stm_machine.specs.Steps.{step_of}
+
+abbrev output_of : Answered → List Value
+output_of (Ended run) = run.output
+output_of (Wants key trace) = []
 
 abbrev program : Block
 program = Then (tree.Emit (tree.Cat (tree.Get (tree.Text (codes "k"))) (tree.Text (codes "x")))) End

@@ -14,7 +14,7 @@ use Rattle.stm_steps.specs.Values.{text_in, key_in, arithmetic, concatenated, te
 use Rattle.stm_meaning.specs.Writes.{key_of}
 use Rattle.stm_steps.specs.Session.{Session, fresh, with_variable, with_output, with_write, with_turn}
 use Rattle.stm_steps.specs.Outcome.{Outcome, Gives, Stops, and_then, given, turn_limit, begin_turn}
-use Rattle.stm_meaning.specs.Meaning.{get_key, rev_key, evaluate, unless_false, unless_true, holds, branch, repeat, aborts, run_statement, run_block}
+use Rattle.stm_steps.specs.Meaning.{get_key, rev_key, evaluate, unless_false, unless_true, holds, branch, repeat, aborts, run_statement, run_block}
 
 -- what the run has come to
 abbrev pub session_of : {X : Type 0} → Outcome X → Session

@@ -17,7 +17,7 @@ use Rattle.stm_steps.specs.Values.{key_in, text_of, equal, put_of, del_of}
 use Rattle.stm_meaning.specs.Writes.{effect}
 use Rattle.stm_steps.specs.Session.{fresh}
 use Rattle.stm_steps.specs.States.{state_answers, is_present}
-use Rattle.stm_meaning.specs.Meaning.{get_key, rev_key, evaluate, holds, run_block, run_over}
+use Rattle.stm_steps.specs.Meaning.{get_key, rev_key, evaluate, holds, run_block, run_over}
 use Rattle.stm_meaning.specs.Laws.{trace_of}
 use Rattle.stm_meaning.proofs.ExampleRuns.{end_of, output_of, one}
 

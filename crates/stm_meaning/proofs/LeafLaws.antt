@@ -17,7 +17,7 @@ use Rattle.stm_steps.specs.Values.{key_in, put_of, del_of, text_of, num_of, as_n
 use Rattle.stm_meaning.specs.Writes.{value_of, last_write}
 use Rattle.stm_steps.specs.Session.{Session, with_key}
 use Rattle.stm_steps.specs.Outcome.{Gives}
-use Rattle.stm_meaning.specs.Meaning.{get_answered, get_of, get_key, rev_answered, rev_key}
+use Rattle.stm_steps.specs.Meaning.{get_answered, get_of, get_key, rev_answered, rev_key}
 use Rattle.stm_meaning.specs.Leaves.{trace_after_get, reads_after_get, trace_after_rev, reads_after_rev, GetGives, RevGives, TextsAreKeys, NumbersAreReadBack}
 use Rattle.std.specs.Option.{option_map_or}
 

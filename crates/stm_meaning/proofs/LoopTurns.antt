@@ -2,7 +2,7 @@
 use Rattle.std.proofs.Common.{◌≡◌, ℕ, suc, ◌+◌, ◌-◌, ◌<◌, ap, ◌∙◌, arith}
 use Rattle.stm_steps.specs.Session.{Session}
 use Rattle.stm_steps.specs.Outcome.{Outcome, Gives, and_then, begin_turn}
-use Rattle.stm_meaning.specs.Meaning.{repeat}
+use Rattle.stm_steps.specs.Meaning.{repeat}
 
 repeat-suc : (v : ℕ) (body : Session → Outcome (Unit {0})) (left i : ℕ) (s t u : Session) → begin_turn v i s ≡ Gives tt t → body t ≡ Gives tt u →
     repeat v body (suc left) i s ≡ repeat v body left (suc i) u

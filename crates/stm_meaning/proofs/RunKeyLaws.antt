@@ -12,7 +12,7 @@ use Rattle.stm_steps.specs.Answer.{Answer, Lookup}
 use Rattle.stm_meaning.specs.Writes.{key_of, last_write}
 use Rattle.stm_steps.specs.Session.{Session, fresh, with_key}
 use Rattle.stm_steps.specs.Outcome.{Outcome, Gives, Stops}
-use Rattle.stm_meaning.specs.Meaning.{get_answered, rev_answered, get_of, get_key, rev_key, run_of, answered, run_block, run_over}
+use Rattle.stm_steps.specs.Meaning.{get_answered, rev_answered, get_of, get_key, rev_key, run_of, answered, run_block, run_over}
 use Rattle.stm_steps.specs.declared.stop.Stop.TheVariants.{Aborted, Faulted, Wants}
 use Rattle.stm_steps.specs.declared.run.End.TheVariants.{Done, Aborted as EndAborted, Faulted as EndFaulted}
 use Rattle.stm_steps.specs.declared.run.Run.{Run}

@@ -20,8 +20,8 @@ use Rattle.stm_steps.specs.Answer.{Answer, Lookup}
 use Rattle.stm_steps.specs.Values.{text_in, key_in, arithmetic, concatenated, text_of, num_of, equal, less, put_of, del_of, turns_of}
 use Rattle.stm_meaning.specs.Writes.{last_write, value_of}
 use Rattle.stm_steps.specs.Outcome.{Outcome, Gives, Stops, and_then, given, turn_limit, begin_turn}
-use Rattle.stm_meaning.specs.Meaning.{get_answered, rev_answered, get_of, get_key, rev_key, evaluate, unless_false, unless_true, holds, branch}
-use Rattle.stm_meaning.specs.Meaning.{repeat, aborts, run_statement, run_block, answered, run_over}
+use Rattle.stm_steps.specs.Meaning.{get_answered, rev_answered, get_of, get_key, rev_key, evaluate, unless_false, unless_true, holds, branch}
+use Rattle.stm_steps.specs.Meaning.{repeat, aborts, run_statement, run_block, answered, run_over}
 use Rattle.stm_meaning.specs.Laws.{AgreesWith, KnowsEachKey, IsPrefix, trace_of, IsContinuedBy, AnswersGiveTheRun, WholeLookupsEnd, WantedKeysAreUnknown}
 
 -- ---- prefixes ----

@@ -12,7 +12,7 @@ use Rattle.stm_steps.specs.Values.{text_in, computed, arithmetic, concatenated, 
 use Rattle.stm_steps.specs.Session.{fresh}
 use Rattle.stm_steps.specs.Outcome.{begin_turn}
 use Rattle.stm_steps.specs.Answer.{Lookup}
-use Rattle.stm_meaning.specs.Meaning.{evaluate, holds, repeat, run_block, run_over}
+use Rattle.stm_steps.specs.Meaning.{evaluate, holds, repeat, run_block, run_over}
 use Rattle.stm_meaning.proofs.ExampleRuns.{end_of, output_of, one}
 
 abbrev empty_state : Lookup

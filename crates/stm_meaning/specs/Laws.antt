@@ -1,16 +1,13 @@
 -- What runs over two look-ups have in common, where one knows more than the other.
+pub use Rattle.stm_steps.specs.Answer.{AgreesWith}
 use Rattle.std.specs.Prelude.{◌≡◌, ℕ, ◌<◌, List, ◌++◌, length, None, Some, IsSome}
 use Rattle.stm_program.specs.Syntax.{Block}
 use Rattle.stm_steps.specs.Answer.{Answer, Lookup}
-use Rattle.stm_meaning.specs.Meaning.{run_over}
+use Rattle.stm_steps.specs.Meaning.{run_over}
 use Rattle.stm_steps.specs.declared.trace_item.TraceItem.{TraceItem}
 use Rattle.stm_steps.specs.declared.run.Run.{Run}
 use Rattle.stm_steps.specs.declared.run.Answered.{Answered}
 use Rattle.stm_steps.specs.declared.run.Answered.TheVariants.{Ended, Wants}
-
--- each answer of the first look-up is that of the second, in value and modification revision
-abbrev pub AgreesWith : Lookup → Lookup → Type 0
-AgreesWith answers whole = (key : List ℕ) (a : Answer) → answers key ≡ Some a → whole key ≡ Some a
 
 -- the look-up knows every key
 abbrev pub KnowsEachKey : Lookup → Type 0

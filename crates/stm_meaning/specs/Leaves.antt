@@ -13,7 +13,7 @@ use Rattle.stm_steps.specs.Values.{key_in, put_of, del_of, text_of, num_of, is_i
 use Rattle.stm_meaning.specs.Writes.{value_of, last_write, is_written}
 use Rattle.stm_steps.specs.Session.{Session, with_key}
 use Rattle.stm_steps.specs.Outcome.{Gives}
-use Rattle.stm_meaning.specs.Meaning.{get_key, rev_key}
+use Rattle.stm_steps.specs.Meaning.{get_key, rev_key}
 use Rattle.stm_meaning.specs.Laws.{KnowsEachKey}
 
 -- what a look-up has of a key: "" and 0 where it knows nothing

@@ -5,8 +5,8 @@ pub use Rattle.stm_steps.specs.Steps
 pub use Rattle.stm_steps.specs.Answer
 pub use Rattle.stm_steps.specs.States
 pub use Rattle.stm_steps.specs.Faults
+pub use Rattle.stm_steps.specs.Meaning
 pub mod Writes
-pub mod Meaning
 pub mod Tells
 pub mod Laws
 pub mod RunKeys

@@ -1,7 +1,7 @@
 //! Runs of whole programs.
 ghost use Rattle.std.specs.Prelude.{◌≡◌, IfOk};
 ghost use Rattle.stm_steps.specs.declared.run.Answered.TheVariants.{Ended};
-ghost use Rattle.stm_meaning.specs.Meaning.{answered, run_of, run_over};
+ghost use Rattle.stm_steps.specs.Meaning.{answered, run_of, run_over};
 ghost use Rattle.stm_steps.specs.Outcome.{Stops};
 ghost use Rattle.stm_steps.specs.States.{state_answers};
 
@@ -14,7 +14,7 @@ use stm_steps::{Answered, End, Halt, Lookup, Run, Session, State, Stop};
 /// it wants and the look-up knows nothing of.
 ///
 /// It is evaluated from its start. The one refusal is want of memory.
-#[tactic(auto, unfolding(crate::specs::Meaning::run_over))]
+#[tactic(auto, unfolding(stm_steps::specs::Meaning::run_over))]
 pub fn run_answered<L: Lookup>(
     alloc: Global,
     program: &Program,

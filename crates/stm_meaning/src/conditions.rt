@@ -1,5 +1,5 @@
 //! Whether conditions hold.
-ghost use Rattle.stm_meaning.specs.Meaning.{holds};
+ghost use Rattle.stm_steps.specs.Meaning.{holds};
 ghost use Rattle.stm_meaning.specs.Tells.{Tells};
 ghost use Rattle.stm_program.specs.Syntax.{Equal, Less};
 
@@ -9,7 +9,7 @@ use stm_program::{Cond, CondNode, Expr};
 use stm_steps::{Halt, Lookup, Session, are_equal, is_below};
 
 /// Whether the values of two expressions are equal.
-#[tactic(auto, unfolding(crate::specs::Meaning::holds))]
+#[tactic(auto, unfolding(stm_steps::specs::Meaning::holds))]
 fn is_equal<L: Lookup>(
     alloc: Global,
     lookup: &L,
@@ -25,7 +25,7 @@ fn is_equal<L: Lookup>(
 }
 
 /// Whether the value of an expression is below that of another.
-#[tactic(auto, unfolding(crate::specs::Meaning::holds))]
+#[tactic(auto, unfolding(stm_steps::specs::Meaning::holds))]
 fn is_less<L: Lookup>(
     alloc: Global,
     lookup: &L,
@@ -41,7 +41,7 @@ fn is_less<L: Lookup>(
 }
 
 /// Whether a condition holds. `and` and `or` look at the right side only where the left one does not decide.
-#[tactic(auto, unfolding(crate::specs::Meaning::holds))]
+#[tactic(auto, unfolding(stm_steps::specs::Meaning::holds))]
 pub(crate) fn is_met<L: Lookup>(
     alloc: Global,
     lookup: &L,

@@ -1,5 +1,5 @@
 //! What expressions give.
-ghost use Rattle.stm_meaning.specs.Meaning.{evaluate};
+ghost use Rattle.stm_steps.specs.Meaning.{evaluate};
 ghost use Rattle.stm_program.specs.Syntax.{Arithmetic, Cat};
 ghost use Rattle.stm_steps.specs.Outcome.{and_then, found_or_wanted, given};
 ghost use Rattle.stm_steps.specs.Steps.{get_key, rev_key};
@@ -47,7 +47,7 @@ fn revision_of<L: Lookup>(lookup: &L, session: &mut Session, key: &Value) -> Res
 
 /// What an operator computes of the values of two expressions.
 #[cycle(values)]
-#[tactic(auto, unfolding(crate::specs::Meaning::evaluate))]
+#[tactic(auto, unfolding(stm_steps::specs::Meaning::evaluate))]
 fn combined<L: Lookup>(
     alloc: Global,
     lookup: &L,
@@ -65,7 +65,7 @@ fn combined<L: Lookup>(
 
 /// The values of two expressions, one text after the other.
 #[cycle(values)]
-#[tactic(auto, unfolding(crate::specs::Meaning::evaluate))]
+#[tactic(auto, unfolding(stm_steps::specs::Meaning::evaluate))]
 fn joined<L: Lookup>(
     alloc: Global,
     lookup: &L,
@@ -83,7 +83,7 @@ fn joined<L: Lookup>(
 /// The value of an expression. Elements are evaluated from left to right, and kinds are looked at when all
 /// elements of a node have values.
 #[cycle(values)]
-#[tactic(auto, unfolding(crate::specs::Meaning::evaluate))]
+#[tactic(auto, unfolding(stm_steps::specs::Meaning::evaluate))]
 pub(crate) fn value_of<L: Lookup>(
     alloc: Global,
     lookup: &L,

@@ -3,7 +3,7 @@ ghost use Rattle.std.specs.Prelude.{◌≤◌};
 ghost use Rattle.stm_history.specs.declared.revisions.TheConstants.{HIGHEST_NUMBER};
 ghost use Rattle.stm_program.specs.BlockView.{block_of};
 ghost use Rattle.stm_program.specs.Syntax as tree;
-ghost use Rattle.stm_meaning.specs.Meaning.{run_statement, run_block, repeat};
+ghost use Rattle.stm_steps.specs.Meaning.{run_statement, run_block, repeat};
 ghost use Rattle.stm_meaning.specs.Tells.{Tells};
 
 use crate::conditions::is_met;
@@ -13,7 +13,7 @@ use stm_program::{Block, Expr, Stmt, StmtNode, Variable};
 use stm_steps::{Halt, Lookup, Session, Stop, deletion, put, turns, wanted_text};
 
 /// Gives a variable the value of an expression.
-#[tactic(auto, unfolding(crate::specs::Meaning::run_statement))]
+#[tactic(auto, unfolding(stm_steps::specs::Meaning::run_statement))]
 fn set_variable<L: Lookup>(
     alloc: Global,
     lookup: &L,
@@ -29,7 +29,7 @@ fn set_variable<L: Lookup>(
 }
 
 /// Puts a key with a value.
-#[tactic(auto, unfolding(crate::specs::Meaning::run_statement))]
+#[tactic(auto, unfolding(stm_steps::specs::Meaning::run_statement))]
 fn put_key<L: Lookup>(
     alloc: Global,
     lookup: &L,
@@ -46,7 +46,7 @@ fn put_key<L: Lookup>(
 }
 
 /// Deletes a key.
-#[tactic(auto, unfolding(crate::specs::Meaning::run_statement))]
+#[tactic(auto, unfolding(stm_steps::specs::Meaning::run_statement))]
 fn delete_key<L: Lookup>(
     alloc: Global,
     lookup: &L,
@@ -60,7 +60,7 @@ fn delete_key<L: Lookup>(
 }
 
 /// Puts a value out.
-#[tactic(auto, unfolding(crate::specs::Meaning::run_statement))]
+#[tactic(auto, unfolding(stm_steps::specs::Meaning::run_statement))]
 fn emit_value<L: Lookup>(
     alloc: Global,
     lookup: &L,
@@ -74,7 +74,7 @@ fn emit_value<L: Lookup>(
 }
 
 /// Ends the run with a text.
-#[tactic(auto, unfolding(crate::specs::Meaning::run_statement))]
+#[tactic(auto, unfolding(stm_steps::specs::Meaning::run_statement))]
 fn abort_with<L: Lookup>(
     alloc: Global,
     lookup: &L,
@@ -90,7 +90,7 @@ fn abort_with<L: Lookup>(
 
 /// Runs a statement.
 #[cycle(statements)]
-#[tactic(auto, unfolding(crate::specs::Meaning::run_statement))]
+#[tactic(auto, unfolding(stm_steps::specs::Meaning::run_statement))]
 fn run_one<L: Lookup>(
     alloc: Global,
     lookup: &L,
@@ -121,7 +121,7 @@ fn run_one<L: Lookup>(
 
 /// Runs the turns of a loop.
 #[cycle(statements)]
-#[tactic(auto, unfolding(crate::specs::Meaning::repeat))]
+#[tactic(auto, unfolding(stm_steps::specs::Meaning::repeat))]
 fn run_turns<L: Lookup>(
     alloc: Global,
     lookup: &L,
@@ -142,7 +142,7 @@ fn run_turns<L: Lookup>(
 
 /// Runs the statements of an inner block.
 #[cycle(statements)]
-#[tactic(auto, unfolding(crate::specs::Meaning::run_block))]
+#[tactic(auto, unfolding(stm_steps::specs::Meaning::run_block))]
 fn run_inner<L: Lookup>(
     alloc: Global,
     lookup: &L,
@@ -158,7 +158,7 @@ fn run_inner<L: Lookup>(
 }
 
 /// Runs the statements of a program.
-#[tactic(auto, unfolding(crate::specs::Meaning::run_block))]
+#[tactic(auto, unfolding(stm_steps::specs::Meaning::run_block))]
 pub(crate) fn run_all<L: Lookup>(
     alloc: Global,
     lookup: &L,

@@ -7,3 +7,4 @@ pub mod Answer
 pub mod States
 pub mod Places
 pub mod Faults
+pub mod Meaning

@@ -1,5 +1,5 @@
 use Rattle.std.proofs.Common.{sym, ◌∙◌}
-use Rattle.stm_meaning.specs.Meaning.{run_block}
+use Rattle.stm_steps.specs.Meaning.{run_block}
 use Rattle.stm_meaning.proofs.LoopTurns.{repeat-step}
 use Rattle.stm_meaning.proofs.statements.+statements.Goals as goal
 

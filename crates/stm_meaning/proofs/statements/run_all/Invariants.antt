@@ -1,6 +1,6 @@
 use Rattle.std.proofs.Common.{◌≡◌, drop}
 use Rattle.stm_program.specs.BlockView.{block_of}
-use Rattle.stm_meaning.specs.Meaning.{run_block}
+use Rattle.stm_steps.specs.Meaning.{run_block}
 use Rattle.stm_meaning.proofs.statements.run_all.Given as goal
 
 -- the statements that are left do from here what all of them do from the start

@@ -5,3 +5,5 @@ pub mod RunnerLemmas
 pub mod SlotLemmas
 pub mod StepLemmas
 pub mod WorldLemmas
+pub mod Stops
+pub mod WorkedExamples

@@ -1,5 +1,6 @@
 pub mod Codes
 pub mod Tells
+pub mod Stops
 pub mod CallTells
 pub mod MachineTells
 pub mod RunnerView

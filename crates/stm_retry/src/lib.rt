@@ -6,6 +6,7 @@
 #![tactic(auto)]
 
 mod entries;
+pub mod laws;
 mod machine;
 mod runner;
 mod runner_steps;

@@ -15,6 +15,7 @@ ghost use Rattle.stm_world.specs.ReadsNow.{ReadsAreNow};
 ghost use Rattle.stm_world.specs.Sound.{IsSound};
 ghost use Rattle.stm_world.specs.World.{opened, start_runner, world_after, replies_to};
 ghost use Rattle.stm_retry.specs.Tells.{Tells, ran_out, expired_of, IsRunStop};
+ghost use Rattle.stm_retry.specs.Stops.{GoesOnAlike};
 
 use crate::machine::Machine;
 use std::alloc::{AllocError, Global};
@@ -186,6 +187,10 @@ impl World {
     /// before the first one where that room was refused: `done` events were taken, and the world is as it was
     /// before the stopped event, or that is an advance that was cut short after the leases in `expired`.
     ///
+    /// The events from `done` on can be run again from the world as it is then. They are told what a run of all events would have
+    /// told them, but that an advance which was cut short tells only the leases that had not expired by then; and the world after
+    /// is the same.
+    ///
     /// In a new world the replies and the store are what the headline says of them. In any world, also one that has
     /// run before, a run that is not stopped only adds entries behind those that are there: they are legal, each at its
     /// point, from the store as it was, and replay to the store as it is.
@@ -193,6 +198,7 @@ impl World {
         ensures replies { IfOk result (λ replies. replies.items ≡ replies_to events.now self.old) }
         ensures ok { OnOk result (self.new ≡ world_after events.now self.old) }
         ensures stopped { IfErr result (λ stop. IsRunStop events.now stop.done stop.expired self.old self.new) }
+        ensures goes_on { IfErr result (λ stop. GoesOnAlike events.now stop.done stop.expired self.old self.new) }
         ensures headline { IfOk result (λ replies. (start : ℕ) → self.old ≡ opened start → Holds start (logged events.now replies.items []) self.new) }
         ensures appended { OnOk result (HasAppended self.old self.new) }
     {

@@ -1,0 +1,647 @@
+"""The worst scenarios that are known, for bench/hostile. What each asks for is told in its description.
+
+Where a program asks for work by the numbers that it holds, its case is sized by what it asks for, which the description tells: what a step costs
+is in proportion to the nodes that it evaluates and the bytes that it copies, and a scenario may have some 50,000 such steps.
+"""
+import json
+
+MOST_BYTES = 16777216
+MOST_EVENTS = 100000
+MOST_UNITS = 20
+HIGHEST = 9223372036854775807
+HIGHEST_LIMIT = 4294967295
+
+CASES = {}
+
+
+class Case:
+    """A case, and how it may end."""
+
+    def __init__(self, make, command, statuses, units):
+        self.name = make.__name__
+        self.make = make
+        self.command = command
+        self.statuses = statuses
+        self.units = units
+
+
+def case(command="script", statuses=(0,), units=MOST_UNITS):
+    """Notes a function that makes the text of a scenario, or of a scenario and a report, at a part of the full size."""
+
+    def note(make):
+        CASES[make.__name__] = Case(make, command, statuses, units)
+        return make
+
+    return note
+
+
+class Scenario:
+    """The text of a scenario, event by event."""
+
+    def __init__(self):
+        self.events = []
+
+    def add(self, *events):
+        self.events.extend(json.dumps(event, separators=(",", ":")) for event in events)
+
+    def text(self):
+        return "[" + ",".join(self.events) + "]"
+
+
+def txn(*operations):
+    return ["txn", [], list(operations), []]
+
+
+def put(key, value="", lease=0):
+    return ["put", key, value, lease]
+
+
+def add_history(scenario, count, end=False):
+    """Transactions of 128 puts of the same 256 keys, as many as fit a scenario beside little else; with `end` the last one puts the key w."""
+    for number in range(count):
+        scenario.add(txn(*(put(f"{(number * 128 + place) % 256:x}") for place in range(128))))
+    if end:
+        scenario.add(txn(put("w")))
+
+
+def loops(turns, body):
+    """So many turns of a body, in a loop of loops: 1 + 9 turns of the two of them run the body nine times."""
+    return ["for", 0, turns // 10, 1000, [["for", 1, 9, 9, body]]]
+
+
+# watchers
+
+
+@case()
+def ranges_of_other_keys(part):
+    """50,000 watchers of ranges beside 49,000 puts of keys in none of them."""
+    scenario = Scenario()
+    for number in range(int(50000 * part)):
+        scenario.add(["watch_range", f"a{number}", f"a{number}0", 0])
+    for number in range(int(49000 * part)):
+        scenario.add(txn(put(f"z{number % 10}")))
+    return scenario.text()
+
+
+@case()
+def ranges_of_the_changed_key(part):
+    """50,000 watchers of one range beside 49,000 puts of a key in it."""
+    scenario = Scenario()
+    scenario.add(*[["watch_range", "a", "b", 0]] * int(50000 * part))
+    scenario.add(*[txn(put("aa"))] * int(49000 * part))
+    return scenario.text()
+
+
+@case()
+def watchers_of_one_key(part):
+    """50,000 watchers of a key beside 49,000 puts of it."""
+    scenario = Scenario()
+    scenario.add(*[["watch_key", "k", 0]] * int(50000 * part))
+    scenario.add(*[txn(put("k"))] * int(49000 * part))
+    return scenario.text()
+
+
+@case()
+def watchers_yet_to_start(part):
+    """50,000 watchers of a key, from a revision on that never comes, beside 49,000 puts of it."""
+    scenario = Scenario()
+    scenario.add(*[["watch_key", "k", HIGHEST]] * int(50000 * part))
+    scenario.add(*[txn(put("k"))] * int(49000 * part))
+    return scenario.text()
+
+
+@case()
+def ranges_yet_to_start(part):
+    """90,000 watchers of a range, from a revision on that never comes, beside 690,000 puts of keys in it."""
+    scenario = Scenario()
+    scenario.add(*[["watch_range", "0", "g", HIGHEST]] * int(90000 * part))
+    add_history(scenario, int(5400 * part))
+    return scenario.text()
+
+
+@case()
+def polls_of_idle_watchers(part):
+    """46,700 watchers of keys, each polled behind 768,000 puts of others."""
+    scenario = Scenario()
+    count = int(46700 * part)
+    scenario.add(*(["watch_key", f"w{number}", 0] for number in range(count)))
+    add_history(scenario, int(6000 * part))
+    scenario.add(*(["poll", number + 1, 1] for number in range(count)))
+    return scenario.text()
+
+
+@case()
+def polls_of_ready_watchers(part):
+    """46,700 watchers of keys that are put once, each polled behind 704,000 puts of others."""
+    scenario = Scenario()
+    count = int(46700 * part)
+    scenario.add(*(["watch_key", f"w{number}", 0] for number in range(count)))
+    for number in range(0, count, 128):
+        scenario.add(txn(*(put(f"w{place}") for place in range(number, min(number + 128, count)))))
+    add_history(scenario, int(5500 * part))
+    scenario.add(*(["poll", number + 1, 1] for number in range(count)))
+    return scenario.text()
+
+
+@case()
+def polls_of_no_revision(part):
+    """A watcher with one pending event, behind 857,000 puts of other keys, polled 93,000 times for none."""
+    scenario = Scenario()
+    add_history(scenario, int(6700 * part), end=True)
+    scenario.add(["watch_key", "w", 1])
+    scenario.add(*[["poll", 1, 0]] * int(93000 * part))
+    return scenario.text()
+
+
+@case()
+def watches_from_the_past(part):
+    """93,000 watchers of a key that was never put, from the first revision on, behind 768,000 puts of others."""
+    scenario = Scenario()
+    add_history(scenario, int(6000 * part))
+    scenario.add(*[["watch_key", "w", 1]] * int(93000 * part))
+    return scenario.text()
+
+
+@case()
+def ranges_from_the_past(part):
+    """93,000 watchers of a range that never had a key, from the first revision on, behind 729,000 puts of others."""
+    scenario = Scenario()
+    add_history(scenario, int(5700 * part))
+    scenario.add(*[["watch_range", "w", "x", 1]] * int(93000 * part))
+    return scenario.text()
+
+
+@case()
+def leases_before_ranges(part):
+    """33,000 leases with a key each that expire at once, before as many watchers of ranges of one key each, all polled."""
+    scenario = Scenario()
+    count = int(33000 * part)
+    scenario.add(*(["grant", number + 1, 5] for number in range(count)))
+    for number in range(0, count, 100):
+        scenario.add(txn(*(put(f"l{place}", "", place + 1) for place in range(number, min(number + 100, count)))))
+    scenario.add(*(["watch_range", f"l{number}", f"l{number}0", 0] for number in range(count)))
+    scenario.add(["advance", 5])
+    scenario.add(*(["poll", number + 1, 9] for number in range(count - count // 100 - 2)))
+    return scenario.text()
+
+
+# leases
+
+
+@case(command="check")
+def leases_one_by_one(part):
+    """45,000 leases with a key each that expire one by one."""
+    scenario = Scenario()
+    count = int(45000 * part)
+    scenario.add(*(["grant", number + 1, number + 1] for number in range(count)))
+    for number in range(0, count, 100):
+        scenario.add(txn(*(put(f"l{place}", "", place + 1) for place in range(number, min(number + 100, count)))))
+    scenario.add(*(["advance", number + 1] for number in range(count)))
+    return scenario.text()
+
+
+@case(command="check")
+def leases_that_stay(part):
+    """49,000 leases that do not expire, beside 24,500 advances and as many renewals."""
+    scenario = Scenario()
+    count = int(49000 * part)
+    scenario.add(*(["grant", number + 1, 9000000000] for number in range(count)))
+    for number in range(count // 2):
+        scenario.add(["advance", number], ["keep", 1])
+    return scenario.text()
+
+
+@case(command="check")
+def lease_of_many_keys(part):
+    """A lease with 742,000 keys, put in falling order, that is revoked."""
+    scenario = Scenario()
+    scenario.add(["grant", 1, 5])
+    for number in range(int(5800 * part)):
+        scenario.add(txn(*(put(f"{16000000 - number * 128 - place:x}", "", 1) for place in range(128))))
+    scenario.add(["revoke", 1])
+    return scenario.text()
+
+
+@case(command="check")
+def keys_between_leases(part):
+    """4,096 keys that are put 768,000 times, on two leases in turn, which then expire."""
+    scenario = Scenario()
+    scenario.add(["grant", 1, 5], ["grant", 2, 5])
+    for number in range(int(6000 * part)):
+        scenario.add(txn(*(put(f"{(number * 128 + place) % 4096:x}", "", 1 + number % 2) for place in range(128))))
+    scenario.add(["advance", 5])
+    return scenario.text()
+
+
+# transactions
+
+
+@case(command="check")
+def long_keys_in_a_list(part):
+    """Two lists of 128 puts whose keys have 60,000 bytes and differ at the last ones."""
+    front = "x" * int(60000 * part)
+    puts = [put(f"{front}{number:03}") for number in range(128)]
+    scenario = Scenario()
+    scenario.add(["txn", [], puts, puts])
+    return scenario.text()
+
+
+@case(command="check")
+def short_keys_in_each_list(part):
+    """4,200 transactions of 128 puts and of 128 deletions."""
+    puts = [put(f"{number:x}") for number in range(128)]
+    deletions = [["del", f"{number:x}"] for number in range(128)]
+    scenario = Scenario()
+    scenario.add(*[["txn", [], puts, deletions]] * int(4200 * part))
+    return scenario.text()
+
+
+@case()
+def refused_lists(part):
+    """6,800 transactions that are refused for the last of their 128 puts."""
+    puts = [put(f"{number:x}") for number in range(127)] + [put(f"{126:x}")]
+    scenario = Scenario()
+    scenario.add(*[txn(*puts)] * int(6800 * part))
+    return scenario.text()
+
+
+@case(command="check")
+def distinct_keys(part):
+    """742,000 keys in no order, all present at the end, which are listed in theirs."""
+    scenario = Scenario()
+    for number in range(int(5800 * part)):
+        scenario.add(txn(*(put(f"{(number * 128 + place) * 2654435761 % 2**24:x}") for place in range(128))))
+    return scenario.text()
+
+
+@case()
+def reads_of_the_past(part):
+    """460,000 puts of 256 keys, and as many reads of these at all revisions."""
+    scenario = Scenario()
+    count = int(3600 * part)
+    add_history(scenario, count)
+    for number in range(count):
+        scenario.add(txn(*(["get", f"{place:x}", 2 + number * 37 % count] for place in range(128))))
+    return scenario.text()
+
+
+@case(command="check")
+def past_of_one_key(part):
+    """50,000 puts of a key, and a read of each of its versions."""
+    scenario = Scenario()
+    count = int(50000 * part)
+    scenario.add(*[txn(put("k"))] * count)
+    scenario.add(*(txn(["get", "k", 2 + number]) for number in range(count)))
+    return scenario.text()
+
+
+@case(statuses=(3,))
+def gets_of_a_long_value(part):
+    """10,000 reads of a value of a megabyte: the report would have 10 gigabytes."""
+    scenario = Scenario()
+    scenario.add(txn(put("v", "x" * 1000000)))
+    scenario.add(*[txn(["get", "v", 0])] * int(10000 * part))
+    return scenario.text()
+
+
+# runners
+
+
+@case(command="check")
+def conflicts_of_128_reads(part):
+    """A program that reads 127 keys, one of which is put before each of its 49,000 commits."""
+    program = [["for", 0, 127, 127, [["set", 1, ["get", ["text_of", ["var", 0]]]]]], put("w")]
+    scenario = Scenario()
+    scenario.add(["start", "Serializable", HIGHEST_LIMIT, program])
+    scenario.add(*[["step", 1]] * 128)
+    for _ in range(int(49000 * part)):
+        scenario.add(txn(put("126")), ["step", 1])
+    return scenario.text()
+
+
+@case()
+def conflicts_beside_a_long_value(part):
+    """A program that reads the revision of a key of 7 megabytes, and conflicts 20,000 times."""
+    program = [["set", 0, ["rev", "v"]], ["set", 0, ["get", "w"]], put("x")]
+    scenario = Scenario()
+    scenario.add(txn(put("v", "x" * 7000000)), ["start", "Serializable", HIGHEST_LIMIT, program], ["step", 1], ["step", 1])
+    for _ in range(int(20000 * part)):
+        scenario.add(txn(put("w")), ["step", 1])
+    return scenario.text()
+
+
+@case()
+def revisions_of_a_long_value(part):
+    """30,000 programs that read the revision of a key of 8 megabytes."""
+    scenario = Scenario()
+    scenario.add(txn(put("v", "x" * 8000000)))
+    for number in range(int(30000 * part)):
+        scenario.add(["start", "Serializable", 1, [["emit", ["rev", "v"]]]], ["step", number + 1], ["step", number + 1])
+    return scenario.text()
+
+
+@case(command="check")
+def waiting_runners(part):
+    """33,000 programs that all wait, and go on in falling order."""
+    scenario = Scenario()
+    count = int(33000 * part)
+    scenario.add(*(["start", "ReadCommitted", 9, [["put", f"a{number}", ["get", f"a{number // 2}"], 0]]] for number in range(count)))
+    for _ in range(2):
+        scenario.add(*(["step", count - number] for number in range(count)))
+    return scenario.text()
+
+
+@case(command="check")
+def attempts_of_a_long_program(part):
+    """A program of 4,091 nodes that conflicts 49,000 times: 200 million nodes are evaluated."""
+    program = [["set", 0, 1]] * 2040 + [["set", 0, ["get", "k"]], put("w")]
+    scenario = Scenario()
+    scenario.add(["start", "Serializable", HIGHEST_LIMIT, program], ["step", 1])
+    for _ in range(int(49000 * part)):
+        scenario.add(txn(put("k")), ["step", 1])
+    return scenario.text()
+
+
+@case(command="check")
+def reads_of_one_runner(part):
+    """A program that fetches 8,900 keys, one a step."""
+    key = ["cat", ["text_of", ["var", 0]], ["cat", "-", ["text_of", ["var", 1]]]]
+    scenario = Scenario()
+    scenario.add(["start", "ReadCommitted", 1, [loops(9900, [["set", 2, ["get", key]]])]])
+    scenario.add(*[["step", 1]] * int(8911 * part))
+    return scenario.text()
+
+
+@case()
+def commits_of_long_keys(part):
+    """400 commits of 128 puts whose keys have 64,000 bytes and differ at the last ones."""
+    program = [["set", 0, "x" * 1000]] + [["set", 0, ["cat", ["var", 0], ["var", 0]]]] * 6
+    program += [["for", 1, 128, 128, [["put", ["cat", ["var", 0], ["text_of", ["var", 1]]], "", 0]]]]
+    scenario = Scenario()
+    for number in range(int(400 * part)):
+        scenario.add(["start", "ReadCommitted", 1, program], ["step", number + 1])
+    return scenario.text()
+
+
+# what a program asks for by its numbers
+
+
+@case(command="check")
+def many_turns(part):
+    """10,000 programs of 10,000 turns that do nothing: 100 million turns."""
+    scenario = Scenario()
+    for number in range(int(10000 * part)):
+        scenario.add(["start", "ReadCommitted", 1, [loops(10000, [])]], ["step", number + 1])
+    return scenario.text()
+
+
+@case(command="check")
+def one_step_of_many_nodes(part):
+    """One step at both limits, 4,094 nodes in 9,000 of 10,000 turns: 37 million nodes."""
+    scenario = Scenario()
+    scenario.add(["start", "ReadCommitted", 1, [loops(10000, [["set", 2, ["add", ["var", 2], 1]]] * int(1022 * part))]], ["step", 1])
+    return scenario.text()
+
+
+@case(command="check")
+def one_step_of_deep_nodes(part):
+    """The same with expressions down to depth 32."""
+
+    def sum_of(depth):
+        return ["add", sum_of(depth - 1), 1] if depth else ["var", 0]
+
+    scenario = Scenario()
+    scenario.add(["start", "ReadCommitted", 1, [loops(10000, [["set", 3, sum_of(28)]] * int(70 * part))]], ["step", 1])
+    return scenario.text()
+
+
+@case()
+def joined_texts(part):
+    """One step that makes 900,000 texts of 65,536 bytes, a tenth of what a program may ask for: 59 gigabytes."""
+    program = [["set", 0, "x" * 1024]] + [["set", 0, ["cat", ["var", 0], ["var", 0]]]] * 5
+    scenario = Scenario()
+    scenario.add(["start", "ReadCommitted", 1, program + [loops(10000, [["set", 3, ["cat", ["var", 0], ["var", 0]]]] * int(100 * part))]], ["step", 1])
+    return scenario.text()
+
+
+@case()
+def copies_of_a_long_value(part):
+    """One step that copies a value of 8 megabytes 1,000 times."""
+    scenario = Scenario()
+    scenario.add(txn(put("v", "x" * 8000000)))
+    program = [["set", 0, ["get", "v"]], ["for", 1, int(1000 * part), 1000, [["set", 2, ["var", 0]]]]]
+    scenario.add(["start", "Serializable", 1, program], ["step", 1], ["step", 1])
+    return scenario.text()
+
+
+@case()
+def looks_at_one_key(part):
+    """One step that looks at a key 4.5 million times, all of which its commit tells."""
+    scenario = Scenario()
+    scenario.add(["start", "Serializable", 1, [loops(10000, [["set", 2, ["rev", "k"]]] * int(500 * part))]], ["step", 1], ["step", 1])
+    return scenario.text()
+
+
+@case(command="check")
+def writes_of_one_key(part):
+    """One step that writes a key 9 million times."""
+    scenario = Scenario()
+    scenario.add(["start", "Serializable", 1, [loops(10000, [put("k")] * int(1000 * part))]], ["step", 1])
+    return scenario.text()
+
+
+@case(statuses=(0, 3))
+def long_texts_put_out(part):
+    """One step that puts out 9 million texts of 65,536 bytes: the report would have 590 gigabytes."""
+    program = [["set", 0, "x" * 1024]] + [["set", 0, ["cat", ["var", 0], ["var", 0]]]] * 6
+    scenario = Scenario()
+    scenario.add(["start", "ReadCommitted", 1, program + [loops(10000, [["emit", ["var", 0]]] * int(1000 * part))]], ["step", 1])
+    return scenario.text()
+
+
+# texts
+
+
+@case(statuses=(2,))
+def object_keys(part):
+    """An object with a million and a half keys in no order."""
+    return "[{" + ",".join(f'"{number * 2654435761 % 2**24:x}":0' for number in range(int(1500000 * part))) + "}]"
+
+
+@case(statuses=(2,))
+def object_keys_falling(part):
+    """An object with 1,390,000 keys in falling order."""
+    return "[{" + ",".join(f'"{16000000 - number:06x}":0' for number in range(int(1390000 * part))) + "}]"
+
+
+@case(statuses=(2,))
+def many_digits(part):
+    """A number of 16 million digits."""
+    return "[1" + "0" * int(16000000 * part) + "]"
+
+
+@case(statuses=(2,))
+def long_fraction(part):
+    """A fraction of 15 million digits."""
+    return "[0." + "1234567" * int(2200000 * part) + "]"
+
+
+@case(statuses=(2,))
+def zeros_and_an_exponent(part):
+    """A fraction of 8 million zeros, times ten to the power of 8 million."""
+    zeros = int(8000000 * part)
+    return "[0." + "0" * zeros + f"1e{zeros + 1}]"
+
+
+@case(statuses=(2,))
+def hard_fractions(part):
+    """21,000 fractions of 740 digits, which lie half-way between two numbers."""
+    digits = "2225073858507201136057409796709131975934819546351645648023426109724822222021076945516529523908135087914149158913039621106870086438694594645527657207"
+    return "[" + ",".join(["0." + digits * 5 + "e-307"] * int(21000 * part)) + "]"
+
+
+@case(statuses=(2,))
+def empty_arrays(part):
+    """Five and a half million empty arrays."""
+    return "[" + "[]," * int(5500000 * part) + "[]]"
+
+
+@case(statuses=(2,))
+def many_zeros(part):
+    """Eight million zeros."""
+    return "[" + "0," * int(8300000 * part) + "0]"
+
+
+@case(statuses=(2,))
+def open_brackets(part):
+    """Sixteen million open brackets."""
+    return "[" * int(16000000 * part)
+
+
+@case(statuses=(2,))
+def white_space(part):
+    """Sixteen million spaces."""
+    return " " * int(16777216 * part)
+
+
+@case(command="check")
+def escapes(part):
+    """A value of 2,700,000 escapes, which the report spells as long."""
+    return '[["txn",[],[["put","k","' + "\\u0001" * int(2700000 * part) + '",0]],[]]]'
+
+
+@case(statuses=(2,))
+def fault_of_the_last_event(part):
+    """99,999 events, and one that is none."""
+    scenario = Scenario()
+    scenario.add(*[txn(put("k"))] * int(99999 * part), ["txn", [], [], [0]])
+    return scenario.text()
+
+
+@case(statuses=(2,))
+def too_many_nodes(part):
+    """A program of 3,000,000 nodes."""
+    return '[["start","ReadCommitted",1,[' + '["emit",1],' * int(1500000 * part) + '["emit",1]]]]'
+
+
+@case()
+def too_many_operations(part):
+    """A transaction of 1,500,000 operations, which is refused."""
+    return '[["txn",[],[' + '["del",""],' * int(1500000 * part) + '["del","a"]],[]]]'
+
+
+# reports
+
+
+@case(command="check")
+def commits_of_many_runners(part):
+    """33,000 programs that commit one after the other, and the check of their report."""
+    scenario = Scenario()
+    for number in range(int(33000 * part)):
+        program = [["put", f"a{number}", ["get", f"a{number // 2}"], 0]]
+        scenario.add(["start", "ReadCommitted", 9, program], ["step", number + 1], ["step", number + 1])
+    return scenario.text()
+
+
+@case(command="check", statuses=(1,))
+def report_of_end_lines(part):
+    """A report of 1,390,000 end lines, for a scenario without events."""
+    return "[]", '["end",1,0]\n' * int(1390000 * part)
+
+
+@case(command="check", statuses=(1,))
+def report_of_one_long_line(part):
+    """A report of one line, which tells 2,000,000 answers to a transaction of one."""
+    return '[["txn",[],[["put","k","",0]],[]]]', '[1,"txn",true,2,[' + '["put"],' * int(2000000 * part) + '["put"]]]\n'
+
+
+@case(command="check", statuses=(2,))
+def report_of_empty_lines(part):
+    """A report of sixteen million empty lines."""
+    return "[]", "\n" * int(16777216 * part)
+
+
+@case(command="check", statuses=(2,))
+def report_of_brackets(part):
+    """A report of one line of open brackets."""
+    return "[]", "[" * int(16777215 * part) + "\n"
+
+
+@case(command="check", statuses=(1,))
+def report_of_one_long_trace(part):
+    """A report whose commit tells a trace of 1,150,000 looks at a key, for a program that looks at none."""
+    looks = ",".join(['["rev","k",0]'] * int(1150000 * part))
+    return '[["start","ReadCommitted",1,[]],["step",1]]', f'[1,"started",1]\n[2,"committed",1,1,1,[],[{looks}],[]]\n["end",1,1]\n'
+
+
+# jobs
+
+
+@case(command="threads")
+def jobs_on_one_key(part):
+    """99,000 jobs that count in one key, by 16 threads, with as many commits each as there may be."""
+    program = [["put", "k", ["text_of", ["add", ["num_of", ["get", "k"]], 1]], 0]]
+    scenario = Scenario()
+    scenario.add(txn(put("k", "0")))
+    scenario.add(*[["start", "Serializable", HIGHEST_LIMIT, program]] * int(99000 * part))
+    return scenario.text()
+
+
+@case(command="threads")
+def jobs_that_give_up(part):
+    """99,000 jobs on one key by 16 threads, which may send one commit each: each that gives up is looked for in the history."""
+    program = [["put", "k", ["text_of", ["add", ["num_of", ["get", "k"]], 1]], 0]]
+    scenario = Scenario()
+    scenario.add(txn(put("k", "0")))
+    scenario.add(*[["start", "Serializable", 1, program]] * int(99000 * part))
+    return scenario.text()
+
+
+@case(command="threads")
+def jobs_that_conflict_long(part):
+    """3,000 jobs that run 900 turns between their read and their commit."""
+    program = [["set", 2, ["get", "k"]], loops(1000, [["set", 3, ["add", ["var", 3], 1]]]), ["put", "k", ["text_of", ["add", ["num_of", ["var", 2]], 1]], 0]]
+    scenario = Scenario()
+    scenario.add(txn(put("k", "0")))
+    scenario.add(*[["start", "Serializable", HIGHEST_LIMIT, program]] * int(3000 * part))
+    return scenario.text()
+
+
+@case(command="threads")
+def long_jobs(part):
+    """620 jobs of 4,093 nodes, which is all that a scenario can hold."""
+    program = [["set", 0, 1]] * 2045 + [["put", "k", "", 0]]
+    scenario = Scenario()
+    scenario.add(*[["start", "Serializable", HIGHEST_LIMIT, program]] * int(620 * part))
+    return scenario.text()
+
+
+@case(command="threads")
+def jobs_behind_a_history(part):
+    """32,000 jobs that give up or commit behind 690,000 puts of other keys."""
+    program = [["put", "w", ["text_of", ["add", ["num_of", ["get", "w"]], 1]], 0]]
+    scenario = Scenario()
+    scenario.add(txn(put("w", "0")))
+    add_history(scenario, int(5200 * part))
+    scenario.add(*[["start", "Serializable", 1, program]] * int(32000 * part))
+    return scenario.text()

@@ -7,3 +7,5 @@ pub mod Marked
 pub mod Indexed
 pub mod Placed
 pub mod Touching
+pub mod Ordered
+pub mod Entered

@@ -1,6 +1,6 @@
 -- What a new revision makes of the watchers, key by key.
-use Rattle.std.proofs.Common.{◌≡◌, ◌⊎◌, ℕ, zero, suc, ◌<◌, ◌+◌, Bool, true, false, ◌||◌, ◌&&◌}
-use Rattle.std.proofs.Common.{List, [], ◌∷◌, ◌++◌, length, map, Option, Some, None, IsSome, unwrap_or, option_map, slice_index_or}
+use Rattle.std.proofs.Common.{◌≡◌, ◌⊎◌, ℕ, zero, suc, ◌<◌, ◌≤◌, ◌+◌, Bool, true, false, ◌||◌, ◌&&◌}
+use Rattle.std.proofs.Common.{List, [], ◌∷◌, ◌++◌, length, map, Option, Some, None, IsSome, unwrap_or, option_map, slice_index_or, slice_set}
 use Rattle.std.proofs.Common.{refl, sym, ap, subst, ◌∙◌, inl, inr, arith, length-append, append_assoc}
 use Rattle.std.specs.Prelude.{nat_lt}
 use Rattle.std.proofs.lemmas.Bool.{cases_Bool, cases_eq}
@@ -17,10 +17,12 @@ use Rattle.stm_watch.specs.declared.watched.Watched.{Watched}
 use Rattle.stm_watch.specs.declared.watched.Watched.TheVariants.{Key, Range}
 use Rattle.stm_watch.specs.declared.watched.Watcher.{Watcher}
 use Rattle.stm_watch.specs.Keys.{is_watched, is_any_watched}
+use Rattle.stm_watch.specs.declared.page.Page.{Page}
 use Rattle.stm_watch.specs.Kept.{Holds, AreListed, list_in, watched_of, places_on, places_at}
+use Rattle.stm_watch.specs.Pages.{IsAny, IsOneOf, StandsOn, ReachesOn, IsTouched, AreEntered, entry_of}
 use Rattle.stm_watch.specs.Touch.{touch, touch_key, touch_at, touch_each}
-use Rattle.stm_watch.proofs.Linked.{holds-right}
-use Rattle.stm_watch.proofs.Marked.{within, read_at, slot_of_map}
+use Rattle.stm_watch.proofs.Entered.{any-left, any-right, any-parts, any-map}
+use Rattle.stm_watch.proofs.Marked.{read_at, slot_of_map}
 
 -- ---- one place
 
@@ -34,6 +36,15 @@ touched_twice revision key (Some w) =
     twice true b = refl
     twice false true = refl
     twice false false = refl
+
+-- nothing changes past the last place
+pub touched_past : (revision : ℕ) (key : List ℕ) (i : ℕ) (ws : List (Option Watcher)) → length ws ≤ i → ws ≡ touch_at revision key i ws
+touched_past revision key i ws past = set_past ws i (option_map (touch_key revision key) (slice_index_or ws i None)) past
+  where
+    set_past : (xs : List (Option Watcher)) (j : ℕ) (x : Option Watcher) → length xs ≤ j → xs ≡ slice_set xs j x
+    set_past [] j x past = refl
+    set_past (y ∷ xs) zero x past = absurd (omega arith)
+    set_past (y ∷ xs) (suc j) x past = ap (λ l. y ∷ l) (set_past xs j x (omega arith))
 
 -- a watcher of other keys stays as it is
 untouched : (revision : ℕ) (key : List ℕ) (w : Watcher) → is_watched w.watching.watched key ≡ false → touch_key revision key w ≡ w
@@ -106,18 +117,52 @@ module _ (revision : ℕ) (key : List ℕ) where
     | inr touched ↦ touched ∙ ap (option_map (touch_key revision key)) was ∙ touched_twice revision key o
   ]
 
-  -- each place on a list is touched
-  each_holds : (es : List (ℕ × ℕ)) (node j : ℕ) (ws : List (Option Watcher)) → Holds es node j
-      → slice_index_or (touch_each revision key (map (λ e. e.1) es) ws) j None ≡ option_map (touch_key revision key) (slice_index_or ws j None)
-  each_holds [] node j ws h = absurd h
-  each_holds (e ∷ es) node j ws h = elim h [
+  each_append : (is js : List ℕ) (ws : List (Option Watcher)) → touch_each revision key (is ++ js) ws ≡ touch_each revision key js (touch_each revision key is ws)
+  each_append [] js ws = refl
+  each_append (i ∷ is) js ws = each_append is js (touch_at revision key i ws)
+
+  -- each of the places is touched
+  each_among : (is : List ℕ) (j : ℕ) (ws : List (Option Watcher)) → IsOneOf j is
+      → slice_index_or (touch_each revision key is ws) j None ≡ option_map (touch_key revision key) (slice_index_or ws j None)
+  each_among [] j ws any = absurd any
+  each_among (i ∷ is) j ws any = elim any [
     | inl here ↦
-        each_after (map (λ e. e.1) es) j (touch_at revision key e.1 ws) (slice_index_or ws j None)
-        (subst (λ (k : ℕ). slice_index_or (touch_at revision key e.1 ws) k None ≡ option_map (touch_key revision key) (slice_index_or ws k None)) here.1
-        (touched_here e.1 ws))
-    | inr there ↦ each_holds es node j (touch_at revision key e.1 ws) there
-        ∙ again (slice_index_or (touch_at revision key e.1 ws) j None) (slice_index_or ws j None) (at_either e.1 j ws)
+        each_after is j (touch_at revision key i ws) (slice_index_or ws j None)
+        (subst (λ (k : ℕ). slice_index_or (touch_at revision key i ws) k None ≡ option_map (touch_key revision key) (slice_index_or ws k None)) here
+        (touched_here i ws))
+    | inr there ↦ each_among is j (touch_at revision key i ws) there
+        ∙ again (slice_index_or (touch_at revision key i ws) j None) (slice_index_or ws j None) (at_either i j ws)
   ]
+
+  holds_one : (es : List (ℕ × ℕ)) (node j : ℕ) → Holds es node j → IsOneOf j (map (λ e. e.1) es)
+  holds_one [] node j h = absurd h
+  holds_one (e ∷ es) node j h = elim h [ inl here ↦ inl here.1 | inr there ↦ inr (holds_one es node j there) ]
+
+  -- ---- places that are reached
+
+  pub touched_none : (at : ℕ → Type 0) (ws : List (Option Watcher)) → ((i : ℕ) → at i → ⊥) → IsTouched revision key at ws ws
+  touched_none at ws none = record { places = []; done = refl; all = λ i reached. absurd (none i reached) }
+
+  pub touched_one : (at : ℕ → Type 0) (place : ℕ) (old new : List (Option Watcher)) → new ≡ touch_at revision key place old
+      → ((i : ℕ) → at i → place ≡ i) → IsTouched revision key at old new
+  touched_one at place old new is only = record { places = place ∷ []; done = is; all = λ i reached. inl (only i reached) }
+
+  -- those that were reached before, and those of one more
+  pub touched_more : {A : Type 0} (reaches : ℕ → A → Type 0) (so_far more : List A) (x : A) (old mid new : List (Option Watcher)) → more ≡ so_far ++ x ∷ []
+      → IsTouched revision key (λ i. IsAny (reaches i) so_far) old mid → IsTouched revision key (λ i. reaches i x) mid new
+      → IsTouched revision key (λ i. IsAny (reaches i) more) old new
+  touched_more reaches so_far more x old mid new is one other = record {
+    places = one.places ++ other.places;
+    done = other.done ∙ ap (touch_each revision key other.places) one.done ∙ sym (each_append one.places other.places old);
+    all = λ i reached. elim (any-parts (reaches i) so_far (x ∷ []) (subst (λ xs. IsAny (reaches i) xs) is reached)) [
+      | inl before ↦ any-left (λ j. j ≡ i) one.places other.places (one.all i before)
+      | inr last ↦ elim last [ inl here ↦ any-right (λ j. j ≡ i) one.places other.places (other.all i here) | inr nothing ↦ absurd nothing ]
+    ];
+  }
+
+  pub touched_as : (at so : ℕ → Type 0) (old new : List (Option Watcher)) → ((i : ℕ) → so i → at i) → IsTouched revision key at old new
+      → IsTouched revision key so old new
+  touched_as at so old new to touched = record { places = touched.places; done = touched.done; all = λ i reached. touched.all i (to i reached) }
 
   -- ---- a walk along a list
 
@@ -138,7 +183,6 @@ module _ (revision : ℕ) (key : List ℕ) where
     pub place : Place ℕ
     pub stands : StandsAt lists node place
     pub here : place.list ≡ list
-    pub holds : Holds (entries_at lists list) node place.value
     pub counted : length place.before ≡ count
     pub done : ws ≡ touch_each revision key (map (λ e. e.1) place.before) old
 
@@ -155,7 +199,6 @@ module _ (revision : ℕ) (key : List ℕ) where
             place = record { list = list; before = walked.passed; value = entry.1; after = rest };
             stands = record { stands = there (list_at lists list) has ∙ ap Some entries };
             here = refl;
-            holds = subst (λ xs. Holds xs node entry.1) (sym entries) (holds-right node entry.1 walked.passed ((node, entry.1) ∷ rest) (inl (refl, refl)));
             counted = walked.counted;
             done = walked.done;
           }
@@ -164,16 +207,6 @@ module _ (revision : ℕ) (key : List ℕ) where
       → IsWalked lists list count next old ws → next ≡ Some node → HasNode lists node
   walk_node lists list count next node old ws has walked is =
       let found = walk_place lists list count next node old ws has walked is in (found.place, found.stands)
-
-  pub walk_within : (lists : Lists ℕ) (list count : ℕ) (next : Option ℕ) (node i : ℕ) (old ws : List (Option Watcher)) → HasList lists list
-      → IsWalked lists list count next old ws → next ≡ Some node → ((place : Place ℕ) → StandsAt lists node place → i ≡ place.value)
-      → ((node i : ℕ) → Holds (entries_at lists list) node i → i < length old) → i < length ws
-  walk_within lists list count next node i old ws has walked is got below =
-      let found = walk_place lists list count next node old ws has walked is in
-      let value = got found.place found.stands in
-      let under : found.place.value < length old = below node found.place.value found.holds in
-      let long = ap length found.done ∙ length_each (map (λ e. e.1) found.place.before) old in
-      omega (arith, value, under, long)
 
   pub walk_more : (lists : Lists ℕ) (list count : ℕ) (next : Option ℕ) (node i : ℕ) (after : Option ℕ) (old ws new : List (Option Watcher)) → HasList lists list
       → IsWalked lists list count next old ws → next ≡ Some node → ((place : Place ℕ) → StandsAt lists node place → i ≡ place.value)
@@ -200,69 +233,61 @@ module _ (revision : ℕ) (key : List ℕ) where
 
   -- ---- all that a key concerns
 
-  module _ (lists : Lists ℕ) (of_key : List ℕ → Option ℕ) (ranges : ℕ) (nodes : List (Option ℕ)) (ws : List (Option Watcher))
-      (listed : AreListed lists (list_in of_key ranges) nodes (watched_of ws)) where
-    -- what is on lists stands at a place
-    pub listed_within : (list node i : ℕ) → Holds (entries_at lists list) node i → i < length ws
-    listed_within list node i h =
-        let below = within nodes i (subst IsSome (sym (listed.only list node i h)) refl) in
-        let long = listed.long ∙ length-map ws (option_map (λ (w : Watcher). w.watching.watched)) in
-        omega (arith, below, long)
-
+  module _ (lists : Lists ℕ) (of_key : List ℕ → Option ℕ) (ranges : ℕ) (nodes : List (Option ℕ)) (pages : List Page) (ws new : List (Option Watcher))
+      (listed : AreListed lists (list_in of_key ranges) nodes (watched_of ws)) (entered : AreEntered pages (watched_of ws))
+      (touched : IsTouched revision key (λ i. IsAny (ReachesOn key i) pages) (touch_each revision key (places_at lists (of_key key)) ws) new) where
     abbrev own : List (Option Watcher)
     own = touch_each revision key (places_at lists (of_key key)) ws
 
-    abbrev both : List (Option Watcher)
-    both = touch_each revision key (places_on lists ranges) own
-
-    -- a watcher of the key is on the key's list, or on that of the ranges
-    reached : (w : Watched) (list node j : ℕ) → is_watched w key ≡ true → list_in of_key ranges w ≡ Some list → Holds (entries_at lists list) node j
-        → slice_index_or both j None ≡ option_map (touch_key revision key) (slice_index_or ws j None)
-    reached (Key watched) list node j matches is h =
+    -- a watcher of the key is on the key's list, and one of a range that has the key on a page
+    reached : (w : Watched) (j : ℕ) → slice_index_or (watched_of ws) j None ≡ Some w → is_watched w key ≡ true
+        → slice_index_or (touch_each revision key touched.places own) j None ≡ option_map (touch_key revision key) (slice_index_or ws j None)
+    reached (Key watched) j is matches =
+        let had = listed.stands j (Key watched) is in
         let same : watched ≡ key = (bytes_eq-Decides watched key).0 matches in
-        let at : of_key key ≡ Some list = ap of_key (sym same) ∙ is in
-        each_after (places_on lists ranges) j own (slice_index_or ws j None)
-        (ap (λ o. slice_index_or (touch_each revision key (places_at lists o) ws) j None) at ∙ each_holds (entries_at lists list) node j ws h)
-    reached (Range first end) list node j matches is h =
-        let here : ranges ≡ list = same_Some ranges list is in
-        let on : Holds (entries_at lists ranges) node j = subst (λ (l : ℕ). Holds (entries_at lists l) node j) (sym here) h in
-        each_holds (entries_at lists ranges) node j own on
+        let at : of_key key ≡ Some had.0 = ap of_key (sym same) ∙ had.2 in
+        each_after touched.places j own (slice_index_or ws j None)
+        (ap (λ o. slice_index_or (touch_each revision key (places_at lists o) ws) j None) at
+        ∙ each_among (places_on lists had.0) j ws (holds_one (entries_at lists had.0) had.1 j had.4))
+    reached (Range first end) j is matches =
+        let on = any-map (StandsOn (entry_of first end j)) (ReachesOn key j) (λ page stands. (entry_of first end j, stands, (refl, matches))) pages
+        (entered j (Range first end) is) in
+        each_among touched.places j own (touched.all j on)
         ∙ again (slice_index_or own j None) (slice_index_or ws j None) (each_either (places_at lists (of_key key)) j ws)
 
     -- where touching makes no difference
     either_same : (j : ℕ) → option_map (touch_key revision key) (slice_index_or ws j None) ≡ slice_index_or ws j None
-        → slice_index_or both j None ≡ option_map (touch_key revision key) (slice_index_or ws j None)
-    either_same j same = each_after (places_on lists ranges) j own (slice_index_or ws j None) (elim (each_either (places_at lists (of_key key)) j ws) [
+        → slice_index_or (touch_each revision key touched.places own) j None ≡ option_map (touch_key revision key) (slice_index_or ws j None)
+    either_same j same = each_after touched.places j own (slice_index_or ws j None) (elim (each_either (places_at lists (of_key key)) j ws) [
       | inl kept ↦ kept ∙ sym same
       | inr touched ↦ touched
     ])
 
-    slot_touched : (j : ℕ) → slice_index_or both j None ≡ option_map (touch_key revision key) (slice_index_or ws j None)
+    slot_touched : (j : ℕ) → slice_index_or (touch_each revision key touched.places own) j None ≡ option_map (touch_key revision key) (slice_index_or ws j None)
     slot_touched j = by_slot (slice_index_or ws j None) refl
       where
         by_slot : (o : Option Watcher) → slice_index_or ws j None ≡ o
-            → slice_index_or both j None ≡ option_map (touch_key revision key) (slice_index_or ws j None)
+            → slice_index_or (touch_each revision key touched.places own) j None ≡ option_map (touch_key revision key) (slice_index_or ws j None)
         by_slot None is = either_same j (ap (option_map (touch_key revision key)) is ∙ sym is)
         by_slot (Some w) is = elim (cases_Bool (is_watched w.watching.watched key)) [
           | inl matches ↦
-              let had = listed.stands j w.watching.watched
-              (slot_of_map (λ (w : Watcher). w.watching.watched) ws j ∙ ap (option_map (λ (w : Watcher). w.watching.watched)) is) in
-              reached w.watching.watched had.0 had.1 j matches had.2 had.4
+              reached w.watching.watched j
+              (slot_of_map (λ (w : Watcher). w.watching.watched) ws j ∙ ap (option_map (λ (w : Watcher). w.watching.watched)) is) matches
           | inr other ↦ either_same j (ap (option_map (touch_key revision key)) is ∙ ap Some (untouched revision key w other) ∙ sym is)
         ]
 
-    pub all_touched : touch_each revision key (places_on lists ranges) (touch_each revision key (places_at lists (of_key key)) ws)
-        ≡ map (option_map (touch_key revision key)) ws
-    all_touched = same_lists both (map (option_map (touch_key revision key)) ws) (long ∙ sym (length-map ws (option_map (touch_key revision key))))
+    pub all_touched : new ≡ map (option_map (touch_key revision key)) ws
+    all_touched = touched.done ∙ same_lists (touch_each revision key touched.places own) (map (option_map (touch_key revision key)) ws)
+        (long ∙ sym (length-map ws (option_map (touch_key revision key))))
         (λ k d below.
         let under : k < length ws = omega (arith, below, long) in
         let mapped : k < length (map (option_map (touch_key revision key)) ws) = omega
         (arith, under, length-map ws (option_map (touch_key revision key))) in
-        read_at both k d below ∙ slot_touched k ∙ sym (slot_of_map (touch_key revision key) ws k)
+        read_at (touch_each revision key touched.places own) k d below ∙ slot_touched k ∙ sym (slot_of_map (touch_key revision key) ws k)
         ∙ sym (read_at (map (option_map (touch_key revision key)) ws) k d mapped))
       where
-        long : length both ≡ length ws
-        long = length_each (places_on lists ranges) own ∙ length_each (places_at lists (of_key key)) ws
+        long : length (touch_each revision key touched.places own) ≡ length ws
+        long = length_each touched.places own ∙ length_each (places_at lists (of_key key)) ws
 
 -- what is watched stays
 pub watched_touched : (f : Watcher → Watcher) (ws : List (Option Watcher)) → ((w : Watcher) → (f w).watching ≡ w.watching)

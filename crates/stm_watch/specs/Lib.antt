@@ -7,3 +7,4 @@ pub mod Walk
 pub mod Slots
 pub mod Ready
 pub mod Kept
+pub mod Pages

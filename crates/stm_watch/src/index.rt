@@ -10,7 +10,8 @@ use std::alloc::{AllocError, Global};
 use stm_history::Text;
 use stm_lists::{ListId, Lists, NodeId};
 
-/// Finds the watchers that a change of a key concerns. They are named by their places, 0, 1, 2, ..
+/// Finds the watchers of a key, and has a node of each watcher of a range. They are named by their places, 0, 1, 2, ..
+/// Which ranges have a key is found by `Ranges`.
 ///
 /// A key keeps its list where its last watcher is cancelled, for the next one.
 #[derive(Drop)]

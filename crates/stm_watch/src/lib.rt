@@ -7,6 +7,8 @@
 
 mod gather;
 mod index;
+mod page;
+mod ranges;
 mod readiness;
 mod refusal;
 mod slots;

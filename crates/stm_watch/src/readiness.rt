@@ -75,6 +75,15 @@ impl Readiness {
         })
     }
 
+    /// Makes room for one more watcher. Want of memory changes nothing.
+    pub(crate) fn reserve(&mut self) -> Result<(), AllocError>
+        ensures { self.new ≡ self.old }
+    {
+        self.marks.reserve(1)?;
+        self.lists.reserve(1)?;
+        Ok(())
+    }
+
     /// Adds a watcher. Want of memory changes nothing.
     pub(crate) fn push(&mut self, ready: bool) -> Result<(), AllocError>
         ensures ok { OnOk result (self.new ≡ self.old ++ Some ready ∷ []) }

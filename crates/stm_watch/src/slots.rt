@@ -1,5 +1,6 @@
 //! The places of watchers: watcher 1 stands first.
 ghost use Rattle.std.specs.Prelude.{◌≡◌, ◌<◌, ◌++◌, [], ◌∷◌, Some, None, IfOk, OnOk, OnErr, IsSome, is_some, true, option_map, slice_set, slice_index_or, length};
+ghost use Rattle.stm_watch.specs.Kept.{watched_of};
 ghost use Rattle.stm_watch.specs.Touch.{wants, touch_at};
 ghost use Rattle.stm_watch.specs.Calls.{is_ready, IsNextReady};
 ghost use Rattle.stm_watch.specs.Slots.{SlotPolls, PlacePolls, made_ready};
@@ -7,7 +8,7 @@ ghost use Rattle.stm_watch.specs.Slots.{SlotPolls, PlacePolls, made_ready};
 use crate::gather::{Gathered, gather};
 use crate::readiness::Readiness;
 use crate::refusal::PollRefusal;
-use crate::watched::Watcher;
+use crate::watched::{Watched, Watcher};
 use crate::watchers::Batch;
 use std::alloc::{AllocError, Global};
 use std::marker::Model;
@@ -115,6 +116,26 @@ impl Slots {
         index < self.watchers.len() && self.watchers[index].is_some()
     }
 
+    /// What the watcher at a place watches.
+    pub(crate) fn watched(&self, index: usize) -> &Watched
+        requires { IsSome (slice_index_or self.now index None) }
+        ensures { slice_index_or (watched_of self.now) index None ≡ Some result.now }
+    {
+        match &self.watchers[index] {
+            Some(watcher) => &watcher.watching.watched,
+            None => unreachable!(),
+        }
+    }
+
+    /// Makes room for one more watcher. Want of memory changes nothing.
+    pub(crate) fn reserve(&mut self) -> Result<(), AllocError>
+        ensures { self.new ≡ self.old }
+    {
+        self.watchers.reserve(1)?;
+        self.readiness.reserve()?;
+        Ok(())
+    }
+
     /// Adds a watcher. Want of memory changes nothing.
     pub(crate) fn push(&mut self, watcher: Watcher) -> Result<(), AllocError>
         ensures ok { OnOk result (self.new ≡ self.old ++ Some watcher ∷ []) }
@@ -135,11 +156,13 @@ impl Slots {
         self.readiness.remove(index);
     }
 
-    /// Notes a change of a key at a new revision at one place.
+    /// Notes a change of a key at a new revision at one place, if there is such a place.
     pub(crate) fn touch(&mut self, index: usize, revision: u64, key: &Text)
-        requires { index < length self.old }
         ensures { self.new ≡ touch_at revision key.now index self.old }
     {
+        if index >= self.watchers.len() {
+            return;
+        }
         if wants(&self.watchers[index], revision, key) {
             mark_ready(&mut self.watchers[index]);
             self.readiness.set(index, true);

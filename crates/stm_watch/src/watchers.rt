@@ -6,6 +6,7 @@ ghost use Rattle.stm_watch.specs.Pending.{watching_from};
 ghost use Rattle.stm_watch.specs.Calls.{watch, poll, cancelled, WatchTells, PollTells, watchings, watcher_at, StandFor, IsNextReady, IsNextPending};
 
 use crate::index::Index;
+use crate::ranges::Ranges;
 use crate::refusal::{NoWatcher, PollRefusal, WatchRefusal};
 use crate::slots::Slots;
 use crate::told::is_told;
@@ -32,6 +33,7 @@ pub struct Batch {
 pub struct Watchers {
     slots: Slots,
     index: Index,
+    ranges: Ranges,
     alloc: Global,
 }
 
@@ -41,11 +43,12 @@ impl Model for Watchers {
 
     ghost Value = { List (Option Kept) };
 
-    ghost use Rattle.stm_watch.specs.Kept.{Covers, watched_of};
+    ghost use Rattle.stm_watch.specs.Kept.{watched_of};
+    ghost use Rattle.stm_watch.specs.Pages.{AreFound};
 
     ghost view = { λ s. s.slots };
 
-    ghost invariant = { λ s. Covers s.index (watched_of s.slots) };
+    ghost invariant = { λ s. AreFound s.index s.ranges (watched_of s.slots) };
 }
 
 impl Watchers {
@@ -58,6 +61,7 @@ impl Watchers {
         Ok(Watchers {
             slots: Slots::new(alloc)?,
             index: Index::new(alloc)?,
+            ranges: Ranges::new(alloc),
             alloc,
         })
     }
@@ -68,6 +72,10 @@ impl Watchers {
         ensures err { OnErr result (self.new ≡ self.old) }
     {
         let list = self.index.make_room(&watcher.watching.watched)?;
+        // The entry of a range is for a watcher that has room.
+        self.slots.reserve()?;
+        self.ranges
+            .add(&watcher.watching.watched, self.slots.len())?;
         self.slots.push(watcher)?;
         self.index.push(list);
         Ok(())
@@ -143,6 +151,7 @@ impl Watchers {
         if !self.slots.has(index) {
             return Err(NoWatcher);
         }
+        self.ranges.remove(self.slots.watched(index), index);
         self.index.remove(index);
         self.slots.remove(index);
         Ok(())
@@ -155,7 +164,7 @@ impl Watchers {
         ensures same { watchings self.new ≡ watchings self.old }
         ensures stand { (h : History) → StandFor h self.old → revision ≡ now h + 1 → StandFor (add_revision h (map change_of_event events.now)) self.new }
     {
-        touch_all(&mut self.slots, &self.index, revision, events);
+        touch_all(&mut self.slots, &self.index, &self.ranges, revision, events);
     }
 
     /// A watcher that is ready, `None` where none is. It takes no memory.

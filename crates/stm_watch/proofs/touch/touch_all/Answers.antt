@@ -2,7 +2,8 @@ use Rattle.std.proofs.Common.{◌≡◌, ◌∙◌, ◌+◌, ◌++◌, ◌∷◌
 use Rattle.std.proofs.lemmas.Grind.{take_at_read}
 use Rattle.stm_keys.specs.declared.event.Event.{Event}
 use Rattle.stm_keys.specs.Events.{change_of_event, key_of_event}
-use Rattle.stm_watch.specs.Kept.{Covers, watched_of}
+use Rattle.stm_watch.specs.Kept.{watched_of}
+use Rattle.stm_watch.specs.Pages.{AreFound}
 use Rattle.stm_watch.specs.Touch.{touch, touch_key}
 use Rattle.stm_watch.proofs.Touching.{touch_none, touch_next, watched_touched}
 use Rattle.stm_watch.proofs.touch.touch_all.Goals as goal
@@ -12,7 +13,7 @@ loop-event-init c = touch_none c.args.revision c.args.slots.now
 
 pub touch_of-requires : goal.touch_of-requires
 touch_of-requires c =
-    subst (Covers c.args.index.now) (sym (ap watched_of c.loop-event.invariant
+    subst (AreFound c.args.index.now c.args.ranges.now) (sym (ap watched_of c.loop-event.invariant
     ∙ watched_touched (touch c.args.revision (map change_of_event (take c.loop-event.event-index c.args.events.now))) c.args.slots.now (λ w. refl))) c.requires
 
 pub loop-event-preserved : goal.loop-event-preserved

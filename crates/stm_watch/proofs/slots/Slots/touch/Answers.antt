@@ -1,14 +1,15 @@
-use Rattle.std.proofs.Common.{◌≡◌, ◌∙◌, ◌<◌, Some, true, ap, sym, subst, length, option_map, slice_set}
+use Rattle.std.proofs.Common.{◌≡◌, ◌∙◌, ◌<◌, ◌≤◌, List, Option, Some, true, ap, sym, subst, length, option_map, slice_set, arith}
 use Rattle.std.proofs.lemmas.List.{map-set}
 use Rattle.stm_watch.specs.Touch.{wants}
 use Rattle.stm_watch.specs.declared.watched.Watcher.{Watcher}
 use Rattle.stm_watch.proofs.Marked.{read_at}
 use Rattle.stm_watch.proofs.Placed.{wanted_mark}
+use Rattle.stm_watch.proofs.Touching.{touched_past}
 use Rattle.stm_watch.proofs.slots.Slots.touch.Goals as goal
 
 pub invariant_of-self : goal.invariant_of-self
 invariant_of-self c =
-    let there : c.args.index < length c.self.inside.watchers.items = subst (λ ws. c.args.index < length ws) (sym c.self.view_is) c.requires in
+    let there : c.args.index < length c.self.inside.watchers.items = omega (arith, c.if-index-len.false, c.len.ensures, c.self.inside.watchers.ok.0) in
     let same : c.index.result.now ≡ c.index_mut.result.now =
     c.index.ensures
     ∙ read_at c.self.inside.watchers.items c.args.index c.index.result.now there
@@ -19,3 +20,8 @@ invariant_of-self c =
     ∙ ap (λ l. slice_set l c.args.index (Some true)) c.self.invariant
     ∙ ap (slice_set _ c.args.index) (sym mark)
     ∙ sym (map-set (option_map (λ (w : Watcher). w.ready)) c.self.inside.watchers.items c.args.index c.mark_ready.new.slot)
+
+pub returns-then-index-len : goal.returns-then-index-len
+returns-then-index-len c =
+    touched_past c.args.revision c.args.key.now c.args.index c.args.self.now
+    (subst (λ (ws : List (Option Watcher)). length ws ≤ c.args.index) c.self.view_is (omega (arith, c.if-index-len.true, c.len.ensures, c.self.inside.watchers.ok.0)))

@@ -2,27 +2,33 @@ use Rattle.std.proofs.Common.{◌∙◌, ◌-◌, None, ap, option_map, subst, s
 use Rattle.std.proofs.lemmas.List.{map-set}
 use Rattle.stm_watch.specs.Calls.{StandFor, cancelled, watchings}
 use Rattle.stm_watch.specs.declared.watched.Watcher.{Watcher}
-use Rattle.stm_watch.specs.Kept.{Covers, watched_of}
+use Rattle.stm_watch.specs.Kept.{watched_of}
+use Rattle.stm_watch.specs.Pages.{AreFound}
+use Rattle.stm_watch.proofs.Entered.{entered_less}
 use Rattle.stm_watch.proofs.Placed.{watched_there}
 use Rattle.stm_watch.proofs.Standing.{watchings_set, stand_set}
 use Rattle.stm_watch.proofs.watchers.Watchers.cancel.Goals as goal
 
-pub remove-requires : goal.remove-requires
-remove-requires c =
-    (watched_of c.self.inside.slots, c.self.invariant, watched_there c.self.inside.slots (c.args.id - 1) (sym c.has.ensures ∙ c.if-not-has.false))
+pub remove-requires-2 : goal.remove-requires-2
+remove-requires-2 c =
+    (watched_of c.self.inside.slots, c.self.invariant.covers, watched_there c.self.inside.slots (c.args.id - 1) (sym c.has.ensures ∙ c.if-not-has.false))
 
 pub invariant_of-self : goal.invariant_of-self
 invariant_of-self c =
     let some = watched_there c.self.inside.slots (c.args.id - 1) (sym c.has.ensures ∙ c.if-not-has.false) in
-    subst (Covers c.remove.new.self)
-    (sym (ap watched_of c.remove-2.ensures ∙ map-set (option_map (λ (w : Watcher). w.watching.watched)) c.self.inside.slots (c.args.id - 1) None))
-    (c.remove.ensures (watched_of c.self.inside.slots) c.self.invariant some)
+    subst (AreFound c.remove-2.new.self c.remove.new.self)
+    (sym (ap watched_of c.remove-3.ensures ∙ map-set (option_map (λ (w : Watcher). w.watching.watched)) c.self.inside.slots (c.args.id - 1) None))
+    (record {
+      covers = c.remove-2.ensures (watched_of c.self.inside.slots) c.self.invariant.covers some;
+      entered = entered_less c.self.inside.ranges.pages.items c.remove.new.self.pages.items (watched_of c.self.inside.slots) (c.args.id - 1) c.remove.ensures some
+          c.self.invariant.entered;
+    })
 
 pub returns-clause-ok : goal.returns-clause-ok
 returns-clause-ok c =
-    ap watchings c.remove-2.ensures
+    ap watchings c.remove-3.ensures
     ∙ watchings_set c.self.inside.slots (c.args.id - 1) None ∙ ap (λ ws. cancelled c.args.id (watchings ws)) c.self.view_is
 
 pub returns-clause-stand : goal.returns-clause-stand
 returns-clause-stand c h stand =
-    subst (StandFor h) (sym c.remove-2.ensures) (stand_set h c.self.inside.slots (c.args.id - 1) None (subst (StandFor h) (sym c.self.view_is) stand) tt)
+    subst (StandFor h) (sym c.remove-3.ensures) (stand_set h c.self.inside.slots (c.args.id - 1) None (subst (StandFor h) (sym c.self.view_is) stand) tt)

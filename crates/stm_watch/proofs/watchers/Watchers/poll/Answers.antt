@@ -1,13 +1,13 @@
 use Rattle.std.proofs.Common.{◌-◌, ◌<◌, length, refl, subst, sym, arith, ne_eqb}
 use Rattle.stm_watch.specs.Calls.{poll, PollTells, StandFor, watchings}
-use Rattle.stm_watch.specs.Kept.{Covers}
+use Rattle.stm_watch.specs.Pages.{AreFound}
 use Rattle.stm_watch.proofs.Placed.{place_polled, place_stands, place_watched}
 use Rattle.stm_watch.proofs.watchers.Watchers.poll.Goals as goal
 
 pub invariant_of-self : goal.invariant_of-self
 invariant_of-self c =
     let there : c.args.id - 1 < length c.self.inside.slots = omega (arith, c.if-id-eq0.false, c.if-id-len.false, c.len.ensures) in
-    subst (Covers c.self.inside.index)
+    subst (AreFound c.self.inside.index c.self.inside.ranges)
     (sym (place_watched c.args.keys.now.history (c.args.id - 1) c.args.most c.self.inside.slots c.poll.new.self c.poll.result c.poll.ensures there))
     c.self.invariant
 

@@ -2,7 +2,8 @@ use Rattle.std.proofs.Common.{◌∙◌, ap, map, refl, subst, sym}
 use Rattle.stm_history.specs.History.{add_revision}
 use Rattle.stm_keys.specs.Events.{change_of_event}
 use Rattle.stm_watch.specs.Calls.{StandFor, watchings}
-use Rattle.stm_watch.specs.Kept.{Covers, watched_of}
+use Rattle.stm_watch.specs.Kept.{watched_of}
+use Rattle.stm_watch.specs.Pages.{AreFound}
 use Rattle.stm_watch.specs.Touch.{touch}
 use Rattle.stm_watch.proofs.Standing.{touched_same, touched_stand}
 use Rattle.stm_watch.proofs.Touching.{watched_touched}
@@ -10,7 +11,7 @@ use Rattle.stm_watch.proofs.watchers.Watchers.touched.Goals as goal
 
 pub invariant_of-self : goal.invariant_of-self
 invariant_of-self c =
-    subst (Covers c.self.inside.index) (sym (ap watched_of c.touch_all.ensures
+    subst (AreFound c.self.inside.index c.self.inside.ranges) (sym (ap watched_of c.touch_all.ensures
     ∙ watched_touched (touch c.args.revision (map change_of_event c.args.events.now)) c.self.inside.slots (λ w. refl))) c.self.invariant
 
 pub returns-clause-same : goal.returns-clause-same

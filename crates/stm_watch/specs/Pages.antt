@@ -1,0 +1,76 @@
+-- The pages of watchers of ranges, and what a change of a key makes of the watchers at some places. No public clause cites this module.
+use Rattle.std.specs.Prelude.{◌≡◌, ◌⊎◌, ℕ, true, List, [], ◌∷◌, Option, Some, None, slice_index_or}
+use Rattle.std.specs.Ordering.{nat_cmp, is_le}
+use Rattle.std.specs.Cmp.Lexicographic.{slice_cmp}
+use Rattle.stm_watch.specs.declared.index.Index.{Index}
+use Rattle.stm_watch.specs.declared.page.RangeEntry.{RangeEntry}
+use Rattle.stm_watch.specs.declared.page.Bounds.{Bounds}
+use Rattle.stm_watch.specs.declared.page.Page.{Page}
+use Rattle.stm_watch.specs.declared.ranges.Ranges.{Ranges}
+use Rattle.stm_watch.specs.declared.watched.Watched.{Watched}
+use Rattle.stm_watch.specs.declared.watched.Watched.TheVariants.{Key, Range}
+use Rattle.stm_watch.specs.declared.watched.Watcher.{Watcher}
+use Rattle.stm_watch.specs.Kept.{Covers}
+use Rattle.stm_watch.specs.Keys.{is_watched}
+use Rattle.stm_watch.specs.Touch.{touch_each}
+
+-- one of these is so
+abbrev pub IsAny : {A : Type 0} → (A → Type 0) → List A → Type 0
+IsAny is [] = ⊥
+IsAny is (x ∷ xs) = is x ⊎ IsAny is xs
+
+abbrev pub IsOneOf : {A : Type 0} → A → List A → Type 0
+IsOneOf x xs = IsAny (λ y. y ≡ x) xs
+
+-- ---- entries on pages
+
+abbrev pub entry_of : List ℕ → List ℕ → ℕ → RangeEntry
+entry_of first end place = record { first = first; end = end; place = place }
+
+-- the range is within bounds
+pub record IsWithin (e : RangeEntry) (bounds : Bounds) : Type 0 where
+  pub low : is_le (slice_cmp nat_cmp bounds.low e.first) ≡ true
+  pub high : is_le (slice_cmp nat_cmp e.end bounds.high) ≡ true
+
+-- the entry is on the page, and within its bounds
+pub record StandsOn (e : RangeEntry) (page : Page) : Type 0 where
+  pub within : IsWithin e page.bounds
+  pub there : IsOneOf e page.entries.items
+
+-- the entry is on one of these pages
+abbrev pub HasEntry : List Page → RangeEntry → Type 0
+HasEntry pages e = IsAny (StandsOn e) pages
+
+-- no entry is lost
+abbrev pub Keeps : List Page → List Page → Type 0
+Keeps old new = (e : RangeEntry) → HasEntry old e → HasEntry new e
+
+-- the watcher at a place has its entry, if it watches a range
+abbrev pub IsEntered : Watched → ℕ → List Page → Type 0
+IsEntered (Key key) place pages = Unit {0}
+IsEntered (Range first end) place pages = HasEntry pages (entry_of first end place)
+
+-- each watcher of a range has its entry
+abbrev pub AreEntered : List Page → List (Option Watched) → Type 0
+AreEntered pages ws = (i : ℕ) (w : Watched) → slice_index_or ws i None ≡ Some w → IsEntered w i pages
+
+-- all watchers are found by what they watch
+pub record AreFound (index : Index) (ranges : Ranges) (ws : List (Option Watched)) : Type 0 where
+  pub covers : Covers index ws
+  pub entered : AreEntered ranges.pages.items ws
+
+-- ---- who is touched
+
+-- the entry is of the watcher at this place, and its range has the key
+abbrev pub Reaches : List ℕ → ℕ → RangeEntry → Type 0
+Reaches key i e = (e.place ≡ i) × (is_watched (Range e.first e.end) key ≡ true)
+
+-- there is such an entry on a page
+abbrev pub ReachesOn : List ℕ → ℕ → Page → Type 0
+ReachesOn key i page = (e : RangeEntry) × StandsOn e page × Reaches key i e
+
+-- a change of a key was noted at some places, at these among them
+pub record IsTouched (revision : ℕ) (key : List ℕ) (at : ℕ → Type 0) (old new : List (Option Watcher)) : Type 0 where
+  pub places : List ℕ
+  pub done : new ≡ touch_each revision key places old
+  pub all : (i : ℕ) → at i → IsOneOf i places

@@ -1,0 +1,151 @@
+//! The watchers of ranges, on pages.
+ghost use Rattle.std.specs.Prelude.{◌≡◌, ◌≢◌, ◌≤◌, ◌<◌, ◌+◌, [], OnOk, IfOk};
+ghost use Rattle.std.specs.Vec.{vec_len};
+ghost use Rattle.stm_watch.specs.declared.page.RangeEntry.{RangeEntry as Entry};
+ghost use Rattle.stm_watch.specs.Pages.{HasEntry, IsEntered, Keeps};
+
+use crate::page::{Page, RangeEntry};
+use crate::watched::Watched;
+use std::alloc::{AllocError, Global};
+use stm_history::Text;
+
+/// Finds the watchers of the ranges that have a key. They are named by their places, as in an `Index`.
+///
+/// Pages stand in the order of the ranges' first keys, as the entries on each do. No contract says so: the order lets
+/// ranges that are near each other stand on one page, so that a key is in the bounds of few pages.
+#[derive(Drop)]
+pub(crate) struct Ranges {
+    pub pages: Vec<Page>,
+}
+
+impl Ranges {
+    /// No watchers.
+    pub(crate) fn new(alloc: Global) -> Ranges
+        ensures { result.pages.items ≡ [] }
+    {
+        Ranges {
+            pages: Vec::new(alloc),
+        }
+    }
+
+    /// The page on which the entry with this first key and place stands or would stand: the last one that begins with
+    /// it or before it, or else the first page.
+    fn page_of(&self, first: &Text, place: usize) -> usize
+        ensures { 0 < vec_len self.now.pages → result < vec_len self.now.pages }
+    {
+        let count = self
+            .pages
+            .as_slice()
+            .partition_point(|page| page.begins_by(first, place));
+        count.saturating_sub(1)
+    }
+
+    /// Splits a page in two, with the bounds that it had.
+    fn split_page(&mut self, at: usize) -> Result<(), AllocError>
+        requires { at < vec_len self.old.pages }
+        ensures kept { Keeps self.old.pages.items self.new.pages.items }
+        ensures more { vec_len self.old.pages ≤ vec_len self.new.pages }
+        ensures ok { OnOk result (at + 1 < vec_len self.new.pages) }
+    {
+        self.pages.reserve(1)?;
+        let upper = self.pages[at].split()?;
+        let Ok(()) = self.pages.insert(at + 1, upper) else {
+            unreachable!()
+        };
+        Ok(())
+    }
+
+    /// Tightens the bounds of a page.
+    fn tighten(&mut self, at: usize) -> Result<(), AllocError>
+        requires { at < vec_len self.old.pages }
+        ensures kept { Keeps self.old.pages.items self.new.pages.items }
+        ensures len { vec_len self.new.pages ≡ vec_len self.old.pages }
+    {
+        self.pages[at].tighten()
+    }
+
+    /// Splits a page in two, each with bounds of its own. Want of memory leaves no entry out.
+    fn split(&mut self, at: usize) -> Result<(), AllocError>
+        requires { at < vec_len self.old.pages }
+        ensures kept { Keeps self.old.pages.items self.new.pages.items }
+        ensures more { vec_len self.old.pages ≤ vec_len self.new.pages }
+    {
+        self.split_page(at)?;
+        self.tighten(at)?;
+        self.tighten(at + 1)?;
+        Ok(())
+    }
+
+    /// A page for an entry with this first key and place that is not full. Want of memory leaves no entry out.
+    fn make_room(&mut self, first: &Text, place: usize) -> Result<usize, AllocError>
+        requires { 0 < vec_len self.old.pages }
+        ensures kept { Keeps self.old.pages.items self.new.pages.items }
+        ensures ok { IfOk result (λ at. at < vec_len self.new.pages) }
+    {
+        let at = self.page_of(first, place);
+        if !self.pages[at].is_full() {
+            return Ok(at);
+        }
+        self.split(at)?;
+        Ok(self.page_of(first, place))
+    }
+
+    /// Adds the first page.
+    fn add_page(&mut self, entry: RangeEntry) -> Result<(), AllocError>
+        ensures kept { Keeps self.old.pages.items self.new.pages.items }
+        ensures ok { OnOk result (HasEntry self.new.pages.items entry) }
+    {
+        let page = Page::of(*self.pages.allocator(), entry)?;
+        self.pages.push(page)?;
+        Ok(())
+    }
+
+    /// Adds an entry. Want of memory leaves none out.
+    fn add_entry(&mut self, entry: RangeEntry) -> Result<(), AllocError>
+        ensures kept { Keeps self.old.pages.items self.new.pages.items }
+        ensures ok { OnOk result (HasEntry self.new.pages.items entry) }
+    {
+        if self.pages.is_empty() {
+            return self.add_page(entry);
+        }
+        let at = self.make_room(&entry.first, entry.place)?;
+        self.pages[at].add(entry)?;
+        Ok(())
+    }
+
+    /// Adds the watcher at a place, if it watches a range. Want of memory leaves no watcher out.
+    pub(crate) fn add(&mut self, watched: &Watched, place: usize) -> Result<(), AllocError>
+        ensures kept { Keeps self.old.pages.items self.new.pages.items }
+        ensures ok { OnOk result (IsEntered watched.now place self.new.pages.items) }
+    {
+        if let Watched::Range { first, end } = watched {
+            self.add_entry(RangeEntry::of(first, end, place)?)?;
+        }
+        Ok(())
+    }
+
+    /// Takes an entry off a page, and the page with the last one.
+    fn remove_from(&mut self, at: usize, first: &Text, place: usize)
+        requires { at < vec_len self.old.pages }
+        ensures { (e : Entry) → e.place ≢ place → HasEntry self.old.pages.items e → HasEntry self.new.pages.items e }
+    {
+        self.pages[at].remove(first, place);
+        if self.pages[at].is_empty() {
+            drop(self.pages.remove(at));
+        }
+    }
+
+    /// Takes the watcher at a place out, if it watches a range. It takes no memory.
+    pub(crate) fn remove(&mut self, watched: &Watched, place: usize)
+        ensures { (e : Entry) → e.place ≢ place → HasEntry self.old.pages.items e → HasEntry self.new.pages.items e }
+    {
+        let Watched::Range { first, .. } = watched else {
+            return;
+        };
+        if self.pages.is_empty() {
+            return;
+        }
+        let at = self.page_of(first, place);
+        self.remove_from(at, first, place);
+    }
+}

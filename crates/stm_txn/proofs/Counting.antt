@@ -1,14 +1,12 @@
 -- Whether a transaction changes something, found before it is made, and the revision that it then makes.
 use Rattle.std.proofs.Common.{◌≡◌, ◌∙◌, ℕ, ◌+◌, Bool, true, false, cond, List, [], ◌∷◌, ◌++◌, Option, Some, None, Result, Ok, Err, refl, sym, subst, arith}
-use Rattle.std.specs.Prelude.{IfOk, nat_lt}
-use Rattle.std.proofs.lemmas.Bool.{lt-ltb, le-ltb}
+use Rattle.std.specs.Prelude.{IfOk}
 use Rattle.stm_history.specs.declared.change.Change.{Change}
 use Rattle.stm_history.specs.declared.change.Change.TheVariants.{Put as PutChange, Del as DelChange}
 use Rattle.stm_history.specs.History.{History, now, key_now}
 use Rattle.stm_leases.specs.Live.{is_live_in}
 use Rattle.stm_txn.specs.declared.answer.FailedCompare.{FailedCompare}
 use Rattle.stm_txn.specs.declared.answer.OpAnswer.{OpAnswer}
-use Rattle.stm_txn.specs.declared.answer.TxnAnswer.{TxnAnswer}
 use Rattle.stm_txn.specs.declared.refusal.Refusal.{Refusal}
 use Rattle.stm_txn.specs.declared.refusal.Refusal.TheVariants.{RevisionsUsedUp}
 use Rattle.stm_txn.specs.declared.txn.Op.{Op}
@@ -20,7 +18,7 @@ use Rattle.stm_txn.specs.Branches.{Progress, begun, with_change, with_change_mad
 use Rattle.stm_txn.specs.Branches.{answers_after, branch_refusal, has_changes}
 use Rattle.stm_txn.specs.LookUps.{with_copied, changes_copied}
 use Rattle.stm_txn.specs.Outcome.{Done, chosen, with_changes, is_used_up, answer_of, unless, outcome, would_change}
-use Rattle.stm_txn.specs.Standing.{Standing, Step, step_of, transacted}
+use Rattle.stm_txn.specs.Standing.{Standing, step_of, transacted}
 use Rattle.stm_txn.proofs.Branching.{stays_changed}
 
 -- ---- by the look-up, also where operations clash: the first change decides
@@ -86,15 +84,3 @@ pub told_revision : (s : Standing) (txn : Txn) (told : Bool) → told ≡ would_
 told_revision s txn told is =
     subst (λ (b : Bool). IfOk (transacted s txn) (λ step. now step.next.history ≡ now s.history + cond b 1 0)) (sym is)
     (step_higher s (cond (would_change s.history txn) 1 0) (outcome s.history (is_live_in s.live) txn) (outcome_higher s.history (is_live_in s.live) txn))
-
-above_by : (n m : ℕ) (b : Bool) → m ≡ n + cond b 1 0 → nat_lt n m ≡ b
-above_by n m true is = lt-ltb n m (omega (arith, is))
-above_by n m false is = le-ltb n m (omega (arith, is))
-
--- a transaction that the store takes leads to a higher counter exactly where it would change something
-pub leads_higher : (s next : Standing) (txn : Txn) (answer : TxnAnswer) → transacted s txn ≡ Ok record { answer = answer; next = next } →
-    nat_lt (now s.history) (now next.history) ≡ would_change s.history txn
-leads_higher s next txn answer is =
-    above_by (now s.history) (now next.history) (would_change s.history txn)
-    (subst (λ (o : Result (Step TxnAnswer) Refusal). IfOk o (λ step. now step.next.history ≡ now s.history + cond (would_change s.history txn) 1 0)) is
-    (told_revision s txn (would_change s.history txn) refl))

@@ -1,7 +1,9 @@
 //! The events that are calls of the store. Each is an entry where it is one.
 //!
 //! Room for the entries is made before the call, so that a call that the store took is never without them.
-ghost use Rattle.std.specs.Prelude.{◌≡◌, ◌+◌, ◌<◌, ◌≤◌, ◌++◌, ◌∷◌, [], if◌then◌else◌, nat_lt, length, vec_len, vec_capacity, IfOk, OnOk};
+ghost use Rattle.std.specs.Prelude.{◌≡◌, ◌+◌, ◌<◌, ◌≤◌, ◌++◌, ◌∷◌, [], if◌then◌else◌, length, vec_len, vec_capacity, false, Some, None, IfSome, IsOk, IfOk};
+ghost use Rattle.std.specs.Option.{option_map_or};
+ghost use Rattle.stm_txn.specs.Outcome.{would_change};
 ghost use Rattle.stm_txn.specs.Standing.{kept_alive, refusal_of};
 ghost use Rattle.stm_entries.specs.declared.entry.Entry.TheVariants.{Foreign};
 ghost use Rattle.stm_world.specs.declared.event.WorldEvent.TheVariants.{Txn as TxnEvent, Grant as GrantEvent, Keep as KeepEvent, Revoke as RevokeEvent, Advance as AdvanceEvent};
@@ -33,22 +35,32 @@ fn refuse_or_want(alloc: Global, cause: Option<StoreRefusal>) -> Result<Reply, D
     }
 }
 
-/// Makes room for the entry of a transaction, and the copy that the entry keeps.
-fn prepare_txn(entries: &mut Vec<Entry>, txn: &Txn) -> Result<Txn, AllocError>
-    ensures copy { IfOk result (λ copy. copy ≡ txn.now) }
-    ensures room { OnOk result (vec_len entries.new < vec_capacity entries.new) }
+/// Makes room for the entry of a transaction, and the copy that the entry keeps. One that would change nothing is no entry,
+/// and takes no memory here.
+fn prepare_txn(
+    store: &Store,
+    entries: &mut Vec<Entry>,
+    txn: &Txn,
+) -> Result<Option<Txn>, AllocError>
+    ensures copy { IfOk result (λ copy. copy ≡ (if would_change store.now.standing.history txn.now then Some txn.now else None)) }
+    ensures room { IfOk result (λ copy. IfSome copy (λ _. vec_len entries.new < vec_capacity entries.new)) }
     ensures same { entries.new.items ≡ entries.old.items }
+    ensures no_growth { would_change store.now.standing.history txn.now ≡ false → IsOk result × (entries.new ≡ entries.old) }
 {
+    if !store.would_change(txn) {
+        return Ok(None);
+    }
     entries.reserve(1)?;
-    txn.clone()
+    let copy = txn.clone()?;
+    Ok(Some(copy))
 }
 
-/// Enters a transaction, if it led from one revision to another.
-fn enter_txn(entries: &mut Vec<Entry>, before: u64, after: u64, txn: Txn)
-    requires { vec_len entries.old < vec_capacity entries.old }
-    ensures { entries.new.items ≡ entries.old.items ++ (if nat_lt before after then Foreign txn ∷ [] else []) }
+/// Enters a transaction that was made, where it changed something.
+fn enter_txn(entries: &mut Vec<Entry>, copy: Option<Txn>)
+    requires { IfSome copy (λ _. vec_len entries.old < vec_capacity entries.old) }
+    ensures { entries.new.items ≡ entries.old.items ++ option_map_or (λ txn. Foreign txn ∷ []) copy [] }
 {
-    if before < after {
+    if let Some(txn) = copy {
         entries.push_reserved(Entry::Foreign { txn });
     }
 }
@@ -62,13 +74,12 @@ pub(crate) fn make_txn(
 ) -> Result<Reply, Denied>
     ensures { CallTells (TxnEvent txn.now) result store.old.standing entries.old.items store.new.standing entries.new.items }
 {
-    let Ok(copy) = prepare_txn(entries, txn) else {
+    let Ok(copy) = prepare_txn(store, entries, txn) else {
         return refuse_or_want(alloc, store.txn_refusal(txn));
     };
-    let before = store.keys().revision();
     match store.txn(txn) {
         Ok(answer) => {
-            enter_txn(entries, before, store.keys().revision(), copy);
+            enter_txn(entries, copy);
             Ok(Reply::Txn { answer })
         }
         Err(cause) => refuse(alloc, cause),

@@ -17,7 +17,7 @@ use Rattle.stm_txn.specs.LookUps.{copy, change_copied, with_copied, changes_copi
 use Rattle.stm_txn.specs.Effect.{op_of, changes_something}
 
 -- a branch that has changed something has done so to its end
-stays_changed : (h : History) (c : Change) (cs : List Change) (ops : List Op) → has_changes (changes_copied h (c ∷ cs) ops) ≡ true
+pub stays_changed : (h : History) (c : Change) (cs : List Change) (ops : List Op) → has_changes (changes_copied h (c ∷ cs) ops) ≡ true
 stays_changed h c cs [] = refl
 stays_changed h c cs (op ∷ ops) =
     elim (change_copied h (c ∷ cs) op) as (λ m. has_changes (changes_copied h (with_copied (c ∷ cs) m) ops) ≡ true) [

@@ -7,6 +7,7 @@ pub mod Naming
 pub mod Ending
 pub mod Coming
 pub mod Refusing
+pub mod Counting
 pub mod Advancing
 pub mod Applying
 pub mod Writing

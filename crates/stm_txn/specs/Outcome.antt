@@ -12,7 +12,7 @@ use Rattle.stm_txn.specs.declared.refusal.Refusal.{Refusal}
 use Rattle.stm_txn.specs.declared.refusal.Refusal.TheVariants.{RevisionsUsedUp}
 use Rattle.stm_txn.specs.Compares.{first_failed}
 use Rattle.stm_txn.specs.Checks.{fault_of}
-use Rattle.stm_txn.specs.Branches.{begun, changes_of_branch, answers_after, branch_refusal}
+use Rattle.stm_txn.specs.Branches.{begun, changes_of_branch, has_changes, answers_after, branch_refusal}
 
 -- what a transaction that is not refused comes to
 pub record Done : Type 0 where
@@ -23,6 +23,11 @@ pub record Done : Type 0 where
 abbrev pub chosen : Option FailedCompare → Txn → List Op
 chosen None txn = txn.success
 chosen (Some failed) txn = txn.failure
+
+-- A transaction would change something: the branch that its compares pick puts a key, or deletes one that is present,
+-- whether anything refuses it or not.
+abbrev pub would_change : History → Txn → Bool
+would_change h txn = has_changes (changes_of_branch h (chosen (first_failed (key_now h) 0 txn.compares) txn))
 
 -- changes, if there are any, are one new revision
 abbrev pub with_changes : History → List Change → History

@@ -1,5 +1,5 @@
 //! The store.
-ghost use Rattle.std.specs.Prelude.{◌≡◌, ◌<◌, ◌≤◌, ℕ, List, [], ◌∷◌, ◌++◌, length, IfOk, IfErr, IfSome, OnOk, OnErr, IsOkUnless};
+ghost use Rattle.std.specs.Prelude.{◌≡◌, ◌+◌, ◌<◌, ◌≤◌, ℕ, List, [], ◌∷◌, ◌++◌, length, if◌then◌else◌, IfOk, IfErr, IfSome, OnOk, OnErr, IsOkUnless};
 ghost use Rattle.std.specs.Prelude.{map, string_bytes, Ok, Err, None, Some, true, false};
 ghost use Rattle.std.specs.FinMap as finmap;
 ghost use Rattle.stm_history.specs.declared.revisions.TheConstants.{HIGHEST_REVISION, HIGHEST_NUMBER};
@@ -13,7 +13,7 @@ ghost use Rattle.stm_leases.specs.Live.{is_live_in, AreInRange};
 ghost use Rattle.stm_leases.specs.DueFirst.{first_due};
 ghost use Rattle.stm_txn.specs.Branches.{branch_refusal};
 ghost use Rattle.stm_txn.specs.LookUps.{changes_copied, answers_copied, outcome_copied};
-ghost use Rattle.stm_txn.specs.Outcome.{is_used_up, chosen};
+ghost use Rattle.stm_txn.specs.Outcome.{is_used_up, chosen, would_change};
 ghost use Rattle.stm_txn.specs.Grants.{grant_refusal_of, grant_told};
 ghost use Rattle.stm_txn.specs.WatchTold.{watch_told, poll_told};
 
@@ -85,6 +85,14 @@ pub(crate) fn choose(txn: &Txn, failed: Option<FailedCompare>) -> &[Op]
         None => txn.success.as_slice(),
         Some(_) => txn.failure.as_slice(),
     }
+}
+
+/// Whether the branch that the compares pick would change something.
+fn would_change(keys: &Keys, txn: &Txn) -> bool
+    ensures { result ≡ would_change keys.now.history txn.now }
+{
+    let failed = find_failed(txn.compares.as_slice(), keys);
+    makes_changes(keys, choose(txn, failed))
 }
 
 /// Why a grant is refused.
@@ -649,6 +657,18 @@ impl Store {
         ensures { result ≡ refusal_of (transacted self.now.standing txn.now) }
     {
         find_txn_refusal(&self.keys, &self.leases, txn)
+    }
+
+    /// Whether a transaction would change something now: whether the branch that its compares pick puts a key, or
+    /// deletes one that is present. It takes no memory.
+    ///
+    /// A transaction that the store takes makes one revision where this is so, and none where it is not. It may be so
+    /// of one that is refused, too, which then changes nothing.
+    pub fn would_change(&self, txn: &Txn) -> bool
+        ensures branch { result ≡ would_change self.now.standing.history txn.now }
+        ensures revision { IfOk (transacted self.now.standing txn.now) (λ step. now step.next.history ≡ now self.now.standing.history + (if result then 1 else 0)) }
+    {
+        would_change(&self.keys, txn)
     }
 
     /// Why a grant would be refused now, other than for want of memory. It takes no memory.

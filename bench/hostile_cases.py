@@ -65,8 +65,8 @@ def add_history(scenario, count, end=False):
 
 
 def loops(turns, body):
-    """So many turns of a body, in a loop of loops: 1 + 9 turns of the two of them run the body nine times."""
-    return ["for", 0, turns // 10, 1000, [["for", 1, 9, 9, body]]]
+    """So many turns of a loop in a loop, nine in ten of which run a body. The loops have the last two variables."""
+    return ["for", 14, turns // 10, 1000, [["for", 15, 9, 9, body]]]
 
 
 # watchers
@@ -265,7 +265,7 @@ def refused_lists(part):
     return scenario.text()
 
 
-@case(command="check")
+@case()
 def distinct_keys(part):
     """742,000 keys in no order, all present at the end, which are listed in theirs."""
     scenario = Scenario()
@@ -301,6 +301,66 @@ def gets_of_a_long_value(part):
     scenario = Scenario()
     scenario.add(txn(put("v", "x" * 1000000)))
     scenario.add(*[txn(["get", "v", 0])] * int(10000 * part))
+    return scenario.text()
+
+
+class FoldedHash:
+    """The hash of the tables of keys, over blocks of 16 bytes: each is folded into the state by a product of two factors, which may change places."""
+
+    MASK = 2**64 - 1
+    MULTIPLIER = 0x9E3779B97F4A7C15
+    START = 0x243F6A8885A308D3
+    HIGH_BITS = 0x8080808080808080
+    PLAIN = [byte for byte in range(0x20, 0x7F) if byte not in b'"\\']
+
+    def __init__(self, length):
+        self.state = (self.START + length) & self.MASK
+
+    def after(self, block):
+        """The state behind a block."""
+        front, back = int.from_bytes(block[:8], "little"), int.from_bytes(block[8:], "little")
+        product = (front ^ self.state) * (back ^ self.MULTIPLIER)
+        return product & self.MASK ^ product >> 64
+
+    def twin(self, block):
+        """The block whose factors are those of a block, the other way round."""
+        apart = (self.state ^ self.MULTIPLIER).to_bytes(8, "little")
+        return bytes(byte ^ other for byte, other in zip(block[8:] + block[:8], apart + apart))
+
+    def next_pair(self):
+        """A block and its twin, both of plain letters, behind which there is such a pair again."""
+        apart = (self.state ^ self.MULTIPLIER).to_bytes(8, "little") * 2
+        letters = [[byte for byte in self.PLAIN if byte ^ other in self.PLAIN] for other in apart]
+        trial = 0
+        while True:
+            trial += 1
+            block = bytes(choice[trial * (3 + place) // 7 % len(choice)] for place, choice in enumerate(letters))
+            state = self.after(block)
+            if block != self.twin(block) and not (state ^ self.MULTIPLIER) & self.HIGH_BITS:
+                pair = block, self.twin(block)
+                self.state = state
+                return pair
+
+
+def colliding_texts(count):
+    """So many texts of one hash: a block behind which there is a pair of blocks, one of each of 16 pairs, and an end."""
+    folded = FoldedHash(18 * 16)
+    number = 0
+    while (folded.after(f"{number:016}".encode()) ^ folded.MULTIPLIER) & folded.HIGH_BITS:
+        number += 1
+    front = f"{number:016}".encode()
+    folded.state = folded.after(front)
+    pairs = [folded.next_pair() for _ in range(16)]
+    return [(front + b"".join(pair[number >> place & 1] for place, pair in enumerate(pairs)) + b"0" * 16).decode() for number in range(count)]
+
+
+@case()
+def colliding_keys(part):
+    """55,000 keys whose texts have one hash in the tables of keys."""
+    keys = colliding_texts(int(55000 * part))
+    scenario = Scenario()
+    for number in range(0, len(keys), 100):
+        scenario.add(txn(*(put(key) for key in keys[number : number + 100])))
     return scenario.text()
 
 
@@ -365,7 +425,7 @@ def attempts_of_a_long_program(part):
 @case(command="check")
 def reads_of_one_runner(part):
     """A program that fetches 8,900 keys, one a step."""
-    key = ["cat", ["text_of", ["var", 0]], ["cat", "-", ["text_of", ["var", 1]]]]
+    key = ["cat", ["text_of", ["var", 14]], ["cat", "-", ["text_of", ["var", 15]]]]
     scenario = Scenario()
     scenario.add(["start", "ReadCommitted", 1, [loops(9900, [["set", 2, ["get", key]]])]])
     scenario.add(*[["step", 1]] * int(8911 * part))
@@ -450,7 +510,7 @@ def writes_of_one_key(part):
     return scenario.text()
 
 
-@case(statuses=(0, 3))
+@case(statuses=(3,))
 def long_texts_put_out(part):
     """One step that puts out 9 million texts of 65,536 bytes: the report would have 590 gigabytes."""
     program = [["set", 0, "x" * 1024]] + [["set", 0, ["cat", ["var", 0], ["var", 0]]]] * 6

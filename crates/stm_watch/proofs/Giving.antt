@@ -1,10 +1,10 @@
 -- The batch of a poll, one revision after the other.
-use Rattle.std.proofs.Common.{◌≡◌, ℕ, ◌+◌, ◌≤◌, max, Bool, false, cond}
-use Rattle.std.proofs.Common.{List, [], ◌∷◌, ◌++◌, length, take, refl, sym, ◌∙◌, ap, arith}
+use Rattle.std.proofs.Common.{◌≡◌, ℕ, ◌+◌, ◌≤◌, max, Bool, true, false, cond}
+use Rattle.std.proofs.Common.{suc, List, [], ◌∷◌, ◌++◌, length, take, refl, sym, ◌∙◌, ap, arith}
 use Rattle.std.proofs.Common.{append-nil, append_assoc, length-append, take_all}
 use Rattle.std.specs.Prelude.{nat_le}
 use Rattle.std.proofs.Math.Nat.{le-max_right}
-use Rattle.std.proofs.lemmas.Bool.{le-leb}
+use Rattle.std.proofs.lemmas.Bool.{le-leb, lt-leb}
 use Rattle.std.proofs.lemmas.Grind.{flat_map-append}
 use Rattle.stm_history.specs.History.{History, now}
 use Rattle.stm_keys.specs.declared.event.Event.{Event}
@@ -41,7 +41,7 @@ one_more all above seen count upto events more t so_far next joined =
 
 -- ---- the batch that is made of what is pending
 
-abbrev batch : List Event → ℕ → Batch
+abbrev pub batch : List Event → ℕ → Batch
 batch events upto = record { events = events; upto = upto }
 
 abbrev made : ℕ → ℕ → ℕ → List Told → Batch
@@ -78,3 +78,28 @@ pub no_more : (most : ℕ) (h : History) (w : Watching) (count : ℕ) (events : 
 no_more most h w count events upto so_far room none =
     ap (λ (b : Batch). is_some_told (above_of h w b.upto)) (whole_batch most h w count events upto so_far room none)
     ∙ ap is_some_told (nothing_above h.opening (max w.seen (now h)) w.watched h.revisions (le-max_right w.seen (now h)))
+
+-- ---- a poll that need not look
+
+none_told : (ts : List Told) → is_some_told ts ≡ false → ts ≡ []
+none_told [] none = refl
+none_told (t ∷ ts) none = absurd (cc)
+
+nothing_given : (h : History) (w : Watching) → AreGiven (pending h w) (above_of h w) w.seen 0 [] w.seen
+nothing_given h w = ([], refl, refl, refl, refl)
+
+-- where nothing is pending, nothing is after a poll
+pub idle_stays : (most : ℕ) (h : History) (w : Watching) → is_pending h w ≡ false → is_pending h (after_poll most h w) ≡ false
+idle_stays most h w idle = no_more most h w 0 [] w.seen (nothing_given h w) (omega arith) (none_told (pending h w) idle)
+
+made_of_none : (seen counter : ℕ) (ts : List Told) → is_some_told ts ≡ true → made 0 seen counter ts ≡ batch [] seen
+made_of_none seen counter [] some = absurd (cc)
+made_of_none seen counter (t ∷ ts) some =
+    ap (λ (b : Bool). batch [] (cond b (max seen counter) seen)) (lt-leb (suc (length ts)) 0 (omega arith))
+
+-- where something is pending, the batch of no revisions tells up to what was seen
+pub batch_of_none : (h : History) (w : Watching) → is_pending h w ≡ true → batch_of 0 h w ≡ batch [] w.seen
+batch_of_none h w some = made_of_none w.seen (now h) (pending h w) some
+
+pub ready_stays : (h : History) (w : Watching) → is_pending h w ≡ true → is_pending h (after_poll 0 h w) ≡ true
+ready_stays h w some = ap (λ (b : Batch). is_some_told (above_of h w b.upto)) (batch_of_none h w some) ∙ some

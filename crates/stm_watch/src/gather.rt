@@ -1,9 +1,9 @@
 //! The batch of a poll.
-ghost use Rattle.std.specs.Prelude.{◌≡◌, false, IfOk};
+ghost use Rattle.std.specs.Prelude.{◌≡◌, ℕ, true, false, IfOk};
 ghost use Rattle.stm_watch.specs.Pending.{batch_of, after_poll, is_pending};
 
 use crate::told::{next_number, next_told};
-use crate::watched::Watching;
+use crate::watched::{Watcher, Watching};
 use crate::watchers::Batch;
 use std::alloc::{AllocError, Global};
 use stm_keys::{Event, Keys, Sequence};
@@ -32,8 +32,8 @@ impl Gathered {
     }
 }
 
-/// The pending events of at most so many revisions.
-pub(crate) fn gather(
+/// The pending events of at most so many revisions, which are looked for from the last one that was seen.
+fn gather(
     alloc: Global,
     keys: &Keys,
     watching: &Watching,
@@ -63,4 +63,50 @@ pub(crate) fn gather(
         batch: Batch { events, upto },
         more: true,
     })
+}
+
+/// The batch of a watcher for which nothing is pending.
+fn gather_nothing(alloc: Global, keys: &Keys, watching: &Watching) -> Gathered
+    requires { is_pending keys.now.history watching.now ≡ false }
+    ensures batch { (most : ℕ) → result.batch ≡ batch_of most keys.now.history watching.now }
+    ensures more { (most : ℕ) → result.more ≡ is_pending keys.now.history (after_poll most keys.now.history watching.now) }
+{
+    Gathered::all(Vec::new(alloc), watching.seen.max(keys.revision()))
+}
+
+/// The pending events of no revisions, for a watcher that has some.
+fn gather_none(alloc: Global, keys: &Keys, watching: &Watching) -> Gathered
+    requires { is_pending keys.now.history watching.now ≡ true }
+    ensures batch { result.batch ≡ batch_of 0 keys.now.history watching.now }
+    ensures more { result.more ≡ is_pending keys.now.history (after_poll 0 keys.now.history watching.now) }
+{
+    let _counter = keys.revision();
+    Gathered {
+        batch: Batch {
+            events: Sequence::new(alloc),
+            upto: watching.seen,
+        },
+        more: true,
+    }
+}
+
+/// The pending events of at most so many revisions. The revisions are looked at only where some are pending and wanted,
+/// so a watcher that idles costs no more than one step.
+pub(crate) fn gather_for(
+    alloc: Global,
+    keys: &Keys,
+    watcher: &Watcher,
+    most: u64,
+) -> Result<Gathered, AllocError>
+    requires { watcher.now.ready ≡ is_pending keys.now.history watcher.now.watching }
+    ensures batch { IfOk result (λ g. g.batch ≡ batch_of most keys.now.history watcher.now.watching) }
+    ensures more { IfOk result (λ g. g.more ≡ is_pending keys.now.history (after_poll most keys.now.history watcher.now.watching)) }
+{
+    if !watcher.ready {
+        return Ok(gather_nothing(alloc, keys, &watcher.watching));
+    }
+    if most == 0 {
+        return Ok(gather_none(alloc, keys, &watcher.watching));
+    }
+    gather(alloc, keys, &watcher.watching, most)
 }

@@ -2,10 +2,10 @@
 ghost use Rattle.std.specs.Prelude.{◌≡◌, ◌<◌, ◌++◌, [], ◌∷◌, Some, None, IfOk, OnOk, OnErr, IsSome, is_some, true, option_map, slice_set, slice_index_or, length};
 ghost use Rattle.stm_watch.specs.Kept.{watched_of};
 ghost use Rattle.stm_watch.specs.Touch.{wants, touch_at};
-ghost use Rattle.stm_watch.specs.Calls.{is_ready, IsNextReady};
+ghost use Rattle.stm_watch.specs.Calls.{Stands, is_ready, IsNextReady};
 ghost use Rattle.stm_watch.specs.Slots.{SlotPolls, PlacePolls, made_ready};
 
-use crate::gather::{Gathered, gather};
+use crate::gather::{Gathered, gather_for};
 use crate::readiness::Readiness;
 use crate::refusal::PollRefusal;
 use crate::watched::{Watched, Watcher};
@@ -58,12 +58,13 @@ pub(crate) fn poll_slot(
     keys: &Keys,
     most: u64,
 ) -> Result<Batch, PollRefusal>
+    requires { Stands keys.now.history slot.old }
     ensures { SlotPolls keys.now.history most slot.old result slot.new }
 {
     let Some(watcher) = slot else {
         return Err(PollRefusal::NoWatcher);
     };
-    let Gathered { batch, more } = gather(alloc, keys, &watcher.watching, most)?;
+    let Gathered { batch, more } = gather_for(alloc, keys, watcher, most)?;
     watcher.watching.seen = batch.upto;
     watcher.ready = more;
     Ok(batch)
@@ -184,7 +185,8 @@ impl Slots {
         keys: &Keys,
         most: u64,
     ) -> Result<Batch, PollRefusal>
-        requires { index < length self.old }
+        requires there { index < length self.old }
+        requires stands { Stands keys.now.history (slice_index_or self.old index None) }
         ensures { PlacePolls keys.now.history most index self.old result self.new }
     {
         let alloc = *self.watchers.allocator();

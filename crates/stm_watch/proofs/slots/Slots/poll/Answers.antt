@@ -8,7 +8,7 @@ use Rattle.stm_watch.proofs.slots.Slots.poll.Goals as goal
 
 pub invariant_of-self-2 : goal.invariant_of-self-2
 invariant_of-self-2 c =
-    let there : c.args.index < length c.self.inside.watchers.items = subst (λ ws. c.args.index < length ws) (sym c.self.view_is) c.requires in
+    let there : c.args.index < length c.self.inside.watchers.items = subst (λ ws. c.args.index < length ws) (sym c.self.view_is) c.requires.there in
     let slot : Option Watcher = c.poll_slot.new.slot in
     let read : c.index.result.now ≡ slot =
     c.index.ensures ∙ get_or-set_same c.self.inside.watchers.items c.args.index slot c.index.result.now there in

@@ -1,9 +1,9 @@
 -- Laws of reports.
-use Rattle.std.specs.Prelude.{◌≡◌, ℕ, List, [], Result, Ok, unwrap_or}
+use Rattle.std.specs.Prelude.{◌≡◌, ℕ, List, Result, Ok, unwrap_or}
 use Rattle.stm_world.specs.declared.reply.Reply.{Reply}
 use Rattle.stm_world.specs.declared.refusal.Denied.{Denied}
 use Rattle.stm_world.specs.World.{World}
-use Rattle.stm_world.specs.Headline.{Holds, logged}
+use Rattle.stm_world.specs.Headline.{Holds}
 use Rattle.stm_texts.specs.declared.scenario.Scenario.{Scenario}
 use Rattle.stm_texts.specs.Reading.{scenario_in}
 use Rattle.stm_report.specs.Report.{IsReport}
@@ -13,12 +13,12 @@ use Rattle.stm_report.specs.Script.{IsReportOf}
 abbrev pub OneReport : Type 0
 OneReport = (w : World) (replies : List (Result Reply Denied)) (a b : List ℕ) → IsReport w replies a → IsReport w replies b → a ≡ b
 
--- A text is the report of a run of a scenario's events of which the headline holds.
+-- A text is the report of a run of a scenario's events, each with its reply, of which the headline holds.
 pub record IsOfRightRun (s : Scenario) (text : List ℕ) : Type 0 where
   pub replies : List (Result Reply Denied)
   pub world : World
   pub report : IsReport world replies text
-  pub holds : Holds (unwrap_or s.opening 1) (logged s.events replies []) world
+  pub holds : Holds (unwrap_or s.opening 1) s.events replies world
 
 -- What a script writes for bytes that spell a scenario is the report of such a run.
 abbrev pub ReportsAreOfRightRuns : Type 0

@@ -25,7 +25,7 @@ use Rattle.stm_world.specs.Told.{denied, reply_to, store_after_call, advance_rep
 use Rattle.stm_world.specs.World.{World, Slot, step, if_changed, expiries}
 use Rattle.stm_retry.specs.Tells.{IsStep, WantTells, StoreRefusalTells, Tells}
 use Rattle.stm_retry.specs.CallTells.{world_of, CallTells, or_want}
-use Rattle.stm_retry.proofs.Wants.{NeverWants, NoWant, transacted_never, advanced_never}
+use Rattle.stm_world.proofs.Wants.{NeverWants, NoWant, transacted_never, advanced_never}
 
 -- ---- refusals ----
 

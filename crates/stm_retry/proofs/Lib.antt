@@ -1,4 +1,3 @@
-pub mod Wants
 pub mod CallLemmas
 pub mod WatchCalls
 pub mod RunnerLemmas

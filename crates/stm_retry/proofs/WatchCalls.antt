@@ -1,13 +1,8 @@
 -- What the events about watchers tell and leave.
-use Rattle.std.proofs.Common.{◌≡◌, ◌∙◌, ℕ, List, [], Option, Some, None, Result, Ok, Err, Bool, true, false, cond, refl, sym, ap, subst, length}
-use Rattle.std.specs.Prelude.{IsOk, nat_eq}
-use Rattle.stm_watch.specs.declared.watched.Watched.{Watched}
-use Rattle.stm_watch.specs.declared.watched.Watching.{Watching}
-use Rattle.stm_watch.specs.declared.refusal.WatchRefusal.TheVariants.{EmptyKey as EmptyKeyWatched}
-use Rattle.stm_watch.specs.Keys.{first_key}
-use Rattle.stm_watch.specs.Calls.{Step as WatchStep, watcher_at, poll_found}
+use Rattle.std.proofs.Common.{◌≡◌, ◌∙◌, List, [], Result, Ok, Err, refl, sym, ap, subst}
+use Rattle.std.specs.Prelude.{IsOk}
 use Rattle.stm_txn.specs.declared.refusal.Refusal.{Refusal as StoreRefusal}
-use Rattle.stm_txn.specs.Standing.{Standing, Step as StoreStep, IsRefusalOf, watch_step, poll_step, cancel_step, watched, polled, cancelled}
+use Rattle.stm_txn.specs.Standing.{Standing, Step as StoreStep, IsRefusalOf}
 use Rattle.stm_entries.specs.declared.entry.Entry.{Entry}
 use Rattle.stm_world.specs.declared.event.WorldEvent.{WorldEvent}
 use Rattle.stm_world.specs.declared.reply.Reply.{Reply}
@@ -17,31 +12,8 @@ use Rattle.stm_world.specs.Told.{denied, reply_to, store_after_call}
 use Rattle.stm_world.specs.World.{Slot, Stepped, step, watch_called}
 use Rattle.stm_retry.specs.Tells.{WantTells, Tells}
 use Rattle.stm_retry.specs.CallTells.{world_of, WatchTells}
-use Rattle.stm_retry.proofs.Wants.{NeverWants}
+use Rattle.stm_world.proofs.Wants.{NeverWants}
 use Rattle.stm_retry.proofs.CallLemmas.{refusal_tells}
-
--- ---- never for want of memory ----
-
-watched_by : (s : Standing) (empty : Bool) (next : WatchStep ℕ) → NeverWants (watch_step s (cond empty (Err EmptyKeyWatched) (Ok next)))
-watched_by s true next = λ e. absurd (cc)
-watched_by s false next = tt
-
-pub watched_never : (s : Standing) (w : Watched) (from : ℕ) → NeverWants (watched s w from)
-watched_never s w from = watched_by s (nat_eq (length (first_key w)) 0) _
-
-polled_by : (s : Standing) (id most : ℕ) (found : Option Watching) → NeverWants (poll_step s (poll_found s.history id most s.watchers found))
-polled_by s id most None = λ e. absurd (cc)
-polled_by s id most (Some w) = tt
-
-pub polled_never : (s : Standing) (id most : ℕ) → NeverWants (polled s id most)
-polled_never s id most = polled_by s id most (watcher_at id s.watchers)
-
-cancelled_by : (s : Standing) (id : ℕ) (found : Option Watching) → NeverWants (cancel_step s id found)
-cancelled_by s id None = λ e. absurd (cc)
-cancelled_by s id (Some w) = tt
-
-pub cancelled_never : (s : Standing) (id : ℕ) → NeverWants (cancelled s id)
-cancelled_never s id = cancelled_by s id (watcher_at id s.watchers)
 
 -- ---- what is told ----
 

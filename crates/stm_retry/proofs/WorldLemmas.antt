@@ -36,13 +36,13 @@ use Rattle.stm_world.specs.declared.refusal.Denied.{Denied}
 use Rattle.stm_world.specs.Task.{Task}
 use Rattle.stm_world.specs.World.{World, Runner, Stepped, runner_at, refused, start_runner, fetch, seen_in, fail_commit, decided, commit_told, commit, finish}
 use Rattle.stm_world.specs.World.{step_on, step_live, step_runner}
-use Rattle.stm_world.specs.World.{opened, step, world_after, replies_to}
+use Rattle.stm_world.specs.World.{step, world_after, replies_to}
 use Rattle.stm_world.specs.Sound.{IsSound}
-use Rattle.stm_world.specs.Headline.{Holds, logged}
+use Rattle.stm_world.specs.Headline.{Holds}
 use Rattle.stm_compile.proofs.AgreeLemmas.{commit_is_the_run_now}
 use Rattle.stm_compile.proofs.ConflictLemmas.{failed_compares_conflict}
 use Rattle.stm_world.proofs.RunnerSteps.{CommitLaws}
-use Rattle.stm_world.proofs.Headlines.{headline}
+use Rattle.stm_world.proofs.GoingOn.{headline_goes_on}
 use Rattle.stm_world.proofs.Sound.{step_is_sound, expiries_are_sound}
 use Rattle.stm_retry.specs.MachineTells.{Tells as MachineTells, as_reply}
 use Rattle.stm_retry.specs.Tells.{IsStep, IsUnchanged, IsCutShort, WantTells, WantTellsAt, IsRunStop, StoreRefusalTells, RefusalTells, Tells}
@@ -272,11 +272,20 @@ stops_at events i e w new start reply within is reached want told =
     (sym (slice_get-get_or events i e within ∙ ap (λ (x : WorldEvent). Some x) (sym is)))
     (subst (λ (x : World). WantTells e (expired_of reply) x new) reached (want_of e reply w new want told)))
 
--- a run in a new world is what the headline says
-pub run_holds : (start : ℕ) (events : List WorldEvent) (old new : World) (replies : List (Result Reply Denied)) → replies ≡ replies_to events old →
-    new ≡ world_after events old → old ≡ opened start → Holds start (logged events replies []) new
-run_holds start events old new replies replied reached opens =
+-- a run from a world of which the headline holds
+pub run_holds : (start : ℕ) (before events : List WorldEvent) (earlier : List (Result Reply Denied)) (old new : World) (replies : List (Result Reply Denied)) →
+    replies ≡ replies_to events old → new ≡ world_after events old → Holds start before earlier old →
+    Holds start (before ++ events) (earlier ++ replies) new
+run_holds start before events earlier old new replies replied reached holds =
     let laws : CommitLaws = record { run_now = commit_is_the_run_now; conflicts = failed_compares_conflict } in
-    subst (λ (w : World). Holds start (logged events replies []) w) (sym (reached ∙ ap (world_after events) opens))
-    (subst (λ (l : List (Result Reply Denied)). Holds start (logged events l []) (world_after events (opened start)))
-    (sym (replied ∙ ap (replies_to events) opens)) (headline laws start events))
+    subst (λ (w : World). Holds start (before ++ events) (earlier ++ replies) w) (sym reached)
+    (subst (λ (l : List (Result Reply Denied)). Holds start (before ++ events) (earlier ++ l) (world_after events old)) (sym replied)
+    (headline_goes_on laws start before events earlier old holds))
+
+-- one event, where memory was had
+pub step_holds : (start : ℕ) (before : List WorldEvent) (earlier : List (Result Reply Denied)) (event : WorldEvent) (reply : Result Reply Denied)
+    (old new : World) → ran_out reply ≡ false → Tells event reply old new → Holds start before earlier old →
+    Holds start (before ++ event ∷ []) (earlier ++ reply ∷ []) new
+step_holds start before earlier event reply old new had told holds =
+    let s : IsStep (step event old) reply new = taken event reply old new had told in
+    run_holds start before (event ∷ []) earlier old new (reply ∷ []) (ap (λ (r : Result Reply Denied). r ∷ []) (sym s.reply_is)) (sym s.next_is) holds

@@ -1,5 +1,5 @@
 //! The world.
-ghost use Rattle.std.specs.Prelude.{◌≡◌, ◌≢◌, ◌≤◌, ℕ, Ok, Err, IfOk, IfErr, OnOk, OnErr, []};
+ghost use Rattle.std.specs.Prelude.{◌≡◌, ◌≢◌, ◌≤◌, ℕ, false, List, [], ◌∷◌, ◌++◌, Result, Ok, Err, IfOk, IfErr, OnOk, OnErr};
 ghost use Rattle.stm_history.specs.declared.revisions.TheConstants.{HIGHEST_REVISION};
 ghost use Rattle.stm_history.specs.History.{AreRevisions};
 ghost use Rattle.stm_txn.specs.declared.refusal.Refusal.TheVariants.{OutOfMemory};
@@ -7,10 +7,13 @@ ghost use Rattle.stm_entries.specs.Replayed.{opening, without_moment};
 ghost use Rattle.stm_entries.specs.Replay.{replay};
 ghost use Rattle.stm_entries.specs.Legal.{AreLegal};
 ghost use Rattle.stm_calls.specs.StateOf.{IsStateOf};
+ghost use Rattle.stm_world.specs.declared.event.WorldEvent.{WorldEvent};
+ghost use Rattle.stm_world.specs.declared.refusal.Denied.{Denied};
 ghost use Rattle.stm_world.specs.declared.refusal.Refusal.TheVariants.{Store as OfStore, BadLimit};
+ghost use Rattle.stm_world.specs.declared.reply.Reply.{Reply};
 ghost use Rattle.stm_world.specs.declared.reply.Reply.TheVariants.{Started};
 ghost use Rattle.stm_world.specs.Appended.{HasAppended};
-ghost use Rattle.stm_world.specs.Headline.{Holds, logged};
+ghost use Rattle.stm_world.specs.Headline.{Holds};
 ghost use Rattle.stm_world.specs.ReadsNow.{ReadsAreNow};
 ghost use Rattle.stm_world.specs.Sound.{IsSound};
 ghost use Rattle.stm_world.specs.World.{opened, start_runner, world_after, replies_to};
@@ -140,9 +143,13 @@ impl World {
     ///
     /// A commit at a level that compares, of which no compare fails, has read what the store has just before it, each
     /// value too; so also one that the store refuses.
+    ///
+    /// Where the headline holds of what the world was asked and has replied so far, it holds with this event and its reply
+    /// behind, unless that is want of memory.
     pub fn step(&mut self, event: &WorldEvent) -> Result<Reply, Denied>
         ensures told { Tells event.now result self.old self.new }
         ensures reads { ReadsAreNow event.now self.old }
+        ensures headline { ran_out result ≡ false → (start : ℕ) (before : List WorldEvent) (earlier : List (Result Reply Denied)) → Holds start before earlier self.old → Holds start (before ++ event.now ∷ []) (earlier ++ result ∷ []) self.new }
     {
         self.machine.step(self.alloc, event)
     }
@@ -191,15 +198,17 @@ impl World {
     /// told them, but that an advance which was cut short tells only the leases that had not expired by then; and the world after
     /// is the same.
     ///
-    /// In a new world the replies and the store are what the headline says of them. In any world, also one that has
-    /// run before, a run that is not stopped only adds entries behind those that are there: they are legal, each at its
+    /// Where the headline holds of what the world was asked and has replied so far, it holds with these events and their
+    /// replies behind. It holds of a new world, with no events and no replies (`stm_world::laws::headline`).
+    ///
+    /// In any world a run that is not stopped only adds entries behind those that are there: they are legal, each at its
     /// point, from the store as it was, and replay to the store as it is.
     pub fn run(&mut self, events: &[WorldEvent]) -> Result<Vec<Result<Reply, Denied>>, RunStop>
         ensures replies { IfOk result (λ replies. replies.items ≡ replies_to events.now self.old) }
         ensures ok { OnOk result (self.new ≡ world_after events.now self.old) }
         ensures stopped { IfErr result (λ stop. IsRunStop events.now stop.done stop.expired self.old self.new) }
         ensures goes_on { IfErr result (λ stop. GoesOnAlike events.now stop.done stop.expired self.old self.new) }
-        ensures headline { IfOk result (λ replies. (start : ℕ) → self.old ≡ opened start → Holds start (logged events.now replies.items []) self.new) }
+        ensures headline { IfOk result (λ replies. (start : ℕ) (before : List WorldEvent) (earlier : List (Result Reply Denied)) → Holds start before earlier self.old → Holds start (before ++ events.now) (earlier ++ replies.items) self.new) }
         ensures appended { OnOk result (HasAppended self.old self.new) }
     {
         self.know_sound();

@@ -1,5 +1,5 @@
 -- What an attempt at a serializable level knows is of one revision, and what any attempt has read was asked for.
-use Rattle.std.proofs.Common.{◌≡◌, ℕ, ◌≤◌, List, [], ◌∷◌, ◌++◌, map, true, refl, subst, arith}
+use Rattle.std.proofs.Common.{◌≡◌, ◌≢◌, ℕ, zero, suc, ◌<◌, ◌≤◌, List, [], ◌∷◌, ◌++◌, map, true, refl, subst, arith}
 use Rattle.std.specs.List.{AllByRecursion}
 use Rattle.std.proofs.lemmas.List.Elements.{All-from_recursion}
 use Rattle.stm_history.specs.declared.key_state.ReadAnswer.{ReadAnswer}
@@ -20,8 +20,9 @@ use Rattle.stm_entries.proofs.Adding.{replay_only_adds}
 use Rattle.stm_meaning.specs.declared.trace_item.TraceItem.{TraceItem}
 use Rattle.stm_meaning.specs.declared.run.Answered.TheVariants.{Wants}
 use Rattle.stm_attempt.specs.Settled.{run_on}
-use Rattle.stm_world.specs.Task.{Task, nothing_known, answer_at, with_served, after_fetch, after_conflict}
+use Rattle.stm_world.specs.Task.{Task, answer_at, with_served, after_fetch, after_conflict}
 use Rattle.stm_world.specs.Asked.{AreAsked}
+use Rattle.stm_world.specs.World.{Runner, begin}
 use Rattle.stm_world.proofs.Asked.{fetch_asked, conflict_asked}
 
 -- the answers that were read have one base, and those that were prefetched show no revision 0
@@ -62,22 +63,31 @@ conflict_based start task h known counter some serializable =
     served_base task (record { reads = []; prefetched = map (answer_now h) (reread_keys task.level known.reads) })
     (tt, rereads_show h (reread_keys task.level known.reads) (counter some))
 
--- ---- how an attempt has read ----
+-- ---- how a run goes on ----
 
-pub record IsWellRead (start : ℕ) (task : Task) (known : Known) : Type 0 where
-  pub based : IsBased start task known
-  pub asked : AreAsked task.program known.reads
+-- what a runner has read in its attempt is based and was asked for, and it may send a commit yet
+pub record IsWellRun (start : ℕ) (r : Runner) : Type 0 where
+  pub based : IsBased start r.task r.known
+  pub asked : AreAsked r.task.program r.known.reads
+  pub within : r.failures < r.task.limit
 
-pub nothing_read : (start : ℕ) (task : Task) → IsWellRead start task nothing_known
-nothing_read start task = record { based = λ some serializable. (tt, tt); asked = tt }
+some_limit : (limit : ℕ) → limit ≢ 0 → 0 < limit
+some_limit zero some = absurd (some refl)
+some_limit (suc n) some = omega arith
 
-pub fetch_reads : (start : ℕ) (task : Task) (h : History) (key : List ℕ) (trace : List TraceItem) (known : Known) → (1 ≤ start → 1 ≤ now h) →
-    run_on task.program known.reads ≡ Wants key trace → IsWellRead start task known →
-    IsWellRead start task (after_fetch task (answer_at h key (revision_read h (at_of task.level known.reads))) known)
-fetch_reads start task h key trace known counter wants read = record {
-  based = fetch_based start task h key known counter read.based;
-  asked = fetch_asked task h key (revision_read h (at_of task.level known.reads)) trace known wants read.asked;
+pub begin_runs : (start : ℕ) (task : Task) → task.limit ≢ 0 → IsWellRun start (begin task)
+begin_runs start task some = record { based = λ opens serializable. (tt, tt); asked = tt; within = some_limit task.limit some }
+
+pub fetch_runs : (start : ℕ) (r : Runner) (h : History) (key : List ℕ) (trace : List TraceItem) → (1 ≤ start → 1 ≤ now h) →
+    run_on r.task.program r.known.reads ≡ Wants key trace → IsWellRun start r →
+    IsWellRun start (record r { known = after_fetch r.task (answer_at h key (revision_read h (at_of r.task.level r.known.reads))) r.known })
+fetch_runs start r h key trace counter wants well = record {
+  based = fetch_based start r.task h key r.known counter well.based;
+  asked = fetch_asked r.task h key (revision_read h (at_of r.task.level r.known.reads)) trace r.known wants well.asked;
+  within = well.within;
 }
 
-pub conflict_reads : (start : ℕ) (task : Task) (h : History) (known : Known) → (1 ≤ start → 1 ≤ now h) → IsWellRead start task (after_conflict task h known)
-conflict_reads start task h known counter = record { based = conflict_based start task h known counter; asked = conflict_asked task h known }
+pub conflict_runs : (start : ℕ) (task : Task) (failures : ℕ) (h : History) (known : Known) → (1 ≤ start → 1 ≤ now h) → failures < task.limit →
+    IsWellRun start (record { task = task; failures = failures; known = after_conflict task h known })
+conflict_runs start task failures h known counter left =
+    record { based = conflict_based start task h known counter; asked = conflict_asked task h known; within = left }

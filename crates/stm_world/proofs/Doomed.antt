@@ -42,11 +42,11 @@ use Rattle.stm_world.specs.Task.{Task}
 use Rattle.stm_world.specs.Log.{Line, running, store, told}
 use Rattle.stm_world.specs.Right.{IsConflicted, EndsWith, StepIsRight, situation}
 use Rattle.stm_world.specs.World.{World, Runner, opened, runner_at}
-use Rattle.stm_world.specs.Headline.{AreOfOneState}
-use Rattle.stm_world.specs.Doomed.{failed_commit, IsRealFailure, IfFailedIsReal, FailuresAreConflicts}
+use Rattle.stm_world.specs.Headline.{runner_for, AreOfOneState}
+use Rattle.stm_world.specs.Doomed.{EachLine, failed_commit, IsRealFailure, IfFailedIsReal, FailuresAreConflicts}
 use Rattle.stm_world.specs.Doomed.{stopped, IsEndOnOneState, IfStoppedIsReal, StopsAreOfOneState}
 use Rattle.stm_world.proofs.OneState.{are_of_one_state}
-use Rattle.stm_world.proofs.Untouched.{runner_for}
+use Rattle.stm_world.proofs.Logs.{of_each_log}
 use Rattle.stm_world.proofs.Lines.{each_line, by_event}
 use Rattle.stm_world.proofs.RunnerSteps.{CommitLaws}
 use Rattle.stm_world.proofs.Headlines.{Follows, opened_follows}
@@ -125,12 +125,13 @@ reply_is_real start log id task (Ok (Cancelled watcher)) runs right = tt
 reply_is_real start log id task (Err refusal) runs right = tt
 
 pub failures_are_conflicts : CommitLaws → FailuresAreConflicts
-failures_are_conflicts laws start events =
-    each_line start (λ older line. IfFailedIsReal start older (failed_commit line.reply)) laws
+failures_are_conflicts laws =
+    of_each_log (λ (start : ℕ) (log : List Line). EachLine (λ older line. IfFailedIsReal start older (failed_commit line.reply)) log)
+    (λ start events. each_line start (λ older line. IfFailedIsReal start older (failed_commit line.reply)) laws
     (λ log event reply w f right. by_event start log (λ (e : WorldEvent) (r : Result Reply Denied). IfFailedIsReal start log (failed_commit r))
     (λ e r none. subst (IfFailedIsReal start log) (sym none.no_failure) tt) (λ task. tt)
     (λ id task r runs step. reply_is_real start log id task r runs step) event reply right)
-    events [] (opened start) (opened_follows start) tt
+    events [] (opened start) (opened_follows start) tt)
 
 -- ---- aborts and faults ----
 
@@ -160,7 +161,7 @@ of_its_state start log id task end w f some runs serializable ends =
     let reads : List ReadAnswer = (told start id task log).reads in
     let r : Runner = runner_for start log id task in
     let found : runner_at id w.runners ≡ Some r = f.at.slots id ∙ ap (option_map (runner_for start log id)) runs in
-    let one : HaveOneBase reads = ((f.at.well_read id r found).based some serializable).0 in
+    let one : HaveOneBase reads = ((f.at.well_run id r found).based some serializable).0 in
     let truth : AreTrue h reads = (f.at.truth id r found).0 in
     let at = alone_at h task reads ends.run one truth ends.is_run in
     record {
@@ -207,9 +208,10 @@ reply_is_of_one_state start log id task (Ok (Cancelled watcher)) w f some runs r
 reply_is_of_one_state start log id task (Err refusal) w f some runs right = tt
 
 pub stops_are_of_one_state : CommitLaws → StopsAreOfOneState
-stops_are_of_one_state laws start events some =
-    each_line start (λ older line. IfStoppedIsReal start older (stopped line.reply)) laws
+stops_are_of_one_state laws =
+    of_each_log (λ (start : ℕ) (log : List Line). 1 ≤ start → EachLine (λ older line. IfStoppedIsReal start older (stopped line.reply)) log)
+    (λ start events some. each_line start (λ older line. IfStoppedIsReal start older (stopped line.reply)) laws
     (λ log event reply w f right. by_event start log (λ (e : WorldEvent) (r : Result Reply Denied). IfStoppedIsReal start log (stopped r))
     (λ e r none. subst (IfStoppedIsReal start log) (sym none.no_stop) tt) (λ task. tt)
     (λ id task r runs step. reply_is_of_one_state start log id task r w f some runs step) event reply right)
-    events [] (opened start) (opened_follows start) tt
+    events [] (opened start) (opened_follows start) tt)

@@ -22,7 +22,6 @@ use Rattle.stm_world.specs.Log.{Line, is_id, is_over, begun, running, started, f
 use Rattle.stm_world.specs.Log.{task_in, entries_told, line_entries}
 use Rattle.stm_world.specs.Right.{IsRight, IsFetch, StepIsRight, situation}
 use Rattle.stm_world.specs.World.{World, opened, replies_to, step}
-use Rattle.stm_world.specs.Headline.{logged}
 use Rattle.stm_world.specs.Doomed.{FailedCommit, failed_commit, IsRealFailure, is_of_runner, since, failed_commits, FailuresMoveOn}
 use Rattle.stm_world.proofs.Slots.{equal_numbers, same_number}
 use Rattle.std.proofs.lemmas.List.{length-append}
@@ -30,6 +29,7 @@ use Rattle.stm_world.proofs.Untouched.{runner_named, Untouched, IsFresh, by_repl
 use Rattle.stm_world.proofs.Following.{FollowsStep, with_line}
 use Rattle.stm_world.proofs.RunnerSteps.{CommitLaws}
 use Rattle.stm_world.proofs.Headlines.{Follows, step_follows, opened_follows}
+use Rattle.stm_world.proofs.Logs.{logged, of_each_log}
 use Rattle.stm_world.proofs.Lines.{by_event}
 use Rattle.stm_world.proofs.Doomed.{real_failure}
 use Rattle.stm_world.proofs.LowRevisions.{replay_stays_low}
@@ -337,6 +337,8 @@ run_moves_on start (e ∷ es) log w laws low f all =
     (record { low = store_low start log w f low; grown = store_grows start log w e f s }))
 
 pub failures_move_on : CommitLaws → FailuresMoveOn
-failures_move_on laws start events id task low is =
-    (run_moves_on start events [] (opened start) laws low (opened_follows start)
-    (λ other. record { counter = λ task is. absurd (cc); known = λ task runs. absurd (cc) }) id).counter task is
+failures_move_on laws =
+    of_each_log (λ (start : ℕ) (log : List Line). (id : ℕ) (task : Task) → start ≤ HIGHEST_REVISION → begun id log ≡ Some task →
+    since start id log + failed_commits id log ≤ now (store start log).history)
+    (λ start events id task low is. (run_moves_on start events [] (opened start) laws low (opened_follows start)
+    (λ other. record { counter = λ task is. absurd (cc); known = λ task runs. absurd (cc) }) id).counter task is)

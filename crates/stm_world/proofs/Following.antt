@@ -16,12 +16,13 @@ use Rattle.stm_world.specs.Log.{Line, started, is_start, runner_started, store, 
 use Rattle.stm_world.specs.Right.{IsRight, AreRight}
 use Rattle.stm_world.specs.World.{World, Stepped, Runner, Slot, live_in, runner_at, with_slot}
 use Rattle.stm_world.specs.Sound.{KnowsTruth}
+use Rattle.stm_world.specs.Headline.{runner_in_log}
 use Rattle.stm_world.proofs.Truth.{known_stays}
 use Rattle.stm_world.proofs.Entered.{EntriesFollow}
-use Rattle.stm_world.proofs.Bases.{IsWellRead}
+use Rattle.stm_world.proofs.Bases.{IsWellRun}
 use Rattle.stm_world.proofs.Slots.{equal_numbers, other_number, differ, runner_there, runner_own, runner_other}
 use Rattle.stm_world.proofs.Slots.{count_stays}
-use Rattle.stm_world.proofs.Untouched.{runner_in_log, Untouched, IsFresh, same_in_log, fresh_stays}
+use Rattle.stm_world.proofs.Untouched.{Untouched, IsFresh, same_in_log, fresh_stays}
 
 -- these places and entries are what the log tells
 pub record FollowsAt (start : ℕ) (log : List Line) (runners : List Slot) (entries : List Entry) : Type 0 where
@@ -30,7 +31,7 @@ pub record FollowsAt (start : ℕ) (log : List Line) (runners : List Slot) (entr
   pub slots : (id : ℕ) → runner_at id runners ≡ runner_in_log start log id
   pub fresh : (id : ℕ) → started log < id → IsFresh start log id
   pub truth : (id : ℕ) (r : Runner) → runner_at id runners ≡ Some r → KnowsTruth (store start log).history r.known
-  pub well_read : (id : ℕ) (r : Runner) → runner_at id runners ≡ Some r → IsWellRead start r.task r.known
+  pub well_run : (id : ℕ) (r : Runner) → runner_at id runners ≡ Some r → IsWellRun start r
   pub told : entries ≡ entries_told start log
   pub replays : replay entries (opening start) ≡ without_moment (store start log)
   pub legal : AreLegal entries (opening start)
@@ -81,7 +82,7 @@ no_runner_touched start log runners entries more event reply f right none untouc
       slots = λ id. f.slots id ∙ sym (same_in_log start id line log (untouched id));
       fresh = λ id above. fresh_stays start id line log (untouched id) (f.fresh id (subst (λ n. n < id) count above));
       truth = λ id r found. known_stays (store start log).history (store start (line ∷ log)).history r.known e.keeps (f.truth id r found);
-      well_read = f.well_read;
+      well_run = f.well_run;
       told = entries_more start log runners entries more line f entered;
       replays = replays_more start log (line ∷ log) runners entries more f e;
       legal = legal_more start log (line ∷ log) runners entries more f e;
@@ -102,7 +103,7 @@ pub slot_touched : (start : ℕ) (log : List Line) (runners : List Slot) (entrie
     ((other : ℕ) → nat_eq id other ≡ false → Untouched other (Ok reply)) →
     runner_in_log start (with_line (Step id) (Ok reply) log) id ≡ live_in (Some slot) →
     ((r : Runner) → live_in (Some slot) ≡ Some r → KnowsTruth (store start (with_line (Step id) (Ok reply) log)).history r.known) →
-    ((r : Runner) → live_in (Some slot) ≡ Some r → IsWellRead start r.task r.known) →
+    ((r : Runner) → live_in (Some slot) ≡ Some r → IsWellRun start r) →
     more ≡ line_entries start (record { event = Step id; reply = Ok reply }) log →
     EntriesFollow (store start log) (store start (with_line (Step id) (Ok reply) log)) more →
     FollowsAt start (with_line (Step id) (Ok reply) log) (with_slot id slot runners) (entries ++ more)
@@ -132,9 +133,9 @@ slot_touched start log runners entries more id r slot reply f found right none o
         | false ↦ λ is. known_stays (store start log).history (store start (line ∷ log)).history x.known e.keeps
             (f.truth other x (sym (runner_other id other runners slot there.0 (differ id other is)) ∙ at))
       ] refl;
-      well_read = λ other x at. elim (nat_eq id other) as (λ b. nat_eq id other ≡ b → IsWellRead start x.task x.known) [
+      well_run = λ other x at. elim (nat_eq id other) as (λ b. nat_eq id other ≡ b → IsWellRun start x) [
         | true ↦ λ is. read x (sym own ∙ subst (λ n. runner_at n (with_slot id slot runners) ≡ Some x) (sym (equal_numbers id other is)) at)
-        | false ↦ λ is. f.well_read other x (sym (runner_other id other runners slot there.0 (differ id other is)) ∙ at)
+        | false ↦ λ is. f.well_run other x (sym (runner_other id other runners slot there.0 (differ id other is)) ∙ at)
       ] refl;
       told = entries_more start log runners entries more line f entered;
       replays = replays_more start log (line ∷ log) runners entries more f e;

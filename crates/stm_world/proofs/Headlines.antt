@@ -1,5 +1,5 @@
 -- The headline: each step leads to a world that follows its log.
-use Rattle.std.proofs.Common.{◌≡◌, ◌≢◌, ℕ, ◌+◌, ◌<◌, List, [], ◌∷◌, ◌++◌, length, Option, Some, None, Ok, Err, Bool, true, false, cond, refl, sym, ◌∙◌, ap}
+use Rattle.std.proofs.Common.{◌≡◌, ◌≢◌, ℕ, ◌+◌, ◌<◌, ◌≤◌, List, [], ◌∷◌, ◌++◌, length, Option, Some, None, Ok, Err, Bool, true, false, cond, refl, sym, ◌∙◌, ap}
 use Rattle.std.proofs.Common.{subst, arith}
 use Rattle.std.proofs.lemmas.List.{append-nil}
 use Rattle.std.specs.Prelude.{nat_eq, option_map, Result}
@@ -8,6 +8,8 @@ use Rattle.stm_txn.specs.declared.refusal.Refusal.{Refusal as StoreRefusal}
 use Rattle.stm_txn.specs.Standing.{Standing, Step as StoreStep, Advance as StoreAdvance, transacted, granted, kept_alive, revoked, advanced}
 use Rattle.stm_txn.specs.Standing.{watched, polled, cancelled}
 use Rattle.stm_watch.specs.declared.watched.Watched.TheVariants.{Key, Range}
+use Rattle.stm_compile.specs.Levels.{is_serializable}
+use Rattle.stm_attempt.specs.Known.{HaveDistinctKeys}
 use Rattle.stm_entries.specs.declared.entry.Entry.{Entry}
 use Rattle.stm_entries.specs.declared.entry.Entry.TheVariants.{Grant as GrantEntry, Renew, Revoke as RevokeEntry}
 use Rattle.stm_entries.specs.Replayed.{without_moment}
@@ -24,13 +26,14 @@ use Rattle.stm_world.specs.Right.{RunnerIsRight}
 use Rattle.stm_world.specs.World.{World, Runner, Slot, Live, live_in, runner_at, begin, opened, refused, start_runner, step_runner, if_changed}
 use Rattle.stm_world.specs.World.{if_taken, expiries, step}
 use Rattle.stm_world.specs.World.{world_after, replies_to}
-use Rattle.stm_world.specs.Headline.{logged, Headline, OneState, ReadOnce}
+use Rattle.stm_world.specs.Headline.{runner_for, runner_in_log, AreOfOneState, Headline, OneState, ReadOnce}
 use Rattle.stm_world.specs.Sound.{KnowsTruth}
-use Rattle.stm_world.proofs.Bases.{IsWellRead, nothing_read}
+use Rattle.stm_world.proofs.Bases.{IsWellRun, begin_runs}
 use Rattle.stm_world.proofs.Asked.{asked_are_distinct}
 use Rattle.stm_world.proofs.OneState.{are_of_one_state}
+use Rattle.stm_world.proofs.Logs.{logged, log_of, log_of_is_log, of_each_log}
 use Rattle.stm_world.proofs.Slots.{equal_numbers, same_number, other_number, differ, runner_new, runner_old, count_grows, no_runner}
-use Rattle.stm_world.proofs.Untouched.{runner_for, runner_in_log, IsFresh, none_told, same_in_log, fresh_stays, by_refusal, by_call, by_advance}
+use Rattle.stm_world.proofs.Untouched.{IsFresh, none_told, same_in_log, fresh_stays, by_refusal, by_call, by_advance}
 use Rattle.stm_world.proofs.Untouched.{by_reply}
 use Rattle.stm_world.proofs.Following.{FollowsAt, FollowsStep, with_line, world_at, no_runner_touched, nothing_touched}
 use Rattle.stm_world.proofs.RunnerSteps.{CommitLaws, live_follows}
@@ -52,9 +55,9 @@ nothing_true : (start : ℕ) (log : List Line) (task : Task) (r : Runner) → li
     KnowsTruth (store start log).history r.known
 nothing_true start log task r is = let same : begin task ≡ r = cc in subst (λ (x : Runner). KnowsTruth (store start log).history x.known) same (tt, tt)
 
-begun_read : (start : ℕ) (task : Task) (r : Runner) → live_in (Some (Live (begin task))) ≡ Some r → IsWellRead start r.task r.known
-begun_read start task r is =
-    let same : begin task ≡ r = cc in subst (λ (x : Runner). IsWellRead start x.task x.known) same (nothing_read start task)
+begun_runs : (start : ℕ) (task : Task) (r : Runner) → task.limit ≢ 0 → live_in (Some (Live (begin task))) ≡ Some r → IsWellRun start r
+begun_runs start task r some is =
+    let same : begin task ≡ r = cc in subst (λ (x : Runner). IsWellRun start x) same (begin_runs start task some)
 
 started_follows : (start : ℕ) (log : List Line) (runners : List Slot) (entries : List Entry) (task : Task) → FollowsAt start log runners entries →
     task.limit ≢ 0 →
@@ -86,10 +89,10 @@ started_follows start log runners entries task f some =
             (sym (runner_new runners slot) ∙ subst (λ n. runner_at n (runners ++ slot ∷ []) ≡ Some x) (sym (equal_numbers id other is)) found)
         | false ↦ λ is. f.truth other x (sym (runner_old runners slot other (λ e. differ id other is (sym e))) ∙ found)
       ] refl;
-      well_read = λ other x found. elim (nat_eq id other) as (λ b. nat_eq id other ≡ b → IsWellRead start x.task x.known) [
-        | true ↦ λ is. begun_read start task x
+      well_run = λ other x found. elim (nat_eq id other) as (λ b. nat_eq id other ≡ b → IsWellRun start x) [
+        | true ↦ λ is. begun_runs start task x some
             (sym (runner_new runners slot) ∙ subst (λ n. runner_at n (runners ++ slot ∷ []) ≡ Some x) (sym (equal_numbers id other is)) found)
-        | false ↦ λ is. f.well_read other x (sym (runner_old runners slot other (λ e. differ id other is (sym e))) ∙ found)
+        | false ↦ λ is. f.well_run other x (sym (runner_old runners slot other (λ e. differ id other is (sym e))) ∙ found)
       ] refl;
       told = f.told ∙ sym (append-nil (entries_told start log));
       replays = f.replays;
@@ -258,7 +261,7 @@ step_follows start log event w laws f =
     subst (λ (s : Standing). FollowsStep start log event (step event (record { standing = s; runners = w.runners; entries = w.entries }))) (sym f.standing)
     (event_follows start log w.runners w.entries event laws f.at)
 
-run_follows : (start : ℕ) (events : List WorldEvent) (log : List Line) (w : World) → CommitLaws → Follows start log w →
+pub run_follows : (start : ℕ) (events : List WorldEvent) (log : List Line) (w : World) → CommitLaws → Follows start log w →
     Follows start (logged events (replies_to events w) log) (world_after events w)
 run_follows start [] log w laws f = f
 run_follows start (e ∷ es) log w laws f =
@@ -274,7 +277,7 @@ opened_follows start = record {
     slots = no_runner;
     fresh = λ id above. none_told start id;
     truth = λ id r found. let none : runner_at id [] ≡ None = no_runner id in absurd (cc);
-    well_read = λ id r found. let none : runner_at id [] ≡ None = no_runner id in absurd (cc);
+    well_run = λ id r found. let none : runner_at id [] ≡ None = no_runner id in absurd (cc);
     told = refl;
     replays = refl;
     legal = tt;
@@ -283,11 +286,15 @@ opened_follows start = record {
 
 pub headline : CommitLaws → Headline
 headline laws start events =
-    let f : Follows start (logged events (replies_to events (opened start)) []) (world_after events (opened start)) =
+    let f : Follows start (log_of start events) (world_after events (opened start)) =
     run_follows start events [] (opened start) laws (opened_follows start) in
     record {
-      replies = f.at.right;
+      log = log_of start events;
+      is_log = log_of_is_log start events;
+      right = f.at.right;
       standing = f.standing;
+      count = f.at.count;
+      runners = f.at.slots;
       entries = f.at.told;
       replays = f.at.replays ∙ ap without_moment (sym f.standing);
       legal = f.at.legal;
@@ -295,29 +302,33 @@ headline laws start events =
 
 -- a runner that runs after these events
 record RunsAfter (start : ℕ) (events : List WorldEvent) (r : Runner) : Type 0 where
-  truth : KnowsTruth (store start (logged events (replies_to events (opened start)) [])).history r.known
-  well_read : IsWellRead start r.task r.known
+  truth : KnowsTruth (store start (log_of start events)).history r.known
+  well_run : IsWellRun start r
 
 runs_after : (start : ℕ) (events : List WorldEvent) (id : ℕ) (task : Task) → CommitLaws →
-    running id (logged events (replies_to events (opened start)) []) ≡ Some task →
-    RunsAfter start events (runner_for start (logged events (replies_to events (opened start)) []) id task)
+    running id (log_of start events) ≡ Some task → RunsAfter start events (runner_for start (log_of start events) id task)
 runs_after start events id task laws runs =
-    let log : List Line = logged events (replies_to events (opened start)) [] in
+    let log : List Line = log_of start events in
     let w : World = world_after events (opened start) in
     let r : Runner = runner_for start log id task in
     let f : Follows start log w = run_follows start events [] (opened start) laws (opened_follows start) in
     let found : runner_at id w.runners ≡ Some r = f.at.slots id ∙ ap (option_map (runner_for start log id)) runs in
-    record { truth = f.at.truth id r found; well_read = f.at.well_read id r found }
+    record { truth = f.at.truth id r found; well_run = f.at.well_run id r found }
 
 -- what an attempt at a serializable level has read is of one state, whatever comes of it
 pub one_state : CommitLaws → OneState
-one_state laws start events id task some runs serializable =
-    let log : List Line = logged events (replies_to events (opened start)) [] in
+one_state laws =
+    of_each_log (λ (start : ℕ) (log : List Line). (id : ℕ) (task : Task) → 1 ≤ start → running id log ≡ Some task →
+    is_serializable task.level ≡ true → AreOfOneState (store start log).history task (told start id task log).reads)
+    (λ start events id task some runs serializable.
+    let log : List Line = log_of start events in
     let known : RunsAfter start events (runner_for start log id task) = runs_after start events id task laws runs in
-    are_of_one_state (store start log).history task (told start id task log).reads (known.well_read.based some serializable).0 known.truth.0
+    are_of_one_state (store start log).history task (told start id task log).reads (known.well_run.based some serializable).0 known.truth.0)
 
 -- no attempt reads a key twice
 pub read_once : CommitLaws → ReadOnce
-read_once laws start events id task runs =
-    let log : List Line = logged events (replies_to events (opened start)) [] in
-    asked_are_distinct task.program (told start id task log).reads (runs_after start events id task laws runs).well_read.asked
+read_once laws =
+    of_each_log (λ (start : ℕ) (log : List Line). (id : ℕ) (task : Task) → running id log ≡ Some task →
+    HaveDistinctKeys (told start id task log).reads)
+    (λ start events id task runs.
+    asked_are_distinct task.program (told start id task (log_of start events)).reads (runs_after start events id task laws runs).well_run.asked)

@@ -1,12 +1,12 @@
 -- Events that are run behind others.
-use Rattle.std.proofs.Common.{◌≡◌, List, [], ◌∷◌, ◌++◌, refl, ap}
+use Rattle.std.proofs.Common.{◌≡◌, List, [], ◌∷◌, ◌++◌, map, reverse, refl, sym, ◌∙◌, ap}
+use Rattle.std.proofs.lemmas.List.{map-append, reverse-append}
 use Rattle.std.specs.Prelude.{Result}
 use Rattle.stm_world.specs.declared.event.WorldEvent.{WorldEvent}
 use Rattle.stm_world.specs.declared.reply.Reply.{Reply}
 use Rattle.stm_world.specs.declared.refusal.Denied.{Denied}
-use Rattle.stm_world.specs.Log.{Line}
+use Rattle.stm_world.specs.Log.{Line, IsLogOf}
 use Rattle.stm_world.specs.World.{World, step, world_after, replies_to}
-use Rattle.stm_world.specs.Headline.{logged}
 use Rattle.stm_world.specs.Joined.{RunsGoOn}
 
 worlds : (earlier later : List WorldEvent) (w : World) → world_after (earlier ++ later) w ≡ world_after later (world_after earlier w)
@@ -17,10 +17,20 @@ replies : (earlier later : List WorldEvent) (w : World) → replies_to (earlier 
 replies [] later w = refl
 replies (e ∷ earlier) later w = ap (λ (rs : List (Result Reply Denied)). (step e w).reply ∷ rs) (replies earlier later (step e w).next)
 
-logs : (earlier later : List WorldEvent) (w : World) (log : List Line) → logged (earlier ++ later) (replies_to (earlier ++ later) w) log
-    ≡ logged later (replies_to later (world_after earlier w)) (logged earlier (replies_to earlier w) log)
-logs [] later w log = refl
-logs (e ∷ earlier) later w log = logs earlier later (step e w).next (record { event = e; reply = (step e w).reply } ∷ log)
+-- what the lines of both logs show is that of the earlier and then of the later ones, reversed
+both : {A : Type 0} (show : Line → A) (log more : List Line) (first second : List A) → map show log ≡ reverse first → map show more ≡ reverse second →
+    map show (more ++ log) ≡ reverse (first ++ second)
+both {A} show log more first second is then =
+    map-append show more log ∙ ap (λ (l : List A). l ++ map show log) then ∙ ap (λ (l : List A). reverse second ++ l) is
+    ∙ sym (reverse-append first second)
+
+logs : (earlier later : List WorldEvent) (w : World) (log more : List Line) → IsLogOf earlier (replies_to earlier w) log →
+    IsLogOf later (replies_to later (world_after earlier w)) more → IsLogOf (earlier ++ later) (replies_to (earlier ++ later) w) (more ++ log)
+logs earlier later w log more first second = record {
+  asked = both (λ (line : Line). line.event) log more earlier later first.asked second.asked;
+  answered = both (λ (line : Line). line.reply) log more (replies_to earlier w) (replies_to later (world_after earlier w)) first.answered second.answered
+      ∙ ap reverse (sym (replies earlier later w));
+}
 
 pub runs_go_on : RunsGoOn
 runs_go_on = record { worlds = worlds; replies = replies; logs = logs }

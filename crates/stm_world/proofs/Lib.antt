@@ -1,4 +1,6 @@
 pub mod Wrong
+pub mod Wants
+pub mod NeverOutOfMemory
 pub mod Polling
 pub mod Truth
 pub mod Entered
@@ -18,7 +20,10 @@ pub mod SoundSteps
 pub mod Sound
 pub mod Appending
 pub mod ReadsNow
+pub mod Logs
 pub mod Headlines
+pub mod OneReply
+pub mod GoingOn
 pub mod Joined
 pub mod Lines
 pub mod Doomed

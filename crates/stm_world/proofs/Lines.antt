@@ -18,11 +18,11 @@ use Rattle.stm_world.specs.Task.{Task}
 use Rattle.stm_world.specs.Log.{Line, running, started, store}
 use Rattle.stm_world.specs.Right.{IsRight, StepIsRight, RunnerIsRight, StartIsRight, situation}
 use Rattle.stm_world.specs.World.{World, replies_to, step}
-use Rattle.stm_world.specs.Headline.{logged}
 use Rattle.stm_world.specs.Doomed.{EachLine, failed_commit, stopped}
 use Rattle.stm_world.proofs.Untouched.{Untouched, by_refusal, by_advance, by_reply}
 use Rattle.stm_world.proofs.Following.{FollowsStep, with_line}
 use Rattle.stm_world.proofs.RunnerSteps.{CommitLaws}
+use Rattle.stm_world.proofs.Logs.{logged}
 use Rattle.stm_world.proofs.Headlines.{Follows, step_follows}
 
 -- what holds of a line that a world's step adds to a log which the world follows holds of each line

@@ -1,6 +1,6 @@
 -- The steps of a runner, as the log tells of it.
 use Rattle.std.proofs.Common.{◌≡◌, ℕ, ◌+◌, ◌<◌, ◌≤◌, List, [], ◌∷◌, Option, Some, None, Ok, Err, Bool, true, false, cond, refl, sym}
-use Rattle.std.proofs.Common.{◌∙◌, ap, subst}
+use Rattle.std.proofs.Common.{◌∙◌, ap, subst, arith}
 use Rattle.std.proofs.lemmas.List.{append-nil}
 use Rattle.std.proofs.lemmas.Bool.{ltb-true, ltb-false}
 use Rattle.std.specs.Prelude.{nat_lt, option_map, Result, slice_get, ◌||◌}
@@ -39,12 +39,13 @@ use Rattle.stm_world.specs.World.{Runner, Slot, Over, Live, live_in, runner_at, 
 use Rattle.stm_world.specs.World.{seen_in, decided}
 use Rattle.stm_world.specs.World.{commit_told, commit, finish, step_on, step_live}
 use Rattle.stm_world.specs.Sound.{KnowsTruth}
+use Rattle.stm_world.specs.Headline.{runner_for, runner_in_log}
 use Rattle.stm_world.proofs.Truth.{Keeps, keeps_same, fetch_true, conflict_true}
 use Rattle.stm_world.proofs.Entered.{EntriesFollow}
-use Rattle.stm_world.proofs.Bases.{IsWellRead, counter_some, fetch_reads, conflict_reads}
+use Rattle.stm_world.proofs.Bases.{IsWellRun, counter_some, fetch_runs, conflict_runs}
 use Rattle.stm_world.proofs.Asked.{answers_are_the_reads}
 use Rattle.stm_world.proofs.Slots.{same_number}
-use Rattle.stm_world.proofs.Untouched.{runner_for, runner_in_log, runner_named, by_reply}
+use Rattle.stm_world.proofs.Untouched.{runner_named, by_reply}
 use Rattle.stm_world.proofs.Following.{FollowsAt, FollowsStep, with_line, world_at, slot_touched}
 use Rattle.stm_world.proofs.CommitCases.{Fails, fails}
 use Rattle.stm_world.proofs.CommitEntries.{Takes, Taken, taken, commit_follows_entry}
@@ -62,9 +63,9 @@ known_truth : (start : ℕ) (log : List Line) (runners : List Slot) (entries : L
     KnowsTruth (store start log).history (told start id task log)
 known_truth start log runners entries id task x = x.follows.truth id (runner_for start log id task) (there start log runners entries id task x)
 
-known_read : (start : ℕ) (log : List Line) (runners : List Slot) (entries : List Entry) (id : ℕ) (task : Task) → Runs start log runners entries id task →
-    IsWellRead start task (told start id task log)
-known_read start log runners entries id task x = x.follows.well_read id (runner_for start log id task) (there start log runners entries id task x)
+well_run : (start : ℕ) (log : List Line) (runners : List Slot) (entries : List Entry) (id : ℕ) (task : Task) → Runs start log runners entries id task →
+    IsWellRun start (runner_for start log id task)
+well_run start log runners entries id task x = x.follows.well_run id (runner_for start log id task) (there start log runners entries id task x)
 
 counter : (start : ℕ) (log : List Line) (runners : List Slot) (entries : List Entry) (id : ℕ) (task : Task) → Runs start log runners entries id task →
     1 ≤ start → 1 ≤ now (store start log).history
@@ -94,7 +95,7 @@ replied_follows : (start : ℕ) (log : List Line) (runners : List Slot) (entries
     [] ≡ line_entries start (record { event = Step id; reply = Ok reply }) log →
     runner_in_log start (with_line (Step id) (Ok reply) log) id ≡ live_in (Some slot) →
     ((r : Runner) → live_in (Some slot) ≡ Some r → KnowsTruth (store start log).history r.known) →
-    ((r : Runner) → live_in (Some slot) ≡ Some r → IsWellRead start r.task r.known) →
+    ((r : Runner) → live_in (Some slot) ≡ Some r → IsWellRun start r) →
     FollowsStep start log (Step id) (replied reply id slot (world_at start log runners entries))
 replied_follows start log runners entries id task slot reply x right named none same entered mine truth read =
     let after : List Line = with_line (Step id) (Ok reply) log in
@@ -159,9 +160,9 @@ fetch_follows start log runners entries id task key trace x wants =
     refl refl refl refl
     (fetched_in_log start log id task key (mod_of (key_at h key of_rev)) of_rev (now h) x.running)
     (λ r is. live_is (record { task = task; failures = failures id log; known = known }) r (λ q. KnowsTruth h q.known) is new)
-    (λ r is. live_is (record { task = task; failures = failures id log; known = known }) r (λ q. IsWellRead start q.task q.known) is
-    (fetch_reads start task h key trace (told start id task log) (counter start log runners entries id task x) wants
-    (known_read start log runners entries id task x)))
+    (λ r is. live_is (record { task = task; failures = failures id log; known = known }) r (λ q. IsWellRun start q) is
+    (fetch_runs start (runner_for start log id task) h key trace (counter start log runners entries id task x) wants
+    (well_run start log runners entries id task x)))
 
 -- ---- a commit that failed ----
 
@@ -196,11 +197,13 @@ failed_by start log runners entries id task seen modified true left x conflicted
     replied_follows start log runners entries id task (Live r) (Conflict id seen.key seen.mod_rev modified) x (refl, some, conflicted) refl refl refl refl
     (conflict_in_log start log id task seen.key seen.mod_rev modified x.running)
     (λ q is. live_is r q (λ y. KnowsTruth h y.known) is (conflict_true h task (told start id task log)))
-    (λ q is. live_is r q (λ y. IsWellRead start y.task y.known) is
-    (conflict_reads start task h (told start id task log) (counter start log runners entries id task x)))
+    (λ q is. live_is r q (λ y. IsWellRun start y) is
+    (conflict_runs start task (failures id log + 1) h (told start id task log) (counter start log runners entries id task x) some))
 failed_by start log runners entries id task seen modified false left x conflicted =
     let none : task.limit ≤ failures id log + 1 = ltb-false (failures id log + 1) task.limit left in
-    ended_follows start log runners entries id task (GaveUp id (failures id log + 1) seen.key seen.mod_rev modified) x (refl, refl, none, conflicted)
+    let within : failures id log < task.limit = (well_run start log runners entries id task x).within in
+    let last : failures id log + 1 ≡ task.limit = omega arith in
+    ended_follows start log runners entries id task (GaveUp id (failures id log + 1) seen.key seen.mod_rev modified) x (refl, refl, last, conflicted)
     refl refl refl refl refl
 
 -- ---- a commit that succeeded ----
@@ -229,6 +232,9 @@ taken_follows start log runners entries id task run done law x is_run is_done is
     let same : store start after ≡ with_history s done.history =
     ap (with_commit s answers) begun_is ∙ ap (λ (r : Replayed). with_history s r.history) came.replayed in
     let entry : Entry = entry_of task reads run (now done.history) in
+    let well : IsWellRun start (runner_for start log id task) = well_run start log runners entries id task x in
+    let left : failures id log < task.limit = well.within in
+    let within : failures id log + 1 ≤ task.limit = omega arith in
     record {
       standing = sym same;
       follows = slot_touched start log runners entries (entry ∷ []) id (runner_for start log id task) Over reply x.follows
@@ -236,6 +242,7 @@ taken_follows start log runners entries id task run done law x is_run is_done is
           (is_right start log id task reply x.running (
             refl,
             refl,
+            within,
             record {
               done = done;
               commits = record { run = run; is_run = is_run; is_done = is_done; comes_to = is };
@@ -245,7 +252,7 @@ taken_follows start log runners entries id task run done law x is_run is_done is
               sees = refl;
               reached = refl;
               told = refl;
-              in_order = answers_are_the_reads task.program reads run (known_read start log runners entries id task x).asked is_run;
+              in_order = answers_are_the_reads task.program reads run well.asked is_run;
             },
           ))
           refl (λ other ne. by_reply other reply ne) (over_now start log id reply refl) (λ r impossible. absurd (cc)) (λ r impossible. absurd (cc))

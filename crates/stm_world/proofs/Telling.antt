@@ -46,8 +46,7 @@ use Rattle.stm_world.specs.Told.{reply_to, batch_reply, store_after_call}
 use Rattle.stm_world.specs.Task.{Task}
 use Rattle.stm_world.specs.Log.{Line, is_id, begun, with_commit, store_after_step, store_after, store}
 use Rattle.stm_world.specs.Right.{IsRight, AreRight}
-use Rattle.stm_world.specs.World.{opened, replies_to}
-use Rattle.stm_world.specs.Headline.{logged, Headline}
+use Rattle.stm_world.specs.Headline.{Headline}
 use Rattle.stm_world.specs.Telling.{made, made_by, or_earlier, begun_watching, events_in, told_by, events_to, watcher_given_up, gives_up, is_given_up, watching}
 use Rattle.stm_world.specs.Telling.{IsToldSo, WatchersAreTold}
 use Rattle.stm_world.proofs.Polling.{HasTold, begun_tells, polled_tells}
@@ -521,6 +520,9 @@ told_so start log id (Some w) found is =
     subst (IsToldSo start log id) (sym is.is_begun) (record { w = w; stands = found; same = is.tells.same; all = is.tells.all })
 
 pub watchers_are_told : Headline → WatchersAreTold
-watchers_are_told headline start events id =
-    let log : List Line = logged events (replies_to events (opened start)) [] in
-    told_so start log id (watcher_at id (store start log).watchers) refl ((are_told start log (headline start events).replies).each id)
+watchers_are_told headline start events =
+    let run = headline start events in (
+      run.log,
+      run.is_log,
+      λ id. told_so start run.log id (watcher_at id (store start run.log).watchers) refl ((are_told start run.log run.right).each id),
+    )

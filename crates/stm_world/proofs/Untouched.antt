@@ -15,14 +15,7 @@ use Rattle.stm_world.specs.Task.{Task, nothing_known, answer_at, after_fetch, af
 use Rattle.stm_world.specs.Log.{Line, begun, is_over, running, failures, is_id, task_in, store, told, known_after}
 use Rattle.stm_world.specs.Log.{runner_started, runner_ended, runner_in_conflict}
 use Rattle.stm_world.specs.World.{Runner}
-
--- a runner with this task, as a log tells of it
-abbrev pub runner_for : ℕ → List Line → ℕ → Task → Runner
-runner_for start log id task = record { task = task; failures = failures id log; known = told start id task log }
-
--- the runner with this number that runs, as a log tells of it
-abbrev pub runner_in_log : ℕ → List Line → ℕ → Option Runner
-runner_in_log start log id = option_map (runner_for start log id) (running id log)
+use Rattle.stm_world.specs.Headline.{runner_for, runner_in_log}
 
 pub record Untouched (id : ℕ) (reply : Result Reply Denied) : Type 0 where
   pub not_started : is_id id (runner_started reply) ≡ false

@@ -40,13 +40,14 @@ use Rattle.stm_world.specs.declared.refusal.Denied.{Denied}
 use Rattle.stm_world.specs.declared.refusal.Refusal.TheVariants.{Store}
 use Rattle.stm_world.specs.Told.{denied}
 use Rattle.stm_world.specs.Task.{Task}
-use Rattle.stm_world.specs.Log.{Line, store}
+use Rattle.stm_world.specs.Log.{Line, IsLogOf, store}
 use Rattle.stm_world.specs.World.{World, opened, start_runner, fetch, commit, step_live, step, world_after, replies_to}
-use Rattle.stm_world.specs.Doomed.{log_of, FailedCommit, IsRealFailure, IsRealStop, since, failed_commits}
+use Rattle.stm_world.specs.Doomed.{FailedCommit, IsRealFailure, IsRealStop, since, failed_commits}
 use Rattle.stm_world.specs.Appended.{HasAppended}
 use Rattle.stm_world.specs.WrongFailures.{WrongFailures}
 use Rattle.stm_compile.proofs.AgreeLemmas.{commit_is_the_run_now}
 use Rattle.stm_compile.proofs.ConflictLemmas.{failed_compares_conflict}
+use Rattle.stm_world.proofs.Logs.{log_of}
 use Rattle.stm_world.proofs.Failures.{failures_move_on}
 use Rattle.stm_world.proofs.WrongFailures.{wrong_failures}
 
@@ -321,7 +322,8 @@ torn_read =
     refl refl refl refl (λ same. let torn : 2 ≡ 3 = same in omega (arith, torn))
 
 -- the commit after the conflict, told as a second one
-second_conflict : (events : List WorldEvent) → log_of 1 events ≡ line (Step 1) (Ok (Conflict 1 (codes "x") 2 3)) ∷ failed_once → ⊥
+second_conflict : (events : List WorldEvent) →
+    IsLogOf events (replies_to events (opened 1)) (line (Step 1) (Ok (Conflict 1 (codes "x") 2 3)) ∷ failed_once) → ⊥
 second_conflict events =
     let low : 1 ≤ HIGHEST_REVISION = omega arith in
     let below : 3 < 2 + 2 = omega arith in

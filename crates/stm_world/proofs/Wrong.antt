@@ -1,5 +1,5 @@
 -- Wrong logs are none.
-use Rattle.std.proofs.Common.{◌≡◌, ◌≢◌, ℕ, ◌+◌, ◌≤◌, zero, suc, List, [], ◌∷◌, take, Option, Some, None, Ok, Err, Bool, true, false, cond}
+use Rattle.std.proofs.Common.{◌≡◌, ◌≢◌, ℕ, ◌+◌, ◌≤◌, zero, suc, List, [], ◌∷◌, length, take, Option, Some, None, Ok, Err, Bool, true, false, cond}
 use Rattle.std.proofs.Common.{refl, sym, ◌∙◌, ap, subst, arith}
 use Rattle.std.specs.Prelude.{nat_eq, Result}
 use Rattle.std.specs.Cmp.{unsigned_Decides}
@@ -30,7 +30,10 @@ use Rattle.stm_world.specs.Told.{denied, reply_to, advance_reply, batch_reply}
 use Rattle.stm_world.specs.Task.{Task}
 use Rattle.stm_world.specs.Log.{Line, begun, running, started, is_start, runner_started, is_id, task_in, store, told}
 use Rattle.stm_world.specs.Right.{IsRight, AreRight, RunnerIsRight, Situation, ReplyIsRight, EndsWith, situation}
+use Rattle.stm_world.specs.World.{World}
+use Rattle.stm_world.specs.Headline.{Holds}
 use Rattle.stm_world.specs.WrongLogs.{WrongLogs, runner_told}
+use Rattle.stm_world.proofs.Logs.{as_many}
 
 causeless_refusal : (start : ℕ) (log : List Line) (id : ℕ) (task : Task) (refusal : Denied) → running id log ≡ Some task
     → IsRight start log (Step id) (Err refusal) → ⊥
@@ -198,8 +201,16 @@ event_not_pending start log id most upto w event events there none right =
     let nothing : event ∷ events ≡ [] = same ∙ ap (λ (ts : List Told). events_told (take most ts)) none ∙ ap events_told (none_taken most) in
     absurd (cc)
 
+-- ---- events without a reply ----
+
+no_answer : (start : ℕ) (event : WorldEvent) (events : List WorldEvent) (w : World) → Holds start (event ∷ events) [] w → ⊥
+no_answer start event events w holds =
+    let none : 0 ≡ suc (length events) = as_many (event ∷ events) [] holds.log holds.is_log in omega (arith, none)
+
 pub wrong_logs : WrongLogs
 wrong_logs = record {
+  no_answer = no_answer;
+  not_each_answered = λ start events replies w fewer holds. fewer (as_many events replies holds.log holds.is_log);
   causeless_refusal = causeless_refusal;
   refused_start = λ start log program level limit refusal some right. some right.1;
   number_given_twice = number_given_twice;

@@ -48,7 +48,9 @@ use Rattle.stm_world.specs.Task.{Task, answer_at, after_fetch, after_conflict}
 use Rattle.stm_world.specs.Log.{Line, begun, running, store, known_after, told}
 use Rattle.stm_world.specs.Doomed.{FailedCommit, NamesAConflict, IsRealFailure, Stopped, IsEndOnOneState, IsRealStop, since, failed_commits}
 use Rattle.stm_world.specs.Doomed.{FailuresMoveOn}
+use Rattle.stm_world.specs.World.{opened, replies_to}
 use Rattle.stm_world.specs.WrongFailures.{reads_of, WrongFailures, WrongRuns}
+use Rattle.stm_world.proofs.Logs.{one_log}
 use Rattle.stm_world.proofs.OneState.{all_show}
 use Rattle.stm_world.proofs.Served.{KnowsAll, one_more, found_all, served_all}
 use Rattle.stm_world.proofs.MovingOn.{both_seen, seen_at_index, above_all}
@@ -436,9 +438,11 @@ wrong_failures moves_on = record {
   as_it_was = as_it_was;
   not_above = not_above;
   more_failures_than_growth = λ start events log id task low begins below is.
-      let begins_there = subst (λ (l : List Line). begun id l ≡ Some task) (sym is) begins in
-      let reached = subst (λ (l : List Line). since start id l + failed_commits id l ≤ now (store start l).history) is
-      (moves_on start events id task low begins_there) in
+      let run = moves_on start events in
+      let same : run.0 ≡ log = one_log events (replies_to events (opened start)) run.0 log run.1 is in
+      let begins_there = subst (λ (l : List Line). begun id l ≡ Some task) (sym same) begins in
+      let reached = subst (λ (l : List Line). since start id l + failed_commits id l ≤ now (store start l).history) same
+      (run.2 id task low begins_there) in
       omega (arith, reached, below);
   stop_of_none = stop_of_none;
   torn_read = torn_read;

@@ -23,18 +23,12 @@ use Rattle.stm_compile.specs.Answers.{state_as_of}
 use Rattle.stm_compile.specs.Conflicts.{Seen, seen_by, IsChangedAbove}
 use Rattle.stm_attempt.specs.Settled.{run_on}
 use Rattle.stm_attempt.specs.Fetches.{base_of}
-use Rattle.stm_world.specs.declared.event.WorldEvent.{WorldEvent}
 use Rattle.stm_world.specs.declared.reply.Reply.{Reply}
 use Rattle.stm_world.specs.declared.reply.Reply.TheVariants.{Conflict, GaveUp, Aborted, Faulted}
 use Rattle.stm_world.specs.declared.refusal.Denied.{Denied}
 use Rattle.stm_world.specs.Task.{Task}
 use Rattle.stm_world.specs.Log.{Line, is_id, runner_started, begun, running, store, told}
-use Rattle.stm_world.specs.World.{opened, replies_to}
-use Rattle.stm_world.specs.Headline.{logged, AreOfOneState}
-
--- the log of these events in a world whose store opened at a revision
-abbrev pub log_of : ℕ → List WorldEvent → List Line
-log_of start events = logged events (replies_to events (opened start)) []
+use Rattle.stm_world.specs.Headline.{OfEachLog, AreOfOneState}
 
 -- a property of every line of a log, which may look at the lines before it
 abbrev pub EachLine : (List Line → Line → Type 0) → List Line → Type 0
@@ -85,8 +79,7 @@ IfFailedIsReal start log (Some failed) = IsRealFailure start log failed
 -- Over every list of events, each conflict and each give-up that is told is a real one.
 abbrev pub FailuresAreConflicts : Type 0
 FailuresAreConflicts =
-    (start : ℕ) (events : List WorldEvent) →
-    EachLine (λ older line. IfFailedIsReal start older (failed_commit line.reply)) (log_of start events)
+    OfEachLog (λ (start : ℕ) (log : List Line). EachLine (λ older line. IfFailedIsReal start older (failed_commit line.reply)) log)
 
 -- ---- aborts and faults ----
 
@@ -125,8 +118,7 @@ IfStoppedIsReal start log (Some stopped) = IsRealStop start log stopped
 -- the state at one revision of the store, of which all that the attempt has read is true: also where the store has moved on since.
 abbrev pub StopsAreOfOneState : Type 0
 StopsAreOfOneState =
-    (start : ℕ) (events : List WorldEvent) → 1 ≤ start →
-    EachLine (λ older line. IfStoppedIsReal start older (stopped line.reply)) (log_of start events)
+    OfEachLog (λ (start : ℕ) (log : List Line). 1 ≤ start → EachLine (λ older line. IfStoppedIsReal start older (stopped line.reply)) log)
 
 -- ---- how far the store has moved on ----
 
@@ -149,6 +141,5 @@ failed_commits id (line ∷ older) =
 -- A store does not open above the highest revision.
 abbrev pub FailuresMoveOn : Type 0
 FailuresMoveOn =
-    (start : ℕ) (events : List WorldEvent) (id : ℕ) (task : Task) → start ≤ HIGHEST_REVISION
-    → begun id (log_of start events) ≡ Some task
-    → since start id (log_of start events) + failed_commits id (log_of start events) ≤ now (store start (log_of start events)).history
+    OfEachLog (λ (start : ℕ) (log : List Line). (id : ℕ) (task : Task) → start ≤ HIGHEST_REVISION → begun id log ≡ Some task
+    → since start id log + failed_commits id log ≤ now (store start log).history)

@@ -1,5 +1,5 @@
 -- The headline: over every list of events, in any interleaving of any number of runners.
-use Rattle.std.specs.Prelude.{◌≡◌, ℕ, ◌≤◌, true, List, [], ◌∷◌, Some, Result}
+use Rattle.std.specs.Prelude.{◌≡◌, ℕ, ◌≤◌, true, List, ◌++◌, length, Option, option_map, Some, Result}
 use Rattle.stm_history.specs.declared.key_state.ReadAnswer.{ReadAnswer}
 use Rattle.stm_history.specs.History.{History}
 use Rattle.stm_meaning.specs.Laws.{IsContinuedBy}
@@ -16,28 +16,45 @@ use Rattle.stm_world.specs.declared.event.WorldEvent.{WorldEvent}
 use Rattle.stm_world.specs.declared.reply.Reply.{Reply}
 use Rattle.stm_world.specs.declared.refusal.Denied.{Denied}
 use Rattle.stm_world.specs.Task.{Task}
-use Rattle.stm_world.specs.Log.{Line, running, store, entries_told, told}
+use Rattle.stm_world.specs.Log.{Line, IsLogOf, running, started, failures, store, entries_told, told}
 use Rattle.stm_world.specs.Right.{AreRight}
-use Rattle.stm_world.specs.World.{World, opened, world_after, replies_to}
+use Rattle.stm_world.specs.World.{World, Runner, runner_at, opened, world_after, replies_to}
 
--- a log with these events and their replies after what it has
-abbrev pub logged : List WorldEvent → List (Result Reply Denied) → List Line → List Line
-logged [] replies log = log
-logged (e ∷ es) [] log = log
-logged (e ∷ es) (reply ∷ replies) log = logged es replies (record { event = e; reply = reply } ∷ log)
+-- a runner with this task, as a log tells of it
+abbrev pub runner_for : ℕ → List Line → ℕ → Task → Runner
+runner_for start log id task = record { task = task; failures = failures id log; known = told start id task log }
 
--- Each reply is right after the lines before it; store and entries are what the log says; and the entries replay to the store,
--- each legal at its point.
-pub record Holds (start : ℕ) (log : List Line) (w : World) : Type 0 where
-  pub replies : AreRight start log
+-- the runner with this number that runs, as a log tells of it
+abbrev pub runner_in_log : ℕ → List Line → ℕ → Option Runner
+runner_in_log start log id = option_map (runner_for start log id) (running id log)
+
+-- Each of these events has its reply, and nothing else was replied; each reply is right after the lines before it; store, runners and
+-- entries are what the log says; and the entries replay to the store, each legal at its point.
+pub record Holds (start : ℕ) (events : List WorldEvent) (replies : List (Result Reply Denied)) (w : World) : Type 0 where
+  pub log : List Line
+  pub is_log : IsLogOf events replies log
+  pub right : AreRight start log
   pub standing : w.standing ≡ store start log
+  pub count : length w.runners ≡ started log
+  pub runners : (id : ℕ) → runner_at id w.runners ≡ runner_in_log start log id
   pub entries : w.entries ≡ entries_told start log
   pub replays : replay w.entries (opening start) ≡ without_moment w.standing
   pub legal : AreLegal w.entries (opening start)
 
 abbrev pub Headline : Type 0
-Headline =
-    (start : ℕ) (events : List WorldEvent) → Holds start (logged events (replies_to events (opened start)) []) (world_after events (opened start))
+Headline = (start : ℕ) (events : List WorldEvent) → Holds start events (replies_to events (opened start)) (world_after events (opened start))
+
+-- The same of a world that has run before: where it holds of what the world was asked and has replied so far, it holds with these events
+-- and their replies behind.
+abbrev pub HeadlineGoesOn : Type 0
+HeadlineGoesOn =
+    (start : ℕ) (before events : List WorldEvent) (earlier : List (Result Reply Denied)) (w : World) → Holds start before earlier w
+    → Holds start (before ++ events) (earlier ++ replies_to events w) (world_after events w)
+
+-- A property of the log of every run: from every opening revision, every list of events has a log with the replies of the world, and
+-- the log has the property.
+abbrev pub OfEachLog : (ℕ → List Line → Type 0) → Type 0
+OfEachLog P = (start : ℕ) (events : List WorldEvent) → (log : List Line) × IsLogOf events (replies_to events (opened start)) log × P start log
 
 -- What was read is true and of one revision. The run on it is continued by the program's run on the state at that revision: an
 -- abort or a fault is that run's end, and what was seen is the beginning of what that run sees.
@@ -49,13 +66,10 @@ pub record AreOfOneState (h : History) (task : Task) (reads : List ReadAnswer) :
 -- What an attempt at a serializable level has read is of one state, also where its commit will fail.
 abbrev pub OneState : Type 0
 OneState =
-    (start : ℕ) (events : List WorldEvent) (id : ℕ) (task : Task) → 1 ≤ start
-    → running id (logged events (replies_to events (opened start)) []) ≡ Some task → is_serializable task.level ≡ true
-    → AreOfOneState (store start (logged events (replies_to events (opened start)) [])).history task
-    (told start id task (logged events (replies_to events (opened start)) [])).reads
+    OfEachLog (λ (start : ℕ) (log : List Line). (id : ℕ) (task : Task) → 1 ≤ start → running id log ≡ Some task → is_serializable task.level ≡ true
+    → AreOfOneState (store start log).history task (told start id task log).reads)
 
 -- No attempt reads a key twice.
 abbrev pub ReadOnce : Type 0
 ReadOnce =
-    (start : ℕ) (events : List WorldEvent) (id : ℕ) (task : Task) → running id (logged events (replies_to events (opened start)) []) ≡ Some task
-    → HaveDistinctKeys (told start id task (logged events (replies_to events (opened start)) [])).reads
+    OfEachLog (λ (start : ℕ) (log : List Line). (id : ℕ) (task : Task) → running id log ≡ Some task → HaveDistinctKeys (told start id task log).reads)

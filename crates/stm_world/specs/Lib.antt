@@ -10,7 +10,9 @@ pub mod Appended
 pub mod ReadsNow
 pub mod Headline
 pub mod Joined
+pub mod OneReply
 pub mod Doomed
 pub mod WrongLogs
+pub mod NeverOutOfMemory
 pub mod Telling
 pub mod WrongFailures

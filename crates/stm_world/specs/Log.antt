@@ -1,7 +1,7 @@
 -- A log of events and replies, the newest first, and what it tells of each runner, of the store and of the entries.
 --
 -- Nothing here knows how a world makes its replies.
-use Rattle.std.specs.Prelude.{ℕ, ◌+◌, nat_eq, nat_lt, Bool, true, false, ◌||◌, if◌then◌else◌, List, [], ◌∷◌, ◌++◌, map, Option, Some, None}
+use Rattle.std.specs.Prelude.{◌≡◌, ℕ, ◌+◌, nat_eq, nat_lt, Bool, true, false, ◌||◌, if◌then◌else◌, List, [], ◌∷◌, ◌++◌, map, reverse, Option, Some, None}
 use Rattle.std.specs.Prelude.{Result, Ok, Err}
 use Rattle.stm_history.specs.declared.key_state.ReadAnswer.{ReadAnswer}
 use Rattle.stm_history.specs.History.{History, now}
@@ -29,6 +29,12 @@ use Rattle.stm_world.specs.Task.{Task, nothing_known, answer_at, after_fetch, af
 pub record Line : Type 0 where
   pub event : WorldEvent
   pub reply : Result Reply Denied
+
+-- The log of these events and these replies: a line for each event with its reply, the newest first. Where there are more events than
+-- replies, or more replies than events, there is none.
+pub record IsLogOf (events : List WorldEvent) (replies : List (Result Reply Denied)) (log : List Line) : Type 0 where
+  pub asked : map (λ (line : Line). line.event) log ≡ reverse events
+  pub answered : map (λ (line : Line). line.reply) log ≡ reverse replies
 
 -- ---- runners ----
 

@@ -95,14 +95,15 @@ pub record IsConflicted (at : Situation) (key : List ℕ) (seen now_modified : �
   pub was : seen ≡ conflict.seen.mod_rev
   pub is : now_modified ≡ failed.mod_rev
 
--- a reply to the step of a runner that runs
+-- A reply to the step of a runner that runs. It tells of this runner; no run sends more commits than it may, and it gives up exactly at the
+-- last of them.
 abbrev pub ReplyIsRight : Situation → Reply → Type 0
 ReplyIsRight at (Fetched runner key mod_rev of_rev revision) = (runner ≡ at.id) × IsFetch at key mod_rev of_rev revision
 ReplyIsRight at (Committed runner revision attempts output trace answers) =
-    (runner ≡ at.id) × (attempts ≡ at.failures + 1) × IsCommitted at revision output trace answers
+    (runner ≡ at.id) × (attempts ≡ at.failures + 1) × (attempts ≤ at.task.limit) × IsCommitted at revision output trace answers
 ReplyIsRight at (Conflict runner key seen now) = (runner ≡ at.id) × (at.failures + 1 < at.task.limit) × IsConflicted at key seen now
 ReplyIsRight at (GaveUp runner attempts key seen now) =
-    (runner ≡ at.id) × (attempts ≡ at.failures + 1) × (at.task.limit ≤ at.failures + 1) × IsConflicted at key seen now
+    (runner ≡ at.id) × (attempts ≡ at.failures + 1) × (attempts ≡ at.task.limit) × IsConflicted at key seen now
 ReplyIsRight at (Aborted runner text) = (runner ≡ at.id) × EndsWith at (AbortedEnd text)
 ReplyIsRight at (Faulted runner fault) = (runner ≡ at.id) × EndsWith at (FaultedEnd fault)
 ReplyIsRight at (Ended runner cause) = (runner ≡ at.id) × Commits at (Err cause)

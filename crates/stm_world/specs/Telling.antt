@@ -15,8 +15,7 @@ use Rattle.stm_world.specs.declared.reply.Reply.{Reply}
 use Rattle.stm_world.specs.declared.reply.Reply.TheVariants.{Watching as WatchingReply, Batch, Cancelled}
 use Rattle.stm_world.specs.declared.refusal.Denied.{Denied}
 use Rattle.stm_world.specs.Log.{Line, is_id, store}
-use Rattle.stm_world.specs.World.{opened, replies_to}
-use Rattle.stm_world.specs.Headline.{logged}
+use Rattle.stm_world.specs.Headline.{OfEachLog}
 
 -- the watcher that a reply gives its number
 abbrev pub watcher_made : Result Reply Denied → Option ℕ
@@ -90,6 +89,4 @@ IsToldSo start log id (Some begun) = IsToldAll start log id begun
 
 -- Every watcher is told all.
 abbrev pub WatchersAreTold : Type 0
-WatchersAreTold =
-    (start : ℕ) (events : List WorldEvent) (id : ℕ)
-    → IsToldSo start (logged events (replies_to events (opened start)) []) id (watching start id (logged events (replies_to events (opened start)) []))
+WatchersAreTold = OfEachLog (λ (start : ℕ) (log : List Line). (id : ℕ) → IsToldSo start log id (watching start id log))

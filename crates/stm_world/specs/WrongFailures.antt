@@ -20,9 +20,9 @@ use Rattle.stm_entries.specs.declared.entry.Entry.{Entry}
 use Rattle.stm_entries.specs.Replayed.{without_moment}
 use Rattle.stm_world.specs.declared.event.WorldEvent.{WorldEvent}
 use Rattle.stm_world.specs.Task.{Task}
-use Rattle.stm_world.specs.Log.{Line, begun, running, store, told}
-use Rattle.stm_world.specs.World.{World}
-use Rattle.stm_world.specs.Doomed.{FailedCommit, IsRealFailure, Stopped, IsRealStop, since, failed_commits, log_of}
+use Rattle.stm_world.specs.Log.{Line, IsLogOf, begun, running, store, told}
+use Rattle.stm_world.specs.World.{World, opened, replies_to}
+use Rattle.stm_world.specs.Doomed.{FailedCommit, IsRealFailure, Stopped, IsRealStop, since, failed_commits}
 use Rattle.stm_world.specs.Appended.{HasAppended}
 
 -- what a runner with a task has read in its attempt
@@ -57,7 +57,8 @@ pub record WrongFailures : Type 0 where
       → IsRealFailure start log failed → ⊥
   -- more failures of a run than revisions since its start
   pub more_failures_than_growth : (start : ℕ) (events : List WorldEvent) (log : List Line) (id : ℕ) (task : Task) → start ≤ HIGHEST_REVISION
-      → begun id log ≡ Some task → now (store start log).history < since start id log + failed_commits id log → log_of start events ≡ log → ⊥
+      → begun id log ≡ Some task → now (store start log).history < since start id log + failed_commits id log
+      → IsLogOf events (replies_to events (opened start)) log → ⊥
   -- an abort or a fault of a runner that was not started, or has ended
   pub stop_of_none : (start : ℕ) (log : List Line) (stopped : Stopped) → running stopped.runner log ≡ None → IsRealStop start log stopped → ⊥
   -- an abort or a fault, at a serializable level, on answers that show two revisions

@@ -1,5 +1,5 @@
 -- Logs that are wrong, so that it shows what being right rules out.
-use Rattle.std.specs.Prelude.{◌≡◌, ◌≢◌, ℕ, List, [], ◌∷◌, Option, Some, None, Ok, Err}
+use Rattle.std.specs.Prelude.{◌≡◌, ◌≢◌, ℕ, List, [], ◌∷◌, length, Option, Some, None, Result, Ok, Err}
 use Rattle.stm_program.specs.Syntax.{ProgramTree}
 use Rattle.stm_program.specs.declared.level.Level.{Level}
 use Rattle.stm_meaning.specs.declared.run.End.TheVariants.{Done}
@@ -10,6 +10,7 @@ use Rattle.stm_watch.specs.declared.watched.Watching.{Watching}
 use Rattle.stm_watch.specs.Pending.{pending}
 use Rattle.stm_watch.specs.Calls.{watcher_at}
 use Rattle.stm_attempt.specs.Settled.{run_on}
+use Rattle.stm_world.specs.declared.event.WorldEvent.{WorldEvent}
 use Rattle.stm_world.specs.declared.event.WorldEvent.TheVariants.{Start, Step, Poll}
 use Rattle.stm_world.specs.declared.reply.Reply.{Reply}
 use Rattle.stm_world.specs.declared.reply.Reply.TheVariants.{Started, Fetched, Committed, Conflict, GaveUp, Aborted, Faulted, Ended as EndedReply, Batch}
@@ -17,6 +18,8 @@ use Rattle.stm_world.specs.declared.refusal.Denied.{Denied}
 use Rattle.stm_world.specs.Task.{Task}
 use Rattle.stm_world.specs.Log.{Line, begun, running, store, told}
 use Rattle.stm_world.specs.Right.{IsRight, AreRight}
+use Rattle.stm_world.specs.World.{World}
+use Rattle.stm_world.specs.Headline.{Holds}
 
 -- the runner of whose step a reply tells
 abbrev pub runner_told : Reply → Option ℕ
@@ -30,6 +33,11 @@ runner_told (EndedReply runner cause) = Some runner
 runner_told other = None
 
 pub record WrongLogs : Type 0 where
+  -- a world that answers no event, whatever it has come to
+  pub no_answer : (start : ℕ) (event : WorldEvent) (events : List WorldEvent) (w : World) → Holds start (event ∷ events) [] w → ⊥
+  -- a world that stops answering before the last event, or answers what was not asked
+  pub not_each_answered : (start : ℕ) (events : List WorldEvent) (replies : List (Result Reply Denied)) (w : World) → length replies ≢ length events
+      → Holds start events replies w → ⊥
   -- a runner that runs is not refused a step, for NoRunner or anything else
   pub causeless_refusal : (start : ℕ) (log : List Line) (id : ℕ) (task : Task) (refusal : Denied) → running id log ≡ Some task
       → IsRight start log (Step id) (Err refusal) → ⊥

@@ -2,22 +2,37 @@
 ghost use Rattle.stm_world.specs.Appended.{EventsAppend};
 ghost use Rattle.stm_world.specs.Asked.{AnswersAreTheReads};
 ghost use Rattle.stm_world.specs.Doomed.{FailuresAreConflicts, FailuresMoveOn, StopsAreOfOneState};
-ghost use Rattle.stm_world.specs.Headline.{Headline, OneState, ReadOnce};
+ghost use Rattle.stm_world.specs.Headline.{Headline, HeadlineGoesOn, OneState, ReadOnce};
 ghost use Rattle.stm_world.specs.Joined.{RunsGoOn};
+ghost use Rattle.stm_world.specs.NeverOutOfMemory.{NeverOutOfMemory};
+ghost use Rattle.stm_world.specs.OneReply.{OneRightReply};
 ghost use Rattle.stm_world.specs.Sound.{WorldsAreSound};
 ghost use Rattle.stm_world.specs.Telling.{WatchersAreTold};
 ghost use Rattle.stm_world.specs.WrongFailures.{WrongFailures, WrongRuns};
 ghost use Rattle.stm_world.specs.WrongLogs.{WrongLogs};
 
 /// The headline. Over every list of events, in any interleaving of any number of runners, from every
-/// opening revision: each reply is right after the lines before it, the store is what the log says, and the
-/// entries replay to its history and live leases, each legal at its point.
+/// opening revision: each event has its reply, and nothing else was replied; each reply is right after the lines
+/// before it, the store and the runners are what the log says, and the entries replay to its history and live leases,
+/// each legal at its point.
 ///
 /// So a commit that succeeds at a comparing level answers, and changes the store, exactly as its program run
 /// alone on the store of that moment; one at ReadCommitted applies exactly its program's writes on the
 /// answers that it read; a commit that fails changes nothing; and a refusal comes only for its cause.
 pub fn headline()
     ensures { Headline }
+{}
+
+/// The headline of a world that has run before: where it holds of what the world was asked and has replied so far, it
+/// holds with these events and their replies behind. Of a world that opens it holds, with no events and no replies.
+pub fn headline_goes_on()
+    ensures { HeadlineGoesOn }
+{}
+
+/// Two replies to an event that are right after the same lines are one. So where each line of a log is right, its
+/// replies are those of the world: being right pins each reply, and another one is wrong.
+pub fn right_replies_are_one()
+    ensures { OneRightReply }
 {}
 
 /// Later events are run from the world that earlier ones lead to: their replies stand behind the earlier ones, and so do
@@ -59,12 +74,19 @@ pub fn keys_are_read_once()
     ensures { ReadOnce }
 {}
 
-/// Some logs that are none: a step of a runner that runs is refused, or a start that may send a commit; a
+/// Some logs that are none: an event has no reply, or a reply no event, as of a world that answers nothing or stops at
+/// some event; a step of a runner that runs is refused, or a start that may send a commit; a
 /// number is given twice; a runner's step is answered with another runner's reply; a program that is done is
 /// told to have aborted; a poll of a watcher that is there is refused, or one of a watcher that is not there
 /// is answered; a poll tells another watcher's batch, or an event where none is pending.
 pub fn wrong_logs_are_none()
     ensures { WrongLogs }
+{}
+
+/// No call of a store and no commit is refused as `OutOfMemory` by its definition, so that no right reply refuses an event
+/// for want of memory, or ends a run by it. Only code runs out of memory, and its contracts say what is left then.
+pub fn want_of_memory_is_never_right()
+    ensures { NeverOutOfMemory }
 {}
 
 /// Some failures and ends that are none: a failed commit of a runner that does not run, of a program that is not done, at ReadCommitted,

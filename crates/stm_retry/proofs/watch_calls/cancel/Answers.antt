@@ -4,7 +4,8 @@ use Rattle.stm_txn.specs.Standing.{Standing, Step, IsRefusalOf, cancelled}
 use Rattle.stm_txn.specs.Store.{StoreView}
 use Rattle.stm_world.specs.declared.event.WorldEvent.TheVariants.{Cancel}
 use Rattle.stm_world.specs.declared.reply.Reply.TheVariants.{Cancelled}
-use Rattle.stm_retry.proofs.WatchCalls.{cancelled_never, watch_refused}
+use Rattle.stm_world.proofs.NeverOutOfMemory.{cancelled_never}
+use Rattle.stm_retry.proofs.WatchCalls.{watch_refused}
 use Rattle.stm_retry.proofs.watch_calls.cancel.Goals as goal
 
 pub returns-in-Err : goal.returns-in-Err

@@ -3,7 +3,8 @@ use Rattle.stm_txn.specs.Standing.{Standing, polled}
 use Rattle.stm_txn.specs.Store.{StoreView}
 use Rattle.stm_world.specs.declared.event.WorldEvent.TheVariants.{Poll}
 use Rattle.stm_world.specs.Told.{batch_reply}
-use Rattle.stm_retry.proofs.WatchCalls.{polled_never, watch_refused}
+use Rattle.stm_world.proofs.NeverOutOfMemory.{polled_never}
+use Rattle.stm_retry.proofs.WatchCalls.{watch_refused}
 use Rattle.stm_retry.proofs.watch_calls.poll.Goals as goal
 
 pub returns-in-Err : goal.returns-in-Err

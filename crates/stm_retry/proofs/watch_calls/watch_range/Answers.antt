@@ -4,7 +4,8 @@ use Rattle.stm_txn.specs.Standing.{Standing, watched}
 use Rattle.stm_txn.specs.Store.{StoreView}
 use Rattle.stm_world.specs.declared.event.WorldEvent.TheVariants.{WatchRange}
 use Rattle.stm_world.specs.declared.reply.Reply.TheVariants.{Watching}
-use Rattle.stm_retry.proofs.WatchCalls.{watched_never, watch_refused}
+use Rattle.stm_world.proofs.NeverOutOfMemory.{watched_never}
+use Rattle.stm_retry.proofs.WatchCalls.{watch_refused}
 use Rattle.stm_retry.proofs.watch_calls.watch_range.Goals as goal
 
 pub returns-in-Err : goal.returns-in-Err

@@ -8,9 +8,9 @@ use Rattle.stm_retry.proofs.Stops.{answer_goes_on}
 use Rattle.stm_retry.proofs.world.World.run.Goals as goal
 
 pub returns-clause-headline : goal.returns-clause-headline
-returns-clause-headline c = λ start opens.
-    run_holds start c.args.events.now c.args.self.now c.take_all.new.self c.in_ok-replies.replies.items c.in_ok-replies.ensures.replies
-    c.in_ok-replies.ensures.ok opens
+returns-clause-headline c = λ start before earlier holds.
+    run_holds start before c.args.events.now earlier c.args.self.now c.take_all.new.self c.in_ok-replies.replies.items c.in_ok-replies.ensures.replies
+    c.in_ok-replies.ensures.ok holds
 
 pub returns-clause-appended : goal.returns-clause-appended
 returns-clause-appended c =

@@ -1,0 +1,200 @@
+-- Nothing that is defined is refused for want of memory.
+use Rattle.std.proofs.Common.{◌≡◌, ◌≢◌, ℕ, Bool, true, false, cond, List, map, length, Option, Some, None, Result, Ok, Err, sym, ap}
+use Rattle.std.specs.Prelude.{nat_eq, not}
+use Rattle.std.specs.List.{list_any}
+use Rattle.std.specs.FinMap as finmap
+use Rattle.stm_history.specs.declared.change.Change.{Change}
+use Rattle.stm_history.specs.declared.key_state.ReadAnswer.{ReadAnswer}
+use Rattle.stm_history.specs.History.{History}
+use Rattle.stm_leases.specs.LeaseLog.{Term}
+use Rattle.stm_leases.specs.Live.{is_id, is_ttl, is_live_in}
+use Rattle.stm_leases.specs.declared.errors.GrantError.TheVariants.{LeaseIdOutOfRange, TtlOutOfRange, LeaseExists}
+use Rattle.stm_program.specs.declared.level.Level.{Level}
+use Rattle.stm_program.specs.Writes.{latest_writes}
+use Rattle.stm_meaning.specs.declared.run.Run.{Run}
+use Rattle.stm_watch.specs.declared.watched.Watched.{Watched}
+use Rattle.stm_watch.specs.declared.watched.Watched.TheVariants.{Key, Range}
+use Rattle.stm_watch.specs.declared.watched.Watching.{Watching}
+use Rattle.stm_watch.specs.declared.refusal.WatchRefusal.TheVariants.{EmptyKey as EmptyKeyWatched}
+use Rattle.stm_watch.specs.Keys.{first_key}
+use Rattle.stm_watch.specs.Calls.{Step as WatchStep, watcher_at, poll_found}
+use Rattle.stm_txn.specs.declared.answer.FailedCompare.{FailedCompare}
+use Rattle.stm_txn.specs.declared.advance.Expired.{Expired}
+use Rattle.stm_txn.specs.declared.refusal.Refusal.{Refusal}
+use Rattle.stm_txn.specs.declared.refusal.Refusal.TheVariants.{OutOfMemory, LeaseNotFound, RevisionsUsedUp, TooManyOps}
+use Rattle.stm_txn.specs.LeaseKeys.{deletions_of}
+use Rattle.stm_txn.specs.Outcome.{Done, is_used_up}
+use Rattle.stm_txn.specs.Commits.{is_on_dead_lease, effective}
+use Rattle.stm_txn.specs.Standing.{Standing, Step as StoreStep, watch_step, poll_step, cancel_step}
+use Rattle.stm_txn.specs.Standing.{transacted, granted, kept_alive, revoked, advanced, watched, polled, cancelled}
+use Rattle.stm_compile.specs.Now.{as_change}
+use Rattle.stm_compile.specs.Committed.{sends_too_many, conflict_now, judged, committed}
+use Rattle.stm_world.specs.declared.event.WorldEvent.{WorldEvent}
+use Rattle.stm_world.specs.declared.event.WorldEvent.TheVariants.{Start, Step, Txn, Grant, Keep, Revoke, Advance}
+use Rattle.stm_world.specs.declared.event.WorldEvent.TheVariants.{WatchKey, WatchRange, Poll, Cancel}
+use Rattle.stm_world.specs.declared.reply.Reply.{Reply}
+use Rattle.stm_world.specs.declared.reply.Reply.TheVariants.{Ended, Txn as TxnDone, Granted, Kept, Revoked, Watching as WatchingReply, Cancelled}
+use Rattle.stm_world.specs.declared.refusal.Denied.{Denied}
+use Rattle.stm_world.specs.declared.refusal.Refusal.{Refusal as WorldRefusal}
+use Rattle.stm_world.specs.declared.refusal.Refusal.TheVariants.{Store, BadLimit, NoRunner}
+use Rattle.stm_world.specs.Told.{reply_to, advance_reply, batch_reply}
+use Rattle.stm_world.specs.Task.{Task}
+use Rattle.stm_world.specs.Log.{Line, running, store}
+use Rattle.stm_world.specs.Right.{Situation, Commits, RunnerIsRight, IsRight, situation}
+use Rattle.stm_world.specs.NeverOutOfMemory.{NeverOutOfMemory}
+use Rattle.stm_world.proofs.Wants.{NoWant, NeverWants, transacted_never, advanced_never}
+use Rattle.stm_world.proofs.Calls.{granted_by, kept_by, revoked_by}
+
+-- ---- watchers ----
+
+watched_by : (s : Standing) (empty : Bool) (next : WatchStep ℕ) → NeverWants (watch_step s (cond empty (Err EmptyKeyWatched) (Ok next)))
+watched_by s true next = λ e. absurd (cc)
+watched_by s false next = tt
+
+pub watched_never : (s : Standing) (w : Watched) (from : ℕ) → NeverWants (watched s w from)
+watched_never s w from = watched_by s (nat_eq (length (first_key w)) 0) _
+
+polled_by : (s : Standing) (id most : ℕ) (found : Option Watching) → NeverWants (poll_step s (poll_found s.history id most s.watchers found))
+polled_by s id most None = λ e. absurd (cc)
+polled_by s id most (Some w) = tt
+
+pub polled_never : (s : Standing) (id most : ℕ) → NeverWants (polled s id most)
+polled_never s id most = polled_by s id most (watcher_at id s.watchers)
+
+cancelled_by : (s : Standing) (id : ℕ) (found : Option Watching) → NeverWants (cancel_step s id found)
+cancelled_by s id None = λ e. absurd (cc)
+cancelled_by s id (Some w) = tt
+
+pub cancelled_never : (s : Standing) (id : ℕ) → NeverWants (cancelled s id)
+cancelled_never s id = cancelled_by s id (watcher_at id s.watchers)
+
+-- ---- leases ----
+
+granted_for : (s : Standing) (id ttl : ℕ) (bad_id bad_ttl lives : Bool) →
+    NeverWants (granted_by s id ttl (cond bad_id (Some LeaseIdOutOfRange) (cond bad_ttl (Some TtlOutOfRange) (cond lives (Some LeaseExists) None))))
+granted_for s id ttl true bad_ttl lives = λ e. absurd (cc)
+granted_for s id ttl false true lives = λ e. absurd (cc)
+granted_for s id ttl false false true = λ e. absurd (cc)
+granted_for s id ttl false false false = tt
+
+granted_never : (s : Standing) (id ttl : ℕ) → NeverWants (granted s id ttl)
+granted_never s id ttl = granted_for s id ttl (not (is_id id)) (not (is_ttl ttl)) (is_live_in s.live id)
+
+kept_for : (s : Standing) (id : ℕ) (o : Option Term) → NeverWants (kept_by s id o)
+kept_for s id None = λ e. absurd (cc)
+kept_for s id (Some term) = tt
+
+kept_never : (s : Standing) (id : ℕ) → NeverWants (kept_alive s id)
+kept_never s id = kept_for s id (finmap.get s.live id)
+
+revoked_for : (s : Standing) (id : ℕ) (live used : Bool) → NeverWants (revoked_by s id live used)
+revoked_for s id false used = λ e. absurd (cc)
+revoked_for s id true true = λ e. absurd (cc)
+revoked_for s id true false = tt
+
+revoked_never : (s : Standing) (id : ℕ) → NeverWants (revoked s id)
+revoked_never s id = revoked_for s id (is_live_in s.live id) (is_used_up s.history (deletions_of s.history id))
+
+-- ---- commits ----
+
+applied_for : (dead used : Bool) (done : Done) → NeverWants (cond dead (Err LeaseNotFound) (cond used (Err RevisionsUsedUp) (Ok done)))
+applied_for true used done = λ e. absurd (cc)
+applied_for false true done = λ e. absurd (cc)
+applied_for false false done = tt
+
+judged_never : (h : History) (is_live : ℕ → Bool) (level : Level) (reads : List ReadAnswer) (run : Run) (o : Option FailedCompare) →
+    NeverWants (judged h is_live level reads run o)
+judged_never h is_live level reads run None =
+    let changes : List Change = map as_change (latest_writes run.writes) in
+    applied_for (list_any (is_on_dead_lease is_live) changes) (is_used_up h (effective h changes)) _
+judged_never h is_live level reads run (Some failed) = tt
+
+committed_for : (many : Bool) (o : Result Done Refusal) → NeverWants o → NeverWants (cond many (Err TooManyOps) o)
+committed_for true o never = λ e. absurd (cc)
+committed_for false o never = never
+
+committed_never : (h : History) (is_live : ℕ → Bool) (level : Level) (reads : List ReadAnswer) (run : Run) → NeverWants (committed h is_live level reads run)
+committed_never h is_live level reads run =
+    committed_for (sends_too_many level reads (latest_writes run.writes))
+    (judged h is_live level reads run (conflict_now h level reads (latest_writes run.writes)))
+    (judged_never h is_live level reads run (conflict_now h level reads (latest_writes run.writes)))
+
+-- ---- replies ----
+
+not_want : {A : Type 0} (o : Result A Refusal) → NeverWants o → o ≢ Err OutOfMemory
+not_want (Ok done) never is = absurd (cc)
+not_want (Err cause) never is = let same : cause ≡ OutOfMemory = cc in never same
+
+no_cause : (o : Option Refusal) → NoWant o → o ≢ Some OutOfMemory
+no_cause None never is = absurd (cc)
+no_cause (Some cause) never is = let same : cause ≡ OutOfMemory = cc in never same
+
+-- the cause of a refusal, and another one where a reply is none
+abbrev cause_of : Result Reply Denied → WorldRefusal
+cause_of (Ok reply) = NoRunner
+cause_of (Err refusal) = refusal.cause
+
+-- a refusal for want of memory
+abbrev wanting : List Expired → Result Reply Denied
+wanting expired = Err (record { cause = Store OutOfMemory; expired = expired })
+
+call_for : {A : Type 0} (tell : A → Reply) (o : Result (StoreStep A) Refusal) → NeverWants o → Store OutOfMemory ≡ cause_of (reply_to tell o) → ⊥
+call_for tell (Ok done) never is = absurd (cc)
+call_for tell (Err cause) never is = let same : OutOfMemory ≡ cause = cc in never (sym same)
+
+advance_for : (moment : ℕ) (expired : List Expired) (o : Option Refusal) → NoWant o → Store OutOfMemory ≡ cause_of (advance_reply moment expired o) → ⊥
+advance_for moment expired None never is = absurd (cc)
+advance_for moment expired (Some cause) never is = let same : OutOfMemory ≡ cause = cc in never (sym same)
+
+runner_for_want : (start : ℕ) (log : List Line) (id : ℕ) (o : Option Task) (expired : List Expired) → RunnerIsRight start log id o (wanting expired) → ⊥
+runner_for_want start log id None expired right = let same : Store OutOfMemory ≡ NoRunner = ap cause_of right in absurd (cc)
+runner_for_want start log id (Some task) expired right = right
+
+refusal : (start : ℕ) (log : List Line) (event : WorldEvent) (expired : List Expired) → IsRight start log event (wanting expired) → ⊥
+refusal start log (Start program level limit) expired right = let same : Store OutOfMemory ≡ BadLimit = ap (λ (d : Denied). d.cause) right.0 in absurd (cc)
+refusal start log (Step id) expired right = runner_for_want start log id (running id log) expired right
+refusal start log (Txn txn) expired right = let s : Standing = store start log in call_for TxnDone (transacted s txn) (transacted_never s txn) (ap cause_of right)
+refusal start log (Grant id ttl) expired right =
+    let s : Standing = store start log in call_for (λ _. Granted id) (granted s id ttl) (granted_never s id ttl) (ap cause_of right)
+refusal start log (Keep id) expired right =
+    let s : Standing = store start log in call_for (λ _. Kept id) (kept_alive s id) (kept_never s id) (ap cause_of right)
+refusal start log (Revoke id) expired right =
+    let s : Standing = store start log in call_for (Revoked id) (revoked s id) (revoked_never s id) (ap cause_of right)
+refusal start log (Advance moment) expired right =
+    let s : Standing = store start log in
+    advance_for moment (advanced s moment).expired (advanced s moment).cause (advanced_never s moment) (ap cause_of right)
+refusal start log (WatchKey key from) expired right =
+    let s : Standing = store start log in call_for WatchingReply (watched s (Key key) from) (watched_never s (Key key) from) (ap cause_of right)
+refusal start log (WatchRange first end from) expired right =
+    let s : Standing = store start log in
+    call_for WatchingReply (watched s (Range first end) from) (watched_never s (Range first end) from) (ap cause_of right)
+refusal start log (Poll watcher most) expired right =
+    let s : Standing = store start log in
+    call_for (batch_reply watcher) (polled s watcher most) (polled_never s watcher most) (ap cause_of right)
+refusal start log (Cancel watcher) expired right =
+    let s : Standing = store start log in
+    call_for (λ _. Cancelled watcher) (cancelled s watcher) (cancelled_never s watcher) (ap cause_of right)
+
+commits_for : (at : Situation) → Commits at (Err OutOfMemory) → ⊥
+commits_for at c =
+    not_want (committed at.store.history (is_live_in at.store.live) at.task.level at.reads c.run)
+    (committed_never at.store.history (is_live_in at.store.live) at.task.level at.reads c.run) c.comes_to
+
+end_for : (start : ℕ) (log : List Line) (id runner : ℕ) (o : Option Task) → RunnerIsRight start log id o (Ok (Ended runner OutOfMemory)) → ⊥
+end_for start log id runner None right = absurd (cc)
+end_for start log id runner (Some task) right = commits_for (situation start log id task) right.1
+
+pub never_out_of_memory : NeverOutOfMemory
+never_out_of_memory = record {
+  txn = λ s txn. not_want (transacted s txn) (transacted_never s txn);
+  grant = λ s id ttl. not_want (granted s id ttl) (granted_never s id ttl);
+  keep = λ s id. not_want (kept_alive s id) (kept_never s id);
+  revoke = λ s id. not_want (revoked s id) (revoked_never s id);
+  advance = λ s moment. no_cause (advanced s moment).cause (advanced_never s moment);
+  watch = λ s keys from. not_want (watched s keys from) (watched_never s keys from);
+  poll = λ s id most. not_want (polled s id most) (polled_never s id most);
+  cancel = λ s id. not_want (cancelled s id) (cancelled_never s id);
+  commit = λ h is_live level reads run. not_want (committed h is_live level reads run) (committed_never h is_live level reads run);
+  refusal = refusal;
+  end = λ start log id runner right. end_for start log id runner (running id log) right;
+}

@@ -5,7 +5,7 @@ use Rattle.stm_report.specs.Script.{Devices}
 use Rattle.stm_jobs.specs.declared.running.JobsFault.{JobsFault}
 use Rattle.stm_jobs.specs.declared.running.JobsFault.TheVariants.{OutOfMemory, Bad, Read, Write, Spawn, Audit}
 use Rattle.stm_jobs.specs.Running.{Does}
-use Rattle.stmrun.specs.Statuses.{bad_input, Says}
+use Rattle.stm_commands.specs.Statuses.{bad_input, Says}
 
 -- 2 for bad input, 3 for want of memory, a failed device, a thread that was refused and an end that does not stand
 abbrev pub fault_status : JobsFault → ℕ

@@ -1,13 +1,13 @@
-//! Devices that fail at each of their calls in turn, under each command. What is expected comes from the rules, and never from a run.
+//! Devices that fail at each of their calls in turn, under the command `threads`. What is expected comes from the rules, and never from a run.
 
-use crate::{check_to, script_to, threads_to};
+use crate::threads_to;
 use std::alloc::Global;
 use std::io;
 use std::io::{ErrorKind, Read, Write};
 use std::process::Abort;
 use std::sync::Wait;
 use std::thread::Threads;
-use stm_report::Std;
+use stm_commands::Std;
 
 /// A reader over memory, which gives pieces of a length. One of its calls, counted from 0, fails. Those behind it would go on, so that a command
 /// that reads again after a fault comes to a good end.
@@ -95,43 +95,10 @@ fn sound(alloc: Global) -> Taker {
 
 /// What a command left: its status, and what its output and its standard error hold.
 #[derive(Drop)]
-pub(crate) struct Left {
-    pub(crate) status: u8,
-    pub(crate) out: Vec<u8>,
-    pub(crate) err: Vec<u8>,
-}
-
-/// Runs the scenario of a reader.
-fn script<R: Read + Drop>(alloc: Global, input: R, out: Taker, err: Taker) -> Left {
-    let mut input = Std::new(input);
-    let mut out = Std::new(out);
-    let mut err = Std::new(err);
-    let status = script_to(alloc, &mut input, &mut out, &mut err);
-    Left {
-        status,
-        out: out.device.bytes,
-        err: err.device.bytes,
-    }
-}
-
-/// Checks the report of a reader beside the scenario of another.
-fn check<S: Read + Drop, R: Read + Drop>(
-    alloc: Global,
-    scenario: S,
-    report: R,
-    out: Taker,
-    err: Taker,
-) -> Left {
-    let mut scenario = Std::new(scenario);
-    let mut report = Std::new(report);
-    let mut out = Std::new(out);
-    let mut err = Std::new(err);
-    let status = check_to(alloc, &mut scenario, &mut report, &mut out, &mut err);
-    Left {
-        status,
-        out: out.device.bytes,
-        err: err.device.bytes,
-    }
+struct Left {
+    status: u8,
+    out: Vec<u8>,
+    err: Vec<u8>,
 }
 
 /// Runs the jobs of a reader by two threads.
@@ -151,11 +118,6 @@ fn threads<T: Threads + Wait + Sync, R: Read + Drop>(
         out: out.device.bytes,
         err: err.device.bytes,
     }
-}
-
-/// Runs the scenario of a reader, with writers that do not fail.
-pub(crate) fn script_from<R: Read + Drop>(alloc: Global, input: R) -> Left {
-    script(alloc, input, sound(alloc), sound(alloc))
 }
 
 /// So many pieces from the front of a text.
@@ -186,16 +148,6 @@ fn refused(rt: &impl Abort, left: &Left, said: &[u8]) {
     assert!(rt; left.err.as_slice() == said);
 }
 
-/// 60 bytes: 61 reads of at most one byte, the last of which tells the end, or 10 of at most seven.
-const SCENARIO: &str = "[[\"start\",\"ReadCommitted\",1,[[\"put\",\"a\",\"1\",0]]],[\"step\",1]]";
-
-/// 83 bytes: 83 writes of one, or 12 of at most seven, and one read more.
-const REPORT: &str = "[1,\"started\",1]
-[2,\"committed\",1,2,1,[],[],[]]
-[\"key\",\"a\",\"1\",2,2,1,0]
-[\"end\",2,1]
-";
-
 /// 49 bytes: 50 reads, or 8.
 const JOBS: &str = "[[\"start\",\"ReadCommitted\",1,[[\"put\",\"a\",\"1\",0]]]]";
 
@@ -221,89 +173,6 @@ const WRITE_FAULTS: [Option<ErrorKind>; 3] = [
     Some(ErrorKind::BrokenPipe),
     None,
 ];
-
-/// A script whose reader needs so many calls, of which each fails in turn.
-fn script_readers(rt: &impl Abort, alloc: Global, piece: usize, calls: usize, kind: ErrorKind) {
-    for bad_call in 0..calls {
-        let left = script_from(alloc, reader_of(SCENARIO, piece, bad_call, kind));
-        broke(rt, &left, b"".as_slice());
-    }
-    let left = script_from(alloc, reader_of(SCENARIO, piece, calls, kind));
-    ended(rt, &left, REPORT);
-}
-
-/// A script whose writer needs so many calls, of which each fails in turn.
-fn script_writers(
-    rt: &impl Abort,
-    alloc: Global,
-    piece: usize,
-    calls: usize,
-    kind: Option<ErrorKind>,
-) {
-    for bad_call in 0..calls {
-        let out = writer_of(alloc, piece, bad_call, kind);
-        let left = script(alloc, SCENARIO.as_bytes(), out, sound(alloc));
-        broke(rt, &left, front(REPORT, bad_call, piece));
-    }
-    let out = writer_of(alloc, piece, calls, kind);
-    let left = script(alloc, SCENARIO.as_bytes(), out, sound(alloc));
-    ended(rt, &left, REPORT);
-}
-
-/// A check whose first reader needs so many calls, of which each fails in turn.
-fn scenario_readers(rt: &impl Abort, alloc: Global, piece: usize, calls: usize, kind: ErrorKind) {
-    for bad_call in 0..calls {
-        let input = reader_of(SCENARIO, piece, bad_call, kind);
-        let left = check(alloc, input, REPORT.as_bytes(), sound(alloc), sound(alloc));
-        broke(rt, &left, b"".as_slice());
-    }
-    let input = reader_of(SCENARIO, piece, calls, kind);
-    let left = check(alloc, input, REPORT.as_bytes(), sound(alloc), sound(alloc));
-    ended(rt, &left, "yes\n");
-}
-
-/// A check whose second reader needs so many calls, of which each fails in turn.
-fn report_readers(rt: &impl Abort, alloc: Global, piece: usize, calls: usize, kind: ErrorKind) {
-    for bad_call in 0..calls {
-        let input = reader_of(REPORT, piece, bad_call, kind);
-        let left = check(
-            alloc,
-            SCENARIO.as_bytes(),
-            input,
-            sound(alloc),
-            sound(alloc),
-        );
-        broke(rt, &left, b"".as_slice());
-    }
-    let input = reader_of(REPORT, piece, calls, kind);
-    let left = check(
-        alloc,
-        SCENARIO.as_bytes(),
-        input,
-        sound(alloc),
-        sound(alloc),
-    );
-    ended(rt, &left, "yes\n");
-}
-
-/// A check whose writer needs so many calls, of which each fails in turn.
-fn check_writers(
-    rt: &impl Abort,
-    alloc: Global,
-    piece: usize,
-    calls: usize,
-    kind: Option<ErrorKind>,
-) {
-    let (scenario, report) = (SCENARIO.as_bytes(), REPORT.as_bytes());
-    for bad_call in 0..calls {
-        let out = writer_of(alloc, piece, bad_call, kind);
-        let left = check(alloc, scenario, report, out, sound(alloc));
-        broke(rt, &left, front("yes\n", bad_call, piece));
-    }
-    let out = writer_of(alloc, piece, calls, kind);
-    let left = check(alloc, scenario, report, out, sound(alloc));
-    ended(rt, &left, "yes\n");
-}
 
 /// A run of jobs whose reader needs so many calls, of which each fails in turn.
 fn job_readers<T: Abort + Threads + Wait + Sync>(
@@ -341,64 +210,12 @@ fn job_writers<T: Abort + Threads + Wait + Sync>(
     ended(rt, &left, PRINTED);
 }
 
-/// A script whose standard error fails at each of its calls in turn, one a byte: the status stays.
-fn script_messages(rt: &impl Abort, alloc: Global, kind: Option<ErrorKind>) {
-    for bad_call in 0..37usize {
-        let err = writer_of(alloc, 1, bad_call, kind);
-        let left = script(alloc, BAD.as_bytes(), sound(alloc), err);
-        refused(rt, &left, front(SAID, bad_call, 1));
-    }
-}
-
-/// A check whose standard error does.
-fn check_messages(rt: &impl Abort, alloc: Global, kind: Option<ErrorKind>) {
-    for bad_call in 0..37usize {
-        let err = writer_of(alloc, 1, bad_call, kind);
-        let left = check(alloc, BAD.as_bytes(), REPORT.as_bytes(), sound(alloc), err);
-        refused(rt, &left, front(SAID, bad_call, 1));
-    }
-}
-
 /// A run of jobs whose standard error does.
 fn job_messages<T: Abort + Threads + Wait + Sync>(rt: &T, alloc: Global, kind: Option<ErrorKind>) {
     for bad_call in 0..37usize {
         let err = writer_of(alloc, 1, bad_call, kind);
         let left = threads(rt, alloc, BAD.as_bytes(), sound(alloc), err);
         refused(rt, &left, front(SAID, bad_call, 1));
-    }
-}
-
-#[test]
-fn readers_of_scripts(rt: HostRuntime) {
-    for kind in READ_FAULTS {
-        script_readers(&rt, rt.alloc(), 1, 61, kind);
-        script_readers(&rt, rt.alloc(), 7, 10, kind);
-    }
-}
-
-#[test]
-fn writers_of_scripts(rt: HostRuntime) {
-    for kind in WRITE_FAULTS {
-        script_writers(&rt, rt.alloc(), 1, 83, kind);
-        script_writers(&rt, rt.alloc(), 7, 12, kind);
-    }
-}
-
-#[test]
-fn readers_of_checks(rt: HostRuntime) {
-    for kind in READ_FAULTS {
-        scenario_readers(&rt, rt.alloc(), 1, 61, kind);
-        scenario_readers(&rt, rt.alloc(), 7, 10, kind);
-        report_readers(&rt, rt.alloc(), 1, 84, kind);
-        report_readers(&rt, rt.alloc(), 7, 13, kind);
-    }
-}
-
-#[test]
-fn writers_of_checks(rt: HostRuntime) {
-    for kind in WRITE_FAULTS {
-        check_writers(&rt, rt.alloc(), 1, 4, kind);
-        check_writers(&rt, rt.alloc(), 7, 1, kind);
     }
 }
 
@@ -421,8 +238,6 @@ fn writers_of_jobs(rt: HostRuntime) {
 #[test]
 fn messages_that_fail(rt: HostRuntime) {
     for kind in WRITE_FAULTS {
-        script_messages(&rt, rt.alloc(), kind);
-        check_messages(&rt, rt.alloc(), kind);
         job_messages(&rt, rt.alloc(), kind);
     }
 }

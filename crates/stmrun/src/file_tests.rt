@@ -4,7 +4,7 @@ use crate::files::open;
 use crate::{run_check, run_script, script_to};
 use std::fs;
 use std::test::Fail;
-use stm_report::Std;
+use stm_commands::Std;
 
 const SCENARIO: &str = "[[\"start\",\"Serializable\",1,[[\"put\",\"a\",\"1\",0]]],[\"step\",1]]";
 

@@ -4,40 +4,23 @@
 
 ghost use Rattle.std.specs.Prelude.{◌≤◌};
 
-mod arguments;
-mod checking;
-#[cfg(test)]
-mod checking_tests;
 #[cfg(test)]
 mod device_tests;
 #[cfg(test)]
 mod file_tests;
 mod files;
-#[cfg(test)]
-mod hostile_tests;
-#[cfg(test)]
-mod recipe_tests;
-mod recipes;
-mod scripting;
-#[cfg(test)]
-mod tests;
-#[cfg(test)]
-mod text_tests;
 mod threading;
 #[cfg(test)]
 mod threading_tests;
 
-use arguments::{Asked, asked_of, read_words};
-pub use checking::check_to;
 use files::open;
-pub use recipes::recipe_to;
-pub use scripting::script_to;
 use std::io::Read;
 use std::process::ExitCode;
 use std::sync::Wait;
 use std::thread::Threads;
-use stm_recipe_lines::RecipeWords;
-use stm_report::Std;
+use stm_arguments::{Asked, asked_of, read_words};
+use stm_commands::{RecipeWords, Std};
+pub use stm_commands::{check_to, recipe_to, script_to};
 pub use threading::threads_to;
 
 /// Runs the scenario of an input.

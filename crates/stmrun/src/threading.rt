@@ -5,11 +5,11 @@ ghost use Rattle.stm_devices.specs.Transfers.{HasWritten};
 ghost use Rattle.stm_jobs.specs.declared.running.JobsFault.TheVariants.{Audit};
 ghost use Rattle.stmrun.specs.Threading.{fault_status, fault_message, SaysOf, Ends};
 
-use crate::scripting::{write_bad, write_text};
 use itoa::Buffer;
 use std::alloc::Global;
 use std::sync::Wait;
 use std::thread::Threads;
+use stm_commands::{write_bad, write_text};
 use stm_jobs::{JobsFault, run_jobs};
 use stm_report::{DeviceFault, Sink, Source};
 

@@ -9,7 +9,7 @@ use std::process::Abort;
 use std::sync::Wait;
 use std::test::Fail;
 use std::thread::Threads;
-use stm_report::Std;
+use stm_commands::Std;
 
 /// A reader, or a writer, that fails.
 #[derive(Drop)]

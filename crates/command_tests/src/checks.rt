@@ -1,0 +1,120 @@
+//! Reports that are checked over memory: each line that is wrong is named with its cause, and the reports of the table are right.
+
+use crate::scenarios::REPORTS;
+use std::alloc::Global;
+use std::process::Abort;
+use std::test::Fail;
+use stm_commands::{Std, check_to};
+
+/// A check over memory has this status, and writes this to the two sinks.
+pub fn checks(
+    rt: &impl Abort,
+    alloc: Global,
+    scenario: &str,
+    report: &str,
+    status: u8,
+    says: &str,
+    complains: &str,
+) {
+    let mut first = Std::new(scenario.as_bytes());
+    let mut second = Std::new(report.as_bytes());
+    let mut out = Std::new(Vec::new(alloc));
+    let mut err = Std::new(Vec::new(alloc));
+    let ended = check_to(alloc, &mut first, &mut second, &mut out, &mut err);
+    assert_eq!(rt; ended, status, "{report}");
+    assert!(rt; out.device.as_slice() == says.as_bytes(), "{report}");
+    assert!(rt; err.device.as_slice() == complains.as_bytes(), "{report}");
+}
+
+/// Two programs that each put one key where the sum of both is above 1.
+const SKEW: &str =
+    "[[\"txn\",[],[[\"put\",\"x\",\"1\",0]],[]],[\"txn\",[],[[\"put\",\"y\",\"1\",0]],[]],
+  [\"start\",\"Serializable\",3,[[\"if\",[\"less\",1,[\"add\",[\"num_of\",[\"get\",\"x\"]],[\"num_of\",[\"get\",\"y\"]]]],[[\"put\",\"x\",\"0\",0]],[]]]],
+  [\"start\",\"Serializable\",3,[[\"if\",[\"less\",1,[\"add\",[\"num_of\",[\"get\",\"x\"]],[\"num_of\",[\"get\",\"y\"]]]],[[\"put\",\"y\",\"0\",0]],[]]]],
+  [\"step\",1],[\"step\",2],[\"step\",1],[\"step\",2],[\"step\",1],[\"step\",2],[\"step\",2]]";
+
+/// The lines of its report.
+const SKEW_LINES: [&str; 14] = [
+    "[1,\"txn\",true,2,[[\"put\"]]]\n",
+    "[2,\"txn\",true,3,[[\"put\"]]]\n",
+    "[3,\"started\",1]\n",
+    "[4,\"started\",2]\n",
+    "[5,\"fetched\",1,\"x\",2,3,3]\n",
+    "[6,\"fetched\",2,\"x\",2,3,3]\n",
+    "[7,\"fetched\",1,\"y\",3,3,3]\n",
+    "[8,\"fetched\",2,\"y\",3,3,3]\n",
+    "[9,\"committed\",1,4,1,[],[[\"get\",\"x\",\"1\"],[\"get\",\"y\",\"1\"]],[]]\n",
+    "[10,\"conflict\",2,\"x\",2,4]\n",
+    "[11,\"committed\",2,4,2,[],[[\"get\",\"x\",\"0\"],[\"get\",\"y\",\"1\"]],[]]\n",
+    "[\"key\",\"x\",\"0\",2,4,2,0]\n",
+    "[\"key\",\"y\",\"1\",3,3,1,0]\n",
+    "[\"end\",4,4]\n",
+];
+
+/// The report of the skew with another text in the place of a line, counted from 1.
+fn skew_with(alloc: Global, place: usize, line: &str) -> Result<String, Fail> {
+    let mut text = String::new(alloc);
+    for (index, known) in SKEW_LINES.iter().enumerate() {
+        text.push_str(if index + 1 == place { line } else { *known })?;
+    }
+    Ok(text)
+}
+
+/// Texts in the place of a line of the skew's report, each with the status and what is said.
+const WRONG_LINES: [(usize, &str, u8, &str, &str); 7] = [
+    (0, "", 0, "yes\n", ""),
+    // Another trace than the program has alone.
+    (
+        11,
+        "[11,\"committed\",2,4,2,[],[[\"get\",\"x\",\"1\"],[\"get\",\"y\",\"1\"]],[]]\n",
+        1,
+        "no 11 Replay\n",
+        "",
+    ),
+    // The end line is missing.
+    (14, "", 1, "no 14 Count\n", ""),
+    // The line of runner 2 at a step of runner 1.
+    (5, "[5,\"fetched\",2,\"x\",2,3,3]\n", 1, "no 5 Event\n", ""),
+    // An event's line behind those of the events.
+    (
+        12,
+        "[12,\"started\",3]\n[\"key\",\"x\",\"0\",2,4,2,0]\n",
+        1,
+        "no 12 Final\n",
+        "",
+    ),
+    // A line behind the end line.
+    (14, "[\"end\",4,4]\n[\"end\",4,4]\n", 1, "no 15 Count\n", ""),
+    // No line feed at the end.
+    (
+        14,
+        "[\"end\",4,4]",
+        2,
+        "",
+        "stmrun: bad report at /13: Shape\n",
+    ),
+];
+
+#[test]
+fn reports_are_checked(rt: HostRuntime) -> Result<(), Fail> {
+    let alloc = rt.alloc();
+    for (place, line, status, says, complains) in WRONG_LINES {
+        let report = skew_with(alloc, place, line)?;
+        checks(&rt, alloc, SKEW, report.as_str(), status, says, complains);
+    }
+    checks(&rt, alloc, SKEW, "", 1, "no 1 Count\n", "");
+    // The scenario is judged first.
+    checks(
+        &rt,
+        alloc,
+        "{}",
+        "[",
+        2,
+        "",
+        "stmrun: bad scenario at : Shape\n",
+    );
+    for (_, scenario, report) in REPORTS {
+        checks(&rt, alloc, scenario, report, 0, "yes\n", "");
+    }
+    Ok(())
+}

@@ -1,0 +1,417 @@
+//! Scenarios, each with its name and the whole report that the rules give. Nothing here is taken from a run.
+
+/// A scenario of one put, whose report is `FIRST_PUT_REPORT`.
+pub const FIRST_PUT: &str = r#"[["start","ReadCommitted",1,[["put","a","1",0]]],["step",1]]"#;
+
+pub const FIRST_PUT_REPORT: &str = r#"[1,"started",1]
+[2,"committed",1,2,1,[],[],[]]
+["key","a","1",2,2,1,0]
+["end",2,1]
+"#;
+
+/// Scenarios by name, each with its report.
+pub const REPORTS: [(&str, &str, &str); 29] = [
+    // An empty scenario.
+    (
+        "no_events",
+        r#"[]"#,
+        r#"["end",1,0]
+"#,
+    ),
+    // The first put.
+    ("first_put", FIRST_PUT, FIRST_PUT_REPORT),
+    // A get before another's put.
+    (
+        "absent_before_a_put",
+        r#"[["start","ReadCommitted",1,[["emit",["get","a"]]]],["start","ReadCommitted",1,[["put","a","1",0]]],
+ ["step",1],["step",2],["step",1]]"#,
+        r#"[1,"started",1]
+[2,"started",2]
+[3,"fetched",1,"a",0,1,1]
+[4,"committed",2,2,1,[],[],[]]
+[5,"committed",1,2,1,[""],[["get","a",""]],[["a",null,0,1]]]
+["key","a","1",2,2,1,0]
+["end",2,2]
+"#,
+    ),
+    // An absent key and one with an empty value give the same text, and other revisions.
+    (
+        "absent_and_empty",
+        r#"[["txn",[],[["put","e","",0]],[]],
+ ["start","Serializable",1,[["emit",["get","n"]],["emit",["rev","n"]],["emit",["get","e"]],["emit",["rev","e"]]]],
+ ["step",1],["step",1],["step",1]]"#,
+        r#"[1,"txn",true,2,[["put"]]]
+[2,"started",1]
+[3,"fetched",1,"n",0,2,2]
+[4,"fetched",1,"e",2,2,2]
+[5,"committed",1,2,1,["",0,"",2],[["get","n",""],["rev","n",0],["get","e",""],["rev","e",2]],[]]
+["key","e","",2,2,1,0]
+["end",2,2]
+"#,
+    ),
+    // A get that the buffer answers.
+    (
+        "own_writes_at_read_committed",
+        r#"[["start","ReadCommitted",1,[["put","a","1",0],["emit",["get","a"]],["put","a","2",0]]],["step",1]]"#,
+        r#"[1,"started",1]
+[2,"committed",1,2,1,["1"],[["get","a","1"]],[]]
+["key","a","2",2,2,1,0]
+["end",2,1]
+"#,
+    ),
+    // A get that the buffer answers, at RepeatableReads: no key is read.
+    (
+        "own_writes",
+        r#"[["start","RepeatableReads",1,[["put","a","1",0],["emit",["get","a"]],["put","a","2",0]]],["step",1]]"#,
+        r#"[1,"started",1]
+[2,"committed",1,2,1,["1"],[["get","a","1"]],[]]
+["key","a","2",2,2,1,0]
+["end",2,1]
+"#,
+    ),
+    // The revision of a key that was written is that of the store, and its value the one that was written.
+    (
+        "revision_of_an_own_write",
+        r#"[["start","Serializable",1,[["put","a","1",0],["emit",["rev","a"]],["emit",["get","a"]]]],["step",1],
+ ["step",1]]"#,
+        r#"[1,"started",1]
+[2,"fetched",1,"a",0,1,1]
+[3,"committed",1,2,1,[0,"1"],[["rev","a",0],["get","a","1"]],[]]
+["key","a","1",2,2,1,0]
+["end",2,1]
+"#,
+    ),
+    // An abort and a fault.
+    (
+        "abort_and_fault",
+        r#"[["start","ReadCommitted",1,[["put","a","1",0],["abort","no"]]],
+ ["start","ReadCommitted",1,[["emit",["num_of","x"]]]],["step",1],["step",2]]"#,
+        r#"[1,"started",1]
+[2,"started",2]
+[3,"aborted",1,"no"]
+[4,"faulted",2,"NotANumber"]
+["end",1,0]
+"#,
+    ),
+    // A limit of no attempts.
+    (
+        "no_attempts",
+        r#"[["start","ReadCommitted",0,[]]]"#,
+        r#"[1,"refused","BadLimit",[]]
+["end",1,0]
+"#,
+    ),
+    // A put at the highest revision.
+    (
+        "highest_revision",
+        r#"[["begin",9223372036854775806],["start","ReadCommitted",1,[["put","a","1",0]]],["step",1],["step",1]]"#,
+        r#"[1,"started",1]
+[2,"ended",1,"RevisionsUsedUp"]
+[3,"refused","NoRunner",[]]
+["end",9223372036854775806,0]
+"#,
+    ),
+    // A put of another client is refused at the highest revision, and reads go on.
+    (
+        "reads_at_the_highest_revision",
+        r#"[["begin",9223372036854775806],["txn",[],[["put","a","1",0]],[]],
+ ["start","Serializable",1,[["emit",["rev","a"]]]],["step",1],["step",1]]"#,
+        r#"[1,"refused","RevisionsUsedUp",[]]
+[2,"started",1]
+[3,"fetched",1,"a",0,9223372036854775806,9223372036854775806]
+[4,"committed",1,9223372036854775806,1,[0],[["rev","a",0]],[]]
+["end",9223372036854775806,1]
+"#,
+    ),
+    // A key that comes to be between read and commit, at RepeatableReads.
+    (
+        "absent_no_more",
+        r#"[["start","RepeatableReads",2,[["emit",["get","k"]]]],["step",1],["txn",[],[["put","k","v",0]],[]],["step",1],
+ ["step",1],["step",1]]"#,
+        r#"[1,"started",1]
+[2,"fetched",1,"k",0,1,1]
+[3,"txn",true,2,[["put"]]]
+[4,"conflict",1,"k",0,2]
+[5,"fetched",1,"k",2,2,2]
+[6,"committed",1,2,2,["v"],[["get","k","v"]],[]]
+["key","k","v",2,2,1,0]
+["end",2,2]
+"#,
+    ),
+    // A key that is absent when it is read, is put, and is deleted again before the commit, which succeeds.
+    (
+        "deleted_again",
+        r#"[["start","RepeatableReads",2,[["emit",["get","k"]]]],["step",1],["txn",[],[["put","k","v",0]],[]],
+ ["txn",[],[["del","k"]],[]],["step",1]]"#,
+        r#"[1,"started",1]
+[2,"fetched",1,"k",0,1,1]
+[3,"txn",true,2,[["put"]]]
+[4,"txn",true,3,[["del",1]]]
+[5,"committed",1,3,1,[""],[["get","k",""]],[]]
+["end",3,3]
+"#,
+    ),
+    // A key that was read is deleted, and put again with the value that it had: the commit fails.
+    (
+        "put_again",
+        r#"[["txn",[],[["put","k","1",0]],[]],["start","Serializable",1,[["emit",["get","k"]]]],["step",1],
+ ["txn",[],[["del","k"]],[]],["txn",[],[["put","k","1",0]],[]],["step",1]]"#,
+        r#"[1,"txn",true,2,[["put"]]]
+[2,"started",1]
+[3,"fetched",1,"k",2,2,2]
+[4,"txn",true,3,[["del",1]]]
+[5,"txn",true,4,[["put"]]]
+[6,"gaveup",1,1,"k",2,4]
+["key","k","1",4,4,1,0]
+["end",4,3]
+"#,
+    ),
+    // Two programs that each put one key where the sum of both is above 1: at ReadCommitted both commit.
+    (
+        "skew_at_read_committed",
+        r#"[["txn",[],[["put","x","1",0]],[]],["txn",[],[["put","y","1",0]],[]],
+ ["start","ReadCommitted",3,[["if",["less",1,["add",["num_of",["get","x"]],["num_of",["get","y"]]]],[["put","x","0",0]],[]]]],
+ ["start","ReadCommitted",3,[["if",["less",1,["add",["num_of",["get","x"]],["num_of",["get","y"]]]],[["put","y","0",0]],[]]]],
+ ["step",1],["step",2],["step",1],["step",2],["step",1],["step",2],["step",2]]"#,
+        r#"[1,"txn",true,2,[["put"]]]
+[2,"txn",true,3,[["put"]]]
+[3,"started",1]
+[4,"started",2]
+[5,"fetched",1,"x",2,3,3]
+[6,"fetched",2,"x",2,3,3]
+[7,"fetched",1,"y",3,3,3]
+[8,"fetched",2,"y",3,3,3]
+[9,"committed",1,4,1,[],[["get","x","1"],["get","y","1"]],[["x","1",2,3],["y","1",3,3]]]
+[10,"committed",2,5,1,[],[["get","x","1"],["get","y","1"]],[["x","1",2,3],["y","1",3,3]]]
+[11,"refused","NoRunner",[]]
+["key","x","0",2,4,2,0]
+["key","y","0",3,5,2,0]
+["end",5,4]
+"#,
+    ),
+    // Both keys change between two reads: at ReadCommitted the values that were read need not be of one state.
+    (
+        "two_reads_at_read_committed",
+        r#"[["txn",[],[["put","x","1",0],["put","y","1",0]],[]],
+ ["start","ReadCommitted",1,[["set",0,["get","x"]],["emit",["get","y"]]]],["step",1],
+ ["txn",[],[["put","x","2",0],["put","y","2",0]],[]],["step",1],["step",1]]"#,
+        r#"[1,"txn",true,2,[["put"],["put"]]]
+[2,"started",1]
+[3,"fetched",1,"x",2,2,2]
+[4,"txn",true,3,[["put"],["put"]]]
+[5,"fetched",1,"y",3,3,3]
+[6,"committed",1,3,1,["2"],[["get","x","1"],["get","y","2"]],[["x","1",2,2],["y","2",3,3]]]
+["key","x","2",2,3,2,0]
+["key","y","2",2,3,2,0]
+["end",3,3]
+"#,
+    ),
+    // At RepeatableReads the second read tells the newer value, and the commit fails.
+    (
+        "two_reads_at_repeatable_reads",
+        r#"[["txn",[],[["put","x","1",0],["put","y","1",0]],[]],
+ ["start","RepeatableReads",1,[["set",0,["get","x"]],["emit",["get","y"]]]],["step",1],
+ ["txn",[],[["put","x","2",0],["put","y","2",0]],[]],["step",1],["step",1]]"#,
+        r#"[1,"txn",true,2,[["put"],["put"]]]
+[2,"started",1]
+[3,"fetched",1,"x",2,2,2]
+[4,"txn",true,3,[["put"],["put"]]]
+[5,"fetched",1,"y",3,3,3]
+[6,"gaveup",1,1,"x",2,3]
+["key","x","2",2,3,2,0]
+["key","y","2",2,3,2,0]
+["end",3,2]
+"#,
+    ),
+    // At Serializable the second read tells the older value, and the commit fails.
+    (
+        "two_reads_at_serializable",
+        r#"[["txn",[],[["put","x","1",0],["put","y","1",0]],[]],
+ ["start","Serializable",1,[["set",0,["get","x"]],["emit",["get","y"]]]],["step",1],
+ ["txn",[],[["put","x","2",0],["put","y","2",0]],[]],["step",1],["step",1]]"#,
+        r#"[1,"txn",true,2,[["put"],["put"]]]
+[2,"started",1]
+[3,"fetched",1,"x",2,2,2]
+[4,"txn",true,3,[["put"],["put"]]]
+[5,"fetched",1,"y",2,2,3]
+[6,"gaveup",1,1,"x",2,3]
+["key","x","2",2,3,2,0]
+["key","y","2",2,3,2,0]
+["end",3,2]
+"#,
+    ),
+    // A written key that another changed, at SerializableSnapshot.
+    (
+        "written_key_changed_at_snapshot",
+        r#"[["txn",[],[["put","a","1",0],["put","b","1",0]],[]],
+ ["start","SerializableSnapshot",1,[["set",0,["get","a"]],["put","b","9",0]]],["step",1],
+ ["txn",[],[["put","b","2",0]],[]],["step",1]]"#,
+        r#"[1,"txn",true,2,[["put"],["put"]]]
+[2,"started",1]
+[3,"fetched",1,"a",2,2,2]
+[4,"txn",true,3,[["put"]]]
+[5,"gaveup",1,1,"b",2,3]
+["key","a","1",2,2,1,0]
+["key","b","2",2,3,2,0]
+["end",3,2]
+"#,
+    ),
+    // A written key that another deleted, at SerializableSnapshot: the commit succeeds.
+    (
+        "written_key_deleted_at_snapshot",
+        r#"[["txn",[],[["put","a","1",0],["put","b","1",0]],[]],
+ ["start","SerializableSnapshot",1,[["set",0,["get","a"]],["put","b","9",0]]],["step",1],
+ ["txn",[],[["del","b"]],[]],["step",1]]"#,
+        r#"[1,"txn",true,2,[["put"],["put"]]]
+[2,"started",1]
+[3,"fetched",1,"a",2,2,2]
+[4,"txn",true,3,[["del",1]]]
+[5,"committed",1,4,1,[],[["get","a","1"]],[]]
+["key","a","1",2,2,1,0]
+["key","b","9",4,4,1,0]
+["end",4,3]
+"#,
+    ),
+    // A written key that nobody changed, at SerializableSnapshot.
+    (
+        "written_key_unchanged_at_snapshot",
+        r#"[["txn",[],[["put","a","1",0],["put","b","1",0]],[]],
+ ["start","SerializableSnapshot",1,[["set",0,["get","a"]],["put","b","9",0]]],["step",1],["step",1]]"#,
+        r#"[1,"txn",true,2,[["put"],["put"]]]
+[2,"started",1]
+[3,"fetched",1,"a",2,2,2]
+[4,"committed",1,3,1,[],[["get","a","1"]],[]]
+["key","a","1",2,2,1,0]
+["key","b","9",2,3,2,0]
+["end",3,2]
+"#,
+    ),
+    // A put on a lease that was revoked since.
+    (
+        "lease_revoked_before_commit",
+        r#"[["grant",7,60],["start","Serializable",1,[["put","a","1",7]]],["revoke",7],["step",1]]"#,
+        r#"[1,"granted",7]
+[2,"started",1]
+[3,"revoked",7,1]
+[4,"ended",1,"LeaseNotFound"]
+["end",1,2]
+"#,
+    ),
+    // Only the last write of a key is sent, so a lease of an earlier one may have been revoked.
+    (
+        "last_write_without_lease",
+        r#"[["grant",7,60],["start","Serializable",1,[["put","a","1",7],["put","a","2",0]]],["revoke",7],["step",1]]"#,
+        r#"[1,"granted",7]
+[2,"started",1]
+[3,"revoked",7,1]
+[4,"committed",1,2,1,[],[],[]]
+["key","a","2",2,2,1,0]
+["end",2,3]
+"#,
+    ),
+    // Leases that are due when the revisions are nearly used up.
+    (
+        "leases_due_at_the_highest_revisions",
+        r#"[["begin",9223372036854775804],["grant",1,5],["grant",2,5],
+ ["txn",[],[["put","a","1",1],["put","b","1",2]],[]],["advance",5]]"#,
+        r#"[1,"granted",1]
+[2,"granted",2]
+[3,"txn",true,9223372036854775805,[["put"],["put"]]]
+[4,"refused","RevisionsUsedUp",[[1,9223372036854775806]]]
+["key","b","1",9223372036854775805,9223372036854775805,1,2]
+["lease",2,5,0]
+["end",9223372036854775806,4]
+"#,
+    ),
+    // Both branches of a transaction, a compare of an absent key, and transactions that are refused.
+    (
+        "transactions_of_another_client",
+        r#"[["txn",[["mod","a","=",0]],[["put","a","1",0],["get","a",0],["del","z"]],[["get","a",0]]],
+ ["txn",[["mod","a","=",0]],[["put","a","1",0],["get","a",0],["del","z"]],[["get","a",0]]],
+ ["txn",[["value","zz","!=","q"]],[],[]],["txn",[],[["put","a","1",0],["del","a"]],[]],
+ ["txn",[],[["del","a"],["del","a"]],[]],["txn",[],[["del","a"]],[]],["txn",[],[["get","a",4]],[]],
+ ["txn",[],[["get","a",2]],[]],["txn",[],[["get","",0],["put","b","1",0],["put","b","2",0]],[]]]"#,
+        r#"[1,"txn",true,2,[["put"],["get",2,["1",2,2,1,0]],["del",0]]]
+[2,"txn",false,2,[["get",2,["1",2,2,1,0]]]]
+[3,"txn",false,2,[]]
+[4,"refused","DuplicateKey",[]]
+[5,"txn",true,3,[["del",1],["del",0]]]
+[6,"txn",true,3,[["del",0]]]
+[7,"refused","FutureRevision",[]]
+[8,"txn",true,3,[["get",3,["1",2,2,1,0]]]]
+[9,"refused","EmptyKey",[]]
+["end",3,2]
+"#,
+    ),
+    // Refusals, among them of a watcher that is not there.
+    (
+        "refusals",
+        r#"[["grant",0,5],["grant",3,0],["grant",3,9000000000],["grant",3,5],["keep",4],["advance",7],["advance",6],
+ ["keep",3],["cancel",1],["step",1],["start","Serializable",0,[]],["revoke",3]]"#,
+        r#"[1,"refused","LeaseIdOutOfRange",[]]
+[2,"refused","TtlOutOfRange",[]]
+[3,"granted",3]
+[4,"refused","LeaseExists",[]]
+[5,"refused","LeaseNotFound",[]]
+[6,"advanced",7,[]]
+[7,"refused","TimeGoesBack",[]]
+[8,"kept",3]
+[9,"refused","NoWatcher",[]]
+[10,"refused","NoRunner",[]]
+[11,"refused","BadLimit",[]]
+[12,"revoked",3,1]
+["end",1,3]
+"#,
+    ),
+    // Keys that go when their leases expire are told in one revision, ascending by bytes.
+    (
+        "expired_keys_in_one_revision",
+        r#"[["grant",1,5],["grant",2,10],["txn",[],[["put","b","1",2],["put","a","1",1]],[]],
+ ["txn",[],[["put","a","1",2]],[]],["advance",5],["watch_range","a","c",0],["advance",10],["poll",1,10]]"#,
+        r#"[1,"granted",1]
+[2,"granted",2]
+[3,"txn",true,2,[["put"],["put"]]]
+[4,"txn",true,3,[["put"]]]
+[5,"advanced",5,[[1,3]]]
+[6,"watching",1]
+[7,"advanced",10,[[2,4]]]
+[8,"batch",1,4,[["DELETE","a",4],["DELETE","b",4]]]
+["end",4,6]
+"#,
+    ),
+    // One revision is told in the order of its operations, and not twice.
+    (
+        "events_in_the_order_of_their_operations",
+        r#"[["watch_range","a","d",0],["txn",[],[["put","c","1",0],["put","a","1",0],["put","b","1",0]],[]],["poll",1,1],
+ ["poll",1,1]]"#,
+        r#"[1,"watching",1]
+[2,"txn",true,2,[["put"],["put"],["put"]]]
+[3,"batch",1,2,[["PUT","c","1",2,2,1,0],["PUT","a","1",2,2,1,0],["PUT","b","1",2,2,1,0]]]
+[4,"batch",1,2,[]]
+["key","a","1",2,2,1,0]
+["key","b","1",2,2,1,0]
+["key","c","1",2,2,1,0]
+["end",2,1]
+"#,
+    ),
+    // Three watchers, of which one is cancelled and polled, and one that waits for a revision to come.
+    (
+        "watchers_cancelled_and_waiting",
+        r#"[["watch_key","a",0],["watch_range","a","c",0],["watch_key","b",1],["txn",[],[["put","b","1",0]],[]],
+ ["cancel",2],["poll",3,0],["poll",3,1],["poll",2,1],["cancel",2],["watch_key","c",9],["poll",4,5]]"#,
+        r#"[1,"watching",1]
+[2,"watching",2]
+[3,"watching",3]
+[4,"txn",true,2,[["put"]]]
+[5,"cancelled",2]
+[6,"batch",3,0,[]]
+[7,"batch",3,2,[["PUT","b","1",2,2,1,0]]]
+[8,"refused","NoWatcher",[]]
+[9,"refused","NoWatcher",[]]
+[10,"watching",4]
+[11,"batch",4,8,[]]
+["key","b","1",2,2,1,0]
+["end",2,1]
+"#,
+    ),
+];

@@ -1,0 +1,449 @@
+//! The command line.
+ghost use Rattle.std.specs.Prelude.{◌≡◌, ◌≤◌, ◌⊎◌, codes, false, IfOk, IfErr, IfNone, IfSome, Some, map, option_map, string_bytes};
+ghost use Rattle.clap.specs.Words.{IsUnsignedIn, app_of, first_of, found_of, kind_of, new_rule, rows_of, rule_of, subcommand_rows_of};
+ghost use Rattle.stm_arguments.specs.CommandLine.{script_app, check_app, threads_app, recipe_app, stmrun_app, wanted, workers_rule, IsAddedAs, IsToldBy};
+ghost use Rattle.stm_arguments.specs.Asking.{Asks, AsksAt, AsksBy, HasFiles, HasName, HasWorkers, IsWhole, NamesNumber};
+
+use clap::error::ErrorKind;
+use clap::{Arg, ArgMatches, Command, Error};
+use std::alloc::{AllocError, Global};
+use std::rt::Env;
+use std::{env, io};
+use stm_recipe_lines::RecipeWords;
+
+/// What a command line asks for.
+#[derive(Clone, Copy, Debug, PartialEq, Eq)]
+pub enum Asked<'a> {
+    /// A script, by the path of its scenario; of standard input, where there is none.
+    Script {
+        scenario: Option<&'a str>,
+    },
+    /// A check of a report, by the paths of its scenario and of itself.
+    Check {
+        scenario: &'a str,
+        report: &'a str,
+    },
+    /// A run of the scenario's jobs by so many threads, by the path of the scenario; of standard input, where there is none.
+    Threads {
+        scenario: Option<&'a str>,
+        workers: usize,
+    },
+    /// The program of a recipe, by its name and its arguments.
+    Recipe(RecipeWords<'a>),
+    /// Nothing more: help was printed, or the command line was refused, with this status.
+    Nothing(u8),
+}
+
+/// Why the words of the command line could not be read.
+enum WordsFault {
+    /// A growth was refused.
+    OutOfMemory,
+    /// One of them is not UTF-8.
+    NotText,
+}
+
+/// How many threads may run jobs, at most.
+const MOST_WORKERS: usize = 16;
+
+const EXAMPLE: &str = "A scenario is a JSON array of events, in their order:
+
+  [\"start\",LEVEL,LIMIT,PROGRAM]       a runner gets the program, whose run may send so many commits
+  [\"step\",RUNNER]                     the runner fetches a key, or commits
+  [\"txn\",[CMP,..],[OP,..],[OP,..]]    another client's transaction: compares, success, failure
+  [\"grant\",ID,TTL]                    a lease is granted for so many seconds
+  [\"keep\",ID] and [\"revoke\",ID]       a lease is renewed, or ends with its keys
+  [\"advance\",NOW]                     the moment is set, and the leases that are due end with their keys
+  [\"watch_key\",KEY,FROM]              a key is watched from a revision on (0: the next one)
+  [\"watch_range\",FIRST,END,FROM]      so are the keys from FIRST to before END, by bytes
+  [\"poll\",WATCHER,MAX]                a watcher is given what is pending, of at most MAX revisions
+  [\"cancel\",WATCHER]                  a watcher is given up
+
+LEVEL is ReadCommitted, RepeatableReads, Serializable or SerializableSnapshot. PROGRAM is an array of
+statements; stmrun recipe prints ready ones. This scenario starts a program that puts a key, and lets it
+take a step:
+
+  [[\"start\",\"Serializable\",1,[[\"put\",\"a\",\"1\",0]]],[\"step\",1]]
+
+Its report has a line for each event, one for each key that is present, one for each live lease, and
+the end line:
+
+  [1,\"started\",1]
+  [2,\"committed\",1,2,1,[],[],[]]
+  [\"key\",\"a\",\"1\",2,2,1,0]
+  [\"end\",2,1]
+
+Statuses: 0 done or yes, 1 no, 2 bad input or usage, 3 want of memory, a failed device, or a run of threads
+that was broken off.";
+
+const SCRIPT_EXAMPLE: &str =
+    "The report is printed once it is whole, and nothing of it where the scenario is bad: then the place of its
+first fault and the cause stand on standard error. If s.json holds the example of stmrun --help,
+
+  stmrun script s.json
+
+prints its report, and so does stmrun script < s.json. From this scenario, which lacks the runner of its step,
+
+  [[\"step\"]]
+
+it prints no report, but says
+
+  stmrun: bad scenario at /0: Shape
+
+Statuses: 0 done, 2 bad input or usage, 3 want of memory or a failed device.";
+
+const CHECK_EXAMPLE: &str =
+    "Prints yes where no line of the report is wrong, and else no LINE CAUSE: the first wrong line, counted
+from 1, and why it is wrong:
+
+  Count     it is missing, or stands behind the end line
+  Event     it stands in an event's place, and is no line that this event can have there
+  Replay    it tells of a commit, a change or a refusal something else than the replay gives
+  Final     it stands behind the events' lines, and is not the key, lease or end line that is due there
+
+If s.json holds the example of stmrun --help and r.txt its report,
+
+  stmrun check s.json r.txt
+
+prints yes. Where r.txt has another value in the line of key a, it prints no 3 Final.
+
+Statuses: 0 yes, 1 no, 2 bad input or usage, 3 want of memory or a failed device.";
+
+const THREADS_EXAMPLE: &str =
+    "Each start of the scenario is a job, numbered from 0. Its txn, grant, keep, revoke and advance events are
+applied to the store first, in their order; another event, and a limit of 0, is bad input. The threads
+draw jobs, run them on one store behind one lock, and a job whose commit fails is tried again until it has
+sent LIMIT commits. Printed are how many jobs there are, how many of them committed, the value of each key
+that is present, and the revision. If s.json holds
+
+  [[\"txn\",[],[[\"put\",\"a\",\"1\",0]],[]],[\"start\",\"Serializable\",1,[[\"put\",\"b\",[\"get\",\"a\"],0]]]]
+
+then stmrun threads --workers 2 s.json prints
+
+  [\"jobs\",1]
+  [\"committed\",1]
+  [\"value\",\"a\",\"1\"]
+  [\"value\",\"b\",\"1\"]
+  [\"end\",3]
+
+Which job goes first is not said, nor that the run ends. Statuses: 0 done, 2 bad input or usage, 3 want of
+memory, a failed device, no thread, or a job whose end is not what the store says (audit JOB).";
+
+const RECIPE_EXAMPLE: &str =
+    "Prints the program of a recipe as one line of JSON, which is the last part of a scenario's event
+[\"start\",LEVEL,LIMIT,PROGRAM]:
+
+  transfer FROM TO AMOUNT           moves an amount from one account to another; aborts with insufficient
+                                    where the first has less. An account is a key whose value is a number
+  deposit ACCOUNT AMOUNT            adds an amount to an account, which counts as 0 where it is absent
+  enqueue QUEUE ITEM                puts an item behind the others of a queue
+  dequeue QUEUE                     puts out the first item and deletes it; aborts with empty where there is
+                                    none. A queue keeps its items under QUEUE/0, QUEUE/1 and so on, and where
+                                    they begin and end under QUEUE/head and QUEUE/tail
+  reserve_slot SLOT HOLDER LEASE    puts the holder under the key SLOT, on a lease, 0 for none; aborts with
+                                    held where the key is present
+  release_slot SLOT HOLDER          deletes the key SLOT; aborts with not held where it is absent or has
+                                    another value
+
+FROM, TO, ACCOUNT, QUEUE, ITEM, SLOT and HOLDER have 1 to 1024 bytes, AMOUNT is a whole number from 0 to
+4294967295, LEASE one from 0 to 9223372036854775807. Words that begin with - stand behind --.
+
+  stmrun recipe deposit a 30
+
+prints the program of this scenario, which makes account a and puts 30 there:
+
+  [[\"start\",\"Serializable\",1,
+    [[\"set\",0,[\"get\",\"a\"]],[\"if\",[\"eq\",[\"var\",0],\"\"],[[\"set\",0,\"0\"]],[]],
+     [\"put\",\"a\",[\"text_of\",[\"add\",[\"num_of\",[\"var\",0]],30]],0]]],
+   [\"step\",1],[\"step\",1]]
+
+Statuses: 0 done, 2 usage, 3 want of memory or a failed device.";
+
+/// What is said of words that are not UTF-8, in the manner of the other usage faults.
+const NOT_TEXT: &str = "error: the command line is not UTF-8
+
+Usage: stmrun <COMMAND>
+
+For more information, try '--help'.";
+
+/// An argument that has to be there, by its place.
+fn required<'a>(alloc: Global, name: &'a str, help: &'a str) -> Arg<'a>
+    ensures rule { rule_of result ≡ wanted name.now }
+    ensures local { result.global ≡ false }
+{
+    Arg::new(alloc, name).required(true).help(help)
+}
+
+/// An argument that may be there, by its place.
+fn optional<'a>(alloc: Global, name: &'a str, help: &'a str) -> Arg<'a>
+    ensures rule { rule_of result ≡ new_rule name.now }
+    ensures local { result.global ≡ false }
+{
+    Arg::new(alloc, name).help(help)
+}
+
+/// The command `script`.
+fn script_command<'a>(alloc: Global) -> Result<Command<'a>, AllocError>
+    ensures { IfOk result (IsAddedAs script_app) }
+{
+    let input = optional(
+        alloc,
+        "FILE",
+        "The file of the scenario, in the place of standard input",
+    );
+    Command::new(alloc, "script")
+        .about("Runs a scenario, and prints its report")
+        .after_help(SCRIPT_EXAMPLE)
+        .arg(input)
+}
+
+/// The command `check`.
+fn check_command<'a>(alloc: Global) -> Result<Command<'a>, AllocError>
+    ensures { IfOk result (IsAddedAs check_app) }
+{
+    let scenario = required(alloc, "SCENARIO", "The file of the scenario");
+    let report = required(alloc, "REPORT", "The file of the report");
+    Command::new(alloc, "check")
+        .about("Says whether REPORT is a report of SCENARIO, and if not, which line is wrong first")
+        .after_help(CHECK_EXAMPLE)
+        .arg(scenario)?
+        .arg(report)
+}
+
+/// The number of threads, which has to be there.
+fn workers<'a>(alloc: Global) -> Arg<'a>
+    ensures rule { rule_of result ≡ workers_rule }
+    ensures local { result.global ≡ false }
+{
+    let numbers = clap::value_parser!(u64).range(1..=16);
+    Arg::new(alloc, "workers")
+        .long("workers")
+        .value_name("N")
+        .required(true)
+        .value_parser(numbers)
+        .help("How many threads run the jobs, from 1 to 16")
+}
+
+/// The command `threads`.
+fn threads_command<'a>(alloc: Global) -> Result<Command<'a>, AllocError>
+    ensures { IfOk result (IsAddedAs threads_app) }
+{
+    let input = optional(
+        alloc,
+        "FILE",
+        "The file of the scenario, in the place of standard input",
+    );
+    let count = workers(alloc);
+    Command::new(alloc, "threads")
+        .about("Runs the starts of a scenario as jobs, by several threads on one store")
+        .after_help(THREADS_EXAMPLE)
+        .arg(input)?
+        .arg(count)
+}
+
+/// The command `recipe`.
+fn recipe_command<'a>(alloc: Global) -> Result<Command<'a>, AllocError>
+    ensures { IfOk result (IsAddedAs recipe_app) }
+{
+    let name = required(alloc, "NAME", "The name of the recipe");
+    let first = optional(alloc, "FIRST", "Its first argument");
+    let second = optional(alloc, "SECOND", "Its second argument");
+    let third = optional(alloc, "THIRD", "Its third argument");
+    Command::new(alloc, "recipe")
+        .about("Prints the program of a recipe, as a scenario's start takes it")
+        .after_help(RECIPE_EXAMPLE)
+        .arg(name)?
+        .arg(first)?
+        .arg(second)?
+        .arg(third)
+}
+
+/// The command.
+fn command<'a>(alloc: Global) -> Result<Command<'a>, AllocError>
+    ensures { IfOk result (λ command. app_of command ≡ stmrun_app) }
+{
+    let script = script_command(alloc)?;
+    let check = check_command(alloc)?;
+    let threads = threads_command(alloc)?;
+    let recipe = recipe_command(alloc)?;
+    Command::new(alloc, "stmrun")
+        .about("Runs transactional programs over an etcd-like store, one event at a time")
+        .after_help(EXAMPLE)
+        .subcommand_required(true)
+        .subcommand(script)?
+        .subcommand(check)?
+        .subcommand(threads)?
+        .subcommand(recipe)
+}
+
+/// The status of a command line that is refused, or that asks for help, once its text is printed: 0 for help that was
+/// printed, 3 for want of memory and for help that could not be printed, and 2 for usage, printed or not.
+fn told<R: Print + Eprint>(rt: &R, error: &Error) -> u8
+    ensures { IsToldBy (kind_of error.now) result }
+{
+    match error.kind() {
+        ErrorKind::OutOfMemory => fail(rt, "stmrun: out of memory", 3),
+        ErrorKind::DisplayHelp => match error.print(rt) {
+            Ok(()) => 0,
+            Err(_) => fail(rt, "stmrun: device fault", 3),
+        },
+        _ => {
+            let _ = error.print(rt);
+            2
+        }
+    }
+}
+
+/// The status of a command line that is refused, once the line is printed. That printing fails changes no status.
+fn fail<R: Eprint>(rt: &R, line: &str, status: u8) -> u8
+    ensures { result ≡ status }
+{
+    let _ = rt.eprintln(line);
+    status
+}
+
+/// The words of this process's command line, the program's name first.
+fn words<R: Env + AllocGlobal>(rt: &R) -> Result<Vec<String>, WordsFault> {
+    let arguments = match env::args(rt) {
+        Ok(arguments) => arguments,
+        Err(error) if error.kind() == io::ErrorKind::InvalidData => return Err(WordsFault::NotText),
+        Err(_) => return Err(WordsFault::OutOfMemory),
+    };
+    match arguments.collect::<Vec<String>>(rt.alloc()) {
+        Ok(words) => Ok(words),
+        Err(_) => Err(WordsFault::OutOfMemory),
+    }
+}
+
+/// The word in the place of an argument.
+fn word_of<'a>(found: &ArgMatches<'a>, name: &str) -> Option<&'a str>
+    ensures { option_map (λ word. word.now) result ≡ first_of name.now (rows_of (found_of found.now)) }
+{
+    found.get_str(name)
+}
+
+/// What a check with these files asks for; `None` where one is missing.
+fn files_of<'a>(found: &ArgMatches<'a>) -> Option<Asked<'a>>
+    ensures asks { IfSome result (AsksAt (codes "check") (rows_of (found_of found.now))) }
+    ensures missing { IfNone result (HasFiles (rows_of (found_of found.now)) → ⊥) }
+{
+    let scenario = word_of(found, "SCENARIO")?;
+    let report = word_of(found, "REPORT")?;
+    Some(Asked::Check { scenario, report })
+}
+
+/// A number that was read, where it is one of workers.
+fn workers_at(number: usize) -> Option<usize>
+    ensures some { IfSome result (λ workers. (1 ≤ workers) × (workers ≤ 16) × (workers ≡ number)) }
+    ensures none { IfNone result ((1 ≤ number) × (number ≤ 16) → ⊥) }
+{
+    if number < 1 {
+        return None;
+    }
+    if number > MOST_WORKERS {
+        return None;
+    }
+    Some(number)
+}
+
+/// The number that a text spells, where it is one of workers.
+fn workers_in(text: &str) -> Option<usize>
+    ensures number { IfSome result (λ workers. (1 ≤ workers) × (workers ≤ 16) × NamesNumber text.now workers) }
+    ensures none { IfNone result (IsUnsignedIn 1 16 text.now → ⊥) }
+{
+    match text.parse::<usize>() {
+        Ok(number) => workers_at(number),
+        Err(_) => None,
+    }
+}
+
+/// What a run by threads with these arguments asks for; `None` where the number of threads is missing, or is no number of workers.
+fn threads_of<'a>(found: &ArgMatches<'a>) -> Option<Asked<'a>>
+    ensures asks { IfSome result (AsksAt (codes "threads") (rows_of (found_of found.now))) }
+    ensures missing { IfNone result (HasWorkers (rows_of (found_of found.now)) → ⊥) }
+{
+    let scenario = word_of(found, "FILE");
+    let text = word_of(found, "workers")?;
+    let workers = workers_in(text)?;
+    Some(Asked::Threads { scenario, workers })
+}
+
+/// What a recipe with these arguments asks for; `None` where its name is missing.
+fn recipe_of<'a>(found: &ArgMatches<'a>) -> Option<Asked<'a>>
+    ensures asks { IfSome result (AsksAt (codes "recipe") (rows_of (found_of found.now))) }
+    ensures missing { IfNone result (HasName (rows_of (found_of found.now)) → ⊥) }
+{
+    let name = word_of(found, "NAME")?;
+    let first = word_of(found, "FIRST");
+    let second = word_of(found, "SECOND");
+    let third = word_of(found, "THIRD");
+    Some(Asked::Recipe(RecipeWords {
+        name,
+        first,
+        second,
+        third,
+    }))
+}
+
+/// What a command of this name asks for; `None` where it is no command of this program, or lacks what it has to have.
+#[tactic(auto, using(crate::proofs::CommandLemmas::whole_check, crate::proofs::CommandLemmas::whole_threads, crate::proofs::CommandLemmas::whole_recipe, crate::proofs::CommandLemmas::whole_other))]
+fn asked_at<'a>(name: &str, found: &ArgMatches<'a>) -> Option<Asked<'a>>
+    ensures asks { IfSome result (AsksAt name.now (rows_of (found_of found.now))) }
+    ensures missing { IfNone result (IsWhole (Some (name.now, rows_of (found_of found.now))) → ⊥) }
+{
+    if name == "script" {
+        let scenario = word_of(found, "FILE");
+        return Some(Asked::Script { scenario });
+    }
+    if name == "check" {
+        return files_of(found);
+    }
+    if name == "threads" {
+        return threads_of(found);
+    }
+    if name == "recipe" {
+        return recipe_of(found);
+    }
+    None
+}
+
+/// What the words ask for of which `clap` has found this; `None` where they name no command of this program.
+fn asked_by<'a>(matches: &ArgMatches<'a>) -> Option<Asked<'a>>
+    ensures asks { IfSome result (AsksBy (subcommand_rows_of matches.now)) }
+    ensures missing { IfNone result (IsWhole (subcommand_rows_of matches.now) → ⊥) }
+{
+    match matches.subcommand() {
+        Some((name, found)) => asked_at(name, found),
+        None => None,
+    }
+}
+
+/// What these words ask for, of which the first is the program's name.
+///
+/// Where they are refused, or ask for help, that was printed, and nothing more is asked for: the status is 0 for help, 2 for usage, printed or
+/// not, and 3 for want of memory and for help that could not be printed.
+pub fn asked_of<'a, R: Print + Eprint>(rt: &R, alloc: Global, words: &'a [String]) -> Asked<'a>
+    ensures { Asks (map string_bytes words.now) result }
+{
+    let Ok(command) = command(alloc) else {
+        return Asked::Nothing(fail(rt, "stmrun: out of memory", 3));
+    };
+    match command.try_get_matches_from(words) {
+        Ok(matches) => match asked_by(&matches) {
+            Some(asked) => asked,
+            None => unreachable!(),
+        },
+        Err(error) => Asked::Nothing(told(rt, &error)),
+    }
+}
+
+/// The words of this process's command line, or the status where they cannot be read, which was printed: 2 where one of
+/// them is not UTF-8, and 3 for want of memory.
+pub fn read_words<R: Eprint + Env + AllocGlobal>(rt: &R) -> Result<Vec<String>, u8>
+    ensures { IfErr result (λ status. (status ≡ 2) ⊎ (status ≡ 3)) }
+{
+    match words(rt) {
+        Ok(words) => Ok(words),
+        Err(WordsFault::NotText) => Err(fail(rt, NOT_TEXT, 2)),
+        Err(WordsFault::OutOfMemory) => Err(fail(rt, "stmrun: out of memory", 3)),
+    }
+}

@@ -1,0 +1,80 @@
+-- What the command `check` does to its devices, its statuses, and what it says.
+use Rattle.std.specs.Prelude.{◌≡◌, ◌⊎◌, ℕ, List, ◌++◌, Bool, true, false, Option, Result, Ok, Err, codes, decimal}
+use Rattle.std.specs.Io.KnownBytes.{Appends, Keeps}
+use Rattle.stm_devices.specs.Transfers.{WritesFront}
+use Rattle.stm_check.specs.declared.checking.Checked.{Checked}
+use Rattle.stm_check.specs.declared.checking.Checked.TheVariants.{Yes, No}
+use Rattle.stm_check.specs.declared.judging.CheckFault.{CheckFault}
+use Rattle.stm_check.specs.declared.judging.CheckFault.TheVariants.{OutOfMemory, BadScenario, BadReport, Device}
+use Rattle.stm_check.specs.CauseNames.{cause_name as wrong_cause_name}
+use Rattle.stm_check.specs.Judging.{Sources, Judges, NoneFailed}
+use Rattle.stm_commands.specs.Statuses.{bad_input, Says}
+
+-- ---- answers
+
+abbrev pub answer_status : Checked → ℕ
+answer_status Yes = 0
+answer_status (No line cause) = 1
+
+abbrev pub answer_text : Checked → List ℕ
+answer_text Yes = codes "yes\n"
+answer_text (No line cause) = codes "no " ++ decimal line ++ codes " " ++ wrong_cause_name cause ++ codes "\n"
+
+-- ---- faults
+
+-- 2 for bad input, 3 for want of memory and a failed device
+abbrev pub fault_status : CheckFault → ℕ
+fault_status OutOfMemory = 3
+fault_status (BadScenario fault) = 2
+fault_status (BadReport fault) = 2
+fault_status Device = 3
+
+abbrev pub fault_message : CheckFault → List ℕ
+fault_message OutOfMemory = codes "stmrun: out of memory\n"
+fault_message (BadScenario bad) = bad_input (codes "stmrun: bad scenario at ") bad
+fault_message (BadReport bad) = bad_input (codes "stmrun: bad report at ") bad
+fault_message Device = codes "stmrun: device fault\n"
+
+-- ---- the command
+
+-- the devices at the end: the sources, what the sink held before and holds, and whether it has failed
+pub record Devices : Type 0 where
+  pub sources : Sources
+  pub before : Option (List ℕ)
+  pub after : Option (List ℕ)
+  pub sink_failed : Bool
+
+-- what writing the line of an answer did: what the sink held before and holds, whether it has failed then, and the result
+abbrev pub Prints : {A : Type 0} → Option (List ℕ) → Option (List ℕ) → Bool → Checked → Result A CheckFault → Type 0
+Prints before after failed checked (Ok u) = (failed ≡ false) × Appends before after (answer_text checked)
+Prints before after failed checked (Err OutOfMemory) = (failed ≡ false) × Keeps before after
+Prints before after failed checked (Err Device) = (failed ≡ true) × WritesFront before after (answer_text checked)
+Prints before after failed checked (Err other) = ⊥
+
+-- What a check did, by its answer. At an answer its line was written; at a bad input, want of memory and a failed source
+-- nothing was; at a failed sink a front of the line was.
+abbrev pub DoesTo : Devices → Result Checked CheckFault → Type 0
+DoesTo d (Ok checked) = Judges d.sources (Ok checked) × (d.sink_failed ≡ false) × Appends d.before d.after (answer_text checked)
+DoesTo d (Err OutOfMemory) = NoneFailed d.sources × (d.sink_failed ≡ false) × Keeps d.before d.after
+DoesTo d (Err (BadScenario fault)) = Judges d.sources (Err (BadScenario fault)) × (d.sink_failed ≡ false) × Keeps d.before d.after
+DoesTo d (Err (BadReport fault)) = Judges d.sources (Err (BadReport fault)) × (d.sink_failed ≡ false) × Keeps d.before d.after
+DoesTo d (Err Device) =
+    (Judges d.sources (Err Device) × (d.sink_failed ≡ false) × Keeps d.before d.after)
+    ⊎ ((d.sink_failed ≡ true) × (checked : Checked) × Judges d.sources (Ok checked) × WritesFront d.before d.after (answer_text checked))
+
+abbrev pub Does : Sources → Option (List ℕ) → Option (List ℕ) → Bool → Result Checked CheckFault → Type 0
+Does sources before after failed result =
+    DoesTo (record { sources = sources; before = before; after = after; sink_failed = failed }) result
+
+-- what is said and answered of a fault: its own message and status
+abbrev pub SaysOf : Option (List ℕ) → Option (List ℕ) → Bool → CheckFault → ℕ → Type 0
+SaysOf before after failed fault status = (status ≡ fault_status fault) × Says before after failed (fault_message fault)
+
+abbrev pub EndsBy : Option (List ℕ) → Option (List ℕ) → Bool → Result Checked CheckFault → ℕ → Type 0
+EndsBy before after failed (Ok checked) status = (status ≡ answer_status checked) × (failed ≡ false) × Keeps before after
+EndsBy before after failed (Err fault) status = SaysOf before after failed fault status
+
+-- The command's end: an answer, with its status and nothing said, or a fault, with what is said of it.
+abbrev pub Ends : Devices → Option (List ℕ) → Option (List ℕ) → Bool → ℕ → Type 0
+Ends devices before after failed status =
+    (ended : Result Checked CheckFault) × DoesTo devices ended × EndsBy before after failed ended status

@@ -1,0 +1,46 @@
+-- What the command `recipe` does to its devices, its statuses, and what it says.
+use Rattle.std.specs.Prelude.{◌≡◌, ℕ, List, ◌++◌, Bool, false, Option, Result, Ok, Err, codes}
+use Rattle.std.specs.Io.KnownBytes.{Keeps}
+use Rattle.stm_recipe_lines.specs.declared.printing.RecipeFault.{RecipeFault}
+use Rattle.stm_recipe_lines.specs.declared.printing.RecipeFault.TheVariants.{OutOfMemory, Words, Write}
+use Rattle.stm_recipe_lines.specs.declared.recipe.Recipe.{Recipe}
+use Rattle.stm_recipe_lines.specs.declared.words.WordsFault.{WordsFault}
+use Rattle.stm_recipe_lines.specs.FaultTexts.{fault_text}
+use Rattle.stm_recipe_lines.specs.Printing.{Prints}
+use Rattle.stm_commands.specs.declared.recipes.TheConstants.{USAGE}
+use Rattle.stm_commands.specs.Statuses.{Says}
+
+-- 2 for words that spell no recipe, 3 for want of memory and a failed device
+abbrev pub fault_status : RecipeFault → ℕ
+fault_status OutOfMemory = 3
+fault_status (Words fault) = 2
+fault_status Write = 3
+
+-- what is wrong with the words, and the command's usage
+abbrev pub usage_text : WordsFault → List ℕ
+usage_text fault = codes "error: " ++ fault_text fault ++ USAGE.now
+
+abbrev pub fault_message : RecipeFault → List ℕ
+fault_message OutOfMemory = codes "stmrun: out of memory\n"
+fault_message (Words fault) = usage_text fault
+fault_message Write = codes "stmrun: device fault\n"
+
+-- what is said and answered of a fault: its own message and status
+abbrev pub SaysOf : Option (List ℕ) → Option (List ℕ) → Bool → RecipeFault → ℕ → Type 0
+SaysOf before after failed fault status = (status ≡ fault_status fault) × Says before after failed (fault_message fault)
+
+abbrev pub EndsBy : {A : Type 0} → Option (List ℕ) → Option (List ℕ) → Bool → Result A RecipeFault → ℕ → Type 0
+EndsBy before after failed (Ok u) status = (status ≡ 0) × (failed ≡ false) × Keeps before after
+EndsBy before after failed (Err fault) status = SaysOf before after failed fault status
+
+-- the sink at the end: what it held before and holds, and whether it has failed
+pub record Printed : Type 0 where
+  pub before : Option (List ℕ)
+  pub after : Option (List ℕ)
+  pub sink_failed : Bool
+
+-- What the command does to its devices, and its status: the line of the recipe that was read of the words, with status 0 and nothing said, and
+-- else what is said of the fault.
+abbrev pub Ends : Result Recipe WordsFault → Printed → Option (List ℕ) → Option (List ℕ) → Bool → ℕ → Type 0
+Ends reading printed before after failed status =
+    (ended : Result (Unit {0}) RecipeFault) × Prints reading printed.before printed.after printed.sink_failed ended × EndsBy before after failed ended status

@@ -1,0 +1,152 @@
+//! The command `check` over devices.
+ghost use Rattle.std.specs.Prelude.{◌≡◌, ◌≤◌, ◌+◌, false, IfOk, string_bytes};
+ghost use Rattle.stm_devices.specs.declared.transfer.TheConstants.{MOST_READ};
+ghost use Rattle.stm_devices.specs.Transfers.{HasWritten};
+ghost use Rattle.stm_check.specs.declared.checking.Checked.TheVariants.{No};
+ghost use Rattle.stm_commands.specs.Checking.{answer_status, answer_text, fault_status, fault_message, SaysOf, Prints, Does, Ends};
+
+use crate::messages::{write_bad, write_text};
+use std::alloc::{AllocError, Global};
+use stm_check::{CheckFault, Checked, WrongCause, check_sources};
+use stm_report::{DeviceFault, Sink, Source};
+
+/// The status of an answer.
+fn status_of(checked: Checked) -> u8
+    ensures { result ≡ answer_status checked }
+{
+    match checked {
+        Checked::Yes => 0,
+        Checked::No { .. } => 1,
+    }
+}
+
+/// The line of a wrong line.
+fn no_text(alloc: Global, line: u64, cause: WrongCause) -> Result<String, AllocError>
+    ensures { IfOk result (λ text. string_bytes text ≡ answer_text (No line cause)) }
+{
+    format!(in alloc; "no {line} {cause}\n")
+}
+
+/// The line of an answer.
+fn text_of(alloc: Global, checked: Checked) -> Result<String, AllocError>
+    ensures { IfOk result (λ text. string_bytes text ≡ answer_text checked) }
+{
+    match checked {
+        Checked::Yes => String::from_str(alloc, "yes\n"),
+        Checked::No { line, cause } => no_text(alloc, line, cause),
+    }
+}
+
+/// Writes the line of an answer.
+fn print<W: Sink>(alloc: Global, out: &mut W, checked: Checked) -> Result<(), CheckFault>
+    requires { W.failed out.old ≡ false }
+    ensures { Prints (W.held out.old) (W.held out.new) (W.failed out.new) checked result }
+{
+    let Ok(text) = text_of(alloc, checked) else {
+        return Err(CheckFault::OutOfMemory);
+    };
+    match write_text(out, text.as_str()) {
+        Ok(()) => Ok(()),
+        Err(_) => Err(CheckFault::Device),
+    }
+}
+
+/// Checks the report, writes the line of the answer, and gives its status.
+fn answer<S: Source, R: Source, W: Sink>(
+    alloc: Global,
+    scenario: &mut S,
+    report: &mut R,
+    out: &mut W,
+) -> Result<Checked, CheckFault>
+    requires scenario_works { S.failed scenario.old ≡ false }
+    requires report_works { R.failed report.old ≡ false }
+    requires out_works { W.failed out.old ≡ false }
+    ensures done { Does (record {
+      scenario = S.left scenario.old;
+      report = R.left report.old;
+      scenario_failed = S.failed scenario.new;
+      report_failed = R.failed report.new;
+    }) (W.held out.old) (W.held out.new) (W.failed out.new) result }
+    ensures scenario_bounded { S.reads scenario.new ≤ S.reads scenario.old + MOST_READ }
+    ensures report_bounded { R.reads report.new ≤ R.reads report.old + MOST_READ }
+{
+    let checked = match check_sources(alloc, scenario, report) {
+        Ok(checked) => checked,
+        Err(fault) => return Err(fault),
+    };
+    match print(alloc, out, checked) {
+        Ok(()) => Ok(checked),
+        Err(fault) => Err(fault),
+    }
+}
+
+/// Writes what is said of a fault. Where the sink fails, a front of it was written.
+fn write_message<E: Sink>(err: &mut E, fault: &CheckFault) -> Result<(), DeviceFault>
+    requires { E.failed err.old ≡ false }
+    ensures { HasWritten (E.held err.old) (E.held err.new) (E.failed err.new) result (fault_message fault.now) }
+{
+    match fault {
+        CheckFault::BadScenario(bad) => write_bad(err, "stmrun: bad scenario at ", bad),
+        CheckFault::BadReport(bad) => write_bad(err, "stmrun: bad report at ", bad),
+        CheckFault::OutOfMemory => write_text(err, "stmrun: out of memory\n"),
+        CheckFault::Device => write_text(err, "stmrun: device fault\n"),
+    }
+}
+
+/// The status of a fault.
+fn status(fault: &CheckFault) -> u8
+    ensures { result ≡ fault_status fault.now }
+{
+    match fault {
+        CheckFault::BadScenario(_) | CheckFault::BadReport(_) => 2,
+        CheckFault::OutOfMemory | CheckFault::Device => 3,
+    }
+}
+
+/// Says what went wrong, and gives the status. Takes no memory.
+fn tell<E: Sink>(err: &mut E, fault: &CheckFault) -> u8
+    requires { E.failed err.old ≡ false }
+    ensures { SaysOf (E.held err.old) (E.held err.new) (E.failed err.new) fault.now result }
+{
+    let _ = write_message(err, fault);
+    status(fault)
+}
+
+/// Checks whether `report` is a report of the scenario of `scenario`, and writes `yes` or `no LINE CAUSE` to `out`: the
+/// first wrong line, counted from 1, and why it is wrong.
+///
+/// The scenario is read and judged first, then the report. Gives the status: 0 for yes, 1 for no, 2 where one of the two
+/// is bad, 3 where a growth was refused or one of the devices but `err` failed. On `err` it says what went wrong, and
+/// takes no memory for it: `stmrun: bad scenario at PLACE: CAUSE`, `stmrun: bad report at PLACE: CAUSE`,
+/// `stmrun: out of memory` or `stmrun: device fault`, whole where `err` then has not failed. That `err` fails changes no
+/// status. None of the devices has failed before. `scenario` and `report` are read at most 16777217 times each.
+pub fn check_to<S: Source, R: Source, W: Sink, E: Sink>(
+    alloc: Global,
+    scenario: &mut S,
+    report: &mut R,
+    out: &mut W,
+    err: &mut E,
+) -> u8
+    requires scenario_works { S.failed scenario.old ≡ false }
+    requires report_works { R.failed report.old ≡ false }
+    requires out_works { W.failed out.old ≡ false }
+    requires err_works { E.failed err.old ≡ false }
+    ensures ends { Ends (record {
+      sources = record {
+        scenario = S.left scenario.old;
+        report = R.left report.old;
+        scenario_failed = S.failed scenario.new;
+        report_failed = R.failed report.new;
+      };
+      before = W.held out.old;
+      after = W.held out.new;
+      sink_failed = W.failed out.new;
+    }) (E.held err.old) (E.held err.new) (E.failed err.new) result }
+    ensures scenario_bounded { S.reads scenario.new ≤ S.reads scenario.old + MOST_READ }
+    ensures report_bounded { R.reads report.new ≤ R.reads report.old + MOST_READ }
+{
+    match answer(alloc, scenario, report, out) {
+        Ok(checked) => status_of(checked),
+        Err(fault) => tell(err, &fault),
+    }
+}

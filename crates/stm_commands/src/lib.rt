@@ -1,0 +1,14 @@
+//! The commands that start no thread, over devices: what `script`, `check` and `recipe` write, their statuses, and what they say of a fault.
+#![tactic(auto)]
+
+mod checking;
+mod messages;
+mod recipes;
+mod scripting;
+
+pub use checking::check_to;
+pub use messages::{write_bad, write_text};
+pub use recipes::{USAGE, recipe_to};
+pub use scripting::script_to;
+pub use stm_recipe_lines::RecipeWords;
+pub use stm_report::{BadInput, DeviceFault, Sink, Source, Std};

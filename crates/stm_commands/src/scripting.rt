@@ -1,0 +1,70 @@
+//! The command `script` over devices.
+ghost use Rattle.std.specs.Prelude.{◌≡◌, ◌≤◌, ◌+◌, false};
+ghost use Rattle.stm_devices.specs.declared.transfer.TheConstants.{MOST_READ};
+ghost use Rattle.stm_devices.specs.Transfers.{HasWritten};
+ghost use Rattle.stm_commands.specs.Statuses.{status_of, message_of, SaysOf, Ends};
+
+use crate::messages::{write_bad, write_text};
+use std::alloc::Global;
+use stm_report::{DeviceFault, ScriptFault, Sink, Source, script};
+
+/// The status of a fault.
+fn status(fault: &ScriptFault) -> u8
+    ensures { result ≡ status_of fault.now }
+{
+    match fault {
+        ScriptFault::Bad(_) => 2,
+        ScriptFault::OutOfMemory | ScriptFault::Read | ScriptFault::Write => 3,
+    }
+}
+
+/// Writes what is said of a fault. Where the sink fails, a front of it was written.
+fn write_message<E: Sink>(err: &mut E, fault: &ScriptFault) -> Result<(), DeviceFault>
+    requires { E.failed err.old ≡ false }
+    ensures { HasWritten (E.held err.old) (E.held err.new) (E.failed err.new) result (message_of fault.now) }
+{
+    match fault {
+        ScriptFault::Bad(bad) => write_bad(err, "stmrun: bad scenario at ", bad),
+        ScriptFault::OutOfMemory => write_text(err, "stmrun: out of memory\n"),
+        ScriptFault::Read | ScriptFault::Write => write_text(err, "stmrun: device fault\n"),
+    }
+}
+
+/// Says what went wrong, and gives the status. Takes no memory.
+fn tell<E: Sink>(err: &mut E, fault: &ScriptFault) -> u8
+    requires { E.failed err.old ≡ false }
+    ensures { SaysOf (E.held err.old) (E.held err.new) (E.failed err.new) fault.now result }
+{
+    let _ = write_message(err, fault);
+    status(fault)
+}
+
+/// Runs the scenario of `input` and writes its report to `out`, whole or not at all but for a failed `out`.
+///
+/// Gives the status: 0 where the report was written, 2 where the input is no scenario, 3 where a growth was refused or
+/// `input` or `out` failed. On `err` it says what went wrong, and takes no memory for it: `stmrun: bad scenario at PLACE: CAUSE`,
+/// `stmrun: out of memory` or `stmrun: device fault`, whole where `err` then has not failed. That `err` fails changes no
+/// status. None of the devices has failed before. `input` is read at most 16777217 times.
+pub fn script_to<S: Source, W: Sink, E: Sink>(
+    alloc: Global,
+    input: &mut S,
+    out: &mut W,
+    err: &mut E,
+) -> u8
+    requires input_works { S.failed input.old ≡ false }
+    requires out_works { W.failed out.old ≡ false }
+    requires err_works { E.failed err.old ≡ false }
+    ensures ends { Ends (record {
+      input = S.left input.old;
+      before = W.held out.old;
+      after = W.held out.new;
+      source_failed = S.failed input.new;
+      sink_failed = W.failed out.new;
+    }) (E.held err.old) (E.held err.new) (E.failed err.new) result }
+    ensures bounded { S.reads input.new ≤ S.reads input.old + MOST_READ }
+{
+    match script(alloc, input, out) {
+        Ok(()) => 0,
+        Err(fault) => tell(err, &fault),
+    }
+}

@@ -1,3 +1,0 @@
-pub mod CommandLemmas
-pub mod PieceLemmas
-pub mod WholeCommands

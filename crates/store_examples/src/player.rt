@@ -28,6 +28,8 @@ pub enum Step {
     ElseGet(&'static str),
     /// Puts a copy of the next transaction in its place.
     Copy,
+    /// Tells whether the next transaction would change something.
+    WouldChange,
     /// Runs the transaction.
     Commit,
     Grant(u64, u64),
@@ -261,6 +263,7 @@ fn take(
         Step::Del(key) => del(alloc, next, key),
         Step::ElseGet(key) => else_get(alloc, next, key),
         Step::Copy => copy_next(next),
+        Step::WouldChange => write!(told, "{}", store.would_change(next)),
         Step::Commit => commit(alloc, told, store, next),
         Step::Grant(id, ttl) => tell_done(told, store.grant(id, ttl)),
         Step::Keep(id) => tell_done(told, store.keep_alive(id)),

@@ -5,7 +5,7 @@ use crate::player::{Step, is_told};
 use std::test::Fail;
 
 /// Steps on a store that opens at 1, and what is told of them.
-const EXAMPLES: [(&[Step], &str); 8] = [
+const EXAMPLES: [(&[Step], &str); 9] = [
     // Compares pick the branch.
     (
         &[
@@ -39,6 +39,33 @@ const EXAMPLES: [(&[Step], &str); 8] = [
             Step::Commit,
         ],
         "true 2 put; DuplicateKey; true 3 del 1 del 0; true 3 del 0; ",
+    ),
+    // A put would change something, also one that is refused, and the delete of a key that is present. A read would not, nor
+    // the delete of an absent key, nor a put in the list that does not run.
+    (
+        &[
+            Step::Put("a", "1", 0),
+            Step::WouldChange,
+            Step::Commit,
+            Step::Get("a", 0),
+            Step::Del("z"),
+            Step::WouldChange,
+            Step::Commit,
+            Step::IfAbsent("a"),
+            Step::Put("a", "2", 0),
+            Step::ElseGet("a"),
+            Step::WouldChange,
+            Step::Commit,
+            Step::Put("b", "1", 7),
+            Step::WouldChange,
+            Step::Commit,
+            Step::Get("a", 0),
+            Step::Del("a"),
+            Step::WouldChange,
+            Step::Commit,
+        ],
+        "true; true 2 put; false; true 2 get 2 1/2/2/1/0 del 0; false; false 2 get 2 1/2/2/1/0; \
+         true; LeaseNotFound; true; true 3 get 2 1/2/2/1/0 del 1; ",
     ),
     // The past is read and the future refused.
     (

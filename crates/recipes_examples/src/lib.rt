@@ -6,3 +6,5 @@
 
 #[cfg(test)]
 mod recipes;
+#[cfg(test)]
+mod worlds;

@@ -13,7 +13,9 @@ use stm_recipes::{
 
 /// The programs that are looked at.
 #[derive(Clone, Copy)]
-enum Recipe {
+pub enum Recipe {
+    FirstAccount,
+    SecondAccount,
     Transfer,
     DearTransfer,
     TransferToItself,
@@ -26,8 +28,10 @@ enum Recipe {
     Release,
 }
 
-fn program_of(alloc: Global, recipe: Recipe) -> Result<Program, AllocError> {
+pub fn program_of(alloc: Global, recipe: Recipe) -> Result<Program, AllocError> {
     match recipe {
+        Recipe::FirstAccount => deposit(alloc, "a0", 100),
+        Recipe::SecondAccount => deposit(alloc, "a1", 100),
         Recipe::Transfer => transfer(alloc, "a0", "a1", 30),
         Recipe::DearTransfer => transfer(alloc, "a0", "a1", 101),
         Recipe::TransferToItself => transfer(alloc, "a0", "a0", 30),
@@ -94,7 +98,7 @@ static SPELLED: [(Recipe, &str); 6] = [
 ];
 
 /// Asserts what was told.
-fn is_told(rt: &impl Abort, told: String, expected: &str) {
+pub fn is_told(rt: &impl Abort, told: String, expected: &str) {
     assert_eq!(rt; told.as_str(), expected);
 }
 
@@ -150,7 +154,7 @@ fn show_value(alloc: Global, value: &Value) -> Result<String, AllocError> {
     }
 }
 
-fn add_values(alloc: Global, values: &[Value], text: &mut String) -> Result<(), AllocError> {
+pub fn add_values(alloc: Global, values: &[Value], text: &mut String) -> Result<(), AllocError> {
     for value in values {
         let shown = show_value(alloc, value)?;
         text.push_str(shown.as_str())?;
@@ -387,7 +391,7 @@ fn add_found(items: Option<&Vec<String>>, text: &mut String) -> Result<(), Alloc
 }
 
 /// Adds the items of the queue q.
-fn tell_items(alloc: Global, state: &State, text: &mut String) -> Result<(), AllocError> {
+pub fn tell_items(alloc: Global, state: &State, text: &mut String) -> Result<(), AllocError> {
     let items = queue_items(alloc, state, "q")?;
     add_found(items.as_ref(), text)
 }
@@ -475,7 +479,7 @@ fn accounts_add_up(rt: HostRuntime) -> Result<(), Fail> {
     Ok(())
 }
 
-fn holder_of<'a>(state: &'a State, slot: &str) -> &'a str {
+pub fn holder_of<'a>(state: &'a State, slot: &str) -> &'a str {
     match held(state, slot) {
         Some(holder) => holder,
         None => "none",

@@ -5,10 +5,11 @@ ghost use Rattle.stm_retry.specs.Stops.{StopsGoOn, WrongStops};
 ///
 /// An advance that was cut short after some expiries, or none, and is made again expires exactly the rest, in the same order and with the
 /// same revisions, and comes to the same store, moment and refusal. Any other event that was refused is taken as it would have been.
-/// So a run that stopped, and then a run of the events from `done` on, give the replies and the world of one run of all
-/// events, but that the advance tells its list in two parts; and so do any number of such runs.
+/// So a run of the events from `done` on gives the replies to these of one run of all events, and leaves its world, but that
+/// the advance tells its list in parts; and so it is however often a run is stopped. (A run that is stopped drops the replies to
+/// the events before: the law says what they were.)
 ///
-/// The worlds are equal in all: history, live leases, moment, watchers with what each was told, runners with what each has read, and entries.
+/// The worlds are equal in all: history, live leases, moment, watchers with how far each was told, runners with what each has read, and entries.
 pub fn stops_go_on()
     ensures { StopsGoOn }
 {}

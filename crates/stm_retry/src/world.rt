@@ -194,12 +194,14 @@ impl World {
     /// before the first one where that room was refused: `done` events were taken, and the world is as it was
     /// before the stopped event, or that is an advance that was cut short after the leases in `expired`.
     ///
-    /// The events from `done` on can be run again from the world as it is then. They are told what a run of all events would have
-    /// told them, but that an advance which was cut short tells only the leases that had not expired by then; and the world after
-    /// is the same.
+    /// The replies to those `done` events are dropped. The events from `done` on can be run from the world as it is then. They are
+    /// told what a run of all events would have told them, but that an advance which was cut short tells only the leases that had
+    /// not expired by then; and the world after is the same.
     ///
-    /// Where the headline holds of what the world was asked and has replied so far, it holds with these events and their
-    /// replies behind. It holds of a new world, with no events and no replies (`stm_world::laws::headline`).
+    /// Where the headline holds of what the world was asked and has replied so far, and the run is not stopped, it holds with these
+    /// events and their replies behind. It holds of a new world, with no events and no replies (`stm_world::laws::headline`). After an
+    /// advance that was cut short no list of events leads to the world, unless that advance is made again next: the headline says
+    /// nothing of it then, but its replies are still those of the step, and its entries replay.
     ///
     /// In any world a run that is not stopped only adds entries behind those that are there: they are legal, each at its
     /// point, from the store as it was, and replay to the store as it is.

@@ -24,7 +24,7 @@ pub fn headline()
 {}
 
 /// The headline of a world that has run before: where it holds of what the world was asked and has replied so far, it
-/// holds with these events and their replies behind. Of a world that opens it holds, with no events and no replies.
+/// holds with these events and their replies behind. Of a world that opens it holds, with no events and no replies (`headline`).
 pub fn headline_goes_on()
     ensures { HeadlineGoesOn }
 {}

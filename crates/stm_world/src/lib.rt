@@ -1,8 +1,8 @@
 //! The world: runners of programs over one store, and everything else that a store is asked for, one event at
 //! a time.
 //!
-//! What stands here so far are the events and the replies as types, the world's step as a function of the
-//! event, and what a log of events and replies has to say for itself to be right.
+//! Here are the events and the replies as types, the world's step as a function of the event, what makes a log of
+//! events and replies right, and the laws of both (`laws`), the headline among them.
 #![tactic(auto)]
 
 mod event;

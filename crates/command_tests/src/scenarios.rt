@@ -10,7 +10,7 @@ pub const FIRST_PUT_REPORT: &str = r#"[1,"started",1]
 "#;
 
 /// Scenarios by name, each with its report.
-pub const REPORTS: [(&str, &str, &str); 29] = [
+pub const REPORTS: [(&str, &str, &str); 30] = [
     // An empty scenario.
     (
         "no_events",
@@ -187,6 +187,29 @@ pub const REPORTS: [(&str, &str, &str); 29] = [
 ["key","x","0",2,4,2,0]
 ["key","y","0",3,5,2,0]
 ["end",5,4]
+"#,
+    ),
+    // At Serializable the second of them conflicts, and its next attempt leaves its key alone.
+    (
+        "skew_at_serializable",
+        r#"[["txn",[],[["put","x","1",0]],[]],["txn",[],[["put","y","1",0]],[]],
+ ["start","Serializable",3,[["if",["less",1,["add",["num_of",["get","x"]],["num_of",["get","y"]]]],[["put","x","0",0]],[]]]],
+ ["start","Serializable",3,[["if",["less",1,["add",["num_of",["get","x"]],["num_of",["get","y"]]]],[["put","y","0",0]],[]]]],
+ ["step",1],["step",2],["step",1],["step",2],["step",1],["step",2],["step",2]]"#,
+        r#"[1,"txn",true,2,[["put"]]]
+[2,"txn",true,3,[["put"]]]
+[3,"started",1]
+[4,"started",2]
+[5,"fetched",1,"x",2,3,3]
+[6,"fetched",2,"x",2,3,3]
+[7,"fetched",1,"y",3,3,3]
+[8,"fetched",2,"y",3,3,3]
+[9,"committed",1,4,1,[],[["get","x","1"],["get","y","1"]],[]]
+[10,"conflict",2,"x",2,4]
+[11,"committed",2,4,2,[],[["get","x","0"],["get","y","1"]],[]]
+["key","x","0",2,4,2,0]
+["key","y","1",3,3,1,0]
+["end",4,4]
 "#,
     ),
     // Both keys change between two reads: at ReadCommitted the values that were read need not be of one state.

@@ -149,7 +149,8 @@ impl World {
     pub fn step(&mut self, event: &WorldEvent) -> Result<Reply, Denied>
         ensures told { Tells event.now result self.old self.new }
         ensures reads { ReadsAreNow event.now self.old }
-        ensures headline { ran_out result ≡ false → (start : ℕ) (before : List WorldEvent) (earlier : List (Result Reply Denied)) → Holds start before earlier self.old → Holds start (before ++ event.now ∷ []) (earlier ++ result ∷ []) self.new }
+        ensures headline { ran_out result ≡ false → (start : ℕ) (before : List WorldEvent) (earlier : List (Result Reply Denied))
+            → Holds start before earlier self.old → Holds start (before ++ event.now ∷ []) (earlier ++ result ∷ []) self.new }
     {
         self.machine.step(self.alloc, event)
     }
@@ -210,7 +211,8 @@ impl World {
         ensures ok { OnOk result (self.new ≡ world_after events.now self.old) }
         ensures stopped { IfErr result (λ stop. IsRunStop events.now stop.done stop.expired self.old self.new) }
         ensures goes_on { IfErr result (λ stop. GoesOnAlike events.now stop.done stop.expired self.old self.new) }
-        ensures headline { IfOk result (λ replies. (start : ℕ) (before : List WorldEvent) (earlier : List (Result Reply Denied)) → Holds start before earlier self.old → Holds start (before ++ events.now) (earlier ++ replies.items) self.new) }
+        ensures headline { IfOk result (λ replies. (start : ℕ) (before : List WorldEvent) (earlier : List (Result Reply Denied))
+            → Holds start before earlier self.old → Holds start (before ++ events.now) (earlier ++ replies.items) self.new) }
         ensures appended { OnOk result (HasAppended self.old self.new) }
     {
         self.know_sound();

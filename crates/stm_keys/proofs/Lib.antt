@@ -10,3 +10,4 @@ pub mod Steps
 pub mod Order
 pub mod Newest
 pub mod Later
+pub mod Copied

@@ -6,7 +6,7 @@ ghost use Rattle.stm_watch.specs.Pending.{watching_from};
 use stm_keys::{Keys, Text};
 
 /// The keys that a watcher watches.
-#[derive(Debug, Drop)]
+#[derive(Debug, Drop, Clone)]
 pub enum Watched {
     /// One key.
     Key(Text),
@@ -27,7 +27,7 @@ impl Watched {
 }
 
 /// A watcher as the rules see it.
-#[derive(Debug, Drop)]
+#[derive(Debug, Drop, Clone)]
 pub struct Watching {
     /// What it watches.
     pub watched: Watched,
@@ -53,7 +53,7 @@ impl Watching {
 }
 
 /// A watcher, and the first revision of which events are pending for it: it is ready where there is one.
-#[derive(Debug, Drop)]
+#[derive(Debug, Drop, Clone)]
 pub struct Watcher {
     /// What it watches, and how far it has been told.
     pub watching: Watching,

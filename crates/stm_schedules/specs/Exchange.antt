@@ -1,12 +1,9 @@
 -- Steps that can be exchanged.
 --
 -- The documentation of the Go package `clientv3/concurrency`, "STM": an attempt changes nothing but by its commit.
-use Rattle.std.specs.Prelude.{◌≡◌, ◌≢◌, ℕ, List, [], ◌∷◌}
+use Rattle.std.specs.Prelude.{◌≡◌, ◌≢◌, ℕ}
 use Rattle.stm_world.specs.declared.event.WorldEvent.TheVariants.{Step}
-use Rattle.stm_world.specs.World.{World, step, world_after}
-use Rattle.stm_schedules.specs.declared.moves.Move.{Move}
-use Rattle.stm_schedules.specs.declared.moves.Move.TheVariants.{Step as StepOf}
-use Rattle.stm_schedules.specs.Places.{Place, moved}
+use Rattle.stm_world.specs.World.{World, step}
 
 abbrev pub after_step : ℕ → World → World
 after_step id w = (step (Step id) w).next

@@ -1,5 +1,6 @@
 -- When schedules keep a rule, and the first one that does not.
-use Rattle.std.specs.Prelude.{◌≡◌, ◌≤◌, ℕ, zero, suc, Bool, true, false, if◌then◌else◌, List, [], ◌∷◌, length, Option, None, Some, option_map}
+use Rattle.std.specs.Prelude.{◌≡◌, ◌↔◌, ◌≤◌, ℕ, zero, suc, Bool, true, false, if◌then◌else◌, List, [], ◌∷◌, length, Option, None, Some, option_map}
+use Rattle.std.specs.List.{list_any}
 use Rattle.std.specs.Option.{option_or}
 use Rattle.stm_program.specs.Syntax.{ProgramTree}
 use Rattle.stm_meaning.specs.declared.run.End.{End}
@@ -71,31 +72,27 @@ abbrev pub first_bad : (World → Bool) → ℕ → Place → Option (List Move)
 first_bad keep zero p = bad_at keep zero p
 first_bad keep (suc n) p = option_or (first_bad keep n p) (bad_at keep (suc n) p)
 
--- whether one of these passes the test
-abbrev pub some_passes : {A : Type 0} → (A → Bool) → List A → Bool
-some_passes test [] = false
-some_passes test (x ∷ xs) = if test x then true else some_passes test xs
-
 -- whether some schedule has n moves
 abbrev pub goes_on : ℕ → Place → Bool
 goes_on zero p = true
-goes_on (suc n) p = some_passes (λ m. goes_on n (moved m p)) (moves p)
+goes_on (suc n) p = list_any (λ m. goes_on n (moved m p)) (moves p)
 
 -- ---- laws
 
--- Where none of up to n moves is found that does not keep the rule, all of them keep it; and one that is found is the first.
+-- Where none is found, all schedules of up to n moves keep the rule; one that is found is the first; and where one of up to n moves does
+-- not keep the rule, one is found.
 pub record FirstBadIsFirst : Type 0 where
   pub none : (keep : World → Bool) (n : ℕ) (p : Place) → first_bad keep n p ≡ None → AllKeepUpTo keep n p
-  pub one : (keep : World → Bool) (n : ℕ) (p : Place) (schedule : List Move) → first_bad keep n p ≡ Some schedule → IsFirstBad keep p schedule
+  pub first : (keep : World → Bool) (n : ℕ) (p : Place) (schedule : List Move) → first_bad keep n p ≡ Some schedule → IsFirstBad keep p schedule
   pub within : (keep : World → Bool) (n : ℕ) (p : Place) (schedule : List Move) → first_bad keep n p ≡ Some schedule → length schedule ≤ n
-  -- a schedule of up to n moves that does not keep it: then one is found
-  pub found : (keep : World → Bool) (n : ℕ) (p : Place) → first_bad keep n p ≡ None → (schedule : List Move) → IsSchedule schedule p
-      → length schedule ≤ n → keep (place_after schedule p).world ≢ false
+  pub found : (keep : World → Bool) (n : ℕ) (p : Place) (schedule : List Move) → IsSchedule schedule p → length schedule ≤ n
+      → keep (place_after schedule p).world ≡ false → (first : List Move) × (first_bad keep n p ≡ Some first)
 
--- Where some schedule has n moves and none has one more, n is the length of the longest, and what holds of all up to n holds of all.
+-- Some schedule has n moves exactly where that is computed; where none has one more, n is the length of the longest; and what all schedules
+-- of up to that length keep, all keep.
 pub record LongestIsAll : Type 0 where
+  pub some_as_long : (n : ℕ) (p : Place) → (goes_on n p ≡ true) ↔ ((schedule : List Move) × IsSchedule schedule p × (length schedule ≡ n))
   pub longest : (n : ℕ) (p : Place) → goes_on n p ≡ true → goes_on (suc n) p ≡ false → IsLongest n p
-  pub goes_on : (n : ℕ) (p : Place) (schedule : List Move) → IsSchedule schedule p → length schedule ≡ n → goes_on n p ≡ true
   pub all : (keep : World → Bool) (n : ℕ) (p : Place) → IsLongest n p → AllKeepUpTo keep n p → AllKeep keep p
 
 -- A program that is run alone on a state comes to an end.

@@ -1,8 +1,8 @@
 -- Lists of events in which runners' steps stand among the others' events, and the schedules that they are.
-use Rattle.std.specs.Prelude.{◌≡◌, ◌⊎◌, ◌≤◌, ℕ, Bool, true, List, [], ◌∷◌, length}
+use Rattle.std.specs.Prelude.{◌≡◌, ◌⊎◌, ◌≤◌, ℕ, Bool, true, List, [], ◌∷◌, length, None}
 use Rattle.stm_world.specs.declared.event.WorldEvent.{WorldEvent}
 use Rattle.stm_world.specs.declared.event.WorldEvent.TheVariants.{Step}
-use Rattle.stm_world.specs.World.{World, world_after, step}
+use Rattle.stm_world.specs.World.{World, runner_at, step, world_after}
 use Rattle.stm_schedules.specs.declared.moves.Move.{Move}
 use Rattle.stm_schedules.specs.Places.{Place}
 use Rattle.stm_schedules.specs.Schedules.{place_after, IsSchedule, events_along}
@@ -19,17 +19,22 @@ IsMerge (e ∷ es) others = (IsStep e × IsMerge es others) ⊎ ((rest : List Wo
 
 -- ---- laws
 
-pub record MergesAreSchedules : Type 0 where
-  -- a merge leads to the world of a schedule that is no longer
-  pub schedule : (events : List WorldEvent) (p : Place) → IsMerge events p.others →
-      (schedule : List Move) × IsSchedule schedule p × (length schedule ≤ length events) × ((place_after schedule p).world ≡ world_after events p.world)
-  -- the events of a schedule are a merge
-  pub merge : (schedule : List Move) (p : Place) → IsMerge (events_along schedule p.others) p.others
-  -- what every schedule of up to n moves keeps, every merge of up to n events keeps
-  pub keep : (keep : World → Bool) (n : ℕ) (p : Place) (events : List WorldEvent) → AllKeepUpTo keep n p → IsMerge events p.others → length events ≤ n →
-      keep (world_after events p.world) ≡ true
-  -- what every schedule keeps, every merge keeps
-  pub always : (keep : World → Bool) (p : Place) (events : List WorldEvent) → AllKeep keep p → IsMerge events p.others →
-      keep (world_after events p.world) ≡ true
+-- a schedule that comes to the same world as these events, and is no longer
+pub record Matched (events : List WorldEvent) (p : Place) : Type 0 where
+  pub schedule : List Move
+  pub is_schedule : IsSchedule schedule p
+  pub no_longer : length schedule ≤ length events
+  pub same : (place_after schedule p).world ≡ world_after events p.world
+
+-- Steps of runners, in any order, among a front of the others' events come to the world of a schedule; so what all schedules keep is kept
+-- by all such lists of events.
+pub record MergesKeep : Type 0 where
   -- a step of a runner that has ended, or was never started, changes nothing
   pub ended : (id : ℕ) (w : World) → runner_at id w.runners ≡ None → (step (Step id) w).next ≡ w
+  pub schedules : (events : List WorldEvent) (p : Place) → IsMerge events p.others → Matched events p
+  -- the events of moves are such a list
+  pub merges : (moves : List Move) (p : Place) → IsMerge (events_along moves p.others) p.others
+  pub kept : (keep : World → Bool) (n : ℕ) (p : Place) (events : List WorldEvent) → AllKeepUpTo keep n p → IsMerge events p.others
+      → length events ≤ n → keep (world_after events p.world) ≡ true
+  pub always : (keep : World → Bool) (p : Place) (events : List WorldEvent) → AllKeep keep p → IsMerge events p.others
+      → keep (world_after events p.world) ≡ true

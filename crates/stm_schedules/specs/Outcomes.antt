@@ -1,8 +1,9 @@
 -- What whole schedules come to: the state, and how each runner ended.
 --
 -- The ends of runners are told by the world's replies alone, so they are gathered from these.
-use Rattle.std.specs.Prelude.{◌≡◌, ◌↔◌, ◌≤◌, ℕ, zero, suc, ◌-◌, List, [], ◌∷◌, ◌++◌, map, length, Option, None, Some, Result, Ok, Err, slice_set, Contains}
-use Rattle.std.specs.List.{filter_map}
+use Rattle.std.specs.Prelude.{◌≡◌, ◌↔◌, ◌≤◌, ℕ, zero, suc, ◌-◌, List, [], ◌∷◌, ◌++◌, map, length, Option, None, Some}
+use Rattle.std.specs.Prelude.{Result, Ok, Err, slice_set, Contains}
+use Rattle.std.specs.List.{filter_map, flat_map}
 use Rattle.stm_history.specs.History.{History, key_now, value_of}
 use Rattle.stm_txn.specs.PresentKeys.{keys_present}
 use Rattle.stm_world.specs.declared.event.WorldEvent.{WorldEvent}
@@ -16,7 +17,7 @@ use Rattle.stm_schedules.specs.declared.outcome.Outcome.{Outcome}
 use Rattle.stm_schedules.specs.declared.outcome.RunnerEnd.{RunnerEnd}
 use Rattle.stm_schedules.specs.declared.outcome.RunnerEnd.TheVariants.{Committed, GaveUp, Aborted, Faulted, Ended}
 use Rattle.stm_schedules.specs.Places.{Place, moves, event_of, moved}
-use Rattle.stm_schedules.specs.Schedules.{place_after, IsSchedule, IsWhole, events_along}
+use Rattle.stm_schedules.specs.Schedules.{place_after, IsWhole, IsLongest, events_along}
 use Rattle.stm_schedules.specs.Scenarios.{up_to_last_start}
 
 -- ---- how runners end
@@ -66,46 +67,56 @@ abbrev pub state_shown : History → List KeyValue
 state_shown h = map (λ key. record { key = key; value = value_of (key_now h key) }) (keys_present h)
 
 -- the ends that are known, by the runners' numbers
-abbrev pub known : Ends → List RunnerEnd
-known ends = filter_map (λ (end : Option RunnerEnd). end) ends
+abbrev pub known_ends : Ends → List RunnerEnd
+known_ends ends = filter_map (λ (end : Option RunnerEnd). end) ends
 
-abbrev pub outcome : World → Ends → Outcome
-outcome w ends = record { state = state_shown w.standing.history; ends = known ends }
+-- what is shown of a world and of the runners' ends
+abbrev pub shown : World → Ends → Outcome
+shown w ends = record { state = state_shown w.standing.history; ends = known_ends ends }
 
 -- what a schedule comes to
 abbrev pub outcome_after : List Move → Place → Ends → Outcome
-outcome_after schedule p ends = outcome (place_after schedule p).world (ends_after schedule p ends)
+outcome_after schedule p ends = shown (place_after schedule p).world (ends_after schedule p ends)
+
+-- a whole schedule that comes to this
+pub record Comes (schedule : List Move) (p : Place) (ends : Ends) (it : Outcome) : Type 0 where
+  pub is_whole : IsWhole schedule p
+  pub to : outcome_after schedule p ends ≡ it
 
 -- some whole schedule comes to this
 abbrev pub IsOutcome : Place → Ends → Outcome → Type 0
-IsOutcome p ends it = (schedule : List Move) × IsWhole schedule p × (outcome_after schedule p ends ≡ it)
+IsOutcome p ends it = (schedule : List Move) × Comes schedule p ends it
 
 -- some whole schedule of up to n moves comes to this
 abbrev pub IsOutcomeWithin : ℕ → Place → Ends → Outcome → Type 0
-IsOutcomeWithin n p ends it = (schedule : List Move) × IsWhole schedule p × (length schedule ≤ n) × (outcome_after schedule p ends ≡ it)
+IsOutcomeWithin n p ends it = (schedule : List Move) × Comes schedule p ends it × (length schedule ≤ n)
 
 -- ---- the same, computed
 
--- what is gathered from each of these, in their order
-abbrev pub gathered : {A B : Type 0} → (A → List B) → List A → List B
-gathered f [] = []
-gathered f (x ∷ xs) = f x ++ gathered f xs
-
--- the outcome at a place from which these moves can be made: there is one where there is none
+-- the outcome at a place where these moves can be made: there is one where there are none
 abbrev pub outcome_if_whole : List Move → World → Ends → List Outcome
-outcome_if_whole [] w ends = outcome w ends ∷ []
+outcome_if_whole [] w ends = shown w ends ∷ []
 outcome_if_whole (m ∷ ms) w ends = []
 
 -- what whole schedules of exactly n moves come to, in the order of the schedules
 abbrev pub outcomes_at : ℕ → Place → Ends → List Outcome
 outcomes_at zero p ends = outcome_if_whole (moves p) p.world ends
-outcomes_at (suc n) p ends = gathered (λ m. outcomes_at n (moved m p) (ends_moved m p ends)) (moves p)
+outcomes_at (suc n) p ends = flat_map (λ m. outcomes_at n (moved m p) (ends_moved m p ends)) (moves p)
+
+-- what whole schedules of up to n moves come to, in the order in which schedules are looked at
+abbrev pub outcomes_up_to : ℕ → Place → Ends → List Outcome
+outcomes_up_to zero p ends = outcomes_at zero p ends
+outcomes_up_to (suc n) p ends = outcomes_up_to n p ends ++ outcomes_at (suc n) p ends
 
 -- ---- laws
 
+-- What is computed is exactly what whole schedules come to.
 pub record OutcomesAreThose : Type 0 where
   -- what is known of the ends goes along with the moves
-  pub moved : (m : Move) (schedule : List Move) (p : Place) (ends : Ends) → ends_after (m ∷ schedule) p ends ≡ ends_after schedule (moved m p) (ends_moved m p ends)
-  -- what is computed is exactly what whole schedules of so many moves come to
-  pub each : (n : ℕ) (p : Place) (ends : Ends) (it : Outcome) → Contains (outcomes_at n p ends) it
-      ↔ ((schedule : List Move) × IsWhole schedule p × (length schedule ≡ n) × (outcome_after schedule p ends ≡ it))
+  pub ends : (m : Move) (schedule : List Move) (p : Place) (ends : Ends)
+      → ends_after (m ∷ schedule) p ends ≡ ends_after schedule (moved m p) (ends_moved m p ends)
+  pub at : (n : ℕ) (p : Place) (ends : Ends) (it : Outcome)
+      → Contains (outcomes_at n p ends) it ↔ ((schedule : List Move) × Comes schedule p ends it × (length schedule ≡ n))
+  pub up_to : (n : ℕ) (p : Place) (ends : Ends) (it : Outcome) → Contains (outcomes_up_to n p ends) it ↔ IsOutcomeWithin n p ends it
+  -- where no schedule is longer, these are all
+  pub all : (n : ℕ) (p : Place) (ends : Ends) (it : Outcome) → IsLongest n p → Contains (outcomes_up_to n p ends) it ↔ IsOutcome p ends it

@@ -2,7 +2,7 @@
 --
 -- The documentation of the Go package `clientv3/concurrency`, "STM": transactions of several clients run side by side, and each of
 -- them meets the store only where it fetches a key or commits. So a move is one step of one runner, or one event of the other clients.
-use Rattle.std.specs.Prelude.{ℕ, zero, suc, List, [], ◌∷◌, ◌++◌, length, Option, None, Some}
+use Rattle.std.specs.Prelude.{◌≡◌, ◌↔◌, ℕ, zero, suc, List, [], ◌∷◌, ◌++◌, length, Option, None, Some, Contains}
 use Rattle.stm_world.specs.declared.event.WorldEvent.{WorldEvent}
 use Rattle.stm_world.specs.declared.event.WorldEvent.TheVariants.{Step}
 use Rattle.stm_world.specs.World.{World, Runner, Slot, runner_at, world_after}
@@ -52,3 +52,10 @@ left_after Other (e ∷ es) = es
 -- the place that a move leads to
 abbrev pub moved : Move → Place → Place
 moved m p = record { world = world_after (event_of m p.others) p.world; others = left_after m p.others }
+
+-- ---- laws
+
+-- The moves that can be made are exactly the steps of runners that have not ended, and the next event of the others where one is left.
+pub record MovesAreThose : Type 0 where
+  pub steps : (p : Place) (id : ℕ) → Contains (moves p) (StepOf id) ↔ ((r : Runner) × (runner_at id p.world.runners ≡ Some r))
+  pub others : (p : Place) → Contains (moves p) Other ↔ ((e : WorldEvent) × (es : List WorldEvent) × (p.others ≡ e ∷ es))

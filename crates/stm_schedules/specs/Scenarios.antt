@@ -3,7 +3,7 @@ use Rattle.std.specs.Prelude.{◌≡◌, ℕ, Bool, true, false, ◌||◌, if◌
 use Rattle.stm_program.specs.declared.level.Level.{Level}
 use Rattle.stm_world.specs.declared.event.WorldEvent.{WorldEvent}
 use Rattle.stm_world.specs.declared.event.WorldEvent.TheVariants.{Start}
-use Rattle.stm_world.specs.World.{World, opened, world_after}
+use Rattle.stm_world.specs.World.{opened, world_after}
 use Rattle.stm_schedules.specs.declared.moves.Move.{Move}
 use Rattle.stm_schedules.specs.Places.{Place}
 use Rattle.stm_schedules.specs.Schedules.{place_after, events_along}
@@ -47,8 +47,9 @@ pub record ScenariosAreSplit : Type 0 where
   -- no start stands behind the last one
   pub no_start_behind : (events : List WorldEvent) → has_start (behind_last_start events) ≡ false
   -- a scenario with the events of a schedule leads to where the schedule leads
-  pub replayed : (start : ℕ) (events : List WorldEvent) (schedule : List Move) →
-      world_after (with_schedule events schedule) (opened start) ≡ (place_after schedule (begun start events)).world
+  pub replayed : (start : ℕ) (events : List WorldEvent) (schedule : List Move)
+      → world_after (with_schedule events schedule) (opened start) ≡ (place_after schedule (begun start events)).world
   -- starts at another level stand where they stood
-  pub levels : (level : Level) (events : List WorldEvent) → up_to_last_start (map (at_level level) events) ≡ map (at_level level) (up_to_last_start events)
+  pub levels : (level : Level) (events : List WorldEvent)
+      → up_to_last_start (map (at_level level) events) ≡ map (at_level level) (up_to_last_start events)
   pub levels_behind : (level : Level) (events : List WorldEvent) → behind_last_start (map (at_level level) events) ≡ behind_last_start events

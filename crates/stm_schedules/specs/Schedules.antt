@@ -1,7 +1,7 @@
 -- Schedules: moves one after another, each of which can be made where it is made.
-use Rattle.std.specs.Prelude.{◌≡◌, ◌⊎◌, ◌<◌, ◌≤◌, ⊥, ℕ, List, [], ◌∷◌, ◌++◌, length, Contains}
+use Rattle.std.specs.Prelude.{◌≡◌, ◌⊎◌, ◌<◌, ◌≤◌, ℕ, List, [], ◌∷◌, ◌++◌, length, Contains}
 use Rattle.stm_world.specs.declared.event.WorldEvent.{WorldEvent}
-use Rattle.stm_world.specs.World.{World, world_after}
+use Rattle.stm_world.specs.World.{world_after}
 use Rattle.stm_schedules.specs.declared.moves.Move.{Move}
 use Rattle.stm_schedules.specs.declared.moves.Move.TheVariants.{Step as StepOf, Other}
 use Rattle.stm_schedules.specs.Places.{Place, moves, event_of, left_after, moved}
@@ -50,9 +50,8 @@ IsEarlier one other = (length one < length other) ⊎ ((length one ≡ length ot
 
 -- ---- laws
 
--- The world that a schedule leads to is that of its events, one after another, and what the others have left is what stands behind
--- those of theirs.
+-- The world that moves lead to is that of their events, and schedules can stand one behind another.
 pub record SchedulesAreRuns : Type 0 where
   pub world : (schedule : List Move) (p : Place) → (place_after schedule p).world ≡ world_after (events_along schedule p.others) p.world
   pub joined : (first second : List Move) (p : Place) → place_after (first ++ second) p ≡ place_after second (place_after first p)
-  pub goes_on : (first second : List Move) (p : Place) → IsSchedule first p → IsSchedule second (place_after first p) → IsSchedule (first ++ second) p
+  pub behind : (first second : List Move) (p : Place) → IsSchedule first p → IsSchedule second (place_after first p) → IsSchedule (first ++ second) p

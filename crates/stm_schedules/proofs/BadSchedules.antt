@@ -1,17 +1,15 @@
 -- The first schedule that does not keep a rule.
-use Rattle.std.proofs.Common.{◌≡◌, ◌≢◌, ◌⊎◌, ℕ, zero, suc, ◌+◌, ◌<◌, ◌≤◌, Bool, true, false, cond, nat_eq, List, [], ◌∷◌, length, Option, Some, None}
+use Rattle.std.proofs.Common.{◌≡◌, ◌≢◌, ℕ, zero, suc, ◌<◌, ◌≤◌, Bool, true, false, cond, nat_eq, List, [], ◌∷◌, length, Option, Some, None}
 use Rattle.std.proofs.Common.{option_map, inl, inr, refl, sym, ◌∙◌, ap, subst, arith}
 use Rattle.std.specs.Option.{option_or}
-use Rattle.stm_meaning.specs.declared.run.End.{End}
 use Rattle.stm_meaning.proofs.RunLaws.{whole_lookups_end}
-use Rattle.stm_program.specs.Syntax.{ProgramTree}
 use Rattle.stm_compile.specs.Answers.{state_now}
 use Rattle.stm_world.specs.World.{World}
 use Rattle.stm_world.proofs.Slots.{equal_numbers, differ}
 use Rattle.stm_schedules.specs.declared.moves.Move.{Move}
 use Rattle.stm_schedules.specs.Places.{Place, moves, moved}
-use Rattle.stm_schedules.specs.Schedules.{place_after, IsSchedule, IsBefore, AreBefore, IsEarlier}
-use Rattle.stm_schedules.specs.Keeping.{end_of, end_alone, KeepsAfter, AllKeepUpTo, IsFirstBad, first_of, bad_at, first_bad, FirstBadIsFirst, RulesEnd}
+use Rattle.stm_schedules.specs.Schedules.{place_after, IsSchedule, IsBefore, AreBefore}
+use Rattle.stm_schedules.specs.Keeping.{end_of, KeepsAfter, AllKeepUpTo, IsFirstBad, bad_at, first_bad, FirstBadIsFirst, RulesEnd}
 use Rattle.stm_schedules.proofs.Members.{IsAmong, among, contained, or_none, map_none, map_some, none_found}
 use Rattle.stm_schedules.proofs.MoveLemmas.{moves_ascend, FoundFirst, found_first}
 

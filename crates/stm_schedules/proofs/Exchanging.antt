@@ -2,9 +2,9 @@
 use Rattle.std.proofs.Common.{◌≡◌, ◌≢◌, ◌⊎◌, ℕ, ◌+◌, ◌-◌, ◌<◌, Bool, true, false, cond, List, [], ◌∷◌, ◌++◌, length, Option, Some, None, Result, Ok, Err}
 use Rattle.std.proofs.Common.{inl, inr, refl, sym, ◌∙◌, ap, arith, length-append}
 use Rattle.std.proofs.lemmas.List.{set_comm}
-use Rattle.std.specs.Prelude.{nat_lt, slice_get, slice_set}
+use Rattle.std.specs.Prelude.{nat_lt, slice_get}
 use Rattle.stm_history.specs.declared.key_state.ReadAnswer.{ReadAnswer}
-use Rattle.stm_history.specs.History.{History, now, key_at, mod_of}
+use Rattle.stm_history.specs.History.{now, key_at, mod_of}
 use Rattle.stm_program.specs.Writes.{latest_writes}
 use Rattle.stm_leases.specs.Live.{is_live_in}
 use Rattle.stm_meaning.specs.declared.run.End.{End}
@@ -29,7 +29,7 @@ use Rattle.stm_world.specs.declared.refusal.Denied.{Denied}
 use Rattle.stm_world.specs.declared.refusal.Refusal.TheVariants.{NoRunner}
 use Rattle.stm_world.specs.Told.{denied}
 use Rattle.stm_world.specs.Task.{answer_at, after_fetch, after_conflict}
-use Rattle.stm_world.specs.World.{World, Runner, Slot, Over, Live, Stepped, runner_at, with_slot, replied, fetch, entry_of, seen_in, fail_commit, decided}
+use Rattle.stm_world.specs.World.{World, Runner, Slot, Over, Live, Stepped, runner_at, with_slot, replied, fetch, entry_of, seen_in, decided}
 use Rattle.stm_world.specs.World.{commit_told, commit, finish, step_on, step_live, step_runner, step}
 use Rattle.stm_world.proofs.Slots.{runner_there, runner_other}
 use Rattle.stm_schedules.specs.Exchange.{after_step, IsQuiet, Exchange, QuietStepsExchange}

@@ -1,16 +1,16 @@
 -- What whole schedules come to.
-use Rattle.std.proofs.Common.{◌≡◌, ◌≢◌, ◌⊎◌, ◌↔◌, ℕ, zero, suc, ◌+◌, ◌≤◌, Bool, true, false, nat_eq, List, [], ◌∷◌, ◌++◌, length, flat_map, Contains, Result}
+use Rattle.std.proofs.Common.{◌≡◌, ◌≢◌, ℕ, zero, suc, ◌≤◌, true, false, nat_eq, List, [], ◌∷◌, ◌++◌, length, Result}
 use Rattle.std.proofs.Common.{inl, inr, refl, sym, ◌∙◌, ap, subst, arith}
 use Rattle.stm_world.specs.declared.reply.Reply.{Reply}
 use Rattle.stm_world.specs.declared.refusal.Denied.{Denied}
-use Rattle.stm_world.specs.World.{World, replies_to}
+use Rattle.stm_world.specs.World.{replies_to}
 use Rattle.stm_world.proofs.Joined.{runs_go_on}
 use Rattle.stm_world.proofs.Slots.{equal_numbers, differ}
 use Rattle.stm_schedules.specs.declared.moves.Move.{Move}
 use Rattle.stm_schedules.specs.declared.outcome.Outcome.{Outcome}
 use Rattle.stm_schedules.specs.Places.{Place, moves, event_of, left_after, moved}
-use Rattle.stm_schedules.specs.Schedules.{place_after, events_along, IsLongest}
-use Rattle.stm_schedules.specs.Outcomes.{Ends, after_told, after_replies, ends_moved, ends_after, shown, outcome_after, Comes, IsOutcome, IsOutcomeWithin}
+use Rattle.stm_schedules.specs.Schedules.{place_after, events_along}
+use Rattle.stm_schedules.specs.Outcomes.{Ends, after_told, after_replies, ends_moved, ends_after, shown, outcome_after, Comes, IsOutcomeWithin}
 use Rattle.stm_schedules.specs.Outcomes.{outcome_if_whole, outcomes_at, outcomes_up_to, OutcomesAreThose}
 use Rattle.stm_schedules.proofs.Members.{IsAmong, among, contained, in_first, in_second, in_either, gathered_from, is_gathered}
 

@@ -1,10 +1,8 @@
 -- How long schedules are.
-use Rattle.std.proofs.Common.{◌≡◌, ◌↔◌, ℕ, zero, suc, ◌+◌, ◌≤◌, Bool, true, false, List, [], ◌∷◌, length, refl, ap, arith}
-use Rattle.std.specs.List.{list_any}
-use Rattle.stm_world.specs.World.{World}
+use Rattle.std.proofs.Common.{◌≡◌, ℕ, zero, suc, ◌≤◌, true, false, List, [], ◌∷◌, length, refl, ap, arith}
 use Rattle.stm_schedules.specs.declared.moves.Move.{Move}
 use Rattle.stm_schedules.specs.Places.{Place, moves, moved}
-use Rattle.stm_schedules.specs.Schedules.{IsSchedule, IsLongest}
+use Rattle.stm_schedules.specs.Schedules.{IsSchedule}
 use Rattle.stm_schedules.specs.Keeping.{goes_on, LongestIsAll}
 use Rattle.stm_schedules.proofs.Members.{among, contained, some_pass, one_passes, none_passes}
 

@@ -1,13 +1,13 @@
 -- Runners' steps among the others' events, as schedules.
-use Rattle.std.proofs.Common.{◌≡◌, ◌⊎◌, ℕ, suc, ◌+◌, ◌≤◌, Bool, true, List, [], ◌∷◌, length, Option, Some, None, inl, inr, refl, sym, ◌∙◌, ap, subst, arith}
+use Rattle.std.proofs.Common.{◌≡◌, ℕ, ◌≤◌, List, [], ◌∷◌, length, Option, Some, None, inl, inr, refl, sym, ◌∙◌, ap, subst, arith}
 use Rattle.stm_world.specs.declared.event.WorldEvent.{WorldEvent}
 use Rattle.stm_world.specs.declared.event.WorldEvent.TheVariants.{Step}
 use Rattle.stm_world.specs.World.{World, Runner, runner_at, step_runner, step, world_after}
 use Rattle.stm_schedules.specs.declared.moves.Move.{Move}
 use Rattle.stm_schedules.specs.declared.moves.Move.TheVariants.{Step as StepOf, Other}
-use Rattle.stm_schedules.specs.Places.{Place, moves, moved}
-use Rattle.stm_schedules.specs.Schedules.{place_after, IsSchedule, events_along}
-use Rattle.stm_schedules.specs.Merges.{IsStep, IsMerge, Matched, MergesKeep}
+use Rattle.stm_schedules.specs.Places.{Place, moves}
+use Rattle.stm_schedules.specs.Schedules.{events_along}
+use Rattle.stm_schedules.specs.Merges.{IsMerge, Matched, MergesKeep}
 use Rattle.stm_schedules.proofs.Members.{contained}
 use Rattle.stm_schedules.proofs.MoveLemmas.{step_is_move, other_is_move}
 

@@ -1,6 +1,5 @@
 -- Worked examples of schedules, computed by the definitions.
-use Rattle.std.proofs.Common.{◌≡◌, refl, ℕ, List, [], ◌∷◌, Option, Some, None, true, false, codes, pos}
-use Rattle.stm_history.specs.declared.key_state.KeyState.{KeyState}
+use Rattle.std.proofs.Common.{◌≡◌, refl, ℕ, List, [], ◌∷◌, Some, true, false, codes, pos}
 use Rattle.stm_program.specs.Syntax.{ProgramTree, of_statements, Text, Number, Get, Rev, Less, Put as PutStatement, Del, If, Abort, End as EndBlock, Then}
 use Rattle.stm_program.specs.Writes.{last_write, latest_writes}
 use Rattle.stm_program.specs.declared.level.Level.{Level}
@@ -11,13 +10,11 @@ use Rattle.stm_steps.specs.Values.{key_in, text_in, less, put_of, del_of}
 use Rattle.stm_meaning.specs.declared.run.End.TheVariants.{Aborted as AbortedEnd}
 use Rattle.stm_meaning.specs.Meaning.{evaluate, holds, run_block, run_over}
 use Rattle.stm_attempt.specs.Settled.{settle}
-use Rattle.stm_txn.specs.declared.txn.Op.{Op}
 use Rattle.stm_txn.specs.declared.txn.Op.TheVariants.{Put}
 use Rattle.stm_world.specs.declared.event.WorldEvent.{WorldEvent}
 use Rattle.stm_world.specs.declared.event.WorldEvent.TheVariants.{Start, Step, Txn, Grant}
 use Rattle.stm_world.specs.World.{start_runner, fetch, commit, step_live}
-use Rattle.stm_schedules.specs.declared.moves.Move.{Move}
-use Rattle.stm_schedules.specs.declared.moves.Move.TheVariants.{Step as StepOf, Other}
+use Rattle.stm_schedules.specs.declared.moves.Move.TheVariants.{Step as StepOf}
 use Rattle.stm_schedules.specs.declared.outcome.Outcome.{Outcome}
 use Rattle.stm_schedules.specs.declared.outcome.RunnerEnd.{RunnerEnd}
 use Rattle.stm_schedules.specs.declared.outcome.RunnerEnd.TheVariants.{Committed, GaveUp}

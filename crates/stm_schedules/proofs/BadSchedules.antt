@@ -19,7 +19,7 @@ use Rattle.stm_schedules.proofs.MoveLemmas.{moves_ascend, FoundFirst, found_firs
 abbrev pub bad_behind : (World → Bool) → ℕ → Place → Move → Option (List Move)
 bad_behind keep n p m = option_map (λ (ms : List Move). m ∷ ms) (bad_at keep n (moved m p))
 
-kept_here : (b : Bool) → cond b None (Some (let none : List Move = [] in none)) ≡ None → b ≡ true
+pub kept_here : (b : Bool) → cond b None (Some (let none : List Move = [] in none)) ≡ None → b ≡ true
 kept_here true is = refl
 kept_here false is = absurd (cc)
 
@@ -34,13 +34,13 @@ none_bad keep (suc n) p (m ∷ ms) none s as_long =
     s.1 (omega arith)
 
 -- a schedule of n moves that does not keep the rule, while those of n moves before it do
-record IsBadAt (keep : World → Bool) (n : ℕ) (p : Place) (schedule : List Move) : Type 0 where
-  is_schedule : IsSchedule schedule p
-  is_bad : keep (place_after schedule p).world ≡ false
-  as_long : length schedule ≡ n
-  before_keep : (other : List Move) → IsSchedule other p → length other ≡ n → AreBefore other schedule → KeepsAfter keep p other
+pub record IsBadAt (keep : World → Bool) (n : ℕ) (p : Place) (schedule : List Move) : Type 0 where
+  pub is_schedule : IsSchedule schedule p
+  pub is_bad : keep (place_after schedule p).world ≡ false
+  pub as_long : length schedule ≡ n
+  pub before_keep : (other : List Move) → IsSchedule other p → length other ≡ n → AreBefore other schedule → KeepsAfter keep p other
 
-none_before : (other : List Move) → AreBefore other [] → ⊥
+pub none_before : (other : List Move) → AreBefore other [] → ⊥
 none_before [] before = before
 none_before (m ∷ ms) before = before
 
@@ -81,7 +81,7 @@ bad_further keep n p move rest a none bad = record {
   before_keep = kept_before keep n p move rest none bad;
 }
 
-is_bad_at : (keep : World → Bool) (n : ℕ) (p : Place) (schedule : List Move) → bad_at keep n p ≡ Some schedule → IsBadAt keep n p schedule
+pub is_bad_at : (keep : World → Bool) (n : ℕ) (p : Place) (schedule : List Move) → bad_at keep n p ≡ Some schedule → IsBadAt keep n p schedule
 is_bad_at keep zero p schedule found = bad_here keep p schedule (keep p.world) refl found
 is_bad_at keep (suc n) p schedule found =
     let first : FoundFirst (bad_behind keep n p) (moves p) schedule = found_first (bad_behind keep n p) (moves p) schedule (moves_ascend p) found in

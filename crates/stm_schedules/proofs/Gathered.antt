@@ -33,17 +33,17 @@ goes_along m schedule p ends = ap (λ (known : Ends). shown (place_after schedul
 
 -- ---- of exactly n moves
 
-abbrev ComesAt : ℕ → Place → Ends → Outcome → Type 0
+abbrev pub ComesAt : ℕ → Place → Ends → Outcome → Type 0
 ComesAt n p ends it = (schedule : List Move) × Comes schedule p ends it × (length schedule ≡ n)
 
-whole_here : (p : Place) (ends : Ends) (it : Outcome) (ms : List Move) → moves p ≡ ms → IsAmong it (outcome_if_whole ms p.world ends) → ComesAt zero p ends it
+pub whole_here : (p : Place) (ends : Ends) (it : Outcome) (ms : List Move) → moves p ≡ ms → IsAmong it (outcome_if_whole ms p.world ends) → ComesAt zero p ends it
 whole_here p ends it [] none a = elim a [
   | inl here ↦ ([], record { is_whole = (tt, none); to = here }, refl)
   | inr nothing ↦ absurd nothing
 ]
 whole_here p ends it (m ∷ ms) some a = absurd a
 
-comes_further : (n : ℕ) (p : Place) (ends : Ends) (it : Outcome) (m : Move) → IsAmong m (moves p) → ComesAt n (moved m p) (ends_moved m p ends) it →
+pub comes_further : (n : ℕ) (p : Place) (ends : Ends) (it : Outcome) (m : Move) → IsAmong m (moves p) → ComesAt n (moved m p) (ends_moved m p ends) it →
     ComesAt (suc n) p ends it
 comes_further n p ends it m a rest = (
   m ∷ rest.0,
@@ -54,17 +54,17 @@ comes_further n p ends it m a rest = (
   ap suc rest.2,
 )
 
-comes_at : (n : ℕ) (p : Place) (ends : Ends) (it : Outcome) → IsAmong it (outcomes_at n p ends) → ComesAt n p ends it
+pub comes_at : (n : ℕ) (p : Place) (ends : Ends) (it : Outcome) → IsAmong it (outcomes_at n p ends) → ComesAt n p ends it
 comes_at zero p ends it a = whole_here p ends it (moves p) refl a
 comes_at (suc n) p ends it a =
     let from = gathered_from (λ (m : Move). outcomes_at n (moved m p) (ends_moved m p ends)) (moves p) it a in
     comes_further n p ends it from.0 from.1 (comes_at n (moved from.0 p) (ends_moved from.0 p ends) it from.2)
 
-is_whole_here : (p : Place) (ends : Ends) → moves p ≡ [] → IsAmong (shown p.world ends) (outcome_if_whole (moves p) p.world ends)
+pub is_whole_here : (p : Place) (ends : Ends) → moves p ≡ [] → IsAmong (shown p.world ends) (outcome_if_whole (moves p) p.world ends)
 is_whole_here p ends none =
     subst (λ (ms : List Move). IsAmong (shown p.world ends) (outcome_if_whole ms p.world ends)) (sym none) (inl refl)
 
-has_outcome : (n : ℕ) (p : Place) (ends : Ends) (it : Outcome) (schedule : List Move) → Comes schedule p ends it → length schedule ≡ n →
+pub has_outcome : (n : ℕ) (p : Place) (ends : Ends) (it : Outcome) (schedule : List Move) → Comes schedule p ends it → length schedule ≡ n →
     IsAmong it (outcomes_at n p ends)
 has_outcome zero p ends it [] comes is =
     subst (λ (o : Outcome). IsAmong o (outcomes_at zero p ends)) comes.to (is_whole_here p ends comes.is_whole.1)

@@ -6,17 +6,17 @@ use Rattle.stm_schedules.specs.Schedules.{IsSchedule}
 use Rattle.stm_schedules.specs.Keeping.{goes_on, LongestIsAll}
 use Rattle.stm_schedules.proofs.Members.{among, contained, some_pass, one_passes, none_passes}
 
-abbrev AsLong : ℕ → Place → Type 0
+abbrev pub AsLong : ℕ → Place → Type 0
 AsLong n p = (schedule : List Move) × IsSchedule schedule p × (length schedule ≡ n)
 
-as_long : (n : ℕ) (p : Place) → goes_on n p ≡ true → AsLong n p
+pub as_long : (n : ℕ) (p : Place) → goes_on n p ≡ true → AsLong n p
 as_long zero p is = ([], tt, refl)
 as_long (suc n) p is =
     let first = some_pass (λ (m : Move). goes_on n (moved m p)) (moves p) is in
     let rest = as_long n (moved first.0 p) first.2 in
     (first.0 ∷ rest.0, (contained first.0 (moves p) first.1, rest.1), ap suc rest.2)
 
-does_go_on : (n : ℕ) (p : Place) (schedule : List Move) → IsSchedule schedule p → length schedule ≡ n → goes_on n p ≡ true
+pub does_go_on : (n : ℕ) (p : Place) (schedule : List Move) → IsSchedule schedule p → length schedule ≡ n → goes_on n p ≡ true
 does_go_on zero p schedule s is = refl
 does_go_on (suc n) p [] s is = absurd (omega arith)
 does_go_on (suc n) p (m ∷ ms) s is =

@@ -7,4 +7,6 @@ pub mod Splits
 pub mod Gathered
 pub mod Merging
 pub mod Exchanging
+pub mod Sorting
+pub mod FewerLemmas
 pub mod WorkedExamples

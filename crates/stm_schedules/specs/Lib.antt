@@ -1,0 +1,8 @@
+pub mod Places
+pub mod Schedules
+pub mod Keeping
+pub mod Scenarios
+pub mod Outcomes
+pub mod Merges
+pub mod Exchange
+pub mod Fewer

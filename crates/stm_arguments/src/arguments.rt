@@ -477,8 +477,8 @@ fn asked_by<'a>(matches: &ArgMatches<'a>) -> Option<Asked<'a>>
 
 /// What these words ask for, of which the first is the program's name.
 ///
-/// Where they are refused, or ask for help or the version, that was printed, and nothing more is asked for: the status is 0 for help and version, 2 for
-/// usage, printed or not, and 3 for want of memory and where help or version could not be printed.
+/// Where they are refused, or ask for help or the version, that was printed, and nothing more is asked for: the status is 0 for help and
+/// version, 2 for usage, printed or not, and 3 for want of memory and where help or version could not be printed.
 pub fn asked_of<'a, R: Print + Eprint>(rt: &R, alloc: Global, words: &'a [String]) -> Asked<'a>
     ensures { Asks (map string_bytes words.now) result }
 {

@@ -23,8 +23,8 @@ use Rattle.stm_jobs.specs.Lines.{AreLinesOf}
 
 -- ---- the run
 
--- The text is printed of a run of these jobs, with their ends where these are shown, from a hall over the store that opens at a revision and has taken these calls: what
--- stands in it is the hall that the run came to, and each job has its end there.
+-- The text is printed of a run of these jobs, with their ends where these are shown, from a hall over the store that opens at a revision
+-- and has taken these calls: what stands in it is the hall that the run came to, and each job has its end there.
 pub record AreLinesOfRun (shown : Bool) (start : ℕ) (calls : List WorldEvent) (jobs : List Job) (text : List ℕ) : Type 0 where
   pub ends : List JobEnd
   pub committed : ℕ

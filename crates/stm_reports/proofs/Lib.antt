@@ -1,11 +1,10 @@
 pub mod WordLaws
 pub mod PartLaws
 pub mod ArrayLemmas
+pub mod Rows
 pub mod StateLaws
 pub mod ElementLaws
-pub mod EventTold
-pub mod EventMeans
-pub mod EventReads
+pub mod EventRows
 pub mod LineLaws
 pub mod CutLemmas
 pub mod LoopLemmas

@@ -6,6 +6,7 @@ pub mod StateLaws
 pub mod ElementLaws
 pub mod EventRows
 pub mod LineLaws
+pub mod ReadBack
 pub mod CutLemmas
 pub mod LoopLemmas
 pub mod LineInLemmas

@@ -8,5 +8,6 @@ pub mod Reading
 pub mod Rests
 pub mod Grammar
 pub mod FirstFault
+pub mod ReadBack
 pub use Rattle.stm_json.specs.Outcome
 pub use Rattle.stm_json.specs.Tells

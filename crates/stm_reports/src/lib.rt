@@ -6,6 +6,7 @@
 mod causes;
 mod elements;
 mod event_lines;
+pub mod laws;
 mod line;
 mod lines;
 mod parts;

@@ -13,7 +13,7 @@ use Rattle.stm_txn.specs.LeaseKeys.{keys_named}
 use Rattle.stm_txn.specs.Standing.{Standing, Step, transacted, granted, kept_alive, revoked, advanced}
 use Rattle.stm_reports.specs.declared.line.ReportLine.{ReportLine}
 use Rattle.stm_reports.specs.declared.line.ReportLine.TheVariants.{Granted, Kept, Revoked, Refused, Key, Lease, End}
-use Rattle.stm_told.specs.Told.{cause_told, txn_line, advance_line}
+use Rattle.stm_reports.specs.Told.{cause_told, txn_line, advance_line}
 use Rattle.stm_check.specs.Point.{Point}
 
 -- ---- calls

@@ -5,7 +5,7 @@ use Rattle.std.specs.Prelude.{◌≡◌, ℕ, List, [], ◌∷◌, ◌++◌, map
 use Rattle.serde_json.specs.Data.{Data, string}
 use Rattle.stm_history.specs.History.{History, now}
 use Rattle.stm_meaning.specs.declared.state.StateEntry.{StateEntry}
-use Rattle.stm_lines.specs.Lines.{list, whole}
+use Rattle.stm_reports.specs.LineData.{list, whole}
 use Rattle.stm_report.specs.Report.{line_text, lines_text, ArePresentKeys}
 use Rattle.stm_hall.specs.StateOf.{IsStateOf}
 

@@ -1,3 +1,5 @@
+pub mod SameLemmas
+pub mod NoFloats
 pub mod WordLaws
 pub mod PartLaws
 pub mod ArrayLemmas

@@ -1,10 +1,10 @@
 //! Whether what stands in lines is the same.
 ghost use Rattle.std.specs.Prelude.{◌≡◌, ◌↔◌, IsTrue, map};
-ghost use Rattle.stm_told.specs.Told.{op_told};
+ghost use Rattle.stm_reports.specs.Told.{op_told};
 
+use crate::line::ToldOp;
 use stm_history::KeyState;
 use stm_meaning::{TraceItem, Value};
-use stm_reports::ToldOp;
 use stm_txn::{Expired, OpAnswer};
 
 /// Whether two states of a key are the same.

@@ -1,11 +1,12 @@
 //! The lines of calls.
 ghost use Rattle.std.specs.Prelude.{◌≡◌, ◌↔◌, IsTrue};
 ghost use Rattle.stm_reports.specs.declared.line.ReportLine.TheVariants as tells;
-ghost use Rattle.stm_told.specs.Told.{cause_told, txn_line};
+ghost use Rattle.stm_reports.specs.Told.{cause_told, txn_line};
 
-use crate::parts::{are_ops, are_same_expired};
+use crate::causes::RefusalName;
+use crate::line::ReportLine;
+use crate::same::{are_ops, are_same_expired};
 use stm_meaning::Fault;
-use stm_reports::{RefusalName, ReportLine};
 use stm_txn::{Expired, Refusal, TxnAnswer};
 
 /// The name under which a line tells a refusal of the store.

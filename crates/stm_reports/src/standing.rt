@@ -2,9 +2,9 @@
 ghost use Rattle.std.specs.Prelude.{◌≡◌, ◌↔◌, IsTrue};
 ghost use Rattle.stm_reports.specs.declared.line.ReportLine.TheVariants as tells;
 
-use crate::parts::are_same_states;
+use crate::line::ReportLine;
+use crate::same::are_same_states;
 use stm_history::{KeyState, Text};
-use stm_reports::ReportLine;
 
 /// Whether this is the line of a key with this state.
 pub fn is_key(line: &ReportLine, name: &Text, has: &KeyState) -> bool

@@ -58,8 +58,9 @@ lease_lines live = map lease_line (finmap.entries live)
 
 -- The lines of the end: the keys that are present, ascending by bytes, the live leases, and the end line, with the counter and the
 -- number of entries.
+abbrev pub end_lines : Standing → ℕ → List ReportLine
+end_lines s entries =
+    key_lines s.history (keys_named s.history.revisions) ++ lease_lines s.live ++ End (now s.history) entries ∷ []
+
 abbrev pub final_lines : Point → List ReportLine
-final_lines p =
-    key_lines p.standing.history (keys_named p.standing.history.revisions)
-    ++ lease_lines p.standing.live
-    ++ End (now p.standing.history) p.entries ∷ []
+final_lines p = end_lines p.standing p.entries

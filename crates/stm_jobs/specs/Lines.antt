@@ -5,8 +5,9 @@ use Rattle.std.specs.Prelude.{◌≡◌, ℕ, List, [], ◌∷◌, ◌++◌, map
 use Rattle.serde_json.specs.Data.{Data, string}
 use Rattle.stm_history.specs.History.{History, now}
 use Rattle.stm_meaning.specs.declared.state.StateEntry.{StateEntry}
+use Rattle.stm_meaning.specs.States.{IsAscending}
 use Rattle.stm_reports.specs.LineData.{list, whole}
-use Rattle.stm_report.specs.Report.{line_text, lines_text, ArePresentKeys}
+use Rattle.stm_reports.specs.Text.{line_text, lines_text}
 use Rattle.stm_hall.specs.StateOf.{IsStateOf}
 
 abbrev pub count_line : List ℕ → ℕ → Data
@@ -17,10 +18,6 @@ value_line key value = list (string (codes "value") ∷ string key ∷ string va
 
 abbrev pub value_lines : List StateEntry → List Data
 value_lines entries = map (λ (e : StateEntry). value_line e.key e.value) entries
-
--- the keys that the entries of a state are of
-abbrev pub keys_in : List StateEntry → List (List ℕ)
-keys_in entries = map (λ (e : StateEntry). e.key) entries
 
 -- how many jobs there are and how many committed, the value of each key that is present, ascending by bytes, and the revision
 abbrev pub text_of : ℕ → ℕ → List StateEntry → ℕ → List ℕ
@@ -33,5 +30,4 @@ text_of jobs committed entries revision =
 -- the text is that of so many jobs, of which so many committed, and of the state that the history has come to
 abbrev pub AreLinesOf : ℕ → ℕ → History → List ℕ → Type 0
 AreLinesOf jobs committed h text =
-    (entries : List StateEntry) × IsStateOf h entries × ArePresentKeys h (keys_in entries)
-    × (text ≡ text_of jobs committed entries (now h))
+    (entries : List StateEntry) × IsStateOf h entries × IsAscending entries × (text ≡ text_of jobs committed entries (now h))

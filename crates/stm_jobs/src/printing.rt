@@ -3,7 +3,7 @@ ghost use Rattle.std.specs.Prelude.{◌≡◌, ◌++◌, false, IfOk, OnOk, stri
 ghost use Rattle.serde_json.specs.View.{view};
 ghost use Rattle.serde_json.specs.Written.{has_float};
 ghost use Rattle.stm_meaning.specs.States.{IsAscending};
-ghost use Rattle.stm_report.specs.Report.{line_text, lines_text};
+ghost use Rattle.stm_reports.specs.Text.{line_text, lines_text};
 ghost use Rattle.stm_jobs.specs.Lines.{count_line, value_line, value_lines, AreLinesOf};
 
 use serde_json::{Value as Json, json};

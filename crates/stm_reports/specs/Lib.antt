@@ -1,6 +1,7 @@
 pub mod Names
 pub mod Words
 pub mod LineData
+pub mod Text
 pub mod Told
 pub mod Elements
 pub mod Parts

@@ -29,7 +29,7 @@ use Rattle.stm_reports.specs.declared.line.ReportLine.{ReportLine}
 use Rattle.stm_reports.specs.declared.line.ReportLine.TheVariants.{Refused}
 use Rattle.stm_entries.specs.declared.entry.Entry.{Entry}
 use Rattle.stm_entries.specs.declared.entry.Entry.TheVariants.{Foreign, Grant as GrantEntry, Renew, Revoke as RevokeEntry}
-use Rattle.stm_told.specs.Told.{cause_told, txn_line, advance_line}
+use Rattle.stm_reports.specs.Told.{cause_told, txn_line, advance_line}
 use Rattle.stm_world.specs.declared.event.WorldEvent.TheVariants.{Advance as AdvanceEvent}
 use Rattle.stm_world.specs.Told.{store_after_call}
 use Rattle.stm_world.specs.World.{if_taken, if_changed}

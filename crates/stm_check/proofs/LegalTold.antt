@@ -15,7 +15,7 @@ use Rattle.stm_entries.specs.Legal.{AreLegal}
 use Rattle.stm_entries.proofs.Replaying.{all_legal}
 use Rattle.stm_reports.specs.declared.line.ReportLine.{ReportLine}
 use Rattle.stm_reports.specs.declared.line.ReportLine.TheVariants as line
-use Rattle.stm_told.specs.Told.{txn_line, advance_line}
+use Rattle.stm_reports.specs.Told.{txn_line, advance_line}
 use Rattle.stm_world.specs.declared.event.WorldEvent.{WorldEvent}
 use Rattle.stm_world.specs.declared.event.WorldEvent.TheVariants as event
 use Rattle.stm_world.specs.Told.{store_after_call}

@@ -1,5 +1,4 @@
 pub mod Fronts
-pub mod LineAgreement
 pub mod CallLemmas
 pub mod LookupLemmas
 pub mod CommitLemmas

@@ -11,4 +11,3 @@ pub mod Walks
 pub mod Judged
 pub mod Judging
 pub mod Laws
-pub mod Told

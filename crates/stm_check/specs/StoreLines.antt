@@ -13,7 +13,7 @@ use Rattle.stm_txn.specs.LeaseKeys.{keys_named}
 use Rattle.stm_txn.specs.Standing.{Standing, Step, transacted, granted, kept_alive, revoked, advanced}
 use Rattle.stm_reports.specs.declared.line.ReportLine.{ReportLine}
 use Rattle.stm_reports.specs.declared.line.ReportLine.TheVariants.{Granted, Kept, Revoked, Refused, Key, Lease, End}
-use Rattle.stm_told.specs.Told.{cause_told, txn_line, advance_line}
+use Rattle.stm_reports.specs.Told.{cause_told, txn_line, advance_line}
 use Rattle.stm_check.specs.Point.{Point}
 
 -- ---- calls
@@ -58,8 +58,9 @@ lease_lines live = map lease_line (finmap.entries live)
 
 -- The lines of the end: the keys that are present, ascending by bytes, the live leases, and the end line, with the counter and the
 -- number of entries.
+abbrev pub end_lines : Standing → ℕ → List ReportLine
+end_lines s entries =
+    key_lines s.history (keys_named s.history.revisions) ++ lease_lines s.live ++ End (now s.history) entries ∷ []
+
 abbrev pub final_lines : Point → List ReportLine
-final_lines p =
-    key_lines p.standing.history (keys_named p.standing.history.revisions)
-    ++ lease_lines p.standing.live
-    ++ End (now p.standing.history) p.entries ∷ []
+final_lines p = end_lines p.standing p.entries

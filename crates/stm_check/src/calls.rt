@@ -3,14 +3,15 @@ ghost use Rattle.std.specs.Prelude.{◌≡◌, ◌≢◌, ◌↔◌, IsTrue, IfO
 ghost use Rattle.stm_check.specs.Point.{led_by, moment_after, txn_entries, grant_entries, keep_entries, revoke_entries, advance_entries};
 ghost use Rattle.stm_check.specs.StoreLines.{txn_call_line, grant_line, keep_line, revoke_line, advance_call_line};
 ghost use Rattle.stm_history.specs.History.{now};
-ghost use Rattle.stm_told.specs.Told.{cause_told};
+ghost use Rattle.stm_reports.specs.Told.{cause_told};
 ghost use Rattle.stm_reports.specs.declared.line.ReportLine.TheVariants.{Refused};
 ghost use Rattle.stm_txn.specs.declared.refusal.Refusal.TheVariants.{OutOfMemory};
 ghost use Rattle.stm_world.specs.declared.event.WorldEvent.TheVariants.{Advance as AdvanceEvent};
 
 use std::alloc::AllocError;
-use stm_reports::ReportLine;
-use stm_told::{is_advanced, is_granted, is_kept, is_refused, is_revoked, is_txn, told_cause};
+use stm_reports::{
+    ReportLine, is_advanced, is_granted, is_kept, is_refused, is_revoked, is_txn, told_cause,
+};
 use stm_txn::{Expired, Refusal, Store, Txn};
 
 /// Whether a line tells that the store refused a call, where it was not for want of memory.

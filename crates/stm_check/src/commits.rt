@@ -21,8 +21,7 @@ use stm_history::Text;
 use stm_keys::Keys;
 use stm_meaning::{Answered, End, Run, TraceItem, Value, run_answered};
 use stm_program::{Level, Program, Write};
-use stm_reports::ToldAnswer;
-use stm_told::{are_same_traces, are_same_values};
+use stm_reports::{ToldAnswer, are_same_traces, are_same_values};
 use stm_txn::{Change, Refusal, Store};
 
 /// What the line of a commit tells.

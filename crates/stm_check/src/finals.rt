@@ -17,8 +17,7 @@ use stm_calls::present_keys;
 use stm_entries::LiveLease;
 use stm_history::Text;
 use stm_keys::Keys;
-use stm_reports::ReportLine;
-use stm_told::{is_end, is_key, is_lease};
+use stm_reports::{ReportLine, is_end, is_key, is_lease};
 
 /// Adds the line of a key, if it is present.
 fn add_key(

@@ -1,26 +1,5 @@
-//! The laws of lines and of checks. Each function does nothing: its contract is the law.
-ghost use Rattle.stm_check.specs.Told.{EventLinesAgree, KeyLinesAgree, LeaseLinesAgree, EndLinesAgree};
+//! The laws of checks. Each function does nothing: its contract is the law.
 ghost use Rattle.stm_check.specs.Laws.{JudgedOnce, StoreIsTheReplay, YesIsTheReplay};
-
-/// What is written for the reply to an event is the data of the line that tells it.
-pub fn event_lines_agree()
-    ensures { EventLinesAgree }
-{}
-
-/// What is written for a key is the data of its line.
-pub fn key_lines_agree()
-    ensures { KeyLinesAgree }
-{}
-
-/// What is written for a lease is the data of its line.
-pub fn lease_lines_agree()
-    ensures { LeaseLinesAgree }
-{}
-
-/// What is written at the end is the data of the end line.
-pub fn end_lines_agree()
-    ensures { EndLinesAgree }
-{}
 
 /// The store behind lines is the replay of all the entries that they tell, and these are counted.
 pub fn store_is_the_replay()

@@ -11,8 +11,9 @@ use Rattle.stm_workers.specs.declared.job_end.JobEnd.{JobEnd}
 use Rattle.stm_workers.specs.declared.job_end.JobEnd.TheVariants.{Committed, Aborted, Faulted, Refused, GaveUp}
 use Rattle.stm_workers.specs.declared.job_end.JobRefusal.{JobRefusal}
 use Rattle.stm_workers.specs.declared.job_end.JobRefusal.TheVariants.{Store, Behind, Unvouched}
-use Rattle.stm_lines.specs.Lines.{list, whole}
-use Rattle.stm_report.specs.Report.{line_text, lines_text, ArePresentKeys}
+use Rattle.stm_meaning.specs.States.{IsAscending}
+use Rattle.stm_reports.specs.LineData.{list, whole}
+use Rattle.stm_reports.specs.Text.{line_text, lines_text}
 use Rattle.stm_hall.specs.StateOf.{IsStateOf}
 
 abbrev pub count_line : List ℕ → ℕ → Data
@@ -23,10 +24,6 @@ value_line key value = list (string (codes "value") ∷ string key ∷ string va
 
 abbrev pub value_lines : List StateEntry → List Data
 value_lines entries = map (λ (e : StateEntry). value_line e.key e.value) entries
-
--- the keys that the entries of a state are of
-abbrev pub keys_in : List StateEntry → List (List ℕ)
-keys_in entries = map (λ (e : StateEntry). e.key) entries
 
 -- ---- the ends of jobs
 
@@ -73,5 +70,4 @@ text_of jobs committed told entries revision =
 -- the text is that of so many jobs, of which so many committed, of their ends, where these are shown, and of the state that the history has come to
 abbrev pub AreLinesOf : Bool → List JobEnd → ℕ → ℕ → History → List ℕ → Type 0
 AreLinesOf shown ends jobs committed h text =
-    (entries : List StateEntry) × IsStateOf h entries × ArePresentKeys h (keys_in entries)
-    × (text ≡ text_of jobs committed (ends_shown shown ends) entries (now h))
+    (entries : List StateEntry) × IsStateOf h entries × IsAscending entries × (text ≡ text_of jobs committed (ends_shown shown ends) entries (now h))

@@ -3,9 +3,9 @@ ghost use Rattle.std.specs.Prelude.{◌≡◌, ◌++◌, false, IfOk, OnOk, stri
 ghost use Rattle.serde_json.specs.Data.{string};
 ghost use Rattle.serde_json.specs.View.{view};
 ghost use Rattle.serde_json.specs.Written.{has_float};
-ghost use Rattle.stm_lines.specs.Lines.{whole};
+ghost use Rattle.stm_reports.specs.LineData.{whole};
 ghost use Rattle.stm_meaning.specs.States.{IsAscending};
-ghost use Rattle.stm_report.specs.Report.{line_text, lines_text};
+ghost use Rattle.stm_reports.specs.Text.{line_text, lines_text};
 ghost use Rattle.stm_jobs.specs.Lines.{count_line, value_line, value_lines, job_line, job_refusal_name, end_of_job, lines_of_ends, ends_shown, AreLinesOf};
 
 use serde_json::{Value as Json, json};

@@ -1,1 +1,1 @@
-pub mod NoFloats
+pub mod Lists

@@ -4,16 +4,19 @@ ghost use Rattle.serde_json.specs.View.{view};
 ghost use Rattle.serde_json.specs.Data.{string};
 ghost use Rattle.serde_json.specs.Written.{has_float};
 ghost use Rattle.stm_world.specs.declared.reply.Reply.TheVariants.{Txn, Revoked, Advanced, Batch};
-ghost use Rattle.stm_lines.specs.Lines.{list, whole, reply_line, event_line, IsOfRunner, IsOfCommit};
+ghost use Rattle.stm_reports.specs.LineData.{list, whole};
+ghost use Rattle.stm_lines.specs.Lines.{refusal_told, reply_line, event_line, IsOfRunner, IsOfCommit};
 
+use crate::operations::with_ops;
 use crate::parts::Parts;
 use crate::runners::{Commit, committed_json, conflict_json, fetched_json, gave_up_json};
-use crate::spelled::with_list;
+use crate::spelled::{with_events, with_list};
 use serde_json::Value as Json;
 use std::alloc::{AllocError, Global};
 use stm_keys::Event;
+use stm_reports::{RefusalName, told_cause};
 use stm_txn::{Expired, TxnAnswer};
-use stm_world::{Denied, Reply};
+use stm_world::{Denied, Refusal, Reply};
 
 /// The line of a runner, a lease or a watcher that is named and no more.
 fn named_json(alloc: Global, number: u64, word: &str, id: u64) -> Result<Json, AllocError>
@@ -42,7 +45,7 @@ fn txn_json(alloc: Global, number: u64, answer: &TxnAnswer) -> Result<Json, Allo
 {
     let parts = Parts::numbered(alloc, number, "txn")?;
     let parts = parts.flag(answer.succeeded)?.whole(answer.revision)?;
-    Ok(with_list(alloc, parts, answer.answers.as_slice())?.array())
+    Ok(with_ops(alloc, parts, answer.answers.as_slice())?.array())
 }
 
 /// The line of a revocation.
@@ -78,7 +81,7 @@ fn batch_json(
 {
     let parts = Parts::numbered(alloc, number, "batch")?;
     let parts = parts.whole(watcher)?.whole(upto)?;
-    Ok(with_list(alloc, parts, events)?.array())
+    Ok(with_events(alloc, parts, events)?.array())
 }
 
 /// The line of a commit that the store took, or that failed.
@@ -146,7 +149,7 @@ fn runner_json(alloc: Global, number: u64, reply: &Reply) -> Result<Json, AllocE
             told_json(alloc, number, "faulted", *runner, fault.name())
         }
         Reply::Ended { runner, cause } => {
-            told_json(alloc, number, "ended", *runner, cause.name())
+            told_json(alloc, number, "ended", *runner, told_cause(*cause).name())
         }
         _ => commit_json(alloc, number, reply),
     }
@@ -175,12 +178,23 @@ fn reply_json(alloc: Global, number: u64, reply: &Reply) -> Result<Json, AllocEr
     }
 }
 
+/// The name under which a line tells why an event was refused.
+fn told_refusal(cause: Refusal) -> RefusalName
+    ensures { result ≡ refusal_told cause }
+{
+    match cause {
+        Refusal::Store(cause) => told_cause(cause),
+        Refusal::BadLimit => RefusalName::BadLimit,
+        Refusal::NoRunner => RefusalName::NoRunner,
+    }
+}
+
 /// The line of a refused event.
 fn refused_json(alloc: Global, number: u64, denied: &Denied) -> Result<Json, AllocError>
     ensures { IfOk result (λ v. view v ≡ event_line number (Err denied.now)) }
 {
     let parts = Parts::numbered(alloc, number, "refused")?;
-    let parts = parts.word(denied.cause.name())?;
+    let parts = parts.word(told_refusal(denied.cause).name())?;
     Ok(with_list(alloc, parts, denied.expired.as_slice())?.array())
 }
 

@@ -1,6 +1,7 @@
 //! The lines of a report as JSON values: one for each event, for each key and lease that is left, and the last one.
 //!
-//! `specs/Lines.antt` has the data of each line. No line has a number that is not whole.
+//! `specs/Lines.antt` says which line a reply has, and `stm_reports/specs/LineData.antt` has the data of each line. No line has a number
+//! that is not whole.
 #![tactic(auto)]
 
 mod events;

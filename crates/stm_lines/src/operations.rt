@@ -1,11 +1,13 @@
 //! What a transaction's operations answered, as JSON.
-ghost use Rattle.std.specs.Prelude.{◌≡◌, IfOk};
+ghost use Rattle.std.specs.Prelude.{◌≡◌, ◌++◌, [], ◌∷◌, map, IfOk};
 ghost use Rattle.serde_json.specs.View.{view};
 ghost use Rattle.stm_txn.specs.declared.answer.OpAnswer.TheVariants.{Get, Del};
+ghost use Rattle.stm_reports.specs.LineData.{list, op_data};
+ghost use Rattle.stm_reports.specs.Told.{op_told};
 ghost use Rattle.stm_lines.specs.Lines.{op_answer_data};
 
 use crate::parts::Parts;
-use crate::spelled::Spelled;
+use crate::spelled::{Spelled, with_list};
 use serde_json::Value as Json;
 use std::alloc::{AllocError, Global};
 use stm_history::ReadAnswer;
@@ -36,4 +38,16 @@ impl Spelled for OpAnswer {
             OpAnswer::Del(count) => del_json(alloc, *count),
         }
     }
+}
+
+/// The answers of a branch, as one part more.
+pub(crate) fn with_ops(
+    alloc: Global,
+    parts: Parts,
+    answers: &[OpAnswer],
+) -> Result<Parts, AllocError>
+    ensures { IfOk result (λ longer. map view longer.values.items
+        ≡ map view parts.values.items ++ list (map op_data (map op_told answers.now)) ∷ []) }
+{
+    with_list(alloc, parts, answers)
 }

@@ -2,7 +2,8 @@
 ghost use Rattle.std.specs.Prelude.{◌≡◌, ◌++◌, [], ◌∷◌, map, IfOk};
 ghost use Rattle.serde_json.specs.Data.{string, boolean};
 ghost use Rattle.serde_json.specs.View.{view};
-ghost use Rattle.stm_lines.specs.Lines.{list, whole, value_or_null, state_or_null};
+ghost use Rattle.stm_reports.specs.LineData.{list, whole, state_or_null};
+ghost use Rattle.stm_lines.specs.Lines.{value_or_null};
 
 use serde_json::Value as Json;
 use std::alloc::{AllocError, Global};

@@ -5,7 +5,7 @@ ghost use Rattle.stm_world.specs.declared.reply.Reply.TheVariants.{Fetched, Comm
 ghost use Rattle.stm_lines.specs.Lines.{reply_line};
 
 use crate::parts::Parts;
-use crate::spelled::with_list;
+use crate::spelled::{with_answers, with_list};
 use serde_json::Value as Json;
 use std::alloc::{AllocError, Global};
 use stm_history::ReadAnswer;
@@ -53,7 +53,7 @@ pub(crate) fn committed_json(
     let parts = parts.whole(commit.attempts as u64)?;
     let parts = with_list(alloc, parts, commit.output)?;
     let parts = with_list(alloc, parts, commit.trace)?;
-    Ok(with_list(alloc, parts, commit.answers)?.array())
+    Ok(with_answers(alloc, parts, commit.answers)?.array())
 }
 
 /// The line of a failed commit after which the run goes on.

@@ -5,7 +5,8 @@ ghost use Rattle.serde_json.specs.View.{view};
 ghost use Rattle.stm_history.specs.History.{mod_of};
 ghost use Rattle.stm_meaning.specs.declared.trace_item.TraceItem.TheVariants.{Get, Rev};
 ghost use Rattle.stm_keys.specs.declared.event.Event.TheVariants.{Put as PutEvent, Delete as DeleteEvent};
-ghost use Rattle.stm_lines.specs.Lines.{list, value_data, trace_data, answer_data, expired_data, event_data};
+ghost use Rattle.stm_reports.specs.LineData.{list, value_data, trace_data, answer_data, expired_data, event_data};
+ghost use Rattle.stm_lines.specs.Lines.{answer_told, event_told, read_data, shown_data};
 
 use crate::parts::Parts;
 use serde_json::Value as Json;
@@ -108,12 +109,24 @@ fn mod_rev(kv: &Option<KeyState>) -> u64
 }
 
 impl Spelled for ReadAnswer {
-    ghost spelled = { answer_data };
+    ghost spelled = { read_data };
 
     fn to_json(&self, alloc: Global) -> Result<Json, AllocError> {
         let parts = Parts::worded(alloc, self.key.as_str())?.value(&self.kv)?;
         Ok(parts.whole(mod_rev(&self.kv))?.whole(self.of_rev)?.array())
     }
+}
+
+/// The answers of a commit, as one part more.
+pub(crate) fn with_answers(
+    alloc: Global,
+    parts: Parts,
+    answers: &[ReadAnswer],
+) -> Result<Parts, AllocError>
+    ensures { IfOk result (λ longer. map view longer.values.items
+        ≡ map view parts.values.items ++ list (map answer_data (map answer_told answers.now)) ∷ []) }
+{
+    with_list(alloc, parts, answers)
 }
 
 impl Spelled for Expired {
@@ -127,7 +140,7 @@ impl Spelled for Expired {
 
 /// What a watcher is shown of a put.
 fn put_json(alloc: Global, key: &str, state: &KeyState) -> Result<Json, AllocError>
-    ensures { IfOk result (λ v. view v ≡ event_data (PutEvent key.now state.now)) }
+    ensures { IfOk result (λ v. view v ≡ shown_data (PutEvent key.now state.now)) }
 {
     Ok(
         Parts::worded(alloc, "PUT")?
@@ -139,14 +152,14 @@ fn put_json(alloc: Global, key: &str, state: &KeyState) -> Result<Json, AllocErr
 
 /// What a watcher is shown of a deletion.
 fn delete_json(alloc: Global, key: &str, revision: u64) -> Result<Json, AllocError>
-    ensures { IfOk result (λ v. view v ≡ event_data (DeleteEvent key.now revision)) }
+    ensures { IfOk result (λ v. view v ≡ shown_data (DeleteEvent key.now revision)) }
 {
     let parts = Parts::worded(alloc, "DELETE")?;
     Ok(parts.word(key)?.whole(revision)?.array())
 }
 
 impl Spelled for Event {
-    ghost spelled = { event_data };
+    ghost spelled = { shown_data };
 
     fn to_json(&self, alloc: Global) -> Result<Json, AllocError> {
         match self {
@@ -154,4 +167,16 @@ impl Spelled for Event {
             Event::Delete { key, revision } => delete_json(alloc, key.as_str(), *revision),
         }
     }
+}
+
+/// The events of a batch, as one part more.
+pub(crate) fn with_events(
+    alloc: Global,
+    parts: Parts,
+    events: &[Event],
+) -> Result<Parts, AllocError>
+    ensures { IfOk result (λ longer. map view longer.values.items
+        ≡ map view parts.values.items ++ list (map event_data (map event_told events.now)) ∷ []) }
+{
+    with_list(alloc, parts, events)
 }

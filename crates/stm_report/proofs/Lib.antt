@@ -1,7 +1,14 @@
 pub mod LineLoops
 pub mod LeaseLemmas
 pub mod LiveLeases
-pub mod OneReport
 pub mod ScriptLemmas
-pub mod PresentKeys
 pub mod RightRuns
+pub mod RunLists
+pub mod RunsTold
+pub mod CallsTold
+pub mod CommitsTold
+pub mod LinesRight
+pub mod Checks
+pub mod Depths
+pub mod Written
+pub mod ReadBack

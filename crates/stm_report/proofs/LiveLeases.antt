@@ -1,17 +1,18 @@
 -- The lines of the live leases, ascending by id.
-use Rattle.std.proofs.Common.{◌≡◌, ℕ, List, [], ◌++◌, sym, ap, ◌∙◌, append-nil}
+use Rattle.std.proofs.Common.{◌≡◌, ℕ, List, [], ◌++◌, map, sym, ap, ◌∙◌, append-nil}
 use Rattle.std.specs.BTreeMap.{BTreeMap, IsOrdered}
 use Rattle.std.specs.Ordering.{nat_cmp}
 use Rattle.stm_leases.specs.Live.{Live}
 use Rattle.stm_entries.specs.declared.live_leases.LiveLease.{LiveLease}
 use Rattle.stm_entries.specs.LiveLeases.{HasLeases}
 use Rattle.stm_entries.proofs.ListedLeases.{terms, listed}
-use Rattle.stm_report.specs.Report.{lines_text, lines_of_leases, lease_lines}
+use Rattle.stm_check.specs.StoreLines.{lease_line, lease_lines}
+use Rattle.stm_reports.specs.Text.{text_of}
 
 -- once no lease is left, the text is the whole
-pub no_lease : (text total : List ℕ) (left : List (ℕ × LiveLease)) → left ≡ [] → text ++ lines_text (lines_of_leases (terms left)) ≡ total → text ≡ total
+pub no_lease : (text total : List ℕ) (left : List (ℕ × LiveLease)) → left ≡ [] → text ++ text_of (map lease_line (terms left)) ≡ total → text ≡ total
 no_lease text total left none so_far =
-    sym (append-nil text) ∙ ap (λ (es : List (ℕ × LiveLease)). text ++ lines_text (lines_of_leases (terms es))) (sym none) ∙ so_far
+    sym (append-nil text) ∙ ap (λ (es : List (ℕ × LiveLease)). text ++ text_of (map lease_line (terms es))) (sym none) ∙ so_far
 
-pub lines_of_map : (m : BTreeMap ℕ LiveLease) (live : Live) → IsOrdered nat_cmp m → HasLeases m live → lines_of_leases (terms m.entries) ≡ lease_lines live
-lines_of_map m live rises has = ap lines_of_leases (listed m live rises has)
+pub lines_of_map : (m : BTreeMap ℕ LiveLease) (live : Live) → IsOrdered nat_cmp m → HasLeases m live → map lease_line (terms m.entries) ≡ lease_lines live
+lines_of_map m live rises has = ap (map lease_line) (listed m live rises has)

@@ -6,7 +6,11 @@ use Rattle.stm_world.specs.World.{World}
 use Rattle.stm_world.specs.Headline.{Holds}
 use Rattle.stm_texts.specs.declared.scenario.Scenario.{Scenario}
 use Rattle.stm_texts.specs.Reading.{scenario_in}
-use Rattle.stm_report.specs.Report.{IsReport}
+use Rattle.stm_reports.specs.declared.report.Report.{Report}
+use Rattle.stm_check.specs.declared.checking.Checked.TheVariants.{Yes}
+use Rattle.stm_check.specs.Judged.{IsJudged}
+use Rattle.stm_reports.specs.Text.{text_of}
+use Rattle.stm_report.specs.Report.{report_of, IsReport}
 use Rattle.stm_report.specs.Script.{IsReportOf}
 
 -- a world and its replies have one report
@@ -24,3 +28,20 @@ pub record IsOfRightRun (s : Scenario) (text : List ℕ) : Type 0 where
 abbrev pub ReportsAreOfRightRuns : Type 0
 ReportsAreOfRightRuns =
     (bytes text : List ℕ) → IsReportOf (scenario_in bytes) text → (s : Scenario) × (scenario_in bytes ≡ Ok s) × IsOfRightRun s text
+
+-- Where the headline holds of a run, a check says yes to its report: no line of it is wrong.
+abbrev pub ChecksSayYes : Type 0
+ChecksSayYes =
+    (s : Scenario) (replies : List (Result Reply Denied)) (w : World) → Holds (unwrap_or s.opening 1) s.events replies w
+    → IsJudged s (report_of w replies) Yes
+
+-- a text is that of a report of a scenario that a check says yes to
+pub record IsOfRightReport (s : Scenario) (text : List ℕ) : Type 0 where
+  pub report : Report
+  pub written : text ≡ text_of report.lines
+  pub yes : IsJudged s report Yes
+
+-- What a script writes for bytes that spell a scenario is the text of such a report.
+abbrev pub ScriptsPassChecks : Type 0
+ScriptsPassChecks =
+    (bytes text : List ℕ) → IsReportOf (scenario_in bytes) text → (s : Scenario) × (scenario_in bytes ≡ Ok s) × IsOfRightReport s text

@@ -1,3 +1,4 @@
 pub mod Report
 pub mod Script
 pub mod Laws
+pub mod ReadBack

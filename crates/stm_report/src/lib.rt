@@ -6,9 +6,14 @@ mod leases;
 mod report_text;
 mod run_script;
 
-pub use laws::{one_report, reports_are_of_right_runs};
+pub use laws::{
+    checks_say_yes, one_report, reports_are_of_right_runs, reports_are_read_back,
+    scripts_pass_checks,
+};
 pub use report_text::report;
 pub use run_script::{ScriptFault, script};
+pub use stm_check::{Checked, WrongCause, check};
 pub use stm_devices::{DeviceFault, Sink, Source, Std, write_all};
+pub use stm_reports::{Report, ReportLine, read_report};
 pub use stm_retry::{Denied, Reply, World};
 pub use stm_texts::{BadInput, Cause, ReadError, Scenario, WorldEvent, read_scenario};

@@ -5,7 +5,9 @@ ghost use Rattle.serde_json.specs.Written.{has_float};
 ghost use Rattle.stm_history.specs.History.{key_now};
 ghost use Rattle.stm_leases.specs.Live.{Live};
 ghost use Rattle.stm_entries.specs.LiveLeases.{HasLeases};
-ghost use Rattle.stm_report.specs.Report.{line_text, lines_text, event_lines, line_of_key, key_lines, lease_lines, IsReport};
+ghost use Rattle.stm_check.specs.StoreLines.{key_lines_of, key_lines, lease_lines};
+ghost use Rattle.stm_reports.specs.Text.{line_text, text_of};
+ghost use Rattle.stm_report.specs.Report.{event_lines, IsReport};
 
 use crate::leases::live_leases;
 use serde_json::Value as Json;
@@ -32,7 +34,7 @@ fn push_events(
     text: &mut String,
     replies: &[Result<Reply, Denied>],
 ) -> Result<(), AllocError>
-    ensures { OnOk result (string_bytes text.new ≡ string_bytes text.old ++ lines_text (event_lines 1 replies.now)) }
+    ensures { OnOk result (string_bytes text.new ≡ string_bytes text.old ++ text_of (event_lines 1 replies.now)) }
 {
     for (before, reply) in replies.iter().enumerate() {
         let line = event_json(alloc, before as u64 + 1, reply)?;
@@ -44,7 +46,7 @@ fn push_events(
 /// Adds the line of a key, if it is present.
 fn push_key(alloc: Global, text: &mut String, store: &Store, key: &str) -> Result<(), AllocError>
     ensures { OnOk result (string_bytes text.new
-        ≡ string_bytes text.old ++ lines_text (line_of_key key.now (key_now store.now.standing.history key.now))) }
+        ≡ string_bytes text.old ++ text_of (key_lines_of key.now (key_now store.now.standing.history key.now))) }
 {
     match store.keys().get(key) {
         None => Ok(()),
@@ -63,7 +65,7 @@ fn push_keys(
     keys: &[String],
 ) -> Result<(), AllocError>
     ensures { OnOk result (string_bytes text.new
-        ≡ string_bytes text.old ++ lines_text (key_lines store.now.standing.history (map string_bytes keys.now))) }
+        ≡ string_bytes text.old ++ text_of (key_lines store.now.standing.history (map string_bytes keys.now))) }
 {
     for key in keys {
         push_key(alloc, text, store, key.as_str())?;
@@ -77,7 +79,7 @@ fn push_leases(
     text: &mut String,
     leases: &BTreeMap<u64, LiveLease>,
 ) -> Result<(), AllocError>
-    ensures { OnOk result ((live : Live) → HasLeases leases.now live → string_bytes text.new ≡ string_bytes text.old ++ lines_text (lease_lines live)) }
+    ensures { OnOk result ((live : Live) → HasLeases leases.now live → string_bytes text.new ≡ string_bytes text.old ++ text_of (lease_lines live)) }
 {
     for (id, lease) in leases {
         let line = lease_json(alloc, *id, lease.ttl, lease.renewed)?;

@@ -1,42 +1,13 @@
 -- Arrays of a word and parts, and of a number, a word and parts: what they spell, and what their spelling says of them.
-use Rattle.std.proofs.Common.{◌≡◌, ℕ, List, [], ◌∷◌, Option, Some, None, Ok, option_map, refl, ap, ◌∙◌}
+use Rattle.std.proofs.Common.{◌≡◌, ℕ, List, [], ◌∷◌, Some, None, Ok, refl, ap}
 use Rattle.serde_json.specs.Data.{Data, null, boolean, number, string, array, object, Items, no_items, item}
 use Rattle.serde_json.specs.Find.{as_str}
 use Rattle.serde_json.specs.View.{items_of}
-use Rattle.stm_json.specs.Elements.{first_word, four_of}
-use Rattle.stm_json.proofs.ElementLemmas.{four_of-is}
-use Rattle.stm_reports.specs.Elements.{five_of, six_of}
+use Rattle.stm_json.specs.Elements.{first_word}
 use Rattle.stm_reports.specs.Grammar.{Spells, SpellsItems}
 use Rattle.stm_reports.specs.LineData.{list, whole, word, numbered}
 use Rattle.stm_reports.specs.Parts.{number_of}
 use Rattle.stm_reports.proofs.PartLaws.{number_reads, number_no_text}
-
--- ---- elements
-
-five_is : (a : Data) (ds : Items) (o : Option (Data × Data × Data × Data)) (p : Data × Data × Data × Data × Data) → four_of ds ≡ o
-    → option_map (λ (q : Data × Data × Data × Data). (a, q.0, q.1, q.2, q.3)) o ≡ Some p → item a ds ≡ items_of (p.0 ∷ p.1 ∷ p.2 ∷ p.3 ∷ p.4 ∷ [])
-five_is a ds None p e h = cc
-five_is a ds (Some q) p e h =
-    let k : (a, q.0, q.1, q.2, q.3) ≡ p = cc in
-    ap (item a) (four_of-is ds q e) ∙ ap (λ (r : Data × Data × Data × Data × Data). items_of (r.0 ∷ r.1 ∷ r.2 ∷ r.3 ∷ r.4 ∷ [])) k
-
-pub five_of-is : (ds : Items) (p : Data × Data × Data × Data × Data) → five_of ds ≡ Some p → ds ≡ items_of (p.0 ∷ p.1 ∷ p.2 ∷ p.3 ∷ p.4 ∷ [])
-five_of-is no_items p h = cc
-five_of-is (item a ds) p h = five_is a ds (four_of ds) p refl h
-
-six_is : (a : Data) (ds : Items) (o : Option (Data × Data × Data × Data × Data)) (p : Data × Data × Data × Data × Data × Data) → five_of ds ≡ o
-    → option_map (λ (q : Data × Data × Data × Data × Data). (a, q.0, q.1, q.2, q.3, q.4)) o ≡ Some p
-    → item a ds ≡ items_of (p.0 ∷ p.1 ∷ p.2 ∷ p.3 ∷ p.4 ∷ p.5 ∷ [])
-six_is a ds None p e h = cc
-six_is a ds (Some q) p e h =
-    let k : (a, q.0, q.1, q.2, q.3, q.4) ≡ p = cc in
-    ap (item a) (five_of-is ds q e)
-    ∙ ap (λ (r : Data × Data × Data × Data × Data × Data). items_of (r.0 ∷ r.1 ∷ r.2 ∷ r.3 ∷ r.4 ∷ r.5 ∷ [])) k
-
-pub six_of-is : (ds : Items) (p : Data × Data × Data × Data × Data × Data) → six_of ds ≡ Some p
-    → ds ≡ items_of (p.0 ∷ p.1 ∷ p.2 ∷ p.3 ∷ p.4 ∷ p.5 ∷ [])
-six_of-is no_items p h = cc
-six_of-is (item a ds) p h = six_is a ds (five_of ds) p refl h
 
 pub first_word-is : (ds : Items) (p : List ℕ × Items) → first_word ds ≡ Some p → ds ≡ item (string p.0) p.1
 first_word-is no_items p h = cc

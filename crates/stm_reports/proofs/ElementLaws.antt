@@ -7,22 +7,20 @@ use Rattle.serde_json.specs.View.{items_of}
 use Rattle.stm_history.specs.declared.key_state.KeyState.{KeyState}
 use Rattle.stm_json.specs.declared.cause.Cause.TheVariants.{Shape}
 use Rattle.stm_json.specs.Elements.{worded, one_of, two_of, four_of, number_up_to}
-use Rattle.stm_json.specs.Outcome.{bad, within}
-use Rattle.stm_json.proofs.ElementLemmas.{worded-is, one_of-is, two_of-is, four_of-is}
-use Rattle.stm_json.proofs.OutcomeLemmas.{bind_ok, within_ok}
+use Rattle.stm_json.specs.Outcome.{Outcome, bad}
+use Rattle.stm_json.proofs.ElementLemmas.{worded-is}
+use Rattle.stm_json.proofs.OutcomeLemmas.{bind_ok}
 use Rattle.stm_meaning.specs.declared.trace_item.TraceItem.{TraceItem}
 use Rattle.stm_meaning.specs.declared.trace_item.TraceItem.TheVariants as trace
 use Rattle.stm_meaning.specs.declared.value.Value.{Value}
 use Rattle.stm_txn.specs.declared.advance.Expired.{Expired}
-use Rattle.stm_txn_json.specs.Faults.{Sort, AnyText, NumberIn, By, first_of, at, faults_by, sorted_faults, worded_faults}
+use Rattle.stm_txn_json.specs.Faults.{AnyText, NumberIn, By, first_of, faults_by, sorted_faults, worded_faults}
 use Rattle.stm_txn_json.specs.FirstFault.{any_number}
 use Rattle.stm_txn_json.specs.Grammar.{SpellsEach}
-use Rattle.stm_txn_json.specs.Reading.{text_of}
 use Rattle.stm_txn_json.specs.Words.{same}
-use Rattle.stm_txn_json.proofs.FaultLemmas.{fault_of, wrong_is, part_then, made, text_faulted}
+use Rattle.stm_txn_json.proofs.FaultLemmas.{fault_of, wrong_is, made}
 use Rattle.stm_txn_json.proofs.ListLemmas.{list_sound, each_reads}
-use Rattle.stm_txn_json.proofs.PartLemmas.{list_is, text_of-is, text_reads}
-use Rattle.stm_txn_json.proofs.TxnFaults.{number_told}
+use Rattle.stm_txn_json.proofs.PartLemmas.{list_is}
 use Rattle.stm_reports.specs.declared.line.ToldAnswer.{ToldAnswer}
 use Rattle.stm_reports.specs.declared.line.ToldEvent.{ToldEvent}
 use Rattle.stm_reports.specs.declared.line.ToldEvent.TheVariants as event
@@ -34,16 +32,17 @@ use Rattle.stm_reports.specs.FirstFault.{expired_sorts, watched_table}
 use Rattle.stm_reports.specs.Grammar.{Spells, SpellsItems, CountFits, AllCountsFit}
 use Rattle.stm_reports.specs.LineData.{list, whole, value_data, trace_data, text_or_null, answer_data, state_or_null, op_data}
 use Rattle.stm_reports.specs.LineData.{expired_data, event_data}
-use Rattle.stm_reports.specs.Parts.{number_of, value_of, keyed_of, text_or_null_of, state_or_null_of}
+use Rattle.stm_reports.specs.Parts.{value_of, keyed_of, text_or_null_of}
 use Rattle.stm_reports.specs.Parts.{trace_get_of, trace_rev_of, trace_worded, trace_of, answer_with, answer_parts, answer_array, answer_of}
 use Rattle.stm_reports.specs.Parts.{op_get_of, op_put_of, op_del_of, op_worded, op_of, expired_with, expired_parts, expired_array, expired_of}
 use Rattle.stm_reports.specs.Parts.{event_put_of, event_delete_of, event_worded, event_of}
 use Rattle.stm_reports.specs.Reading.{values_of, traces_of, answers_of, ops_of, expireds_of, events_of}
 use Rattle.stm_reports.proofs.ArrayLemmas.{worded_array, worded_spells, worded_shape}
-use Rattle.stm_reports.proofs.StateLaws.{state_or_null-told, state_or_null-means, state_or_null-reads}
-use Rattle.stm_reports.proofs.StateLaws.{keyed_items, keyed_sorts, keyed_told, keyed_means, keyed_reads}
-use Rattle.stm_reports.proofs.PartLaws.{number_means, number_reads, count_told, count_means, count_reads, value_told, value_means, value_reads}
+use Rattle.stm_reports.proofs.PartLaws.{count_told, count_means, count_reads, value_told, value_means, value_reads}
 use Rattle.stm_reports.proofs.PartLaws.{text_or_null-told, text_or_null-means, text_or_null-reads, list_told, list_means, list_reads}
+use Rattle.stm_reports.proofs.Rows.{Part, part, Row, nothing, ◌&◌, read_row, row_reads, plain_told, plain_means, behind_told, behind_means}
+use Rattle.stm_reports.proofs.Rows.{second, third, fourth, one_counted, two_counted, four_counted}
+use Rattle.stm_reports.proofs.StateLaws.{whole_part, text_part, state_or_null_part, keyed_items, keyed_sorts, keyed_told, keyed_means, keyed_reads}
 
 -- ---- an array that begins with a word
 
@@ -51,105 +50,40 @@ of_word : (d : Data) (p : List ℕ × Items) (w : List ℕ) (e : Data) → worde
 of_word d p w e is word_is s =
     subst (λ (x : Data). Spells x e) (sym (worded-is d p is ∙ ap (λ (v : List ℕ). worded_array v p.1) word_is)) s
 
+abbrev AllFit : {Y : Type 0} → Y → Type 0
+AllFit y = Unit {0}
+
 -- ---- trace items
 
-abbrev trace_get_sorts : List Sort
-trace_get_sorts = AnyText ∷ AnyText ∷ []
+abbrev get_row : Row (List ℕ × (List ℕ × Unit {0}))
+get_row = text_part & text_part & nothing
 
-trace_get_told : (p : List ℕ) (ds : Items) → first_of (sorted_faults p (Some trace_get_sorts) ds) ≡ fault_of p (trace_get_of (two_of ds))
-trace_get_told p no_items = wrong_is p Shape (trace_get_of None) refl
-trace_get_told p (item a no_items) = wrong_is p Shape (trace_get_of None) refl
-trace_get_told p (item a (item b no_items)) =
-    part_then p 1 (text_of a) _ (faults_by AnyText (at p 1) a) _ (text_faulted (at p 1) a) (λ (x0 : List ℕ).
-    part_then p 2 (text_of b) (λ y. Ok (trace.Get x0 y)) (faults_by AnyText (at p 2) b) [] (text_faulted (at p 2) b) (λ y. refl))
-trace_get_told p (item a (item b (item c ds))) = wrong_is p Shape (trace_get_of None) refl
+abbrev get_made : List ℕ × (List ℕ × Unit {0}) → TraceItem
+get_made x = trace.Get x.0 (second x)
 
-trace_get_means_at : (ds : Items) (o : Option (Data × Data)) (l : TraceItem) → two_of ds ≡ o → trace_get_of o ≡ Ok l
-    → Spells (worded_array (codes "get") ds) (trace_data l)
-trace_get_means_at ds None l is h = cc
-trace_get_means_at ds (Some q) l is h =
-    let x0 = bind_ok (within 1 (text_of q.0)) _ l h in
-    let x1 = bind_ok (within 2 (text_of q.1)) _ l x0.2 in
-    let made : trace.Get x0.0 x1.0 ≡ l = cc x1.2 in
-    let parts : SpellsItems ds (items_of (string x0.0 ∷ string x1.0 ∷ [])) = (
-      q.0,
-      items_of (q.1 ∷ []),
-      two_of-is ds q is,
-      text_of-is q.0 x0.0 (within_ok 1 _ _ x0.1),
-      (
-        q.1,
-        no_items,
-        refl,
-        text_of-is q.1 x1.0 (within_ok 2 _ _ x1.1),
-        refl,
-      ),
-    ) in
-    subst (λ (y : TraceItem). Spells (worded_array (codes "get") ds) (trace_data y)) made
-    (worded_spells ds (codes "get") (string x0.0 ∷ string x1.0 ∷ []) parts)
+abbrev get_from : Items → Outcome TraceItem
+get_from ds = trace_get_of (two_of ds)
 
-trace_get_means : (ds : Items) (l : TraceItem) → trace_get_of (two_of ds) ≡ Ok l → Spells (worded_array (codes "get") ds) (trace_data l)
-trace_get_means ds l h = trace_get_means_at ds (two_of ds) l refl h
+get_is : (ds : Items) → get_from ds ≡ read_row get_row 1 get_made ds
+get_is = two_counted (get_row.read TraceItem 1 get_made) AnyText AnyText trace_get_of refl (λ a b. refl)
 
-trace_get_reads : (ds : Items) (key : List ℕ) (value : List ℕ)
-    → SpellsItems ds (items_of (string key ∷ string value ∷ []))
-    → trace_get_of (two_of ds) ≡ Ok (trace.Get key value)
-trace_get_reads ds key value (a, r0, i0, s0, (b, r1, i1, s1, last)) =
-    let is : ds ≡ items_of (a ∷ b ∷ []) = rw (i0, i1, last) refl in
-    let e0 = text_reads a key s0 in
-    let e1 = text_reads b value s1 in
-    rw is (rw (e0, e1) refl)
+abbrev rev_row : Row (List ℕ × (ℕ × Unit {0}))
+rev_row = text_part & whole_part & nothing
 
-abbrev trace_rev_sorts : List Sort
-trace_rev_sorts = AnyText ∷ any_number ∷ []
+abbrev rev_made : List ℕ × (ℕ × Unit {0}) → TraceItem
+rev_made x = trace.Rev x.0 (second x)
 
-trace_rev_told : (p : List ℕ) (ds : Items) → first_of (sorted_faults p (Some trace_rev_sorts) ds) ≡ fault_of p (trace_rev_of (two_of ds))
-trace_rev_told p no_items = wrong_is p Shape (trace_rev_of None) refl
-trace_rev_told p (item a no_items) = wrong_is p Shape (trace_rev_of None) refl
-trace_rev_told p (item a (item b no_items)) =
-    part_then p 1 (text_of a) _ (faults_by AnyText (at p 1) a) _ (text_faulted (at p 1) a) (λ (x0 : List ℕ).
-    part_then p 2 (number_of b) (λ y. Ok (trace.Rev x0 y)) (faults_by any_number (at p 2) b) [] (number_told (at p 2) b) (λ y. refl))
-trace_rev_told p (item a (item b (item c ds))) = wrong_is p Shape (trace_rev_of None) refl
+abbrev rev_from : Items → Outcome TraceItem
+rev_from ds = trace_rev_of (two_of ds)
 
-trace_rev_means_at : (ds : Items) (o : Option (Data × Data)) (l : TraceItem) → two_of ds ≡ o → trace_rev_of o ≡ Ok l
-    → Spells (worded_array (codes "rev") ds) (trace_data l)
-trace_rev_means_at ds None l is h = cc
-trace_rev_means_at ds (Some q) l is h =
-    let x0 = bind_ok (within 1 (text_of q.0)) _ l h in
-    let x1 = bind_ok (within 2 (number_of q.1)) _ l x0.2 in
-    let made : trace.Rev x0.0 x1.0 ≡ l = cc x1.2 in
-    let parts : SpellsItems ds (items_of (string x0.0 ∷ whole x1.0 ∷ [])) = (
-      q.0,
-      items_of (q.1 ∷ []),
-      two_of-is ds q is,
-      text_of-is q.0 x0.0 (within_ok 1 _ _ x0.1),
-      (
-        q.1,
-        no_items,
-        refl,
-        number_means q.1 x1.0 (within_ok 2 _ _ x1.1),
-        refl,
-      ),
-    ) in
-    subst (λ (y : TraceItem). Spells (worded_array (codes "rev") ds) (trace_data y)) made
-    (worded_spells ds (codes "rev") (string x0.0 ∷ whole x1.0 ∷ []) parts)
-
-trace_rev_means : (ds : Items) (l : TraceItem) → trace_rev_of (two_of ds) ≡ Ok l → Spells (worded_array (codes "rev") ds) (trace_data l)
-trace_rev_means ds l h = trace_rev_means_at ds (two_of ds) l refl h
-
-trace_rev_reads : (ds : Items) (key : List ℕ) (mod_rev : ℕ)
-    → SpellsItems ds (items_of (string key ∷ whole mod_rev ∷ []))
-    → trace_rev_of (two_of ds) ≡ Ok (trace.Rev key mod_rev)
-trace_rev_reads ds key mod_rev (a, r0, i0, s0, (b, r1, i1, s1, last)) =
-    let is : ds ≡ items_of (a ∷ b ∷ []) = rw (i0, i1, last) refl in
-    let e0 = text_reads a key s0 in
-    let e1 = number_reads b mod_rev s1 in
-    rw is (rw (e0, e1) refl)
+rev_is : (ds : Items) → rev_from ds ≡ read_row rev_row 1 rev_made ds
+rev_is = two_counted (rev_row.read TraceItem 1 rev_made) AnyText any_number trace_rev_of refl (λ a b. refl)
 
 trace_tested : (p : List ℕ) (ds : Items) (gets revs : Bool)
-    → first_of (sorted_faults p (cond gets (Some trace_get_sorts) (cond revs (Some trace_rev_sorts) None)) ds)
-    ≡ fault_of p (cond gets (trace_get_of (two_of ds)) (cond revs (trace_rev_of (two_of ds)) (bad Shape)))
-trace_tested p ds true revs = trace_get_told p ds
-trace_tested p ds false true = trace_rev_told p ds
+    → first_of (sorted_faults p (cond gets (Some get_row.sorts) (cond revs (Some rev_row.sorts) None)) ds)
+    ≡ fault_of p (cond gets (get_from ds) (cond revs (rev_from ds) (bad Shape)))
+trace_tested p ds true revs = behind_told get_row get_made get_from get_is p ds
+trace_tested p ds false true = behind_told rev_row rev_made rev_from rev_is p ds
 trace_tested p ds false false = wrong_is {A = TraceItem} p Shape (bad Shape) refl
 
 pub trace_told : (p : List ℕ) (d : Data) → first_of (worded_faults trace_table p d) ≡ fault_of p (trace_of d)
@@ -158,12 +92,13 @@ trace_told p (array (item (string w) ds)) = trace_tested p ds (same w (codes "ge
 trace_told p _ = wrong_is {A = TraceItem} p Shape (bad Shape) refl
 
 trace_word : (d : Data) (p : List ℕ × Items) (t : TraceItem) (gets revs : Bool) → worded d ≡ Some p → same p.0 (codes "get") ≡ gets
-    → same p.0 (codes "rev") ≡ revs → cond gets (trace_get_of (two_of p.1)) (cond revs (trace_rev_of (two_of p.1)) (bad Shape)) ≡ Ok t
-    → Spells d (trace_data t)
+    → same p.0 (codes "rev") ≡ revs → cond gets (get_from p.1) (cond revs (rev_from p.1) (bad Shape)) ≡ Ok t → Spells d (trace_data t)
 trace_word d p t true revs is g r h =
-    of_word d p (codes "get") (trace_data t) is ((bytes_eq-Decides p.0 (codes "get")).0 g) (trace_get_means p.1 t h)
+    let m = behind_means get_row get_made get_from get_is (codes "get") trace_data AllFit (λ x. refl) (λ x f. tt) p.1 t h in
+    of_word d p (codes "get") (trace_data t) is ((bytes_eq-Decides p.0 (codes "get")).0 g) m.0
 trace_word d p t false true is g r h =
-    of_word d p (codes "rev") (trace_data t) is ((bytes_eq-Decides p.0 (codes "rev")).0 r) (trace_rev_means p.1 t h)
+    let m = behind_means rev_row rev_made rev_from rev_is (codes "rev") trace_data AllFit (λ x. refl) (λ x f. tt) p.1 t h in
+    of_word d p (codes "rev") (trace_data t) is ((bytes_eq-Decides p.0 (codes "rev")).0 r) m.0
 trace_word d p t false false is g r h = cc
 
 trace_array : (d : Data) (o : Option (List ℕ × Items)) (t : TraceItem) → worded d ≡ o → trace_worded o ≡ Ok t → Spells d (trace_data t)
@@ -178,86 +113,43 @@ pub trace_reads : (d : Data) (t : TraceItem) → Spells d (trace_data t) → tra
 unfolding trace_of
 trace_reads d (trace.Get key value) s =
     let w = worded_shape d (codes "get") (string key ∷ string value ∷ []) s in
-    ap trace_of w.1 ∙ trace_get_reads w.0 key value w.2
+    ap trace_of w.1 ∙ row_reads get_row 1 get_made get_from get_is w.0 (key, (value, tt)) w.2 (tt, (tt, tt))
 trace_reads d (trace.Rev key mod_rev) s =
     let w = worded_shape d (codes "rev") (string key ∷ whole mod_rev ∷ []) s in
-    ap trace_of w.1 ∙ trace_rev_reads w.0 key mod_rev w.2
+    ap trace_of w.1 ∙ row_reads rev_row 1 rev_made rev_from rev_is w.0 (key, (mod_rev, tt)) w.2 (tt, (tt, tt))
 
 -- ---- answers of a commit
 
-answer_parts_told : (p : List ℕ) (ds : Items) → first_of (plain_faults answer_sorts p (array ds)) ≡ fault_of p (answer_parts (four_of ds))
-answer_parts_told p no_items = wrong_is p Shape (answer_parts None) refl
-answer_parts_told p (item a no_items) = wrong_is p Shape (answer_parts None) refl
-answer_parts_told p (item a (item b no_items)) = wrong_is p Shape (answer_parts None) refl
-answer_parts_told p (item a (item b (item c no_items))) = wrong_is p Shape (answer_parts None) refl
-answer_parts_told p (item a (item b (item c (item d no_items)))) =
-    part_then p 0 (text_of a) _ (faults_by AnyText (at p 0) a) _ (text_faulted (at p 0) a) (λ (x0 : List ℕ).
-    part_then p 1 (text_or_null_of b) _ (faults_by (By (or_null (faults_by AnyText))) (at p 1) b) _ (text_or_null-told (at p 1) b) (λ (x1 : Option
-    (List ℕ)).
-    part_then p 2 (number_of c) _ (faults_by any_number (at p 2) c) _ (number_told (at p 2) c) (λ (x2 : ℕ).
-    part_then p 3 (number_of d) (λ y. Ok (answer_with x0 x1 x2 y)) (faults_by any_number (at p 3) d) [] (number_told (at p 3) d) (λ y. refl))))
-answer_parts_told p (item a (item b (item c (item d (item e ds))))) = wrong_is p Shape (answer_parts None) refl
+abbrev text_or_null_part : Part (Option (List ℕ))
+text_or_null_part = part text_or_null_of text_or_null (By (or_null (faults_by AnyText))) text_or_null-told text_or_null-means text_or_null-reads
 
-answer_parts_means_at : (ds : Items) (o : Option (Data × Data × Data × Data)) (l : ToldAnswer) → four_of ds ≡ o → answer_parts o ≡ Ok l
-    → Spells (array ds) (answer_data l)
-answer_parts_means_at ds None l is h = cc
-answer_parts_means_at ds (Some q) l is h =
-    let x0 = bind_ok (within 0 (text_of q.0)) _ l h in
-    let x1 = bind_ok (within 1 (text_or_null_of q.1)) _ l x0.2 in
-    let x2 = bind_ok (within 2 (number_of q.2)) _ l x1.2 in
-    let x3 = bind_ok (within 3 (number_of q.3)) _ l x2.2 in
-    let made : answer_with x0.0 x1.0 x2.0 x3.0 ≡ l = cc x3.2 in
-    let parts : SpellsItems ds (items_of (string x0.0 ∷ text_or_null x1.0 ∷ whole x2.0 ∷ whole x3.0 ∷ [])) = (
-      q.0,
-      items_of (q.1 ∷ q.2 ∷ q.3 ∷ []),
-      four_of-is ds q is,
-      text_of-is q.0 x0.0 (within_ok 0 _ _ x0.1),
-      (
-        q.1,
-        items_of (q.2 ∷ q.3 ∷ []),
-        refl,
-        text_or_null-means q.1 x1.0 (within_ok 1 _ _ x1.1),
-        (
-          q.2,
-          items_of (q.3 ∷ []),
-          refl,
-          number_means q.2 x2.0 (within_ok 2 _ _ x2.1),
-          (
-            q.3,
-            no_items,
-            refl,
-            number_means q.3 x3.0 (within_ok 3 _ _ x3.1),
-            refl,
-          ),
-        ),
-      ),
-    ) in
-    subst (λ (y : ToldAnswer). Spells (array ds) (answer_data y)) made
-    (ds, refl, parts)
+abbrev Answer : Type 0
+Answer = List ℕ × (Option (List ℕ) × (ℕ × (ℕ × Unit {0})))
 
-answer_parts_means : (ds : Items) (l : ToldAnswer) → answer_parts (four_of ds) ≡ Ok l → Spells (array ds) (answer_data l)
-answer_parts_means ds l h = answer_parts_means_at ds (four_of ds) l refl h
+abbrev answer_row : Row Answer
+answer_row = text_part & text_or_null_part & whole_part & whole_part & nothing
 
-answer_parts_reads : (ds : Items) (key : List ℕ) (value : Option (List ℕ)) (mod_rev : ℕ) (of_rev : ℕ)
-    → SpellsItems ds (items_of (string key ∷ text_or_null value ∷ whole mod_rev ∷ whole of_rev ∷ []))
-    → answer_parts (four_of ds) ≡ Ok (answer_with key value mod_rev of_rev)
-answer_parts_reads ds key value mod_rev of_rev (a, r0, i0, s0, (b, r1, i1, s1, (c, r2, i2, s2, (d, r3, i3, s3, last)))) =
-    let is : ds ≡ items_of (a ∷ b ∷ c ∷ d ∷ []) = rw (i0, i1, i2, i3, last) refl in
-    let e0 = text_reads a key s0 in
-    let e1 = text_or_null-reads b value s1 in
-    let e2 = number_reads c mod_rev s2 in
-    let e3 = number_reads d of_rev s3 in
-    rw is (rw (e0, e1, e2, e3) refl)
+abbrev answer_made : Answer → ToldAnswer
+answer_made x = answer_with x.0 (second x) (third x) (fourth x)
+
+abbrev answer_from : Items → Outcome ToldAnswer
+answer_from ds = answer_parts (four_of ds)
+
+answer_is : (ds : Items) → answer_from ds ≡ read_row answer_row 0 answer_made ds
+answer_is =
+    four_counted (answer_row.read ToldAnswer 0 answer_made) AnyText (By (or_null (faults_by AnyText))) any_number any_number answer_parts refl
+    (λ a b c d. refl)
 
 pub answer_told : (p : List ℕ) (d : Data) → first_of (plain_faults answer_sorts p d) ≡ fault_of p (answer_of d)
 unfolding answer_of
-answer_told p (array ds) = answer_parts_told p ds
+answer_told p (array ds) = plain_told answer_row answer_made answer_from answer_is p ds
 answer_told p _ = wrong_is {A = ToldAnswer} p Shape (bad Shape) refl
 
 answer_array-means : (d : Data) (o : Option Items) (x : ToldAnswer) → as_array d ≡ o → answer_array o ≡ Ok x → Spells d (answer_data x)
 answer_array-means d None x e h = cc
 answer_array-means d (Some ds) x e h =
-    subst (λ (y : Data). Spells y (answer_data x)) (sym (list_is d ds e)) (answer_parts_means ds x h)
+    subst (λ (y : Data). Spells y (answer_data x)) (sym (list_is d ds e))
+    (plain_means answer_row answer_made answer_from answer_is answer_data (λ y. refl) ds x h)
 
 pub answer_means : (d : Data) (x : ToldAnswer) → answer_of d ≡ Ok x → Spells d (answer_data x)
 unfolding answer_of
@@ -265,105 +157,60 @@ answer_means d x h = answer_array-means d (as_array d) x refl h
 
 pub answer_reads : (d : Data) (x : ToldAnswer) → Spells d (answer_data x) → answer_of d ≡ Ok x
 unfolding answer_of
-answer_reads d x (ds, is, m) = rw is (answer_parts_reads ds x.key x.value x.mod_rev x.of_rev m)
+answer_reads d x (ds, is, m) =
+    rw is (row_reads answer_row 0 answer_made answer_from answer_is ds (x.key, (x.value, (x.mod_rev, (x.of_rev, tt)))) m (tt, (tt, (tt, (tt, tt)))))
 
 -- ---- answers of operations
 
-abbrev op_get_sorts : List Sort
-op_get_sorts = any_number ∷ By (or_null (plain_faults state_sorts)) ∷ []
+abbrev op_get_row : Row (ℕ × (Option KeyState × Unit {0}))
+op_get_row = whole_part & state_or_null_part & nothing
 
-op_get_told : (p : List ℕ) (ds : Items) → first_of (sorted_faults p (Some op_get_sorts) ds) ≡ fault_of p (op_get_of (two_of ds))
-op_get_told p no_items = wrong_is p Shape (op_get_of None) refl
-op_get_told p (item a no_items) = wrong_is p Shape (op_get_of None) refl
-op_get_told p (item a (item b no_items)) =
-    part_then p 1 (number_of a) _ (faults_by any_number (at p 1) a) _ (number_told (at p 1) a) (λ (x0 : ℕ).
-    part_then p 2 (state_or_null_of b) (λ y. Ok (op.Get x0 y)) (faults_by (By (or_null (plain_faults state_sorts))) (at p 2) b) []
-    (state_or_null-told (at p 2) b) (λ y. refl))
-op_get_told p (item a (item b (item c ds))) = wrong_is p Shape (op_get_of None) refl
+abbrev op_get_made : ℕ × (Option KeyState × Unit {0}) → ToldOp
+op_get_made x = op.Get x.0 (second x)
 
-op_get_means_at : (ds : Items) (o : Option (Data × Data)) (l : ToldOp) → two_of ds ≡ o → op_get_of o ≡ Ok l
-    → Spells (worded_array (codes "get") ds) (op_data l) × CountFits l
-op_get_means_at ds None l is h = cc
-op_get_means_at ds (Some q) l is h =
-    let x0 = bind_ok (within 1 (number_of q.0)) _ l h in
-    let x1 = bind_ok (within 2 (state_or_null_of q.1)) _ l x0.2 in
-    let made : op.Get x0.0 x1.0 ≡ l = cc x1.2 in
-    let parts : SpellsItems ds (items_of (whole x0.0 ∷ state_or_null x1.0 ∷ [])) = (
-      q.0,
-      items_of (q.1 ∷ []),
-      two_of-is ds q is,
-      number_means q.0 x0.0 (within_ok 1 _ _ x0.1),
-      (
-        q.1,
-        no_items,
-        refl,
-        state_or_null-means q.1 x1.0 (within_ok 2 _ _ x1.1),
-        refl,
-      ),
-    ) in
-    subst (λ (y : ToldOp). Spells (worded_array (codes "get") ds) (op_data y) × CountFits y) made
-    (worded_spells ds (codes "get") (whole x0.0 ∷ state_or_null x1.0 ∷ []) parts, tt)
+abbrev op_get_from : Items → Outcome ToldOp
+op_get_from ds = op_get_of (two_of ds)
 
-op_get_means : (ds : Items) (l : ToldOp) → op_get_of (two_of ds) ≡ Ok l → Spells (worded_array (codes "get") ds) (op_data l) × CountFits l
-op_get_means ds l h = op_get_means_at ds (two_of ds) l refl h
+op_get_is : (ds : Items) → op_get_from ds ≡ read_row op_get_row 1 op_get_made ds
+op_get_is =
+    two_counted (op_get_row.read ToldOp 1 op_get_made) any_number (By (or_null (plain_faults state_sorts))) op_get_of refl (λ a b. refl)
 
-op_get_reads : (ds : Items) (revision : ℕ) (kv : Option KeyState)
-    → SpellsItems ds (items_of (whole revision ∷ state_or_null kv ∷ []))
-    → op_get_of (two_of ds) ≡ Ok (op.Get revision kv)
-op_get_reads ds revision kv (a, r0, i0, s0, (b, r1, i1, s1, last)) =
-    let is : ds ≡ items_of (a ∷ b ∷ []) = rw (i0, i1, last) refl in
-    let e0 = number_reads a revision s0 in
-    let e1 = state_or_null-reads b kv s1 in
-    rw is (rw (e0, e1) refl)
+abbrev op_put_made : Unit {0} → ToldOp
+op_put_made x = op.Put
 
-op_put_told : (p : List ℕ) (ds : Items) → first_of (sorted_faults p (Some []) ds) ≡ fault_of p (op_put_of ds)
-op_put_told p no_items = refl
-op_put_told p (item d ds) = wrong_is {A = ToldOp} p Shape (bad Shape) refl
+op_put_is : (ds : Items) → op_put_of ds ≡ read_row nothing 1 op_put_made ds
+op_put_is no_items = refl
+op_put_is (item d ds) = refl
 
-op_put_means : (ds : Items) (o : ToldOp) → op_put_of ds ≡ Ok o → Spells (worded_array (codes "put") ds) (op_data o) × CountFits o
-op_put_means no_items o h =
-    let is : op.Put ≡ o = cc h in
-    subst (λ (y : ToldOp). Spells (worded_array (codes "put") no_items) (op_data y) × CountFits y) is
-    (worded_spells no_items (codes "put") [] refl, tt)
-op_put_means (item d ds) o h = cc
+abbrev count_part : Part ℕ
+count_part = record {
+  read = number_up_to 1;
+  spell = whole;
+  sort = NumberIn 0 1;
+  Fits = λ n. n ≤ 1;
+  told = count_told;
+  means = count_means;
+  reads = count_reads;
+}
 
-op_put_reads : (ds : Items) → SpellsItems ds no_items → op_put_of ds ≡ Ok op.Put
-op_put_reads ds is = rw is refl
+abbrev op_del_row : Row (ℕ × Unit {0})
+op_del_row = count_part & nothing
 
-abbrev op_del_sorts : List Sort
-op_del_sorts = NumberIn 0 1 ∷ []
+abbrev op_del_made : ℕ × Unit {0} → ToldOp
+op_del_made x = op.Del x.0
 
-op_del_told : (p : List ℕ) (ds : Items) → first_of (sorted_faults p (Some op_del_sorts) ds) ≡ fault_of p (op_del_of (one_of ds))
-op_del_told p no_items = wrong_is p Shape (op_del_of None) refl
-op_del_told p (item a no_items) =
-    part_then p 1 (number_up_to 1 a) (λ y. Ok (op.Del y)) (faults_by (NumberIn 0 1) (at p 1) a) [] (count_told (at p 1) a) (λ y. refl)
-op_del_told p (item a (item b ds)) = wrong_is p Shape (op_del_of None) refl
+abbrev op_del_from : Items → Outcome ToldOp
+op_del_from ds = op_del_of (one_of ds)
 
-op_del_at : (ds : Items) (o : Option Data) (l : ToldOp) → one_of ds ≡ o → op_del_of o ≡ Ok l
-    → Spells (worded_array (codes "del") ds) (op_data l) × CountFits l
-op_del_at ds None l is h = cc
-op_del_at ds (Some a) l is h =
-    let x0 = bind_ok (within 1 (number_up_to 1 a)) _ l h in
-    let made : op.Del x0.0 ≡ l = cc x0.2 in
-    let c = count_means a x0.0 (within_ok 1 _ _ x0.1) in
-    subst (λ (y : ToldOp). Spells (worded_array (codes "del") ds) (op_data y) × CountFits y) made
-    (worded_spells ds (codes "del") (whole x0.0 ∷ []) (a, no_items, one_of-is ds a is, c.0, refl), c.1)
-
-op_del_means : (ds : Items) (o : ToldOp) → op_del_of (one_of ds) ≡ Ok o → Spells (worded_array (codes "del") ds) (op_data o) × CountFits o
-op_del_means ds o h = op_del_at ds (one_of ds) o refl h
-
-op_del_reads : (ds : Items) (count : ℕ) → SpellsItems ds (items_of (whole count ∷ [])) → count ≤ 1 → op_del_of (one_of ds) ≡ Ok (op.Del count)
-op_del_reads ds count (a, r0, i0, s0, last) few =
-    let is : ds ≡ items_of (a ∷ []) = rw (i0, last) refl in
-    let e0 = count_reads a count s0 few in
-    rw is (rw e0 refl)
+op_del_is : (ds : Items) → op_del_from ds ≡ read_row op_del_row 1 op_del_made ds
+op_del_is = one_counted (op_del_row.read ToldOp 1 op_del_made) (NumberIn 0 1) op_del_of refl (λ a. refl)
 
 op_tested : (p : List ℕ) (ds : Items) (gets puts dels : Bool)
-    → first_of (sorted_faults p (cond gets (Some op_get_sorts) (cond puts (Some []) (cond dels (Some op_del_sorts) None))) ds)
-    ≡ fault_of p (cond gets (op_get_of (two_of ds)) (cond puts (op_put_of ds) (cond dels (op_del_of (one_of ds)) (bad Shape))))
-op_tested p ds true puts dels = op_get_told p ds
-op_tested p ds false true dels = op_put_told p ds
-op_tested p ds false false true = op_del_told p ds
+    → first_of (sorted_faults p (cond gets (Some op_get_row.sorts) (cond puts (Some []) (cond dels (Some op_del_row.sorts) None))) ds)
+    ≡ fault_of p (cond gets (op_get_from ds) (cond puts (op_put_of ds) (cond dels (op_del_from ds) (bad Shape))))
+op_tested p ds true puts dels = behind_told op_get_row op_get_made op_get_from op_get_is p ds
+op_tested p ds false true dels = behind_told nothing op_put_made op_put_of op_put_is p ds
+op_tested p ds false false true = behind_told op_del_row op_del_made op_del_from op_del_is p ds
 op_tested p ds false false false = wrong_is {A = ToldOp} p Shape (bad Shape) refl
 
 pub op_told : (p : List ℕ) (d : Data) → first_of (worded_faults op_table p d) ≡ fault_of p (op_of d)
@@ -373,16 +220,16 @@ op_told p _ = wrong_is {A = ToldOp} p Shape (bad Shape) refl
 
 op_word : (d : Data) (p : List ℕ × Items) (o : ToldOp) (gets puts dels : Bool) → worded d ≡ Some p → same p.0 (codes "get") ≡ gets
     → same p.0 (codes "put") ≡ puts → same p.0 (codes "del") ≡ dels
-    → cond gets (op_get_of (two_of p.1)) (cond puts (op_put_of p.1) (cond dels (op_del_of (one_of p.1)) (bad Shape))) ≡ Ok o
+    → cond gets (op_get_from p.1) (cond puts (op_put_of p.1) (cond dels (op_del_from p.1) (bad Shape))) ≡ Ok o
     → Spells d (op_data o) × CountFits o
 op_word d p o true puts dels is g u l h =
-    let m = op_get_means p.1 o h in
+    let m = behind_means op_get_row op_get_made op_get_from op_get_is (codes "get") op_data CountFits (λ x. refl) (λ x f. tt) p.1 o h in
     (of_word d p (codes "get") (op_data o) is ((bytes_eq-Decides p.0 (codes "get")).0 g) m.0, m.1)
 op_word d p o false true dels is g u l h =
-    let m = op_put_means p.1 o h in
+    let m = behind_means nothing op_put_made op_put_of op_put_is (codes "put") op_data CountFits (λ x. refl) (λ x f. tt) p.1 o h in
     (of_word d p (codes "put") (op_data o) is ((bytes_eq-Decides p.0 (codes "put")).0 u) m.0, m.1)
 op_word d p o false false true is g u l h =
-    let m = op_del_means p.1 o h in
+    let m = behind_means op_del_row op_del_made op_del_from op_del_is (codes "del") op_data CountFits (λ x. refl) (λ x f. f.0) p.1 o h in
     (of_word d p (codes "del") (op_data o) is ((bytes_eq-Decides p.0 (codes "del")).0 l) m.0, m.1)
 op_word d p o false false false is g u l h = cc
 
@@ -398,68 +245,38 @@ pub op_reads : (d : Data) (o : ToldOp) → Spells d (op_data o) → CountFits o 
 unfolding op_of
 op_reads d (op.Get revision kv) s fits =
     let w = worded_shape d (codes "get") (whole revision ∷ state_or_null kv ∷ []) s in
-    ap op_of w.1 ∙ op_get_reads w.0 revision kv w.2
+    ap op_of w.1 ∙ row_reads op_get_row 1 op_get_made op_get_from op_get_is w.0 (revision, (kv, tt)) w.2 (tt, (tt, tt))
 op_reads d op.Put s fits =
     let w = worded_shape d (codes "put") [] s in
-    ap op_of w.1 ∙ op_put_reads w.0 w.2
+    ap op_of w.1 ∙ row_reads nothing 1 op_put_made op_put_of op_put_is w.0 tt w.2 tt
 op_reads d (op.Del count) s fits =
     let w = worded_shape d (codes "del") (whole count ∷ []) s in
-    ap op_of w.1 ∙ op_del_reads w.0 count w.2 fits
+    ap op_of w.1 ∙ row_reads op_del_row 1 op_del_made op_del_from op_del_is w.0 (count, tt) w.2 (fits, tt)
 
 -- ---- expired leases
 
-expired_parts_told : (p : List ℕ) (ds : Items) → first_of (plain_faults expired_sorts p (array ds)) ≡ fault_of p (expired_parts (two_of ds))
-expired_parts_told p no_items = wrong_is p Shape (expired_parts None) refl
-expired_parts_told p (item a no_items) = wrong_is p Shape (expired_parts None) refl
-expired_parts_told p (item a (item b no_items)) =
-    part_then p 0 (number_of a) _ (faults_by any_number (at p 0) a) _ (number_told (at p 0) a) (λ (x0 : ℕ).
-    part_then p 1 (number_of b) (λ y. Ok (expired_with x0 y)) (faults_by any_number (at p 1) b) [] (number_told (at p 1) b) (λ y. refl))
-expired_parts_told p (item a (item b (item c ds))) = wrong_is p Shape (expired_parts None) refl
+abbrev expired_row : Row (ℕ × (ℕ × Unit {0}))
+expired_row = whole_part & whole_part & nothing
 
-expired_parts_means_at : (ds : Items) (o : Option (Data × Data)) (l : Expired) → two_of ds ≡ o → expired_parts o ≡ Ok l
-    → Spells (array ds) (expired_data l)
-expired_parts_means_at ds None l is h = cc
-expired_parts_means_at ds (Some q) l is h =
-    let x0 = bind_ok (within 0 (number_of q.0)) _ l h in
-    let x1 = bind_ok (within 1 (number_of q.1)) _ l x0.2 in
-    let made : expired_with x0.0 x1.0 ≡ l = cc x1.2 in
-    let parts : SpellsItems ds (items_of (whole x0.0 ∷ whole x1.0 ∷ [])) = (
-      q.0,
-      items_of (q.1 ∷ []),
-      two_of-is ds q is,
-      number_means q.0 x0.0 (within_ok 0 _ _ x0.1),
-      (
-        q.1,
-        no_items,
-        refl,
-        number_means q.1 x1.0 (within_ok 1 _ _ x1.1),
-        refl,
-      ),
-    ) in
-    subst (λ (y : Expired). Spells (array ds) (expired_data y)) made
-    (ds, refl, parts)
+abbrev expired_made : ℕ × (ℕ × Unit {0}) → Expired
+expired_made x = expired_with x.0 (second x)
 
-expired_parts_means : (ds : Items) (l : Expired) → expired_parts (two_of ds) ≡ Ok l → Spells (array ds) (expired_data l)
-expired_parts_means ds l h = expired_parts_means_at ds (two_of ds) l refl h
+abbrev expired_from : Items → Outcome Expired
+expired_from ds = expired_parts (two_of ds)
 
-expired_parts_reads : (ds : Items) (id : ℕ) (revision : ℕ)
-    → SpellsItems ds (items_of (whole id ∷ whole revision ∷ []))
-    → expired_parts (two_of ds) ≡ Ok (expired_with id revision)
-expired_parts_reads ds id revision (a, r0, i0, s0, (b, r1, i1, s1, last)) =
-    let is : ds ≡ items_of (a ∷ b ∷ []) = rw (i0, i1, last) refl in
-    let e0 = number_reads a id s0 in
-    let e1 = number_reads b revision s1 in
-    rw is (rw (e0, e1) refl)
+expired_is : (ds : Items) → expired_from ds ≡ read_row expired_row 0 expired_made ds
+expired_is = two_counted (expired_row.read Expired 0 expired_made) any_number any_number expired_parts refl (λ a b. refl)
 
 pub expired_told : (p : List ℕ) (d : Data) → first_of (plain_faults expired_sorts p d) ≡ fault_of p (expired_of d)
 unfolding expired_of
-expired_told p (array ds) = expired_parts_told p ds
+expired_told p (array ds) = plain_told expired_row expired_made expired_from expired_is p ds
 expired_told p _ = wrong_is {A = Expired} p Shape (bad Shape) refl
 
 expired_array-means : (d : Data) (o : Option Items) (x : Expired) → as_array d ≡ o → expired_array o ≡ Ok x → Spells d (expired_data x)
 expired_array-means d None x e h = cc
 expired_array-means d (Some ds) x e h =
-    subst (λ (y : Data). Spells y (expired_data x)) (sym (list_is d ds e)) (expired_parts_means ds x h)
+    subst (λ (y : Data). Spells y (expired_data x)) (sym (list_is d ds e))
+    (plain_means expired_row expired_made expired_from expired_is expired_data (λ y. refl) ds x h)
 
 pub expired_means : (d : Data) (x : Expired) → expired_of d ≡ Ok x → Spells d (expired_data x)
 unfolding expired_of
@@ -467,55 +284,21 @@ expired_means d x h = expired_array-means d (as_array d) x refl h
 
 pub expired_reads : (d : Data) (x : Expired) → Spells d (expired_data x) → expired_of d ≡ Ok x
 unfolding expired_of
-expired_reads d x (ds, is, m) = rw is (expired_parts_reads ds x.id x.revision m)
+expired_reads d x (ds, is, m) = rw is (row_reads expired_row 0 expired_made expired_from expired_is ds (x.id, (x.revision, tt)) m (tt, (tt, tt)))
 
 -- ---- events of watchers
 
-abbrev event_delete_sorts : List Sort
-event_delete_sorts = AnyText ∷ any_number ∷ []
+abbrev delete_row : Row (List ℕ × (ℕ × Unit {0}))
+delete_row = text_part & whole_part & nothing
 
-event_delete_told : (p : List ℕ) (ds : Items) → first_of (sorted_faults p (Some event_delete_sorts) ds) ≡ fault_of p (event_delete_of (two_of ds))
-event_delete_told p no_items = wrong_is p Shape (event_delete_of None) refl
-event_delete_told p (item a no_items) = wrong_is p Shape (event_delete_of None) refl
-event_delete_told p (item a (item b no_items)) =
-    part_then p 1 (text_of a) _ (faults_by AnyText (at p 1) a) _ (text_faulted (at p 1) a) (λ (x0 : List ℕ).
-    part_then p 2 (number_of b) (λ y. Ok (event.Delete x0 y)) (faults_by any_number (at p 2) b) [] (number_told (at p 2) b) (λ y. refl))
-event_delete_told p (item a (item b (item c ds))) = wrong_is p Shape (event_delete_of None) refl
+abbrev delete_made : List ℕ × (ℕ × Unit {0}) → ToldEvent
+delete_made x = event.Delete x.0 (second x)
 
-event_delete_means_at : (ds : Items) (o : Option (Data × Data)) (l : ToldEvent) → two_of ds ≡ o → event_delete_of o ≡ Ok l
-    → Spells (worded_array (codes "DELETE") ds) (event_data l)
-event_delete_means_at ds None l is h = cc
-event_delete_means_at ds (Some q) l is h =
-    let x0 = bind_ok (within 1 (text_of q.0)) _ l h in
-    let x1 = bind_ok (within 2 (number_of q.1)) _ l x0.2 in
-    let made : event.Delete x0.0 x1.0 ≡ l = cc x1.2 in
-    let parts : SpellsItems ds (items_of (string x0.0 ∷ whole x1.0 ∷ [])) = (
-      q.0,
-      items_of (q.1 ∷ []),
-      two_of-is ds q is,
-      text_of-is q.0 x0.0 (within_ok 1 _ _ x0.1),
-      (
-        q.1,
-        no_items,
-        refl,
-        number_means q.1 x1.0 (within_ok 2 _ _ x1.1),
-        refl,
-      ),
-    ) in
-    subst (λ (y : ToldEvent). Spells (worded_array (codes "DELETE") ds) (event_data y)) made
-    (worded_spells ds (codes "DELETE") (string x0.0 ∷ whole x1.0 ∷ []) parts)
+abbrev delete_from : Items → Outcome ToldEvent
+delete_from ds = event_delete_of (two_of ds)
 
-event_delete_means : (ds : Items) (l : ToldEvent) → event_delete_of (two_of ds) ≡ Ok l → Spells (worded_array (codes "DELETE") ds) (event_data l)
-event_delete_means ds l h = event_delete_means_at ds (two_of ds) l refl h
-
-event_delete_reads : (ds : Items) (key : List ℕ) (revision : ℕ)
-    → SpellsItems ds (items_of (string key ∷ whole revision ∷ []))
-    → event_delete_of (two_of ds) ≡ Ok (event.Delete key revision)
-event_delete_reads ds key revision (a, r0, i0, s0, (b, r1, i1, s1, last)) =
-    let is : ds ≡ items_of (a ∷ b ∷ []) = rw (i0, i1, last) refl in
-    let e0 = text_reads a key s0 in
-    let e1 = number_reads b revision s1 in
-    rw is (rw (e0, e1) refl)
+delete_is : (ds : Items) → delete_from ds ≡ read_row delete_row 1 delete_made ds
+delete_is = two_counted (delete_row.read ToldEvent 1 delete_made) AnyText any_number event_delete_of refl (λ a b. refl)
 
 event_put_told : (p : List ℕ) (ds : Items) → first_of (sorted_faults p (Some keyed_sorts) ds) ≡ fault_of p (event_put_of (six_of ds))
 event_put_told p ds = made p (keyed_of (six_of ds)) (λ q. event.Put q.0 q.1) (sorted_faults p (Some keyed_sorts) ds) (keyed_told p ds)
@@ -530,14 +313,14 @@ event_put_means ds e h =
 event_put_reads : (ds : Items) (key : List ℕ) (s : KeyState) → SpellsItems ds (items_of (keyed_items (key, s)))
     → event_put_of (six_of ds) ≡ Ok (event.Put key s)
 event_put_reads ds key s m =
-    let e = keyed_reads ds key s.value s.create_rev s.mod_rev s.version s.lease m in
+    let e = keyed_reads ds key s m in
     rw e refl
 
 event_tested : (p : List ℕ) (ds : Items) (puts deletes : Bool)
-    → first_of (sorted_faults p (cond puts (Some keyed_sorts) (cond deletes (Some event_delete_sorts) None)) ds)
+    → first_of (sorted_faults p (cond puts (Some keyed_sorts) (cond deletes (Some delete_row.sorts) None)) ds)
     ≡ fault_of p (cond puts (event_put_of (six_of ds)) (cond deletes (event_delete_of (two_of ds)) (bad Shape)))
 event_tested p ds true deletes = event_put_told p ds
-event_tested p ds false true = event_delete_told p ds
+event_tested p ds false true = behind_told delete_row delete_made delete_from delete_is p ds
 event_tested p ds false false = wrong_is {A = ToldEvent} p Shape (bad Shape) refl
 
 pub event_told : (p : List ℕ) (d : Data) → first_of (worded_faults watched_table p d) ≡ fault_of p (event_of d)
@@ -551,7 +334,8 @@ event_word : (d : Data) (p : List ℕ × Items) (e : ToldEvent) (puts deletes : 
 event_word d p e true deletes is u l h =
     of_word d p (codes "PUT") (event_data e) is ((bytes_eq-Decides p.0 (codes "PUT")).0 u) (event_put_means p.1 e h)
 event_word d p e false true is u l h =
-    of_word d p (codes "DELETE") (event_data e) is ((bytes_eq-Decides p.0 (codes "DELETE")).0 l) (event_delete_means p.1 e h)
+    let m = behind_means delete_row delete_made delete_from delete_is (codes "DELETE") event_data AllFit (λ x. refl) (λ x f. tt) p.1 e h in
+    of_word d p (codes "DELETE") (event_data e) is ((bytes_eq-Decides p.0 (codes "DELETE")).0 l) m.0
 event_word d p e false false is u l h = cc
 
 event_array : (d : Data) (o : Option (List ℕ × Items)) (e : ToldEvent) → worded d ≡ o → event_worded o ≡ Ok e → Spells d (event_data e)
@@ -569,7 +353,7 @@ event_reads d (event.Put key state) s =
     ap event_of w.1 ∙ event_put_reads w.0 key state w.2
 event_reads d (event.Delete key revision) s =
     let w = worded_shape d (codes "DELETE") (string key ∷ whole revision ∷ []) s in
-    ap event_of w.1 ∙ event_delete_reads w.0 key revision w.2
+    ap event_of w.1 ∙ row_reads delete_row 1 delete_made delete_from delete_is w.0 (key, (revision, tt)) w.2 (tt, (tt, tt))
 
 -- ---- lists
 

@@ -1,12 +1,14 @@
+pub mod SameLemmas
+pub mod NoFloats
 pub mod WordLaws
 pub mod PartLaws
 pub mod ArrayLemmas
+pub mod Rows
 pub mod StateLaws
 pub mod ElementLaws
-pub mod EventTold
-pub mod EventMeans
-pub mod EventReads
+pub mod EventRows
 pub mod LineLaws
+pub mod ReadBack
 pub mod CutLemmas
 pub mod LoopLemmas
 pub mod LineInLemmas

@@ -130,7 +130,7 @@ short_report : (bytes : List ℕ) → length bytes ≤ MOST_BYTES → report_in 
 unfolding report_in
 short_report bytes short = grind (arith, nat_tests)
 
-report_reads : (bytes : List ℕ) (r : Report) → SpellsReport bytes r → report_in bytes ≡ Ok r
+pub report_reads : (bytes : List ℕ) (r : Report) → SpellsReport bytes r → report_in bytes ≡ Ok r
 report_reads bytes r (short, parts) =
     let e = lines_read 0 (parts_of bytes) r.lines parts in
     short_report bytes short ∙ rw e refl

@@ -1,6 +1,8 @@
 pub mod Names
 pub mod Words
 pub mod LineData
+pub mod Text
+pub mod Told
 pub mod Elements
 pub mod Parts
 pub mod Bytes
@@ -8,5 +10,6 @@ pub mod Reading
 pub mod Rests
 pub mod Grammar
 pub mod FirstFault
+pub mod ReadBack
 pub use Rattle.stm_json.specs.Outcome
 pub use Rattle.stm_json.specs.Tells

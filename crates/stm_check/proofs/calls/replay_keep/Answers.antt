@@ -3,7 +3,7 @@ use Rattle.std.specs.Prelude.{Result, []}
 use Rattle.stm_txn.specs.declared.refusal.Refusal.{Refusal as Cause}
 use Rattle.stm_txn.specs.Standing.{Standing, Step, IsRefusalOf, kept_alive}
 use Rattle.stm_txn.specs.Store.{StoreView}
-use Rattle.stm_told.specs.Told.{cause_told}
+use Rattle.stm_reports.specs.Told.{cause_told}
 use Rattle.stm_reports.specs.declared.line.ReportLine.TheVariants.{Refused, Kept}
 use Rattle.stm_check.specs.Point.{keep_entries}
 use Rattle.stm_check.specs.StoreLines.{keep_line}

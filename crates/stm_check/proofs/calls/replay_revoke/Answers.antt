@@ -2,7 +2,7 @@ use Rattle.std.proofs.Common.{ap, refl}
 use Rattle.std.specs.Prelude.{[]}
 use Rattle.stm_txn.specs.Standing.{Standing, revoked}
 use Rattle.stm_txn.specs.Store.{StoreView}
-use Rattle.stm_told.specs.Told.{cause_told}
+use Rattle.stm_reports.specs.Told.{cause_told}
 use Rattle.stm_reports.specs.declared.line.ReportLine.TheVariants.{Refused, Revoked}
 use Rattle.stm_check.specs.Point.{revoke_entries}
 use Rattle.stm_check.specs.StoreLines.{revoke_line}

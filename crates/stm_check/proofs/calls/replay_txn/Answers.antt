@@ -3,7 +3,7 @@ use Rattle.std.specs.Prelude.{[]}
 use Rattle.stm_history.specs.History.{now}
 use Rattle.stm_txn.specs.Standing.{Standing, transacted}
 use Rattle.stm_txn.specs.Store.{StoreView}
-use Rattle.stm_told.specs.Told.{cause_told, txn_line}
+use Rattle.stm_reports.specs.Told.{cause_told, txn_line}
 use Rattle.stm_reports.specs.declared.line.ReportLine.TheVariants.{Refused}
 use Rattle.stm_check.specs.Point.{txn_entries}
 use Rattle.stm_check.specs.StoreLines.{txn_call_line}

@@ -1,7 +1,6 @@
 use Rattle.std.proofs.Common.{◌≡◌, refl, string_bytes}
 use Rattle.stm_history.specs.History.{now}
 use Rattle.stm_jobs.specs.Lines.{ends_shown, text_of}
-use Rattle.stm_jobs.proofs.LineLemmas.{present_keys}
 use Rattle.stm_jobs.proofs.printing.lines.Goals as goal
 
 pub returns : goal.returns
@@ -19,4 +18,4 @@ returns c =
       c.new-text.ensures.bytes,
       c.revision.ensures,
     ) refl in
-    (state, c.in_ok-state.ensures, present_keys h state c.in_ok-push_values.ensures.ascending c.in_ok-state.ensures, text)
+    (state, c.in_ok-state.ensures, c.in_ok-push_values.ensures.ascending, text)

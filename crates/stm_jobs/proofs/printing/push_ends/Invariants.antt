@@ -1,5 +1,5 @@
 use Rattle.std.proofs.Common.{◌≡◌, ◌++◌, drop, string_bytes}
-use Rattle.stm_report.specs.Report.{lines_text}
+use Rattle.stm_reports.specs.Text.{lines_text}
 use Rattle.stm_jobs.specs.Lines.{lines_of_ends}
 use Rattle.stm_jobs.proofs.printing.push_ends.Given as goal
 

@@ -1,5 +1,5 @@
 use Rattle.std.proofs.Common.{◌++◌, string_bytes, refl, arith}
-use Rattle.stm_report.specs.Report.{lines_text}
+use Rattle.stm_reports.specs.Text.{lines_text}
 use Rattle.stm_jobs.specs.Lines.{value_lines}
 use Rattle.stm_jobs.proofs.LineLemmas.{next_value, all_values, ascends}
 use Rattle.stm_jobs.proofs.printing.push_values.Goals as goal

@@ -1,7 +1,7 @@
 use Rattle.std.proofs.Common.{◌≡◌, ◌<◌, ◌++◌, drop, string_bytes}
 use Rattle.stm_meaning.specs.States.{IsAscending}
 use Rattle.stm_jobs.specs.Lines.{value_lines}
-use Rattle.stm_report.specs.Report.{lines_text}
+use Rattle.stm_reports.specs.Text.{lines_text}
 use Rattle.stm_jobs.proofs.printing.push_values.Given as goal
 
 -- the text so far, and the lines of the keys that are left; once a key was looked at, the keys are known to ascend

@@ -1,5 +1,6 @@
 use Rattle.std.proofs.Common.{◌++◌, map, refl, string_bytes}
-use Rattle.stm_report.specs.Report.{lines_text, key_lines}
+use Rattle.stm_check.specs.StoreLines.{key_lines}
+use Rattle.stm_reports.specs.Text.{text_of}
 use Rattle.stm_report.proofs.LineLoops.{next_key, all_keys}
 use Rattle.stm_report.proofs.report_text.push_keys.Goals as goal
 
@@ -9,7 +10,7 @@ loop-key-init c = refl
 pub loop-key-preserved : goal.loop-key-preserved
 loop-key-preserved c =
     rw (c.in_ok-push_key.ensures, c.as_str.ensures.value) (next_key (string_bytes c.loop-key.text)
-    (string_bytes c.args.text.now ++ lines_text (key_lines c.args.store.now.standing.history (map string_bytes c.args.keys.now)))
+    (string_bytes c.args.text.now ++ text_of (key_lines c.args.store.now.standing.history (map string_bytes c.args.keys.now)))
     c.args.store.now.standing.history c.args.keys.now c.loop-key.key-index c.key-item.result c.loop-key-test.true c.key-item.is c.loop-key.invariant)
 
 pub returns : goal.returns

@@ -1,33 +1,45 @@
-use Rattle.std.proofs.Common.{◌≡◌, ℕ, List, map, subst, refl, sym, ap, ◌∙◌, string_bytes}
-use Rattle.stm_history.specs.History.{History}
+use Rattle.std.proofs.Common.{◌≡◌, ◌++◌, ℕ, List, length, map, refl, sym, ap, ◌∙◌, string_bytes}
+use Rattle.stm_history.specs.History.{History, now}
 use Rattle.stm_leases.specs.Live.{Live}
+use Rattle.stm_txn.specs.LeaseKeys.{keys_named}
+use Rattle.stm_txn.specs.PresentKeys.{keys_present}
 use Rattle.stm_txn.specs.Standing.{Standing}
 use Rattle.stm_entries.specs.declared.entry.Entry.{Entry}
 use Rattle.stm_entries.specs.Replayed.{Replayed, opening}
 use Rattle.stm_entries.specs.Replay.{replay}
-use Rattle.stm_calls.specs.PresentKeys.{ArePresent}
 use Rattle.stm_entries.specs.LiveLeases.{HasLeases}
-use Rattle.stm_report.specs.Report.{report_text}
+use Rattle.stm_reports.specs.declared.line.ReportLine.{ReportLine}
+use Rattle.stm_reports.specs.declared.line.ReportLine.TheVariants.{End}
+use Rattle.stm_reports.specs.LineData.{line_data}
+use Rattle.stm_check.specs.StoreLines.{key_lines, lease_lines}
+use Rattle.stm_check.proofs.FinalLemmas.{present_lines}
+use Rattle.stm_reports.specs.Text.{line_text, text_of}
+use Rattle.stm_report.specs.Report.{event_lines}
 use Rattle.stm_report.proofs.LeaseLemmas.{same_leases}
-use Rattle.stm_report.proofs.PresentKeys.{present_ascend}
+use Rattle.stm_report.proofs.LineLoops.{whole_text}
 use Rattle.stm_report.proofs.report_text.report.Goals as goal
 
 pub returns : goal.returns
 returns c =
     let w = c.args.world.now in
-    let keys : List (List ℕ) = map string_bytes c.in_ok-present.present.items in
-    let start : ℕ = w.standing.history.opening in
-    let same : c.keys.result.now.history ≡ w.standing.history = c.keys.ensures.history ∙ ap (λ (s : Standing). s.history) c.store.ensures in
-    let present : ArePresent w.standing.history keys = subst (λ (h : History). ArePresent h keys) same c.in_ok-present.ensures.present in
+    let h : History = w.standing.history in
+    let start : ℕ = h.opening in
+    let events : List ReportLine = event_lines 1 c.args.replies.now in
+    let leases : List ReportLine = lease_lines w.standing.live in
+    let end : ReportLine = End (now h) (length w.entries) in
+    let listed : List (List ℕ) = map string_bytes c.in_ok-present.present.items in
+    let same : c.keys.result.now.history ≡ h = c.keys.ensures.history ∙ ap (λ (s : Standing). s.history) c.store.ensures in
+    let present : listed ≡ keys_present h = c.in_ok-present.ensures.computed ∙ ap keys_present same in
     let replayed : Live = (replay c.history.result.now (opening start)).live in
     let is_live : replayed ≡ w.standing.live =
     ap (λ (entries : List Entry). (replay entries (opening start)).live) c.history.ensures.entries ∙ ap (λ (r : Replayed). r.live) c.history.ensures.replays in
-    let listed : HasLeases c.in_ok-leases.leases w.standing.live =
+    let live : HasLeases c.in_ok-leases.leases w.standing.live =
     same_leases c.in_ok-leases.leases replayed w.standing.live (sym is_live) (c.in_ok-leases.ensures start) in
-    let text : string_bytes c.push_line.new.text ≡ report_text w keys c.args.replies.now =
+    let text : string_bytes c.push_line.new.text
+    ≡ ((text_of events ++ text_of (key_lines h listed)) ++ text_of leases) ++ line_text (line_data end) =
     rw (
       c.in_ok-push_line.ensures,
-      c.in_ok-push_leases.ensures w.standing.live listed,
+      c.in_ok-push_leases.ensures w.standing.live live,
       c.in_ok-push_keys.ensures,
       c.store-2.ensures,
       c.as_slice.ensures.value,
@@ -39,4 +51,8 @@ returns c =
       c.store-3.ensures,
       c.history-2.ensures.entries,
     ) refl in
-    (keys, present_ascend w.standing.history keys present, text)
+    text
+    ∙ ap (λ (keys : List (List ℕ)). ((text_of events ++ text_of (key_lines h keys)) ++ text_of leases) ++ line_text (line_data end)) present
+    ∙ ap (λ (lines : List ReportLine). ((text_of events ++ text_of lines) ++ text_of leases) ++ line_text (line_data end))
+    (present_lines h (keys_named h.revisions))
+    ∙ whole_text events (key_lines h (keys_named h.revisions)) leases end

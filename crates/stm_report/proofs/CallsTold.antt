@@ -1,0 +1,331 @@
+-- The lines of calls: each is the one that a check looks for, and leads to the store that the call leaves.
+--
+-- A check has no watchers, and a call of the store but a poll, a watch or a cancellation does not look at them.
+use Rattle.std.proofs.Common.{◌≡◌, ℕ, zero, suc, Bool, true, false, cond, List, [], ◌∷◌, length, Option, Some, None, Ok, Err, refl, sym, ◌∙◌}
+use Rattle.std.proofs.Common.{ap, arith}
+use Rattle.std.proofs.lemmas.Bool.{le-ltb}
+use Rattle.std.specs.Prelude.{Result, nat_lt, nat_eq}
+use Rattle.std.specs.FinMap as finmap
+use Rattle.stm_history.specs.History.{now}
+use Rattle.stm_leases.specs.Live.{grant_refusal, is_live_in}
+use Rattle.stm_leases.specs.LeaseLog.{Term}
+use Rattle.stm_leases.specs.DueFirst.{first_due}
+use Rattle.stm_leases.specs.declared.errors.GrantError.{GrantError}
+use Rattle.stm_watch.specs.declared.watched.Watching.{Watching}
+use Rattle.stm_watch.specs.declared.watchers.Batch.{Batch}
+use Rattle.stm_watch.specs.declared.refusal.WatchRefusal.{WatchRefusal}
+use Rattle.stm_watch.specs.declared.refusal.PollRefusal.{PollRefusal}
+use Rattle.stm_watch.specs.Calls.{Step as WatchStep}
+use Rattle.stm_txn.specs.declared.advance.Expired.{Expired}
+use Rattle.stm_txn.specs.declared.answer.TxnAnswer.{TxnAnswer}
+use Rattle.stm_txn.specs.declared.refusal.Refusal.{Refusal as StoreRefusal}
+use Rattle.stm_txn.specs.declared.refusal.Refusal.TheVariants.{RevisionsUsedUp, LeaseNotFound, TimeGoesBack}
+use Rattle.stm_txn.specs.declared.txn.Txn.{Txn as StoreTxn}
+use Rattle.stm_txn.specs.Grants.{grant_refusal_of}
+use Rattle.stm_txn.specs.LeaseKeys.{deletions_of}
+use Rattle.stm_txn.specs.Outcome.{Done, outcome, is_used_up}
+use Rattle.stm_txn.specs.Standing.{Standing, Step, Advance, step_of, transacted, granted, kept_alive, ended, revoked, with_revision, with_lease, without_lease}
+use Rattle.stm_txn.specs.Standing.{after, expired_in, expire_up_to, expire_all, at_moment, advanced, watch_step, poll_step, cancel_step}
+use Rattle.stm_entries.specs.declared.entry.Entry.{Entry}
+use Rattle.stm_entries.specs.declared.entry.Entry.TheVariants.{Foreign}
+use Rattle.stm_reports.specs.declared.line.ReportLine.{ReportLine}
+use Rattle.stm_reports.specs.declared.line.ReportLine.TheVariants as line
+use Rattle.stm_reports.specs.Told.{txn_line, advance_line}
+use Rattle.stm_world.specs.declared.event.WorldEvent.TheVariants.{Txn, Grant, Keep, Revoke, Advance as AdvanceEvent, WatchKey, WatchRange, Poll, Cancel}
+use Rattle.stm_world.specs.declared.reply.Reply.{Reply}
+use Rattle.stm_world.specs.declared.reply.Reply.TheVariants.{Txn as TxnDone, Granted, Kept, Revoked, Watching as WatchingTold, Cancelled}
+use Rattle.stm_world.specs.declared.refusal.Denied.{Denied}
+use Rattle.stm_world.specs.Told.{reply_to, store_after_call, advance_reply, batch_reply}
+use Rattle.stm_world.specs.Log.{if_told, expired_told}
+use Rattle.stm_world.specs.World.{if_changed}
+use Rattle.stm_lines.specs.Lines.{line_told}
+use Rattle.stm_check.specs.declared.runner.Runner.{Runner}
+use Rattle.stm_check.specs.Fits.{can_have}
+use Rattle.stm_check.specs.Point.{led_by, moment_after, txn_entries, grant_entries, keep_entries, revoke_entries, advance_entries, expiries}
+use Rattle.stm_check.specs.StoreLines.{call_line, txn_call_line, grant_line, keep_line, revoke_line, advance_call_line}
+use Rattle.stm_check.proofs.CallLemmas.{StepIsTransacted, is_transacted, txn_led, grant_led, keep_led, revoke_led, advance_led}
+
+-- a store without its watchers
+abbrev pub unwatched : Standing → Standing
+unwatched s = record s { watchers = [] }
+
+-- What the line of a call is for a check: it can stand there, it is the one that the call comes to on the store without its watchers, and
+-- it leads to the store that the call leaves.
+pub record CallIsRight (s next : Standing) (can : Bool) (wanted l : ReportLine) (told : List Entry) (moment entered : ℕ) : Type 0 where
+  pub fits : can ≡ true
+  pub is_line : wanted ≡ l
+  pub store : led_by told (unwatched s) moment ≡ unwatched next
+  pub count : length told ≡ entered
+
+-- ---- transactions
+
+txn_same : (n : ℕ) (s : Standing) (o : Result Done StoreRefusal) →
+    call_line n (txn_line n) (step_of (unwatched s) o) ≡ line_told n (reply_to TxnDone (step_of s o))
+txn_same n s (Ok done) = refl
+txn_same n s (Err cause) = refl
+
+txn_fits : (n : ℕ) (rs : List Runner) (txn : StoreTxn) (r : Result (Step TxnAnswer) StoreRefusal) →
+    can_have rs (Txn txn) (line_told n (reply_to TxnDone r)) ≡ true
+txn_fits n rs txn (Ok step) = refl
+txn_fits n rs txn (Err cause) = refl
+
+txn_store : (n : ℕ) (s : Standing) (txn : StoreTxn) (r : Result (Step TxnAnswer) StoreRefusal) → transacted s txn ≡ r →
+    led_by (txn_entries (now s.history) txn (line_told n (reply_to TxnDone r))) (unwatched s) s.moment ≡ unwatched (store_after_call s r)
+txn_store n s txn (Ok step) is = ap unwatched (sym (txn_led n s step.next txn step.answer is))
+txn_store n s txn (Err cause) is = refl
+
+txn_count : (n : ℕ) (s : Standing) (txn : StoreTxn) (r : Result (Step TxnAnswer) StoreRefusal) → StepIsTransacted s r →
+    length (txn_entries (now s.history) txn (line_told n (reply_to TxnDone r))) ≡ length (if_changed s (store_after_call s r) txn)
+txn_count n s txn (Ok step) came = ap (λ revision. length (cond (nat_lt (now s.history) revision) (Foreign txn ∷ []) [])) came.counter
+txn_count n s txn (Err cause) came = ap (λ (b : Bool). length (cond b (Foreign txn ∷ []) [])) (sym (le-ltb (now s.history) (now s.history) (omega arith)))
+
+pub txn_right : (n : ℕ) (s : Standing) (rs : List Runner) (txn : StoreTxn) →
+    let r = transacted s txn in
+    let l : ReportLine = line_told n (reply_to TxnDone r) in
+    CallIsRight s (store_after_call s r) (can_have rs (Txn txn) l) (txn_call_line n (unwatched s) txn) l (txn_entries (now s.history) txn l) s.moment
+    (length (if_changed s (store_after_call s r) txn))
+txn_right n s rs txn = record {
+  fits = txn_fits n rs txn (transacted s txn);
+  is_line = txn_same n s (outcome s.history (is_live_in s.live) txn);
+  store = txn_store n s txn (transacted s txn) refl;
+  count = txn_count n s txn (transacted s txn) (is_transacted s txn);
+}
+
+-- ---- grants
+
+abbrev granted_by : Standing → ℕ → ℕ → Option GrantError → Result (Step (Unit {0})) StoreRefusal
+granted_by s id ttl o =
+    elim o [
+      | Some cause ↦ Err (grant_refusal_of cause)
+      | None ↦ Ok record { answer = tt; next = with_lease s id ttl }
+    ]
+
+grant_same : (n : ℕ) (s : Standing) (id ttl : ℕ) (o : Option GrantError) →
+    call_line n (λ _. line.Granted n id) (granted_by (unwatched s) id ttl o) ≡ line_told n (reply_to (λ _. Granted id) (granted_by s id ttl o))
+grant_same n s id ttl None = refl
+grant_same n s id ttl (Some cause) = refl
+
+grant_fits : (n : ℕ) (rs : List Runner) (id ttl : ℕ) (r : Result (Step (Unit {0})) StoreRefusal) →
+    can_have rs (Grant id ttl) (line_told n (reply_to (λ _. Granted id) r)) ≡ true
+grant_fits n rs id ttl (Ok step) = refl
+grant_fits n rs id ttl (Err cause) = refl
+
+grant_store : (n : ℕ) (s : Standing) (id ttl : ℕ) (r : Result (Step (Unit {0})) StoreRefusal) → granted s id ttl ≡ r →
+    led_by (grant_entries id ttl s.moment (line_told n (reply_to (λ _. Granted id) r))) (unwatched s) s.moment ≡ unwatched (store_after_call s r)
+grant_store n s id ttl (Ok step) is = ap unwatched (sym (grant_led s step.next id ttl is))
+grant_store n s id ttl (Err cause) is = refl
+
+grant_count : (n id ttl moment : ℕ) (entry : Entry) (r : Result (Step (Unit {0})) StoreRefusal) →
+    length (grant_entries id ttl moment (line_told n (reply_to (λ _. Granted id) r))) ≡ length (if_told (reply_to (λ _. Granted id) r) entry)
+grant_count n id ttl moment entry (Ok step) = refl
+grant_count n id ttl moment entry (Err cause) = refl
+
+pub grant_right : (n : ℕ) (s : Standing) (rs : List Runner) (id ttl : ℕ) (entry : Entry) →
+    let r = granted s id ttl in
+    let l : ReportLine = line_told n (reply_to (λ _. Granted id) r) in
+    CallIsRight s (store_after_call s r) (can_have rs (Grant id ttl) l) (grant_line n (unwatched s) id ttl) l (grant_entries id ttl s.moment l) s.moment
+    (length (if_told (reply_to (λ _. Granted id) r) entry))
+grant_right n s rs id ttl entry = record {
+  fits = grant_fits n rs id ttl (granted s id ttl);
+  is_line = grant_same n s id ttl (grant_refusal s.live id ttl);
+  store = grant_store n s id ttl (granted s id ttl) refl;
+  count = grant_count n id ttl s.moment entry (granted s id ttl);
+}
+
+-- ---- renewals
+
+abbrev kept_by : Standing → ℕ → Option Term → Result (Step (Unit {0})) StoreRefusal
+kept_by s id o =
+    elim o [
+      | None ↦ Err LeaseNotFound
+      | Some term ↦ Ok record { answer = tt; next = with_lease s id term.ttl }
+    ]
+
+keep_same : (n : ℕ) (s : Standing) (id : ℕ) (o : Option Term) →
+    call_line n (λ _. line.Kept n id) (kept_by (unwatched s) id o) ≡ line_told n (reply_to (λ _. Kept id) (kept_by s id o))
+keep_same n s id None = refl
+keep_same n s id (Some term) = refl
+
+keep_fits : (n : ℕ) (rs : List Runner) (id : ℕ) (r : Result (Step (Unit {0})) StoreRefusal) →
+    can_have rs (Keep id) (line_told n (reply_to (λ _. Kept id) r)) ≡ true
+keep_fits n rs id (Ok step) = refl
+keep_fits n rs id (Err cause) = refl
+
+keep_store : (n : ℕ) (s : Standing) (id : ℕ) (r : Result (Step (Unit {0})) StoreRefusal) → kept_alive s id ≡ r →
+    led_by (keep_entries id s.moment (line_told n (reply_to (λ _. Kept id) r))) (unwatched s) s.moment ≡ unwatched (store_after_call s r)
+keep_store n s id (Ok step) is = ap unwatched (sym (keep_led s step.next id is))
+keep_store n s id (Err cause) is = refl
+
+keep_count : (n id moment : ℕ) (entry : Entry) (r : Result (Step (Unit {0})) StoreRefusal) →
+    length (keep_entries id moment (line_told n (reply_to (λ _. Kept id) r))) ≡ length (if_told (reply_to (λ _. Kept id) r) entry)
+keep_count n id moment entry (Ok step) = refl
+keep_count n id moment entry (Err cause) = refl
+
+pub keep_right : (n : ℕ) (s : Standing) (rs : List Runner) (id : ℕ) (entry : Entry) →
+    let r = kept_alive s id in
+    let l : ReportLine = line_told n (reply_to (λ _. Kept id) r) in
+    CallIsRight s (store_after_call s r) (can_have rs (Keep id) l) (keep_line n (unwatched s) id) l (keep_entries id s.moment l) s.moment
+    (length (if_told (reply_to (λ _. Kept id) r) entry))
+keep_right n s rs id entry = record {
+  fits = keep_fits n rs id (kept_alive s id);
+  is_line = keep_same n s id (finmap.get s.live id);
+  store = keep_store n s id (kept_alive s id) refl;
+  count = keep_count n id s.moment entry (kept_alive s id);
+}
+
+-- ---- revocations
+
+abbrev revoked_by : Standing → ℕ → Bool → Bool → Result (Step ℕ) StoreRefusal
+revoked_by s id live used = cond live (with_revision (cond used (Err RevisionsUsedUp) (Ok (without_lease s id)))) (Err LeaseNotFound)
+
+revoke_same : (n : ℕ) (s : Standing) (id : ℕ) (live used : Bool) →
+    call_line n (line.Revoked n id) (revoked_by (unwatched s) id live used) ≡ line_told n (reply_to (Revoked id) (revoked_by s id live used))
+revoke_same n s id false used = refl
+revoke_same n s id true true = refl
+revoke_same n s id true false = refl
+
+revoke_fits : (n : ℕ) (rs : List Runner) (id : ℕ) (r : Result (Step ℕ) StoreRefusal) → can_have rs (Revoke id) (line_told n (reply_to (Revoked id) r)) ≡ true
+revoke_fits n rs id (Ok step) = refl
+revoke_fits n rs id (Err cause) = refl
+
+revoke_store : (n : ℕ) (s : Standing) (id : ℕ) (r : Result (Step ℕ) StoreRefusal) → revoked s id ≡ r →
+    led_by (revoke_entries id (line_told n (reply_to (Revoked id) r))) (unwatched s) s.moment ≡ unwatched (store_after_call s r)
+revoke_store n s id (Ok step) is = ap unwatched (sym (revoke_led s step.next id step.answer is))
+revoke_store n s id (Err cause) is = refl
+
+revoke_count : (n id : ℕ) (entry : Entry) (r : Result (Step ℕ) StoreRefusal) →
+    length (revoke_entries id (line_told n (reply_to (Revoked id) r))) ≡ length (if_told (reply_to (Revoked id) r) entry)
+revoke_count n id entry (Ok step) = refl
+revoke_count n id entry (Err cause) = refl
+
+pub revoke_right : (n : ℕ) (s : Standing) (rs : List Runner) (id : ℕ) (entry : Entry) →
+    let r = revoked s id in
+    let l : ReportLine = line_told n (reply_to (Revoked id) r) in
+    CallIsRight s (store_after_call s r) (can_have rs (Revoke id) l) (revoke_line n (unwatched s) id) l (revoke_entries id l) s.moment
+    (length (if_told (reply_to (Revoked id) r) entry))
+revoke_right n s rs id entry = record {
+  fits = revoke_fits n rs id (revoked s id);
+  is_line = revoke_same n s id (is_live_in s.live id) (is_used_up s.history (deletions_of s.history id));
+  store = revoke_store n s id (revoked s id) refl;
+  count = revoke_count n id entry (revoked s id);
+}
+
+-- ---- advances
+
+-- the same advance, of a store without watchers
+abbrev blind : Advance → Advance
+blind a = record { expired = a.expired; leaves = unwatched a.leaves; cause = a.cause }
+
+expired_by : (many : ℕ) (s : Standing) (id : ℕ) (used : Bool) →
+    (expire_up_to many (unwatched (without_lease s id)) ≡ blind (expire_up_to many (without_lease s id))) →
+    elim (cond used (Err RevisionsUsedUp) (Ok (without_lease (unwatched s) id))) as (λ (o : Result Standing StoreRefusal). Advance) [
+      | Err cause ↦ record { expired = []; leaves = unwatched s; cause = Some cause }
+      | Ok next ↦ after (expired_in id next ∷ []) (expire_up_to many next)
+    ]
+    ≡ blind (elim (cond used (Err RevisionsUsedUp) (Ok (without_lease s id))) as (λ (o : Result Standing StoreRefusal). Advance) [
+      | Err cause ↦ record { expired = []; leaves = s; cause = Some cause }
+      | Ok next ↦ after (expired_in id next ∷ []) (expire_up_to many next)
+    ])
+expired_by many s id true same = refl
+expired_by many s id false same = ap (after (expired_in id (without_lease s id) ∷ [])) same
+
+due_by : (many : ℕ) (s : Standing) (o : Option ℕ) →
+    ((id : ℕ) → expire_up_to many (unwatched (without_lease s id)) ≡ blind (expire_up_to many (without_lease s id))) →
+    elim o as (λ (x : Option ℕ). Advance) [
+      | None ↦ record { expired = []; leaves = unwatched s; cause = None }
+      | Some id ↦ elim (ended (unwatched s) id) as (λ (x : Result Standing StoreRefusal). Advance) [
+        | Err cause ↦ record { expired = []; leaves = unwatched s; cause = Some cause }
+        | Ok next ↦ after (expired_in id next ∷ []) (expire_up_to many next)
+      ]
+    ]
+    ≡ blind (elim o as (λ (x : Option ℕ). Advance) [
+      | None ↦ record { expired = []; leaves = s; cause = None }
+      | Some id ↦ elim (ended s id) as (λ (x : Result Standing StoreRefusal). Advance) [
+        | Err cause ↦ record { expired = []; leaves = s; cause = Some cause }
+        | Ok next ↦ after (expired_in id next ∷ []) (expire_up_to many next)
+      ]
+    ])
+due_by many s None same = refl
+due_by many s (Some id) same = expired_by many s id (is_used_up s.history (deletions_of s.history id)) (same id)
+
+expire_same : (many : ℕ) (s : Standing) → expire_up_to many (unwatched s) ≡ blind (expire_up_to many s)
+expire_same zero s = refl
+expire_same (suc many) s = due_by many s (first_due s.live s.moment) (λ id. expire_same many (without_lease s id))
+
+advance_by : (s : Standing) (moment : ℕ) (back : Bool) →
+    cond back (record { expired = []; leaves = unwatched s; cause = Some TimeGoesBack }) (expire_all (at_moment (unwatched s) moment))
+    ≡ blind (cond back (record { expired = []; leaves = s; cause = Some TimeGoesBack }) (expire_all (at_moment s moment)))
+advance_by s moment true = refl
+advance_by s moment false = expire_same (finmap.len s.live) (at_moment s moment)
+
+advance_same : (s : Standing) (moment : ℕ) → advanced (unwatched s) moment ≡ blind (advanced s moment)
+advance_same s moment = advance_by s moment (nat_lt moment s.moment)
+
+advance_told : (n moment : ℕ) (expired : List Expired) (cause : Option StoreRefusal) →
+    advance_line n moment expired cause ≡ line_told n (advance_reply moment expired cause)
+advance_told n moment expired None = refl
+advance_told n moment expired (Some cause) = refl
+
+advance_fits : (n : ℕ) (rs : List Runner) (to moment : ℕ) (expired : List Expired) (cause : Option StoreRefusal) →
+    can_have rs (AdvanceEvent to) (line_told n (advance_reply moment expired cause)) ≡ true
+advance_fits n rs to moment expired None = refl
+advance_fits n rs to moment expired (Some cause) = refl
+
+advance_entered : (n moment : ℕ) (expired : List Expired) (cause : Option StoreRefusal) →
+    advance_entries (line_told n (advance_reply moment expired cause)) ≡ expiries expired
+advance_entered n moment expired None = refl
+advance_entered n moment expired (Some cause) = refl
+
+expired_are_told : (moment : ℕ) (expired : List Expired) (cause : Option StoreRefusal) → expired_told (advance_reply moment expired cause) ≡ expired
+expired_are_told moment expired None = refl
+expired_are_told moment expired (Some cause) = refl
+
+pub advance_right : (n : ℕ) (s : Standing) (rs : List Runner) (moment : ℕ) →
+    let a : Advance = advanced s moment in
+    let reply : Result Reply Denied = advance_reply moment a.expired a.cause in
+    CallIsRight s a.leaves (can_have rs (AdvanceEvent moment) (line_told n reply)) (advance_call_line n (unwatched s) moment) (line_told n reply)
+    (advance_entries (line_told n reply)) (moment_after s (AdvanceEvent moment)) (length (expiries (expired_told reply)))
+advance_right n s rs moment =
+    let a : Advance = advanced s moment in
+    record {
+      fits = advance_fits n rs moment moment a.expired a.cause;
+      is_line = ap (λ (x : Advance). advance_line n moment x.expired x.cause) (advance_same s moment) ∙ advance_told n moment a.expired a.cause;
+      store = ap (λ (es : List Entry). led_by es (unwatched s) (moment_after s (AdvanceEvent moment))) (advance_entered n moment a.expired a.cause)
+          ∙ ap unwatched (sym (advance_led s a.leaves moment a.expired a.cause refl));
+      count = ap (λ (es : List Entry). length es) (advance_entered n moment a.expired a.cause)
+          ∙ ap (λ (es : List Expired). length (expiries es)) (sym (expired_are_told moment a.expired a.cause));
+    }
+
+-- ---- watchers, which a check has none of
+
+pub watch_stays : (s : Standing) (o : Result (WatchStep ℕ) WatchRefusal) → unwatched s ≡ unwatched (store_after_call s (watch_step s o))
+watch_stays s (Ok step) = refl
+watch_stays s (Err cause) = refl
+
+pub poll_stays : (s : Standing) (o : Result (WatchStep Batch) PollRefusal) → unwatched s ≡ unwatched (store_after_call s (poll_step s o))
+poll_stays s (Ok step) = refl
+poll_stays s (Err cause) = refl
+
+pub cancel_stays : (s : Standing) (id : ℕ) (o : Option Watching) → unwatched s ≡ unwatched (store_after_call s (cancel_step s id o))
+cancel_stays s id None = refl
+cancel_stays s id (Some w) = refl
+
+pub watch_key_fits : (n : ℕ) (rs : List Runner) (key : List ℕ) (from : ℕ) (r : Result (Step ℕ) StoreRefusal) →
+    can_have rs (WatchKey key from) (line_told n (reply_to WatchingTold r)) ≡ true
+watch_key_fits n rs key from (Ok step) = refl
+watch_key_fits n rs key from (Err cause) = refl
+
+pub watch_range_fits : (n : ℕ) (rs : List Runner) (first end : List ℕ) (from : ℕ) (r : Result (Step ℕ) StoreRefusal) →
+    can_have rs (WatchRange first end from) (line_told n (reply_to WatchingTold r)) ≡ true
+watch_range_fits n rs first end from (Ok step) = refl
+watch_range_fits n rs first end from (Err cause) = refl
+
+pub poll_fits : (n : ℕ) (rs : List Runner) (watcher most : ℕ) (own : nat_eq watcher watcher ≡ true) (r : Result (Step Batch) StoreRefusal) →
+    can_have rs (Poll watcher most) (line_told n (reply_to (batch_reply watcher) r)) ≡ true
+poll_fits n rs watcher most own (Ok step) = own
+poll_fits n rs watcher most own (Err cause) = refl
+
+pub cancel_fits : (n : ℕ) (rs : List Runner) (watcher : ℕ) (own : nat_eq watcher watcher ≡ true) (r : Result (Step (Unit {0})) StoreRefusal) →
+    can_have rs (Cancel watcher) (line_told n (reply_to (λ _. Cancelled watcher) r)) ≡ true
+cancel_fits n rs watcher own (Ok step) = own
+cancel_fits n rs watcher own (Err cause) = refl

@@ -1,0 +1,63 @@
+-- A check says yes to the report of a right run, and so to what a script writes.
+use Rattle.std.proofs.Common.{◌≡◌, ℕ, ◌++◌, List, [], length, sym, ◌∙◌, ap, subst, unwrap_or}
+use Rattle.std.specs.Prelude.{Result}
+use Rattle.stm_compile.proofs.AgreeLemmas.{commit_is_the_run_now}
+use Rattle.stm_compile.proofs.ConflictLemmas.{failed_compares_conflict}
+use Rattle.stm_world.specs.declared.event.WorldEvent.{WorldEvent}
+use Rattle.stm_world.specs.declared.reply.Reply.{Reply}
+use Rattle.stm_world.specs.declared.refusal.Denied.{Denied}
+use Rattle.stm_world.specs.Log.{IsLogOf, store, entries_told}
+use Rattle.stm_world.specs.World.{World, opened, world_after, replies_to}
+use Rattle.stm_world.specs.Headline.{Holds}
+use Rattle.stm_world.proofs.Headlines.{headline}
+use Rattle.stm_world.proofs.Logs.{one_log}
+use Rattle.stm_world.proofs.OneReply.{one_right_reply}
+use Rattle.stm_world.proofs.RunnerSteps.{CommitLaws}
+use Rattle.stm_reports.specs.declared.line.ReportLine.{ReportLine}
+use Rattle.stm_check.specs.StoreLines.{end_lines}
+use Rattle.stm_check.specs.Wrong.{AreRight}
+use Rattle.stm_texts.specs.declared.scenario.Scenario.{Scenario}
+use Rattle.stm_report.specs.Report.{report_of, event_lines}
+use Rattle.stm_report.specs.Script.{IsRunReport}
+use Rattle.stm_report.specs.Laws.{ChecksSayYes, IsOfRightReport, ScriptsPassChecks}
+use Rattle.stm_report.proofs.LinesRight.{point_at, all_right}
+
+laws : CommitLaws
+laws = record { run_now = commit_is_the_run_now; conflicts = failed_compares_conflict }
+
+-- a run of which the headline holds has the report of the world's own run
+one_run : (start : ℕ) (events : List WorldEvent) (replies : List (Result Reply Denied)) (w : World) → Holds start events replies w →
+    event_lines 1 (replies_to events (opened start))
+    ++ end_lines (world_after events (opened start)).standing (length (world_after events (opened start)).entries)
+    ≡ event_lines 1 replies ++ end_lines w.standing (length w.entries)
+one_run start events replies w holds =
+    let run : Holds start events (replies_to events (opened start)) (world_after events (opened start)) = headline laws start events in
+    let same : replies ≡ replies_to events (opened start) =
+    (one_right_reply (headline laws)).replies start events replies holds.log holds.is_log holds.right in
+    let log : run.log ≡ holds.log =
+    one_log events (replies_to events (opened start)) run.log holds.log run.is_log
+    (subst (λ (rs : List (Result Reply Denied)). IsLogOf events rs holds.log) same holds.is_log) in
+    ap (λ (rs : List (Result Reply Denied)). event_lines 1 rs
+    ++ end_lines (world_after events (opened start)).standing (length (world_after events (opened start)).entries)) (sym same)
+    ∙ (λ i. event_lines 1 replies ++ end_lines (run.standing i) (length (run.entries i)))
+    ∙ (λ i. event_lines 1 replies ++ end_lines (store start (log i)) (length (entries_told start (log i))))
+    ∙ (λ i. event_lines 1 replies ++ end_lines ((sym holds.standing) i) (length ((sym holds.entries) i)))
+
+pub checks_say_yes : ChecksSayYes
+checks_say_yes s replies w holds =
+    let start : ℕ = unwrap_or s.opening 1 in
+    subst (λ (lines : List ReportLine). AreRight 1 (point_at start [] []) s.events lines) (one_run start s.events replies w holds)
+    (all_right start s.events laws)
+
+run_is_checked : (s : Scenario) (text : List ℕ) → IsRunReport s text → IsOfRightReport s text
+unfolding IsRunReport
+run_is_checked s text written =
+    let start : ℕ = unwrap_or s.opening 1 in
+    record {
+      report = report_of (world_after s.events (opened start)) (replies_to s.events (opened start));
+      written = written;
+      yes = checks_say_yes s (replies_to s.events (opened start)) (world_after s.events (opened start)) (headline laws start s.events);
+    }
+
+pub scripts_pass_checks : ScriptsPassChecks
+scripts_pass_checks bytes text (s, reads, written) = (s, reads, run_is_checked s text written)

@@ -1,0 +1,466 @@
+-- No line of the report of a right run is wrong: what a check knows at a point is what the log so far tells.
+use Rattle.std.proofs.Common.{◌≡◌, ◌≢◌, ℕ, ◌+◌, suc, Bool, true, false, cond, not, List, [], ◌∷◌, ◌++◌, length, length-append, map}
+use Rattle.std.proofs.Common.{Option, Some, None, is_some, Ok, Err, refl, sym, ◌∙◌, ap, subst, arith}
+use Rattle.std.specs.Prelude.{Result, nat_eq, ◌&&◌}
+use Rattle.stm_history.specs.declared.key_state.ReadAnswer.{ReadAnswer}
+use Rattle.stm_history.specs.History.{History}
+use Rattle.stm_meaning.specs.declared.value.Value.{Value}
+use Rattle.stm_meaning.specs.declared.trace_item.TraceItem.{TraceItem}
+use Rattle.stm_txn.specs.Standing.{Standing, transacted, granted, kept_alive, revoked, advanced, watched, polled, cancelled}
+use Rattle.stm_watch.specs.declared.watched.Watched.TheVariants.{Key, Range}
+use Rattle.stm_watch.specs.Calls.{watch, poll, watcher_at}
+use Rattle.stm_entries.specs.declared.entry.Entry.{Entry}
+use Rattle.stm_entries.specs.declared.entry.Entry.TheVariants.{Program, Grant as GrantEntry, Renew, Revoke as RevokeEntry}
+use Rattle.stm_entries.specs.Replayed.{opening, without_moment}
+use Rattle.stm_entries.specs.Replay.{replay}
+use Rattle.stm_entries.specs.Legal.{AreLegal}
+use Rattle.stm_entries.proofs.Replaying.{rest_legal}
+use Rattle.stm_reports.specs.declared.causes.RefusalName.TheVariants.{NoRunner as NoRunnerTold}
+use Rattle.stm_reports.specs.declared.line.ReportLine.{ReportLine}
+use Rattle.stm_reports.specs.declared.line.ReportLine.TheVariants.{Refused}
+use Rattle.stm_world.specs.declared.event.WorldEvent.{WorldEvent}
+use Rattle.stm_world.specs.declared.event.WorldEvent.TheVariants.{Start, Step, Txn, Grant, Keep, Revoke, Advance, WatchKey, WatchRange, Poll, Cancel}
+use Rattle.stm_world.specs.declared.reply.Reply.{Reply}
+use Rattle.stm_world.specs.declared.reply.Reply.TheVariants.{Started, Fetched, Committed, Conflict, GaveUp, Aborted, Faulted, Ended}
+use Rattle.stm_world.specs.declared.reply.Reply.TheVariants.{Txn as TxnDone, Granted, Kept, Revoked, Advanced, Watching, Batch, Cancelled}
+use Rattle.stm_world.specs.declared.refusal.Denied.{Denied}
+use Rattle.stm_world.specs.declared.refusal.Refusal.TheVariants.{BadLimit, NoRunner}
+use Rattle.stm_world.specs.Told.{denied, reply_to, advance_reply, batch_reply}
+use Rattle.stm_world.specs.Task.{Task}
+use Rattle.stm_world.specs.Log.{Line, begun, is_over, running, started, failures, store, with_commit, commit_entry, line_entries, entries_told}
+use Rattle.stm_world.specs.Right.{IsRight, StepIsRight, RunnerIsRight, StartIsRight, Situation, situation}
+use Rattle.stm_world.specs.World.{World, opened, step, world_after, replies_to}
+use Rattle.stm_world.proofs.Following.{FollowsStep, with_line}
+use Rattle.stm_world.proofs.Headlines.{Follows, step_follows, opened_follows}
+use Rattle.stm_world.proofs.RunnerSteps.{CommitLaws}
+use Rattle.stm_world.proofs.Slots.{same_number, other_number}
+use Rattle.stm_world.proofs.Untouched.{IsFresh}
+use Rattle.stm_lines.specs.Lines.{line_told, answer_told}
+use Rattle.stm_check.specs.declared.runner.Runner.{Runner}
+use Rattle.stm_check.specs.Fits.{number_of, is_number, can_have, fits}
+use Rattle.stm_check.specs.Point.{Point, committed_entry, commit_entries, entries_told as told_entries, moment_after, led_by, after}
+use Rattle.stm_check.specs.Replays.{IsCommitOf, StepReplays, Replays}
+use Rattle.stm_check.specs.Runners.{running as running_in, runners_after}
+use Rattle.stm_check.specs.StoreLines.{end_lines}
+use Rattle.stm_check.specs.Wrong.{IsRight as IsRightLine, AreRight}
+use Rattle.stm_report.specs.Report.{event_lines}
+use Rattle.stm_report.proofs.RunsTold.{RunsAreTold, none_are_told, says_nothing, advance_says_nothing, run_with, runs_with}
+use Rattle.stm_report.proofs.RunsTold.{same_runs, Goes, goes_on, ended_runs, failed_runs, begun_runs}
+use Rattle.stm_report.proofs.CallsTold.{unwatched, txn_right, grant_right, keep_right, revoke_right, advance_right, watch_stays, poll_stays}
+use Rattle.stm_report.proofs.CallsTold.{cancel_stays, watch_key_fits, watch_range_fits, poll_fits, cancel_fits}
+use Rattle.stm_report.proofs.CommitsTold.{IsEntered, commit_right, commit_store}
+
+-- ---- a point, by the log so far
+
+abbrev pub point_at : ℕ → List Line → List Runner → Point
+point_at start log rs = record { standing = unwatched (store start log); entries = length (entries_told start log); runners = rs }
+
+-- The line of the next event is right, and the point behind it is that of the longer log.
+record GoesOn (start n : ℕ) (log : List Line) (rs : List Runner) (event : WorldEvent) (reply : Result Reply Denied) : Type 0 where
+  is_right : IsRightLine n (point_at start log rs) event (line_told n reply)
+  store_is : led_by (told_entries (unwatched (store start log)) rs event (line_told n reply)) (unwatched (store start log))
+      (moment_after (unwatched (store start log)) event) ≡ unwatched (store start (with_line event reply log))
+  count_is : length (told_entries (unwatched (store start log)) rs event (line_told n reply))
+      ≡ length (line_entries start (record { event = event; reply = reply }) log)
+  runs : RunsAreTold (with_line event reply log) (runners_after event (line_told n reply) rs)
+
+next_point : (start n : ℕ) (log : List Line) (rs : List Runner) (event : WorldEvent) (reply : Result Reply Denied) → GoesOn start n log rs event reply →
+    after (point_at start log rs) event (line_told n reply)
+    ≡ point_at start (with_line event reply log) (runners_after event (line_told n reply) rs)
+next_point start n log rs event reply g =
+    let line : Line = record { event = event; reply = reply } in
+    let count : length (entries_told start log) + length (told_entries (unwatched (store start log)) rs event (line_told n reply))
+    ≡ length (entries_told start log ++ line_entries start line log) =
+    ap (λ k. length (entries_told start log) + k) g.count_is ∙ sym (length-append (entries_told start log) (line_entries start line log)) in
+    λ i. record { standing = g.store_is i; entries = count i; runners = runners_after event (line_told n reply) rs }
+
+-- ---- a line has the number of its event
+
+numbered : (n : ℕ) (reply : Result Reply Denied) → number_of (line_told n reply) ≡ Some n
+numbered n (Err refusal) = refl
+numbered n (Ok (Started runner)) = refl
+numbered n (Ok (Fetched runner key mod_rev of_rev revision)) = refl
+numbered n (Ok (Committed runner revision attempts output trace answers)) = refl
+numbered n (Ok (Conflict runner key seen now)) = refl
+numbered n (Ok (GaveUp runner attempts key seen now)) = refl
+numbered n (Ok (Aborted runner text)) = refl
+numbered n (Ok (Faulted runner fault)) = refl
+numbered n (Ok (Ended runner cause)) = refl
+numbered n (Ok (TxnDone answer)) = refl
+numbered n (Ok (Granted id)) = refl
+numbered n (Ok (Kept id)) = refl
+numbered n (Ok (Revoked id revision)) = refl
+numbered n (Ok (Advanced moment expired)) = refl
+numbered n (Ok (Watching watcher)) = refl
+numbered n (Ok (Batch watcher upto events)) = refl
+numbered n (Ok (Cancelled watcher)) = refl
+
+fits_there : (n : ℕ) (rs : List Runner) (event : WorldEvent) (reply : Result Reply Denied) → can_have rs event (line_told n reply) ≡ true →
+    fits n rs event (line_told n reply) ≡ true
+fits_there n rs event reply can =
+    ap (λ (o : Option ℕ). is_number n o && can_have rs event (line_told n reply)) (numbered n reply)
+    ∙ ap (λ (b : Bool). b && can_have rs event (line_told n reply)) (same_number n) ∙ can
+
+-- ---- starts
+
+start_can : (limit count : ℕ) (rs : List Runner) → limit ≢ 0 → length rs ≡ count → not (nat_eq limit 0) && nat_eq (count + 1) (length rs + 1) ≡ true
+start_can limit count rs some is =
+    ap (λ (b : Bool). not b && nat_eq (count + 1) (length rs + 1)) (other_number limit 0 some)
+    ∙ ap (λ k. nat_eq (count + 1) (k + 1)) is ∙ same_number (count + 1)
+
+started_goes : (start n : ℕ) (log : List Line) (rs : List Runner) (task : Task) → RunsAreTold log rs → IsFresh start log (started log + 1) → task.limit ≢ 0 →
+    GoesOn start n log rs (Start task.program task.level task.limit) (Ok (Started (started log + 1)))
+started_goes start n log rs task told fresh some = record {
+  is_right = (
+    fits_there n rs (Start task.program task.level task.limit) (Ok (Started (started log + 1))) (start_can task.limit (started log) rs some told.count),
+    tt,
+  );
+  store_is = refl;
+  count_is = refl;
+  runs = begun_runs start log rs task fresh told;
+}
+
+refused_start : (start n : ℕ) (log : List Line) (rs : List Runner) (task : Task) → RunsAreTold log rs → task.limit ≡ 0 →
+    GoesOn start n log rs (Start task.program task.level task.limit) (denied BadLimit)
+refused_start start n log rs task told none = record {
+  is_right = (fits_there n rs (Start task.program task.level task.limit) (denied BadLimit) refl, (none, refl, refl));
+  store_is = refl;
+  count_is = refl;
+  runs = same_runs (record { event = Start task.program task.level task.limit; reply = denied BadLimit }) log rs
+      (record { begins_is = refl; ends_is = refl; fails_is = refl }) told;
+}
+
+start_goes : (start n : ℕ) (log : List Line) (rs : List Runner) (task : Task) (reply : Result Reply Denied) → RunsAreTold log rs →
+    IsFresh start log (started log + 1) → StartIsRight (started log) task.limit reply →
+    GoesOn start n log rs (Start task.program task.level task.limit) reply
+start_goes start n log rs task (Ok reply) told fresh right =
+    subst (λ (x : Reply). GoesOn start n log rs (Start task.program task.level task.limit) (Ok x)) (sym right.0)
+    (started_goes start n log rs task told fresh right.1)
+start_goes start n log rs task (Err refusal) told fresh right =
+    subst (λ (x : Denied). GoesOn start n log rs (Start task.program task.level task.limit) (Err x)) (sym right.0)
+    (refused_start start n log rs task told right.1)
+
+-- ---- steps
+
+-- a line that is no commit tells no entry
+no_entry : (h : History) (l : ReportLine) (o : Option Runner) → ((r : Runner) → committed_entry h l r ≡ []) → commit_entries h l o ≡ []
+no_entry h l None none = refl
+no_entry h l (Some r) none = none r
+
+still : (s : Standing) (es : List Entry) → es ≡ [] → led_by es s s.moment ≡ s
+still s es none = ap (λ (x : List Entry). led_by x s s.moment) none
+
+none_goes : (start n : ℕ) (log : List Line) (rs : List Runner) (id : ℕ) → RunsAreTold log rs → running id log ≡ None →
+    GoesOn start n log rs (Step id) (denied NoRunner)
+none_goes start n log rs id told none =
+    let h : History = (store start log).history in
+    let l : ReportLine = Refused n NoRunnerTold [] in
+    let nothing : commit_entries h l (running_in id rs) ≡ [] = no_entry h l (running_in id rs) (λ r. refl) in
+    record {
+      is_right = (fits_there n rs (Step id) (denied NoRunner) refl, (told.runs id ∙ ap (runs_with (failures id log)) none, refl, refl));
+      store_is = still (unwatched (store start log)) (commit_entries h l (running_in id rs)) nothing;
+      count_is = ap (λ (es : List Entry). length es) nothing;
+      runs = same_runs (record { event = Step id; reply = denied NoRunner }) log rs (record { begins_is = refl; ends_is = refl; fails_is = refl }) told;
+    }
+
+-- a line of the runner, which runs
+step_can : (log : List Line) (rs : List Runner) (id runner : ℕ) (task : Task) → runner ≡ id → Goes log rs id task →
+    nat_eq runner id && is_some (running_in id rs) ≡ true
+step_can log rs id runner task own goes =
+    ap (λ k. nat_eq k id && is_some (running_in id rs)) own ∙ ap (λ (b : Bool). b && is_some (running_in id rs)) (same_number id)
+    ∙ ap (λ (o : Option Runner). is_some o) goes.found
+
+-- a step that tells no entry
+record StepsOn (start n : ℕ) (log : List Line) (rs : List Runner) (id : ℕ) (reply : Reply) : Type 0 where
+  can : can_have rs (Step id) (line_told n (Ok reply)) ≡ true
+  replays : StepReplays (unwatched (store start log)) (running_in id rs) (line_told n (Ok reply))
+  none : (r : Runner) → committed_entry (store start log).history (line_told n (Ok reply)) r ≡ []
+  store_stays : unwatched (store start log) ≡ unwatched (store start (with_line (Step id) (Ok reply) log))
+  count_stays : 0 ≡ length (line_entries start (record { event = Step id; reply = Ok reply }) log)
+  runs_on : RunsAreTold (with_line (Step id) (Ok reply) log) (runners_after (Step id) (line_told n (Ok reply)) rs)
+
+steps_on : (start n : ℕ) (log : List Line) (rs : List Runner) (id : ℕ) (reply : Reply) → StepsOn start n log rs id reply →
+    GoesOn start n log rs (Step id) (Ok reply)
+steps_on start n log rs id reply on =
+    let h : History = (store start log).history in
+    let l : ReportLine = line_told n (Ok reply) in
+    let nothing : commit_entries h l (running_in id rs) ≡ [] = no_entry h l (running_in id rs) on.none in
+    record {
+      is_right = (fits_there n rs (Step id) (Ok reply) on.can, on.replays);
+      store_is = still (unwatched (store start log)) (commit_entries h l (running_in id rs)) nothing ∙ on.store_stays;
+      count_is = ap (λ (es : List Entry). length es) nothing ∙ on.count_stays;
+      runs = on.runs_on;
+    }
+
+-- the task that a running log tells was begun
+begun_by : (over : Bool) (o : Option Task) (task : Task) → cond over None o ≡ Some task → o ≡ Some task
+begun_by true o task is = absurd (cc)
+begun_by false o task is = is
+
+legal_entry : (revision : ℕ) (output : List Value) (trace : List TraceItem) (answers : List ReadAnswer) (o : Option Task) (task : Task) (s : Standing) →
+    o ≡ Some task → AreLegal (commit_entry revision output trace answers o) (without_moment s) →
+    AreLegal (Program task.program task.level answers output trace revision ∷ []) (without_moment s)
+legal_entry revision output trace answers o task s is legal =
+    subst (λ (x : Option Task). AreLegal (commit_entry revision output trace answers x) (without_moment s)) is legal
+
+commit_goes : (start n : ℕ) (log : List Line) (rs : List Runner) (id revision attempts : ℕ) (task : Task) (output : List Value)
+    (trace : List TraceItem) (answers : List ReadAnswer) → RunsAreTold log rs → Goes log rs id task → begun id log ≡ Some task →
+    IsEntered (situation start log id task) revision attempts (failures id log) output trace answers →
+    GoesOn start n log rs (Step id) (Ok (Committed id revision attempts output trace answers))
+commit_goes start n log rs id revision attempts task output trace answers told goes was e =
+    let at : Situation = situation start log id task in
+    let s : Standing = store start log in
+    let reply : Reply = Committed id revision attempts output trace answers in
+    let l : ReportLine = line_told n (Ok reply) in
+    let r : Runner = run_with (failures id log) task in
+    let entered : commit_entries s.history l (running_in id rs) ≡ committed_entry s.history l r =
+    ap (commit_entries s.history l) goes.found in
+    record {
+      is_right = (
+        fits_there n rs (Step id) (Ok reply) (step_can log rs id id task refl goes),
+        subst (λ (o : Option Runner). IsCommitOf (unwatched s) o revision attempts output trace (map answer_told answers)) (sym goes.found)
+            (commit_right at revision attempts (failures id log) output trace answers e),
+      );
+      store_is = ap (λ (es : List Entry). led_by es (unwatched s) s.moment) entered
+          ∙ commit_store at revision attempts (failures id log) output trace answers e
+          ∙ sym (ap (λ (o : Option Task). unwatched (with_commit s answers o)) was);
+      count_is = ap (λ (es : List Entry). length es) entered
+          ∙ sym (ap (λ (o : Option Task). length (commit_entry revision output trace answers o)) was);
+      runs = ended_runs (record { event = Step id; reply = Ok reply }) log rs id task (record { begins_is = refl; ends_is = refl; fails_is = refl }) goes told;
+    }
+
+commit_of : (start n : ℕ) (log : List Line) (rs : List Runner) (id runner revision attempts : ℕ) (task : Task) (output : List Value)
+    (trace : List TraceItem) (answers : List ReadAnswer) → RunsAreTold log rs → Goes log rs id task →
+    AreLegal (line_entries start (record { event = Step id; reply = Ok (Committed runner revision attempts output trace answers) }) log)
+    (without_moment (store start log)) →
+    StepIsRight (situation start log id task) (Ok (Committed runner revision attempts output trace answers)) →
+    GoesOn start n log rs (Step id) (Ok (Committed runner revision attempts output trace answers))
+commit_of start n log rs id runner revision attempts task output trace answers told goes legal right =
+    let was : begun id log ≡ Some task = begun_by (is_over id log) (begun id log) task goes.runs in
+    let own : AreLegal (commit_entry revision output trace answers (begun id log)) (without_moment (store start log)) =
+    subst (λ k. AreLegal (commit_entry revision output trace answers (begun k log)) (without_moment (store start log))) right.0 legal in
+    subst (λ k. GoesOn start n log rs (Step id) (Ok (Committed k revision attempts output trace answers))) (sym right.0)
+    (commit_goes start n log rs id revision attempts task output trace answers told goes was (record {
+      right = right.3;
+      legal = (legal_entry revision output trace answers (begun id log) task (store start log) was own).0;
+      attempt = right.1;
+      may_be_sent = right.2;
+    }))
+
+live_goes : (start n : ℕ) (log : List Line) (rs : List Runner) (id : ℕ) (task : Task) (reply : Result Reply Denied) → RunsAreTold log rs → Goes log rs id task →
+    AreLegal (line_entries start (record { event = Step id; reply = reply }) log) (without_moment (store start log)) →
+    StepIsRight (situation start log id task) reply → GoesOn start n log rs (Step id) reply
+live_goes start n log rs id task (Err refusal) told goes legal right = absurd right
+live_goes start n log rs id task (Ok (Fetched runner key mod_rev of_rev revision)) told goes legal right =
+    steps_on start n log rs id (Fetched runner key mod_rev of_rev revision) (record {
+      can = step_can log rs id runner task right.0 goes;
+      replays = tt;
+      none = λ r. refl;
+      store_stays = refl;
+      count_stays = refl;
+      runs_on = same_runs (record { event = Step id; reply = Ok (Fetched runner key mod_rev of_rev revision) }) log rs
+          (record { begins_is = refl; ends_is = refl; fails_is = refl }) told;
+    })
+live_goes start n log rs id task (Ok (Committed runner revision attempts output trace answers)) told goes legal right =
+    commit_of start n log rs id runner revision attempts task output trace answers told goes legal right
+live_goes start n log rs id task (Ok (Conflict runner key seen now)) told goes legal right =
+    steps_on start n log rs id (Conflict runner key seen now) (record {
+      can = step_can log rs id runner task right.0 goes;
+      replays = tt;
+      none = λ r. refl;
+      store_stays = refl;
+      count_stays = refl;
+      runs_on = failed_runs (record { event = Step id; reply = Ok (Conflict runner key seen now) }) log rs id task
+          (record { begins_is = refl; ends_is = refl; fails_is = ap Some right.0 }) goes told;
+    })
+live_goes start n log rs id task (Ok (GaveUp runner attempts key seen now)) told goes legal right =
+    steps_on start n log rs id (GaveUp runner attempts key seen now) (record {
+      can = step_can log rs id runner task right.0 goes;
+      replays = tt;
+      none = λ r. refl;
+      store_stays = refl;
+      count_stays = refl;
+      runs_on = ended_runs (record { event = Step id; reply = Ok (GaveUp runner attempts key seen now) }) log rs id task
+          (record { begins_is = refl; ends_is = ap Some right.0; fails_is = refl }) goes told;
+    })
+live_goes start n log rs id task (Ok (Aborted runner text)) told goes legal right =
+    steps_on start n log rs id (Aborted runner text) (record {
+      can = step_can log rs id runner task right.0 goes;
+      replays = tt;
+      none = λ r. refl;
+      store_stays = refl;
+      count_stays = refl;
+      runs_on = ended_runs (record { event = Step id; reply = Ok (Aborted runner text) }) log rs id task
+          (record { begins_is = refl; ends_is = ap Some right.0; fails_is = refl }) goes told;
+    })
+live_goes start n log rs id task (Ok (Faulted runner fault)) told goes legal right =
+    steps_on start n log rs id (Faulted runner fault) (record {
+      can = step_can log rs id runner task right.0 goes;
+      replays = tt;
+      none = λ r. refl;
+      store_stays = refl;
+      count_stays = refl;
+      runs_on = ended_runs (record { event = Step id; reply = Ok (Faulted runner fault) }) log rs id task
+          (record { begins_is = refl; ends_is = ap Some right.0; fails_is = refl }) goes told;
+    })
+live_goes start n log rs id task (Ok (Ended runner cause)) told goes legal right =
+    steps_on start n log rs id (Ended runner cause) (record {
+      can = step_can log rs id runner task right.0 goes;
+      replays = tt;
+      none = λ r. refl;
+      store_stays = refl;
+      count_stays = refl;
+      runs_on = ended_runs (record { event = Step id; reply = Ok (Ended runner cause) }) log rs id task
+          (record { begins_is = refl; ends_is = ap Some right.0; fails_is = refl }) goes told;
+    })
+live_goes start n log rs id task (Ok (Started runner)) told goes legal right = absurd right
+live_goes start n log rs id task (Ok (TxnDone answer)) told goes legal right = absurd right
+live_goes start n log rs id task (Ok (Granted lease)) told goes legal right = absurd right
+live_goes start n log rs id task (Ok (Kept lease)) told goes legal right = absurd right
+live_goes start n log rs id task (Ok (Revoked lease revision)) told goes legal right = absurd right
+live_goes start n log rs id task (Ok (Advanced moment expired)) told goes legal right = absurd right
+live_goes start n log rs id task (Ok (Watching watcher)) told goes legal right = absurd right
+live_goes start n log rs id task (Ok (Batch watcher upto events)) told goes legal right = absurd right
+live_goes start n log rs id task (Ok (Cancelled watcher)) told goes legal right = absurd right
+
+runner_goes : (start n : ℕ) (log : List Line) (rs : List Runner) (id : ℕ) (o : Option Task) (reply : Result Reply Denied) → RunsAreTold log rs →
+    running id log ≡ o → AreLegal (line_entries start (record { event = Step id; reply = reply }) log) (without_moment (store start log)) →
+    RunnerIsRight start log id o reply → GoesOn start n log rs (Step id) reply
+runner_goes start n log rs id None reply told runs legal right =
+    subst (λ (x : Result Reply Denied). GoesOn start n log rs (Step id) x) (sym right) (none_goes start n log rs id told runs)
+runner_goes start n log rs id (Some task) reply told runs legal right =
+    live_goes start n log rs id task reply told (goes_on log rs id task told runs) legal right
+
+-- ---- calls
+
+call_goes : (start n : ℕ) (log : List Line) (rs : List Runner) (event : WorldEvent) (reply : Result Reply Denied) →
+    can_have rs event (line_told n reply) ≡ true → Replays n (unwatched (store start log)) rs event (line_told n reply) →
+    led_by (told_entries (unwatched (store start log)) rs event (line_told n reply)) (unwatched (store start log))
+    (moment_after (unwatched (store start log)) event) ≡ unwatched (store start (with_line event reply log)) →
+    length (told_entries (unwatched (store start log)) rs event (line_told n reply)) ≡ length (line_entries start (record { event = event; reply = reply }) log) →
+    RunsAreTold (with_line event reply log) (runners_after event (line_told n reply) rs) → GoesOn start n log rs event reply
+call_goes start n log rs event reply can replays store_is count_is runs = record {
+  is_right = (fits_there n rs event reply can, replays);
+  store_is = store_is;
+  count_is = count_is;
+  runs = runs;
+}
+
+event_goes : (start n : ℕ) (log : List Line) (rs : List Runner) (event : WorldEvent) (reply : Result Reply Denied) → RunsAreTold log rs →
+    IsFresh start log (started log + 1) → AreLegal (line_entries start (record { event = event; reply = reply }) log) (without_moment (store start log)) →
+    IsRight start log event reply → GoesOn start n log rs event reply
+event_goes start n log rs (Start program level limit) reply told fresh legal right =
+    start_goes start n log rs (record { program = program; level = level; limit = limit }) reply told fresh right
+event_goes start n log rs (Step id) reply told fresh legal right =
+    runner_goes start n log rs id (running id log) reply told refl legal right
+event_goes start n log rs (Txn txn) reply told fresh legal right =
+    let s : Standing = store start log in
+    let r = transacted s txn in
+    let c = txn_right n s rs txn in
+    subst (λ (x : Result Reply Denied). GoesOn start n log rs (Txn txn) x) (sym right)
+    (call_goes start n log rs (Txn txn) (reply_to TxnDone r) c.fits c.is_line c.store c.count
+    (same_runs (record { event = Txn txn; reply = reply_to TxnDone r }) log rs
+    (says_nothing TxnDone r (λ x. record { begins_is = refl; ends_is = refl; fails_is = refl })) told))
+event_goes start n log rs (Grant id ttl) reply told fresh legal right =
+    let s : Standing = store start log in
+    let r = granted s id ttl in
+    let c = grant_right n s rs id ttl (GrantEntry id ttl s.moment) in
+    subst (λ (x : Result Reply Denied). GoesOn start n log rs (Grant id ttl) x) (sym right)
+    (call_goes start n log rs (Grant id ttl) (reply_to (λ _. Granted id) r) c.fits c.is_line c.store c.count
+    (same_runs (record { event = Grant id ttl; reply = reply_to (λ _. Granted id) r }) log rs
+    (says_nothing (λ _. Granted id) r (λ x. record { begins_is = refl; ends_is = refl; fails_is = refl })) told))
+event_goes start n log rs (Keep id) reply told fresh legal right =
+    let s : Standing = store start log in
+    let r = kept_alive s id in
+    let c = keep_right n s rs id (Renew id s.moment) in
+    subst (λ (x : Result Reply Denied). GoesOn start n log rs (Keep id) x) (sym right)
+    (call_goes start n log rs (Keep id) (reply_to (λ _. Kept id) r) c.fits c.is_line c.store c.count
+    (same_runs (record { event = Keep id; reply = reply_to (λ _. Kept id) r }) log rs
+    (says_nothing (λ _. Kept id) r (λ x. record { begins_is = refl; ends_is = refl; fails_is = refl })) told))
+event_goes start n log rs (Revoke id) reply told fresh legal right =
+    let s : Standing = store start log in
+    let r = revoked s id in
+    let c = revoke_right n s rs id (RevokeEntry id) in
+    subst (λ (x : Result Reply Denied). GoesOn start n log rs (Revoke id) x) (sym right)
+    (call_goes start n log rs (Revoke id) (reply_to (Revoked id) r) c.fits c.is_line c.store c.count
+    (same_runs (record { event = Revoke id; reply = reply_to (Revoked id) r }) log rs
+    (says_nothing (Revoked id) r (λ x. record { begins_is = refl; ends_is = refl; fails_is = refl })) told))
+event_goes start n log rs (Advance moment) reply told fresh legal right =
+    let s : Standing = store start log in
+    let a = advanced s moment in
+    let c = advance_right n s rs moment in
+    subst (λ (x : Result Reply Denied). GoesOn start n log rs (Advance moment) x) (sym right)
+    (call_goes start n log rs (Advance moment) (advance_reply moment a.expired a.cause) c.fits c.is_line c.store c.count
+    (same_runs (record { event = Advance moment; reply = advance_reply moment a.expired a.cause }) log rs
+    (advance_says_nothing moment a.expired a.cause) told))
+event_goes start n log rs (WatchKey key from) reply told fresh legal right =
+    let s : Standing = store start log in
+    let r = watched s (Key key) from in
+    subst (λ (x : Result Reply Denied). GoesOn start n log rs (WatchKey key from) x) (sym right)
+    (call_goes start n log rs (WatchKey key from) (reply_to Watching r) (watch_key_fits n rs key from r) tt
+    (watch_stays s (watch s.history (Key key) from s.watchers)) refl
+    (same_runs (record { event = WatchKey key from; reply = reply_to Watching r }) log rs
+    (says_nothing Watching r (λ x. record { begins_is = refl; ends_is = refl; fails_is = refl })) told))
+event_goes start n log rs (WatchRange first end from) reply told fresh legal right =
+    let s : Standing = store start log in
+    let r = watched s (Range first end) from in
+    subst (λ (x : Result Reply Denied). GoesOn start n log rs (WatchRange first end from) x) (sym right)
+    (call_goes start n log rs (WatchRange first end from) (reply_to Watching r) (watch_range_fits n rs first end from r) tt
+    (watch_stays s (watch s.history (Range first end) from s.watchers)) refl
+    (same_runs (record { event = WatchRange first end from; reply = reply_to Watching r }) log rs
+    (says_nothing Watching r (λ x. record { begins_is = refl; ends_is = refl; fails_is = refl })) told))
+event_goes start n log rs (Poll watcher most) reply told fresh legal right =
+    let s : Standing = store start log in
+    let r = polled s watcher most in
+    subst (λ (x : Result Reply Denied). GoesOn start n log rs (Poll watcher most) x) (sym right)
+    (call_goes start n log rs (Poll watcher most) (reply_to (batch_reply watcher) r) (poll_fits n rs watcher most (same_number watcher) r) tt
+    (poll_stays s (poll s.history watcher most s.watchers)) refl
+    (same_runs (record { event = Poll watcher most; reply = reply_to (batch_reply watcher) r }) log rs
+    (says_nothing (batch_reply watcher) r (λ x. record { begins_is = refl; ends_is = refl; fails_is = refl })) told))
+event_goes start n log rs (Cancel watcher) reply told fresh legal right =
+    let s : Standing = store start log in
+    let r = cancelled s watcher in
+    subst (λ (x : Result Reply Denied). GoesOn start n log rs (Cancel watcher) x) (sym right)
+    (call_goes start n log rs (Cancel watcher) (reply_to (λ _. Cancelled watcher) r) (cancel_fits n rs watcher (same_number watcher) r) tt
+    (cancel_stays s watcher (watcher_at watcher s.watchers)) refl
+    (same_runs (record { event = Cancel watcher; reply = reply_to (λ _. Cancelled watcher) r }) log rs
+    (says_nothing (λ _. Cancelled watcher) r (λ x. record { begins_is = refl; ends_is = refl; fails_is = refl })) told))
+
+-- ---- all lines
+
+-- what a line adds to the entries is legal where it is entered
+line_legal : (start : ℕ) (log : List Line) (w : World) (event : WorldEvent) → Follows start log w → (s : FollowsStep start log event (step event w)) →
+    AreLegal (line_entries start (record { event = event; reply = (step event w).reply }) log) (without_moment (store start log))
+line_legal start log w event f s =
+    let line : Line = record { event = event; reply = (step event w).reply } in
+    let all : AreLegal (entries_told start log ++ line_entries start line log) (opening start) =
+    subst (λ (es : List Entry). AreLegal es (opening start)) s.follows.told s.follows.legal in
+    let there : replay (entries_told start log) (opening start) ≡ without_moment (store start log) =
+    ap (λ (es : List Entry). replay es (opening start)) (sym f.at.told) ∙ f.at.replays in
+    subst (AreLegal (line_entries start line log)) there (rest_legal (entries_told start log) (line_entries start line log) (opening start) all)
+
+lines_right : (start n : ℕ) (events : List WorldEvent) (log : List Line) (w : World) (rs : List Runner) → CommitLaws → Follows start log w →
+    RunsAreTold log rs →
+    AreRight n (point_at start log rs) events
+    (event_lines n (replies_to events w) ++ end_lines (world_after events w).standing (length (world_after events w).entries))
+lines_right start n [] log w rs laws f told = λ i. end_lines (f.standing i) (length (f.at.told i))
+lines_right start n (e ∷ es) log w rs laws f told =
+    let s : FollowsStep start log e (step e w) = step_follows start log e w laws f in
+    let reply : Result Reply Denied = (step e w).reply in
+    let g : GoesOn start n log rs e reply =
+    event_goes start n log rs e reply told (f.at.fresh (started log + 1) (omega arith)) (line_legal start log w e f s) s.follows.right.0 in
+    let next : World = (step e w).next in
+    let lines : List ReportLine =
+    event_lines (suc n) (replies_to es next) ++ end_lines (world_after es next).standing (length (world_after es next).entries) in (
+      g.is_right,
+      subst (λ (p : Point). AreRight (suc n) p es lines) (sym (next_point start n log rs e reply g))
+          (lines_right start (suc n) es (with_line e reply log) next (runners_after e (line_told n reply) rs) laws
+          (record { standing = s.standing; at = s.follows }) g.runs),
+    )
+
+-- from the opening of a world on
+pub all_right : (start : ℕ) (events : List WorldEvent) → CommitLaws →
+    AreRight 1 (point_at start [] []) events
+    (event_lines 1 (replies_to events (opened start))
+    ++ end_lines (world_after events (opened start)).standing (length (world_after events (opened start)).entries))
+all_right start events laws = lines_right start 1 events [] (opened start) [] laws (opened_follows start) none_are_told

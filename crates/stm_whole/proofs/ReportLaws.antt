@@ -1,13 +1,11 @@
 -- A check of a whole report says yes exactly where the text is the scenario's report.
 use Rattle.std.proofs.Common.{◌≡◌, ℕ, ◌≤◌, List, length, Option, Some, None, Result, Ok, Err, IfSome}
-use Rattle.std.proofs.Common.{refl, sym, ap, subst, ◌∙◌, true≢false, unwrap_or}
+use Rattle.std.proofs.Common.{refl, sym, ap, subst, ◌∙◌, true≢false}
 use Rattle.stm_json.specs.declared.limits.TheConstants.{MOST_BYTES}
 use Rattle.stm_json.specs.Outcome.{Outcome}
-use Rattle.stm_world.specs.World.{opened, world_after, replies_to}
 use Rattle.stm_texts.specs.declared.scenario.Scenario.{Scenario}
 use Rattle.stm_texts.specs.Reading.{scenario_in}
 use Rattle.stm_report.specs.Script.{IsRunReport, IsReportOf}
-use Rattle.stm_report.proofs.OneReport.{one_report}
 use Rattle.stm_check.specs.declared.judging.CheckFault.{CheckFault}
 use Rattle.stm_check.specs.declared.judging.CheckFault.TheVariants.{OutOfMemory, BadScenario, BadReport, Device}
 use Rattle.stm_check.specs.Judging.{Sources}
@@ -41,8 +39,7 @@ scenario_or (Err fault) other = other
 
 one_of_scenario : (s : Scenario) (a b : List ℕ) → IsRunReport s a → IsRunReport s b → a ≡ b
 unfolding IsRunReport
-one_of_scenario s a b first second =
-    one_report (world_after s.events (opened (unwrap_or s.opening 1))) (replies_to s.events (opened (unwrap_or s.opening 1))) a b first second
+one_of_scenario s a b first second = first ∙ sym second
 
 one_of_reading : (reading : Outcome Scenario) (a b : List ℕ) → IsReportOf reading a → IsReportOf reading b → a ≡ b
 one_of_reading reading a b (s, reads, first) (other, reads_other, second) =

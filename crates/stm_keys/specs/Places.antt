@@ -1,6 +1,7 @@
 -- The version chains: which revisions changed a key, and what the key is at them.
 use Rattle.std.specs.Prelude.{◌≡◌, ℕ, nat_lt, List, [], ◌∷◌, length, Bool, true, false, Option, Some, None, is_some, IfSome, ◌<◌, ◌≤◌, reverse}
 use Rattle.std.specs.Prelude.{if◌then◌else◌, get_or, map, slice_get, string_bytes}
+use Rattle.std.specs.Option.{option_or}
 use Rattle.std.specs.HashMap.{HashMap}
 use Rattle.std.specs.Map.{keys_of}
 use Rattle.std.specs.declared.string.String.{String}
@@ -43,6 +44,11 @@ places_of key (events ∷ older) = with_place (is_some (event_about key events))
 abbrev pub newest_below : ℕ → List ℕ → Option ℕ
 newest_below count [] = None
 newest_below count (place ∷ older) = if nat_lt place count then Some place else newest_below count older
+
+-- the oldest place that is not below a count
+abbrev pub oldest_from : ℕ → List ℕ → Option ℕ
+oldest_from count [] = None
+oldest_from count (place ∷ older) = option_or (oldest_from count older) (if nat_lt place count then None else Some place)
 
 -- the event of a key in the revision at a place, which changed it; the oldest revision stands first
 abbrev pub event_from : List (List Event) → List ℕ → Option ℕ → Option Event

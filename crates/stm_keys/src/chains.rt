@@ -4,7 +4,7 @@ ghost use Rattle.std.specs.Prelude.{option_copied, option_map, get_or, Bool, ifâ
 ghost use Rattle.std.specs.List.Sorted.{IsNonDecreasing};
 ghost use Rattle.indexmap.specs.IndexMap.{get_by_text};
 ghost use Rattle.stm_keys.specs.Events.{key_of_event, event_about, is_put, AreApart};
-ghost use Rattle.stm_keys.specs.Places.{places_in, room_in, with_place, newest_below, event_from, newest_event, state_from, found_in, AreSearchable, StandFirst, KeepsPresent, is_left, names_of, place_of};
+ghost use Rattle.stm_keys.specs.Places.{places_in, room_in, with_place, newest_below, oldest_from, event_from, newest_event, state_from, found_in, AreSearchable, StandFirst, KeepsPresent, is_left, names_of, place_of};
 
 use crate::event::{Event, find_event_at};
 use crate::events::Events;
@@ -51,6 +51,17 @@ fn find_version(chains: &Chains, key: &str, count: usize) -> Option<Version>
     match chains.get(key) {
         None => None,
         Some(chain) => chain.newest_below(count),
+    }
+}
+
+/// The oldest place that is not below a count, in the chain of a key.
+pub(crate) fn find_place_from(chains: &Chains, key: &str, count: usize) -> Option<usize>
+    requires { IsNonDecreasing (reverse (places_in (get_by_text chains.now key.now))) }
+    ensures { result â‰¡ oldest_from count (places_in (get_by_text chains.now key.now)) }
+{
+    match chains.get(key) {
+        None => None,
+        Some(chain) => chain.oldest_from(count),
     }
 }
 

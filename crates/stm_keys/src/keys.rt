@@ -5,11 +5,12 @@ ghost use Rattle.stm_history.specs.History.{History, opened_at, now, add_revisio
 ghost use Rattle.stm_history.specs.Walk.{version_of};
 ghost use Rattle.stm_keys.specs.Events.{event_of, events_of, event_about, key_of_event, after_event, AreApart};
 ghost use Rattle.stm_keys.specs.Places.{places_in, with_place, StandFirst, KeepsPresent, is_left, names_of};
+ghost use Rattle.stm_keys.specs.NextChange.{next_change};
 ghost use Rattle.stm_keys.specs.Keys.{key_read, DeletePresent, HasSmallNumbers, ListsPresent};
 
 use crate::chains::{
-    Chains, NO_HINT, add_places, find_newest, find_now, find_present, find_state, hint_of,
-    make_room,
+    Chains, NO_HINT, add_places, find_newest, find_now, find_place_from, find_present, find_state,
+    hint_of, make_room,
 };
 use crate::event::Event;
 use crate::events::Events;
@@ -369,6 +370,19 @@ impl Keys {
         ensures { IfOk result (λ events. events.items ≡ events_of self.now.history revision) }
     {
         copy_events(*self.revisions.allocator(), self.events_at(revision))
+    }
+
+    /// The first revision above a number that changes a key, `None` where no later one does.
+    ///
+    /// It is found by halves among the revisions that changed the key, and takes no memory.
+    pub fn next_change(&self, key: &str, above: u64) -> Option<u64>
+        ensures { result ≡ next_change self.now.history key.now above }
+    {
+        let count = above.saturating_sub(self.opening) as usize;
+        match find_place_from(&self.chains, key, count) {
+            None => None,
+            Some(place) => Some(self.opening + 1 + place as u64),
+        }
     }
 
     /// The events of the last revision, in the order of operations: none where there is no revision yet.

@@ -36,7 +36,7 @@ impl Model for Places {
 }
 
 impl Places {
-    ghost use Rattle.stm_keys.specs.Places.{newest_below, place_of};
+    ghost use Rattle.stm_keys.specs.Places.{newest_below, oldest_from, place_of};
 
     /// A chain of no place, and room for one.
     pub(crate) fn with_room(alloc: Global) -> Result<Places, AllocError>
@@ -89,5 +89,20 @@ impl Places {
             return None;
         }
         Some(self.versions[older - 1])
+    }
+
+    /// The oldest place that is not below a count, found by halves.
+    pub(crate) fn oldest_from(&self, count: usize) -> Option<usize>
+        requires { IsNonDecreasing (reverse self.now.places) }
+        ensures { result ≡ oldest_from count self.now.places }
+    {
+        let older = self
+            .versions
+            .as_slice()
+            .partition_point(|version| version.place < count);
+        if older >= self.versions.len() {
+            return None;
+        }
+        Some(self.versions[older].place)
     }
 }

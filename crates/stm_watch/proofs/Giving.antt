@@ -1,6 +1,6 @@
 -- The batch of a poll, one revision after the other.
-use Rattle.std.proofs.Common.{◌≡◌, ℕ, ◌+◌, ◌≤◌, max, Bool, true, false, cond}
-use Rattle.std.proofs.Common.{suc, List, [], ◌∷◌, ◌++◌, length, take, refl, sym, ◌∙◌, ap, arith}
+use Rattle.std.proofs.Common.{◌≡◌, ℕ, ◌+◌, ◌≤◌, max, Bool, false, cond, Option, Some, None, is_some}
+use Rattle.std.proofs.Common.{List, [], ◌∷◌, ◌++◌, length, take, refl, sym, ◌∙◌, ap, arith}
 use Rattle.std.proofs.Common.{append-nil, append_assoc, length-append, take_all}
 use Rattle.std.specs.Prelude.{nat_le}
 use Rattle.std.proofs.Math.Nat.{le-max_right}
@@ -11,7 +11,7 @@ use Rattle.stm_keys.specs.declared.event.Event.{Event}
 use Rattle.stm_watch.specs.declared.told.Told.{Told}
 use Rattle.stm_watch.specs.declared.watched.Watching.{Watching}
 use Rattle.stm_watch.specs.declared.watchers.Batch.{Batch}
-use Rattle.stm_watch.specs.Pending.{told_above, pending, is_pending, is_some_told, events_told, last_told, batch_of, after_poll}
+use Rattle.stm_watch.specs.Pending.{told_above, pending, first_told, first_pending, events_told, last_told, batch_of, after_poll}
 use Rattle.stm_watch.proofs.Telling.{nothing_above}
 
 -- so many of these revisions are given with their events, up to one of them, and the rest is what is told above that
@@ -70,36 +70,62 @@ whole_batch most h w count events upto so_far room none =
     ∙ made_whole most w.seen (now h) given long
     ∙ ap (λ (es : List Event). batch (es) (max w.seen (now h))) (sym so_far.2)
 
--- ---- where nothing is pending after the batch
+take_front : (given rest : List Told) (n : ℕ) → length given ≡ n → take n (given ++ rest) ≡ given
+take_front given rest n long = ap (λ (m : ℕ). take m (given ++ rest)) (sym long) ∙ by_given given
+  where
+    by_given : (ts : List Told) → take (length ts) (ts ++ rest) ≡ ts
+    by_given [] = refl
+    by_given (t ∷ ts) = ap (λ (us : List Told). t ∷ us) (by_given ts)
 
-pub no_more : (most : ℕ) (h : History) (w : Watching) (count : ℕ) (events : List Event) (upto : ℕ) →
-    AreGiven (pending h w) (above_of h w) w.seen count events upto → count ≤ most → above_of h w upto ≡ []
-    → is_pending h (after_poll most h w) ≡ false
-no_more most h w count events upto so_far room none =
-    ap (λ (b : Batch). is_some_told (above_of h w b.upto)) (whole_batch most h w count events upto so_far room none)
-    ∙ ap is_some_told (nothing_above h.opening (max w.seen (now h)) w.watched h.revisions (le-max_right w.seen (now h)))
+made_part : (most seen counter : ℕ) (given : List Told) (t : Told) (rest : List Told) → length given ≡ most →
+    made most seen counter (given ++ t ∷ rest) ≡ batch (events_told given) (last_told seen given)
+made_part most seen counter given t rest long =
+    ap (λ (ts : List Told). batch (events_told ts) (cond (nat_le (length (given ++ t ∷ rest)) most) (max seen counter) (last_told seen ts)))
+    (take_front given (t ∷ rest) most long)
+    ∙ ap (λ (b : Bool). batch (events_told given) (cond b (max seen counter) (last_told seen given)))
+    (lt-leb (length (given ++ t ∷ rest)) most (omega (arith, long, length-append given (t ∷ rest))))
 
--- ---- a poll that need not look
+part_batch : (most : ℕ) (h : History) (w : Watching) (count : ℕ) (events : List Event) (upto : ℕ) (t : Told) (rest : List Told) →
+    AreGiven (pending h w) (above_of h w) w.seen count events upto → count ≡ most → above_of h w upto ≡ t ∷ rest
+    → batch_of most h w ≡ batch events upto
+part_batch most h w count events upto t rest so_far full some =
+    let given : List Told = so_far.0 in
+    let all : pending h w ≡ given ++ t ∷ rest = so_far.4 ∙ ap (λ (ts : List Told). given ++ ts) some in
+    ap (made most w.seen (now h)) all
+    ∙ made_part most w.seen (now h) given t rest (so_far.1 ∙ full)
+    ∙ ap (λ (es : List Event). batch es (last_told w.seen given)) (sym so_far.2)
+    ∙ ap (batch events) (sym so_far.3)
 
-none_told : (ts : List Told) → is_some_told ts ≡ false → ts ≡ []
+-- ---- the batch, and what is pending after it
+
+none_told : (ts : List Told) → None ≡ first_told ts → ts ≡ []
 none_told [] none = refl
 none_told (t ∷ ts) none = absurd (cc)
 
-nothing_given : (h : History) (w : Watching) → AreGiven (pending h w) (above_of h w) w.seen 0 [] w.seen
-nothing_given h w = ([], refl, refl, refl, refl)
+pub none_is : (o : Option ℕ) → is_some o ≡ false → o ≡ None
+none_is None none = refl
+none_is (Some n) none = absurd (cc)
 
--- where nothing is pending, nothing is after a poll
-pub idle_stays : (most : ℕ) (h : History) (w : Watching) → is_pending h w ≡ false → is_pending h (after_poll most h w) ≡ false
-idle_stays most h w idle = no_more most h w 0 [] w.seen (nothing_given h w) (omega arith) (none_told (pending h w) idle)
+some_told : (ts : List Told) (number : ℕ) → Some number ≡ first_told ts → (t : Told) × (rest : List Told) × (ts ≡ t ∷ rest)
+some_told [] number some = absurd (cc)
+some_told (t ∷ ts) number some = (t, ts, refl)
 
-made_of_none : (seen counter : ℕ) (ts : List Told) → is_some_told ts ≡ true → made 0 seen counter ts ≡ batch [] seen
-made_of_none seen counter [] some = absurd (cc)
-made_of_none seen counter (t ∷ ts) some =
-    ap (λ (b : Bool). batch [] (cond b (max seen counter) seen)) (lt-leb (suc (length ts)) 0 (omega arith))
+module _ (most : ℕ) (h : History) (w : Watching) (count : ℕ) (events : List Event) (upto : ℕ)
+    (so_far : AreGiven (pending h w) (above_of h w) w.seen count events upto) (room : count ≤ most) where
+  -- the batch has all
+  pub all_given : None ≡ first_told (above_of h w upto) → batch events (max w.seen (now h)) ≡ batch_of most h w
+  all_given none = sym (whole_batch most h w count events upto so_far room (none_told (above_of h w upto) none))
 
--- where something is pending, the batch of no revisions tells up to what was seen
-pub batch_of_none : (h : History) (w : Watching) → is_pending h w ≡ true → batch_of 0 h w ≡ batch [] w.seen
-batch_of_none h w some = made_of_none w.seen (now h) (pending h w) some
+  pub none_after : None ≡ first_told (above_of h w upto) → None ≡ first_pending h (after_poll most h w)
+  none_after none =
+      sym (ap first_told (nothing_above h.opening (max w.seen (now h)) w.watched h.revisions (le-max_right w.seen (now h))))
+      ∙ ap (λ (b : Batch). first_told (above_of h w b.upto)) (all_given none)
 
-pub ready_stays : (h : History) (w : Watching) → is_pending h w ≡ true → is_pending h (after_poll 0 h w) ≡ true
-ready_stays h w some = ap (λ (b : Batch). is_some_told (above_of h w b.upto)) (batch_of_none h w some) ∙ some
+  -- more is pending
+  pub part_given : most ≤ count → (number : ℕ) → Some number ≡ first_told (above_of h w upto) → batch events upto ≡ batch_of most h w
+  part_given full number some =
+      let more = some_told (above_of h w upto) number some in
+      sym (part_batch most h w count events upto more.0 more.1 so_far (omega (arith, room, full)) more.2)
+
+  pub next_after : most ≤ count → (number : ℕ) → Some number ≡ first_told (above_of h w upto) → Some number ≡ first_pending h (after_poll most h w)
+  next_after full number some = some ∙ ap (λ (b : Batch). first_told (above_of h w b.upto)) (part_given full number some)

@@ -2,7 +2,7 @@
 use Rattle.std.proofs.Common.{◌≡◌, ℕ, zero, suc, ◌+◌, ◌-◌, ◌<◌, Bool, true, false, cond}
 use Rattle.std.proofs.Common.{List, [], ◌∷◌, ◌++◌, length, map, take, drop, slice_index_or, slice_set}
 use Rattle.std.proofs.Common.{Option, Some, None, option_map, Result, Ok, Err, refl, sym, ◌∙◌, ap, subst, arith}
-use Rattle.std.proofs.Common.{◌||◌, ◌&&◌}
+use Rattle.std.proofs.Common.{◌&&◌, is_some}
 use Rattle.std.specs.Prelude.{nat_eq, nat_lt}
 use Rattle.std.proofs.lemmas.List.{map-set}
 use Rattle.std.proofs.Math.ListN.{get_or-map}
@@ -11,15 +11,15 @@ use Rattle.stm_history.specs.History.{History, now, add_revision}
 use Rattle.stm_watch.specs.declared.watched.Watching.{Watching}
 use Rattle.stm_watch.specs.declared.watched.Watcher.{Watcher}
 use Rattle.stm_watch.specs.Keys.{is_any_watched}
-use Rattle.stm_watch.specs.Touch.{touch}
-use Rattle.stm_watch.specs.Pending.{after_poll}
+use Rattle.stm_watch.specs.Touch.{touch, first_with}
+use Rattle.stm_watch.specs.Pending.{after_poll, pending}
 use Rattle.stm_watch.specs.Calls.{watchings, watcher_at, Stands, StandFor, is_ready, is_ready_at, IsNextReady, is_pending_for, IsNextPending}
 use Rattle.stm_watch.specs.Calls.{poll, poll_found, PollTells, Step}
 use Rattle.stm_watch.specs.Slots.{SlotPolls}
 use Rattle.stm_watch.specs.declared.watchers.Batch.{Batch}
 use Rattle.stm_watch.specs.declared.refusal.PollRefusal.{PollRefusal}
 use Rattle.stm_watch.specs.declared.refusal.PollRefusal.TheVariants.{NoWatcher, OutOfMemory}
-use Rattle.stm_watch.proofs.Telling.{pending_with}
+use Rattle.stm_watch.proofs.Telling.{first_after, some_first}
 
 -- ---- touching
 
@@ -40,8 +40,8 @@ touched_stands : (h : History) (changes : List Change) (revision : ℕ) (o : Opt
     → Stands (add_revision h changes) (option_map (touch revision changes) o)
 touched_stands h changes revision None is stands = tt
 touched_stands h changes revision (Some w) is stands =
-    ap (λ b. b || (nat_lt w.watching.seen revision && is_any_watched w.watching.watched changes)) stands
-    ∙ sym (pending_with h changes w.watching revision is)
+    ap (first_with revision (nat_lt w.watching.seen revision && is_any_watched w.watching.watched changes)) stands
+    ∙ sym (first_after h changes w.watching revision is)
 
 pub touched_stand : (h : History) (changes : List Change) (revision : ℕ) (ws : List (Option Watcher)) → revision ≡ now h + 1 → StandFor h ws
     → StandFor (add_revision h changes) (map (option_map (touch revision changes)) ws)
@@ -89,7 +89,7 @@ stands_at h (w ∷ ws) (suc i) stand = stands_at h ws i stand.1
 
 ready_is_pending : (h : History) (o : Option Watcher) → Stands h o → is_pending_for h (option_map (λ (w : Watcher). w.watching) o) ≡ is_ready o
 ready_is_pending h None stands = refl
-ready_is_pending h (Some w) stands = sym stands
+ready_is_pending h (Some w) stands = sym (ap is_some stands ∙ some_first (pending h w.watching))
 
 -- ---- the next one
 

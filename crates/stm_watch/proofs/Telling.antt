@@ -1,23 +1,28 @@
 -- The revisions that a watcher is told of, one after the other.
 use Rattle.std.proofs.Common.{◌≡◌, ℕ, ◌+◌, ◌≤◌, ◌<◌, max, Bool, true, false, cond, ◌||◌, ◌&&◌}
 use Rattle.std.proofs.Common.{List, [], ◌∷◌, ◌++◌, length, map, suc, Option, Some, None, is_some}
-use Rattle.std.proofs.Common.{refl, sym, ◌∙◌, ap, arith, append-nil, append_assoc, inl, inr, eqb-true}
-use Rattle.std.specs.Prelude.{nat_lt, nat_eq}
+use Rattle.std.proofs.Common.{refl, sym, ◌∙◌, ap, arith, append-nil, append_assoc, inl, inr, eqb-true, ne_eqb, eq-eqb}
+use Rattle.std.specs.Prelude.{nat_lt, nat_eq, bytes_eq}
+use Rattle.std.specs.Option.{option_or}
 use Rattle.std.specs.List.{list_any}
-use Rattle.std.proofs.lemmas.Bool.{cases_lt, eqb-false, lt-ltb, le-ltb}
+use Rattle.std.proofs.lemmas.Bool.{cases_Bool, cases_lt, eqb-false, lt-ltb, le-ltb, ltb-true}
+use Rattle.std.proofs.lemmas.Option.{same_Some}
+use Rattle.std.proofs.lemmas.Slice.Eq.{bytes_eq-Decides}
 use Rattle.stm_history.specs.declared.change.Change.{Change}
 use Rattle.stm_history.specs.declared.change.Change.TheVariants.{Put, Del}
 use Rattle.stm_history.specs.declared.key_state.KeyState.{KeyState}
-use Rattle.stm_history.specs.History.{History, number_of_last, now, add_revision, key_of, key_after}
+use Rattle.stm_history.specs.History.{History, number_of_last, now, add_revision, key_of, change_of, key_after}
 use Rattle.stm_keys.specs.declared.event.Event.{Event}
 use Rattle.stm_keys.specs.declared.event.Event.TheVariants.{Put as PutEvent, Delete as DeleteEvent}
 use Rattle.stm_keys.specs.Events.{event_of, events_above, events_numbered, events_of, key_of_event, change_of_event}
+use Rattle.stm_keys.specs.NextChange.{changed_above, first_change}
 use Rattle.stm_watch.specs.declared.told.Told.{Told}
 use Rattle.stm_watch.specs.declared.watched.Watched.{Watched}
+use Rattle.stm_watch.specs.declared.watched.Watched.TheVariants.{Key}
 use Rattle.stm_watch.specs.declared.watched.Watching.{Watching}
 use Rattle.stm_watch.specs.Keys.{is_watched, is_any_watched}
-use Rattle.stm_watch.specs.Walk.{IsNextNumber}
-use Rattle.stm_watch.specs.Pending.{matching, told_at, told_above, is_some_told, is_pending}
+use Rattle.stm_watch.specs.Pending.{matching, told_at, told_above, first_told, first_pending, is_some_told}
+use Rattle.stm_watch.specs.Touch.{first_with}
 
 -- what is told of the last of these revisions
 abbrev last_part : ℕ → ℕ → Watched → List Change → List (List Change) → Bool → List Told
@@ -130,21 +135,7 @@ module _ (h : History) (watched : Watched) (above passed : ℕ) (found : List Ev
   none_is_passed none =
       next_told ∙ ap (λ (ts : List Told). ts ++ told_above h.opening (passed + 1) watched h.revisions) (told_at_none (passed + 1) found none)
 
-pub no_number_next : (h : History) (watched : Watched) (above : ℕ) (o : Option ℕ) → IsNextNumber h watched above o → is_some o ≡ false
-    → told_above h.opening above watched h.revisions ≡ []
-no_number_next h watched above None next is = next
-no_number_next h watched above (Some number) next is = absurd (cc)
-
 -- ---- whether something is told
-
-pub next_is_pending : (h : History) (watched : Watched) (seen : ℕ) (o : Option ℕ) → IsNextNumber h watched seen o
-    → is_some o ≡ is_pending h (record { watched = watched; seen = seen })
-next_is_pending h watched seen None next = ap is_some_told (sym next)
-next_is_pending h watched seen (Some number) next = ap is_some_told (sym next.1)
-
-is_some_append : (ts us : List Told) → is_some_told (ts ++ us) ≡ (is_some_told ts || is_some_told us)
-is_some_append [] us = refl
-is_some_append (t ∷ ts) us = refl
 
 key_of_shown : (n : ℕ) (before : List ℕ → Option KeyState) (c : Change) → key_of_event (event_of n before c) ≡ key_of c
 key_of_shown n before (Put key value lease) = refl
@@ -166,10 +157,6 @@ any_told number n before watched (c ∷ cs) =
     by_test true others = refl
     by_test false others = others
 
-some_of : (b : Bool) (ts : List Told) → is_some_told (cond b ts []) ≡ (b && is_some_told ts)
-some_of true ts = refl
-some_of false ts = refl
-
 key_shown : (e : Event) → key_of_event e ≡ key_of (change_of_event e)
 key_shown (PutEvent key state) = refl
 key_shown (DeleteEvent key revision) = refl
@@ -182,15 +169,141 @@ any_shown watched (e ∷ es) =
     ap (λ (k : List ℕ). is_watched watched k || list_any (λ (x : Event). is_watched watched (key_of_event x)) es) (key_shown e)
     ∙ ap (λ b. is_watched watched (key_of (change_of_event e)) || b) (any_shown watched es)
 
--- one more revision makes pending what it changes and what was not seen
-pub pending_with : (h : History) (changes : List Change) (w : Watching) (revision : ℕ) → revision ≡ now h + 1 →
-    is_pending (add_revision h changes) w ≡ (is_pending h w || (nat_lt w.seen revision && is_any_watched w.watched changes))
-pending_with h changes w revision is =
+-- ---- the first revision that is told
+
+pub some_first : (ts : List Told) → is_some (first_told ts) ≡ is_some_told ts
+some_first [] = refl
+some_first (t ∷ ts) = refl
+
+first_append : (ts us : List Told) → first_told (ts ++ us) ≡ option_or (first_told ts) (first_told us)
+first_append [] us = refl
+first_append (t ∷ ts) us = refl
+
+first_at : (number : ℕ) (found : List Event) → first_told (told_at number found) ≡ cond (is_some_told (told_at number found)) (Some number) None
+first_at number [] = refl
+first_at number (e ∷ es) = refl
+
+first_of_last : (b : Bool) (number : ℕ) (found : List Event) (any : Bool) → is_some_told (told_at number found) ≡ any
+    → first_told (cond b (told_at number found) []) ≡ cond (b && any) (Some number) None
+first_of_last true number found any same = first_at number found ∙ ap (λ c. cond c (Some number) None) same
+first_of_last false number found any same = refl
+
+-- one more revision is the first where none was pending, and it changes something that was not seen
+pub first_after : (h : History) (changes : List Change) (w : Watching) (revision : ℕ) → revision ≡ now h + 1 →
+    first_pending (add_revision h changes) w ≡ first_with revision (nat_lt w.seen revision && is_any_watched w.watched changes) (first_pending h w)
+first_after h changes w revision is =
     let n = number_of_last h.opening (changes ∷ h.revisions) in
     let same : n ≡ revision = omega arith in
-    is_some_append (told_above h.opening w.seen w.watched h.revisions) (last_part h.opening n w.watched changes h.revisions (nat_lt w.seen n))
-    ∙ ap (λ b. is_pending h w || b) (
-    some_of (nat_lt w.seen n) (told_at n (matching w.watched (events_above h.opening changes h.revisions)))
-    ∙ ap (λ b. nat_lt w.seen n && b) (any_told n n (λ key. key_after h.opening key h.revisions) w.watched changes)
-    ∙ ap (λ (m : ℕ). nat_lt w.seen m && is_any_watched w.watched changes) same
+    first_append (told_above h.opening w.seen w.watched h.revisions) (last_part h.opening n w.watched changes h.revisions (nat_lt w.seen n))
+    ∙ ap (option_or (first_pending h w)) (
+    first_of_last (nat_lt w.seen n) n (matching w.watched (events_above h.opening changes h.revisions)) (is_any_watched w.watched changes)
+    (any_told n n (λ key. key_after h.opening key h.revisions) w.watched changes)
+    ∙ ap (λ (m : ℕ). cond (nat_lt w.seen m && is_any_watched w.watched changes) (Some m) None) same
     )
+
+-- ---- the next change of a key
+
+bytes_turned : (a b : List ℕ) → bytes_eq a b ≡ bytes_eq b a
+bytes_turned a b = elim (cases_Bool (bytes_eq a b)) [
+  | inl same ↦
+      let is : a ≡ b = (bytes_eq-Decides a b).0 same in
+      ap (λ (x : List ℕ). bytes_eq a x) (sym is) ∙ ap (λ (x : List ℕ). bytes_eq x a) is
+  | inr differs ↦ elim (cases_Bool (bytes_eq b a)) [
+    | inl same ↦ let never = sym differs ∙ (bytes_eq-Decides a b).1 (sym ((bytes_eq-Decides b a).0 same)) in absurd (cc)
+    | inr also ↦ differs ∙ sym also
+  ]
+]
+
+any_of_key : (key : List ℕ) (cs : List Change) → is_any_watched (Key key) cs ≡ is_some (change_of key cs)
+any_of_key key [] = refl
+any_of_key key (c ∷ cs) =
+    ap (λ b. b || is_any_watched (Key key) cs) (bytes_turned key (key_of c))
+    ∙ by_test (bytes_eq (key_of c) key) (change_of key cs) (any_of_key key cs)
+  where
+    by_test : (b : Bool) (o : Option Change) → is_any_watched (Key key) cs ≡ is_some o
+        → (b || is_any_watched (Key key) cs) ≡ is_some (cond b (Some c) o)
+    by_test true o same = refl
+    by_test false o same = same
+
+-- it is the next revision of which a watcher of the key is told
+pub next_of_key : (opening above : ℕ) (key : List ℕ) (revisions : List (List Change)) →
+    first_change opening above key revisions ≡ first_told (told_above opening above (Key key) revisions)
+next_of_key opening above key [] = refl
+next_of_key opening above key (changes ∷ older) =
+    let n = number_of_last opening (changes ∷ older) in
+    let before : Option ℕ = first_told (told_above opening above (Key key) older) in
+    ap (λ (o : Option ℕ). option_or o (changed_above above key n changes)) (next_of_key opening above key older)
+    ∙ ap (λ b. option_or before (cond (nat_lt above n && b) (Some n) None)) (sym (any_of_key key changes))
+    ∙ ap (option_or before)
+    (sym (first_of_last (nat_lt above n) n (matching (Key key) (events_above opening changes older)) (is_any_watched (Key key) changes)
+    (any_told n n (λ k. key_after opening k older) (Key key) changes)))
+    ∙ sym (first_append (told_above opening above (Key key) older) (last_part opening n (Key key) changes older (nat_lt above n)))
+
+-- ---- what is told of the first revision, and what is told after it
+
+abbrev told : ℕ → List Event → Told
+told number events = record { number = number; events = events }
+
+pub record IsHead (opening seen : ℕ) (watched : Watched) (revisions : List (List Change)) (number : ℕ) : Type 0 where
+  pub later : seen < number
+  pub reached : number ≤ number_of_last opening revisions
+  pub is : told_above opening seen watched revisions
+      ≡ told number (matching watched (events_numbered opening number revisions)) ∷ told_above opening number watched revisions
+
+module _ (opening seen : ℕ) (watched : Watched) (changes : List Change) (older : List (List Change)) (number : ℕ) where
+  abbrev last : ℕ
+  last = number_of_last opening (changes ∷ older)
+
+  abbrev shown : List Event
+  shown = events_above opening changes older
+
+  -- it is one of the older ones
+  head_older : IsHead opening seen watched older number → IsHead opening seen watched (changes ∷ older) number
+  head_older head =
+      let apart : nat_eq last number ≡ false = ne_eqb last number (λ e. absurd (omega (arith, e, head.reached))) in
+      record {
+        later = head.later;
+        reached = omega (arith, head.reached);
+        is =
+            ap (λ (ts : List Told). ts ++ last_part opening last watched changes older (nat_lt seen last)) head.is
+            ∙ ap (λ b. told number (matching watched (events_numbered opening number older))
+            ∷ (told_above opening number watched older ++ last_part opening last watched changes older b))
+            (lt-ltb seen last (omega (arith, head.later, head.reached)) ∙ sym (lt-ltb number last (omega (arith, head.reached))))
+            ∙ ap (λ b. told number (matching watched (cond b shown (events_numbered opening number older)))
+            ∷ told_above opening number watched (changes ∷ older)) (sym apart);
+      }
+
+  -- it is the newest
+  head_newest : (found : List Event) → matching watched shown ≡ found → told_above opening seen watched older ≡ [] → nat_lt seen last ≡ true
+      → first_told (told_at last found) ≡ Some number → IsHead opening seen watched (changes ∷ older) number
+  head_newest [] found none later first = absurd (cc)
+  head_newest (e ∷ es) found none later first =
+      let same : last ≡ number = same_Some last number first in
+      record {
+        later = omega (arith, ltb-true seen last later, same);
+        reached = omega (arith, same);
+        is =
+            ap (λ (ts : List Told). ts ++ last_part opening last watched changes older (nat_lt seen last)) none
+            ∙ ap (last_part opening last watched changes older) later
+            ∙ ap (told_at last) found
+            ∙ ap (λ (x : List Event). told last x ∷ []) (sym found)
+            ∙ ap (λ (m : ℕ). told m (matching watched shown) ∷ []) same
+            ∙ ap (λ b. told number (matching watched (cond b shown (events_numbered opening number older))) ∷ []) (sym (eq-eqb last number same))
+            ∙ ap (λ (ts : List Told). told number (matching watched (events_numbered opening number (changes ∷ older))) ∷ ts)
+            (sym (nothing_above opening number watched (changes ∷ older) (omega (arith, same))));
+      }
+
+  head_by : (ts : List Told) → told_above opening seen watched older ≡ ts
+      → (first_told ts ≡ Some number → IsHead opening seen watched older number)
+      → (b : Bool) → nat_lt seen last ≡ b → first_told (ts ++ last_part opening last watched changes older b) ≡ Some number
+      → IsHead opening seen watched (changes ∷ older) number
+  head_by (t ∷ ts) same before b later first = head_older (before first)
+  head_by [] same before true later first = head_newest (matching watched shown) refl same later first
+  head_by [] same before false later first = absurd (cc)
+
+pub head_is : (opening seen : ℕ) (watched : Watched) (revisions : List (List Change)) (number : ℕ)
+    → first_told (told_above opening seen watched revisions) ≡ Some number → IsHead opening seen watched revisions number
+head_is opening seen watched [] number is = absurd (cc)
+head_is opening seen watched (changes ∷ older) number is =
+    head_by opening seen watched changes older number (told_above opening seen watched older) refl (head_is opening seen watched older number)
+    (nat_lt seen (number_of_last opening (changes ∷ older))) refl is

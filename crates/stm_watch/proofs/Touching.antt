@@ -20,7 +20,7 @@ use Rattle.stm_watch.specs.Keys.{is_watched, is_any_watched}
 use Rattle.stm_watch.specs.declared.page.Page.{Page}
 use Rattle.stm_watch.specs.Kept.{Holds, AreListed, list_in, watched_of, places_on, places_at}
 use Rattle.stm_watch.specs.Pages.{IsAny, IsOneOf, StandsOn, ReachesOn, IsTouched, AreEntered, entry_of}
-use Rattle.stm_watch.specs.Touch.{touch, touch_key, touch_at, touch_each}
+use Rattle.stm_watch.specs.Touch.{touch, touch_key, touch_at, touch_each, first_with}
 use Rattle.stm_watch.proofs.Entered.{any-left, any-right, any-parts, any-map}
 use Rattle.stm_watch.proofs.Marked.{read_at, slot_of_map}
 
@@ -30,12 +30,12 @@ touched_twice : (revision : ℕ) (key : List ℕ) (o : Option Watcher) →
     option_map (touch_key revision key) (option_map (touch_key revision key) o) ≡ option_map (touch_key revision key) o
 touched_twice revision key None = refl
 touched_twice revision key (Some w) =
-    ap (λ b. Some (record w { ready = b })) (twice w.ready (nat_lt w.watching.seen revision && is_watched w.watching.watched key))
+    ap (λ (o : Option ℕ). Some (record w { first = o })) (twice w.first (nat_lt w.watching.seen revision && is_watched w.watching.watched key))
   where
-    twice : (a b : Bool) → ((a || b) || b) ≡ (a || b)
-    twice true b = refl
-    twice false true = refl
-    twice false false = refl
+    twice : (o : Option ℕ) (b : Bool) → first_with revision b (first_with revision b o) ≡ first_with revision b o
+    twice (Some n) b = refl
+    twice None true = refl
+    twice None false = refl
 
 -- nothing changes past the last place
 pub touched_past : (revision : ℕ) (key : List ℕ) (i : ℕ) (ws : List (Option Watcher)) → length ws ≤ i → ws ≡ touch_at revision key i ws
@@ -46,16 +46,16 @@ touched_past revision key i ws past = set_past ws i (option_map (touch_key revis
     set_past (y ∷ xs) zero x past = absurd (omega arith)
     set_past (y ∷ xs) (suc j) x past = ap (λ l. y ∷ l) (set_past xs j x (omega arith))
 
+never : (revision : ℕ) (o : Option ℕ) (b : Bool) → first_with revision (b && false) o ≡ o
+never revision (Some n) b = refl
+never revision None true = refl
+never revision None false = refl
+
 -- a watcher of other keys stays as it is
 untouched : (revision : ℕ) (key : List ℕ) (w : Watcher) → is_watched w.watching.watched key ≡ false → touch_key revision key w ≡ w
 untouched revision key w not_watched =
-    ap (λ b. record w { ready = w.ready || (nat_lt w.watching.seen revision && b) }) not_watched
-    ∙ ap (λ b. record w { ready = b }) (never w.ready (nat_lt w.watching.seen revision))
-  where
-    never : (a b : Bool) → (a || (b && false)) ≡ a
-    never true b = refl
-    never false true = refl
-    never false false = refl
+    ap (λ b. record w { first = first_with revision (nat_lt w.watching.seen revision && b) w.first }) not_watched
+    ∙ ap (λ (o : Option ℕ). record w { first = o }) (never revision w.first (nat_lt w.watching.seen revision))
 
 module _ (revision : ℕ) (key : List ℕ) where
   -- ---- several places
@@ -312,18 +312,18 @@ touch_one_more revision e es (Some w) =
     let wants = nat_lt w.watching.seen revision in
     let any = is_any_watched watched (map change_of_event es) in
     let one = is_watched watched (key_of (change_of_event e)) in
-    ap (λ k. Some (record w { ready = (w.ready || (wants && any)) || (wants && is_watched watched k) })) (sym (shown_key e))
-    ∙ ap (λ b. Some (record w { ready = b })) (joined w.ready wants any one)
-    ∙ ap (λ b. Some (record w { ready = w.ready || (wants && b) }))
+    ap (λ k. Some (record w { first = first_with revision (wants && is_watched watched k) (first_with revision (wants && any) w.first) })) (sym (shown_key e))
+    ∙ ap (λ (o : Option ℕ). Some (record w { first = o })) (joined w.first wants any one)
+    ∙ ap (λ b. Some (record w { first = first_with revision (wants && b) w.first }))
     (sym (ap (is_any_watched watched) (map-append change_of_event es (e ∷ []))
     ∙ list_any-append (λ c. is_watched watched (key_of c)) (map change_of_event es) (change_of_event e ∷ [])
     ∙ ap (λ b. any || b) (last one)))
   where
-    joined : (a b c d : Bool) → ((a || (b && c)) || (b && d)) ≡ (a || (b && (c || d)))
-    joined true b c d = refl
-    joined false true true d = refl
-    joined false true false d = refl
-    joined false false c d = refl
+    joined : (o : Option ℕ) (b c d : Bool) → first_with revision (b && d) (first_with revision (b && c) o) ≡ first_with revision (b && (c || d)) o
+    joined (Some n) b c d = refl
+    joined None true true d = refl
+    joined None true false d = refl
+    joined None false c d = refl
 
     last : (b : Bool) → (b || false) ≡ b
     last true = refl
@@ -342,10 +342,5 @@ pub touch_none : (revision : ℕ) (ws : List (Option Watcher)) → ws ≡ map (o
 touch_none revision [] = refl
 touch_none revision (None ∷ ws) = ap (λ l. None ∷ l) (touch_none revision ws)
 touch_none revision (Some w ∷ ws) =
-    ap (λ b. Some (record w { ready = b }) ∷ ws) (sym (never w.ready (nat_lt w.watching.seen revision)))
+    ap (λ (o : Option ℕ). Some (record w { first = o }) ∷ ws) (sym (never revision w.first (nat_lt w.watching.seen revision)))
     ∙ ap (λ l. Some (touch revision [] w) ∷ l) (touch_none revision ws)
-  where
-    never : (a b : Bool) → (a || (b && false)) ≡ a
-    never true b = refl
-    never false true = refl
-    never false false = refl

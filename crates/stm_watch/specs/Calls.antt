@@ -3,7 +3,7 @@
 -- Watchers have the numbers 1, 2, 3, .. in the order of their making, and a cancelled one keeps its place.
 use Rattle.std.specs.Prelude.{◌≡◌, ℕ, ◌+◌, ◌-◌, nat_eq, Bool, true, false, if◌then◌else◌}
 use Rattle.std.specs.Prelude.{List, [], ◌∷◌, ◌++◌, length, map, slice_index_or, slice_set}
-use Rattle.std.specs.Prelude.{Option, Some, None, option_map, IsOk, Result, Ok, Err}
+use Rattle.std.specs.Prelude.{Option, Some, None, is_some, option_map, IsOk, Result, Ok, Err}
 use Rattle.stm_history.specs.History.{History}
 use Rattle.stm_watch.specs.declared.watched.Watched.{Watched}
 use Rattle.stm_watch.specs.declared.watched.Watching.{Watching}
@@ -14,7 +14,7 @@ use Rattle.stm_watch.specs.declared.refusal.WatchRefusal.TheVariants.{EmptyKey, 
 use Rattle.stm_watch.specs.declared.refusal.PollRefusal.{PollRefusal}
 use Rattle.stm_watch.specs.declared.refusal.PollRefusal.TheVariants.{NoWatcher, OutOfMemory as PollOutOfMemory}
 use Rattle.stm_watch.specs.Keys.{first_key}
-use Rattle.stm_watch.specs.Pending.{watching_from, is_pending, batch_of, after_poll}
+use Rattle.stm_watch.specs.Pending.{watching_from, is_pending, first_pending, batch_of, after_poll}
 
 -- ---- the watchers as the rules see them
 
@@ -57,23 +57,24 @@ PollTells defined (Ok batch) next = defined ≡ Ok (record { answer = batch; nex
 PollTells defined (Err NoWatcher) next = defined ≡ Err NoWatcher
 PollTells defined (Err PollOutOfMemory) next = IsOk defined
 
--- ---- the watchers as they are kept, each marked where it is ready
+-- ---- the watchers as they are kept, each with the first revision of which events of it are pending
 
 abbrev pub watchings : List (Option Watcher) → List (Option Watching)
 watchings ws = map (option_map (λ (w : Watcher). w.watching)) ws
 
 abbrev pub Stands : History → Option Watcher → Type 0
 Stands h None = Unit {0}
-Stands h (Some w) = w.ready ≡ is_pending h w.watching
+Stands h (Some w) = w.first ≡ first_pending h w.watching
 
--- The watchers stand for a history: each is ready exactly where events of it are pending.
+-- The watchers stand for a history: each has the first revision of which events of it are pending, if there is one.
 abbrev pub StandFor : History → List (Option Watcher) → Type 0
 StandFor h [] = Unit {0}
 StandFor h (w ∷ ws) = Stands h w × StandFor h ws
 
+-- a watcher is ready where it has such a revision
 abbrev pub is_ready : Option Watcher → Bool
 is_ready None = false
-is_ready (Some w) = w.ready
+is_ready (Some w) = is_some w.first
 
 abbrev pub is_ready_at : ℕ → List (Option Watcher) → Bool
 is_ready_at id ws = is_ready (watcher_at id ws)

@@ -1,5 +1,5 @@
 -- How lists and the numbers on them agree. No public clause cites this module.
-use Rattle.std.specs.Prelude.{◌≡◌, ◌≢◌, ◌⊎◌, ℕ, Bool, true, false, List, [], ◌∷◌, length, Option, Some, None, option_map, map, ◌<◌, slice_index_or}
+use Rattle.std.specs.Prelude.{◌≡◌, ◌≢◌, ◌⊎◌, ℕ, Bool, true, false, List, [], ◌∷◌, length, Option, Some, None, is_some, option_map, map, ◌<◌, slice_index_or}
 use Rattle.std.specs.Vec.{vec_len, vec_capacity}
 use Rattle.stm_lists.specs.Lists.{Lists, entries_at, HasList}
 use Rattle.indexmap.specs.IndexMap.{get_by_text}
@@ -29,7 +29,7 @@ pub record AreMarked (marks : List (Option Mark)) (lists : Lists ℕ) (ready idl
 
 -- the marks of these watchers
 abbrev pub readiness_of : List (Option Watcher) → List (Option Bool)
-readiness_of ws = map (option_map (λ (w : Watcher). w.ready)) ws
+readiness_of ws = map (option_map (λ (w : Watcher). is_some w.first)) ws
 
 -- what each of these watchers watches
 abbrev pub watched_of : List (Option Watcher) → List (Option Watched)

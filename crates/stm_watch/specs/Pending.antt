@@ -3,7 +3,7 @@
 -- etcd's API reference, "Watch": `start_revision` of a `WatchCreateRequest` is inclusive, and 0 stands for the next revision; a
 -- `WatchResponse` has the events in the order of their revisions, those of one revision are never parted, and none is dropped or told twice.
 -- That a batch has at most so many revisions, and tells up to which one, is this store's own.
-use Rattle.std.specs.Prelude.{ℕ, ◌-◌, max, nat_eq, nat_le, nat_lt, Bool, true, false, if◌then◌else◌, List, [], ◌∷◌, ◌++◌, length, take}
+use Rattle.std.specs.Prelude.{ℕ, ◌-◌, max, nat_eq, nat_le, nat_lt, Bool, true, false, if◌then◌else◌, List, [], ◌∷◌, ◌++◌, length, take, Option, Some, None}
 use Rattle.std.specs.List.{filter, flat_map}
 use Rattle.stm_history.specs.declared.change.Change.{Change}
 use Rattle.stm_history.specs.History.{History, number_of_last, now}
@@ -40,6 +40,15 @@ told_above opening seen watched (changes ∷ older) =
 -- what is pending: the history's events that match, of the revisions that were not seen
 abbrev pub pending : History → Watching → List Told
 pending h w = told_above h.opening w.seen w.watched h.revisions
+
+-- the number of the first of these revisions
+abbrev pub first_told : List Told → Option ℕ
+first_told [] = None
+first_told (t ∷ ts) = Some t.number
+
+-- the first revision of which something is pending
+abbrev pub first_pending : History → Watching → Option ℕ
+first_pending h w = first_told (pending h w)
 
 abbrev pub is_some_told : List Told → Bool
 is_some_told [] = false

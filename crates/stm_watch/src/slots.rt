@@ -5,7 +5,7 @@ ghost use Rattle.stm_watch.specs.Touch.{wants, touch_at};
 ghost use Rattle.stm_watch.specs.Calls.{Stands, is_ready, IsNextReady};
 ghost use Rattle.stm_watch.specs.Slots.{SlotPolls, PlacePolls, made_ready};
 
-use crate::gather::{Gathered, gather_for};
+use crate::gather::{Gathered, gather};
 use crate::readiness::Readiness;
 use crate::refusal::PollRefusal;
 use crate::watched::{Watched, Watcher};
@@ -21,16 +21,16 @@ fn wants(slot: &Option<Watcher>, revision: u64, key: &Text) -> bool
 {
     match slot {
         None => false,
-        Some(watcher) => !watcher.ready && watcher.watching.wants(revision, key),
+        Some(watcher) => watcher.first.is_none() && watcher.watching.wants(revision, key),
     }
 }
 
-/// Marks what stands at a place as ready.
-fn mark_ready(slot: &mut Option<Watcher>)
-    ensures { slot.new ≡ option_map made_ready slot.old }
+/// Makes what stands at a place ready from a revision on.
+fn make_ready(slot: &mut Option<Watcher>, revision: u64)
+    ensures { slot.new ≡ option_map (made_ready revision) slot.old }
 {
     if let Some(watcher) = slot {
-        watcher.ready = true;
+        watcher.first = Some(revision);
     }
 }
 
@@ -47,7 +47,7 @@ fn is_ready(slot: &Option<Watcher>) -> bool
 {
     match slot {
         None => false,
-        Some(watcher) => watcher.ready,
+        Some(watcher) => watcher.first.is_some(),
     }
 }
 
@@ -64,9 +64,9 @@ pub(crate) fn poll_slot(
     let Some(watcher) = slot else {
         return Err(PollRefusal::NoWatcher);
     };
-    let Gathered { batch, more } = gather_for(alloc, keys, watcher, most)?;
+    let Gathered { batch, next } = gather(alloc, keys, &watcher.watching, watcher.first, most)?;
     watcher.watching.seen = batch.upto;
-    watcher.ready = more;
+    watcher.first = next;
     Ok(batch)
 }
 
@@ -143,7 +143,7 @@ impl Slots {
         ensures err { OnErr result (self.new ≡ self.old) }
     {
         self.watchers.reserve(1)?;
-        self.readiness.push(watcher.ready)?;
+        self.readiness.push(watcher.first.is_some())?;
         self.watchers.push_reserved(Some(watcher));
         Ok(())
     }
@@ -165,7 +165,7 @@ impl Slots {
             return;
         }
         if wants(&self.watchers[index], revision, key) {
-            mark_ready(&mut self.watchers[index]);
+            make_ready(&mut self.watchers[index], revision);
             self.readiness.set(index, true);
         }
     }

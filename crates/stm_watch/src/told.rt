@@ -1,9 +1,9 @@
 //! What watchers are told of a revision.
 ghost use Rattle.std.specs.Prelude.{◌≡◌, ◌++◌, [], ◌∷◌, IfOk, OnOk};
-ghost use Rattle.stm_watch.specs.Pending.{matching, is_some_told, told_at, is_pending};
-ghost use Rattle.stm_watch.specs.Walk.{IsNext, IsNextNumber};
+ghost use Rattle.stm_watch.specs.Pending.{matching, is_some_told, told_at};
+ghost use Rattle.stm_watch.specs.Walk.{first_above};
 
-use crate::watched::{Watched, Watching};
+use crate::watched::Watched;
 use std::alloc::{AllocError, Global};
 use stm_keys::{Event, Keys, Sequence};
 
@@ -43,7 +43,7 @@ fn push_matching(
 }
 
 /// Copies of those of these events that are of keys that are watched.
-fn copy_matching(
+pub(crate) fn copy_matching(
     alloc: Global,
     watched: &Watched,
     events: &[Event],
@@ -57,9 +57,9 @@ fn copy_matching(
     Ok(copies)
 }
 
-/// The first revision above one of which a watcher is told something. It takes no memory.
-pub(crate) fn next_number(keys: &Keys, watched: &Watched, above: u64) -> Option<u64>
-    ensures { IsNextNumber keys.now.history watched.now above result }
+/// The first revision above one of which a watcher of a range is told something. It takes no memory.
+fn next_in_range(keys: &Keys, watched: &Watched, above: u64) -> Option<u64>
+    ensures { result ≡ first_above keys.now.history watched.now above }
 {
     let mut passed = above.max(keys.opening());
     while passed < keys.revision() {
@@ -71,28 +71,13 @@ pub(crate) fn next_number(keys: &Keys, watched: &Watched, above: u64) -> Option<
     None
 }
 
-/// What a watcher is told of the first revision above one of which it is told something.
-pub(crate) fn next_told(
-    alloc: Global,
-    keys: &Keys,
-    watched: &Watched,
-    above: u64,
-) -> Result<Option<Told>, AllocError>
-    ensures { IfOk result (IsNext keys.now.history watched.now above) }
+/// The first revision above one of which a watcher is told something: of a key by halves among the revisions that
+/// changed it, of a range by a walk over all. It takes no memory.
+pub(crate) fn next_number(keys: &Keys, watched: &Watched, above: u64) -> Option<u64>
+    ensures { result ≡ first_above keys.now.history watched.now above }
 {
-    let Some(number) = next_number(keys, watched, above) else {
-        return Ok(None);
-    };
-    let events = copy_matching(alloc, watched, keys.events_at(number))?;
-    Ok(Some(Told {
-        number,
-        events: Sequence::of(events),
-    }))
-}
-
-/// Whether events are pending for a watcher. It takes no memory.
-pub(crate) fn is_told(keys: &Keys, watching: &Watching) -> bool
-    ensures { result ≡ is_pending keys.now.history watching.now }
-{
-    next_number(keys, &watching.watched, watching.seen).is_some()
+    match watched {
+        Watched::Key(key) => keys.next_change(key.as_str(), above),
+        Watched::Range { .. } => next_in_range(keys, watched, above),
+    }
 }

@@ -52,11 +52,11 @@ impl Watching {
     }
 }
 
-/// A watcher, and whether it stands among those that are ready.
+/// A watcher, and the first revision of which events are pending for it: it is ready where there is one.
 #[derive(Debug, Drop)]
 pub struct Watcher {
     /// What it watches, and how far it has been told.
     pub watching: Watching,
-    /// Whether events are pending.
-    pub ready: bool,
+    /// The first revision of which events are pending, `None` where none are.
+    pub first: Option<u64>,
 }

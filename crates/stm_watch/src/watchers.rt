@@ -9,7 +9,7 @@ use crate::index::Index;
 use crate::ranges::Ranges;
 use crate::refusal::{NoWatcher, PollRefusal, WatchRefusal};
 use crate::slots::Slots;
-use crate::told::is_told;
+use crate::told::next_number;
 use crate::touch::touch_all;
 use crate::watched::{Watched, Watcher, Watching};
 use std::alloc::{AllocError, Global};
@@ -27,8 +27,8 @@ pub struct Batch {
 
 /// The watchers of a store.
 ///
-/// Contracts see them by number, 1 first, each with the mark whether it is ready; nothing stands where one was
-/// cancelled. They stand for a history where each is ready exactly where events of it are pending.
+/// Contracts see them by number, 1 first, each with the first revision of which events of it are pending, if there is
+/// one; nothing stands where one was cancelled. They stand for a history where each has the one of that history.
 #[derive(Drop)]
 pub struct Watchers {
     slots: Slots,
@@ -90,8 +90,8 @@ impl Watchers {
         ensures err { OnErr result (self.new ≡ self.old) }
     {
         let watching = Watching::starting(watched, from, keys);
-        let ready = is_told(keys, &watching);
-        self.place(Watcher { watching, ready })?;
+        let first = next_number(keys, &watching.watched, watching.seen);
+        self.place(Watcher { watching, first })?;
         Ok(self.slots.len() as u64)
     }
 

@@ -1,4 +1,4 @@
-use Rattle.std.proofs.Common.{◌≡◌, ◌∙◌, ◌<◌, Option, Some, ap, sym, subst, length, option_map, slice_set}
+use Rattle.std.proofs.Common.{◌≡◌, ◌∙◌, ◌<◌, Option, Some, ap, sym, subst, length, option_map, slice_set, is_some}
 use Rattle.std.proofs.lemmas.List.{map-set, get_or-set_same}
 use Rattle.stm_watch.specs.Calls.{is_ready}
 use Rattle.stm_watch.specs.Slots.{SlotPolls}
@@ -18,4 +18,4 @@ invariant_of-self-2 c =
     c.set.ensures
     ∙ ap (λ l. slice_set l c.args.index (Some c.is_ready.result)) c.self.invariant
     ∙ ap (slice_set _ c.args.index) mark
-    ∙ sym (map-set (option_map (λ (w : Watcher). w.ready)) c.self.inside.watchers.items c.args.index slot)
+    ∙ sym (map-set (option_map (λ (w : Watcher). is_some w.first)) c.self.inside.watchers.items c.args.index slot)

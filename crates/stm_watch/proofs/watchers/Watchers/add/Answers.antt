@@ -8,4 +8,4 @@ pub returns-clause-stand : goal.returns-clause-stand
 returns-clause-stand c =
     let h : History = c.args.keys.now.history in
     subst (StandFor h) (sym c.in_ok-place.ensures.ok)
-    (stand_with h c.args.self.now _ c.requires c.is_told-ready.ensures)
+    (stand_with h c.args.self.now _ c.requires c.next_number-first.ensures)

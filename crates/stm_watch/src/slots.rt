@@ -1,5 +1,5 @@
 //! The places of watchers: watcher 1 stands first.
-ghost use Rattle.std.specs.Prelude.{◌≡◌, ◌<◌, ◌++◌, [], ◌∷◌, Some, None, OnOk, OnErr, IsSome, is_some, true, false, option_map, slice_set, slice_index_or, length};
+ghost use Rattle.std.specs.Prelude.{◌≡◌, ◌<◌, ◌++◌, [], ◌∷◌, Some, None, OnOk, OnErr, IfOk, IsSome, is_some, true, false, option_map, slice_set, slice_index_or, length};
 ghost use Rattle.stm_watch.specs.Touch.{wants, touch_at};
 ghost use Rattle.stm_watch.specs.Calls.{Stands};
 ghost use Rattle.stm_watch.specs.Slots.{SlotPolls, PlacePolls, made_ready};

@@ -10,7 +10,7 @@ use Rattle.stm_watch.specs.declared.watched.Watched.TheVariants.{Key, Range}
 use Rattle.stm_watch.specs.declared.watched.Watcher.{Watcher}
 use Rattle.stm_watch.specs.Kept.{watched_of}
 use Rattle.stm_watch.specs.Pages.{IsAny, HasEntry, Keeps, IsEntered, AreEntered, entry_of}
-use Rattle.stm_watch.proofs.Marked.{within, slot_of_more}
+use Rattle.stm_watch.proofs.At.{within, slot_of_more}
 
 -- ---- one of a list
 

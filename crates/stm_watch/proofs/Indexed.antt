@@ -1,26 +1,30 @@
 -- The index of watchers after each change.
-use Rattle.std.proofs.Common.{◌≡◌, ◌⊎◌, ℕ, ◌<◌, ◌+◌, cond, List, [], ◌∷◌, ◌++◌, length, Option, Some, None, IsSome, unwrap_or, slice_index_or, slice_set}
-use Rattle.std.proofs.Common.{refl, sym, ap, subst, ◌∙◌, inl, inr, length-append}
+use Rattle.std.proofs.Common.{◌≡◌, ◌≢◌, ◌⊎◌, ℕ, ◌<◌, ◌+◌, ◌-◌, nat_eq, ne_eqb, arith, Bool, true, false, cond, List, [], ◌∷◌, ◌++◌, length, Option, Some, None, IsSome, is_some}
+use Rattle.std.proofs.Common.{unwrap_or, slice_index_or, slice_set, refl, sym, ap, subst, ◌∙◌, inl, inr, length-append}
 use Rattle.std.proofs.lemmas.Bool.{cases_Bool, cases_eq}
 use Rattle.std.proofs.lemmas.List.{get_or-set_same, get_or-set_other, get_or_append_left, length-set}
 use Rattle.std.proofs.lemmas.Option.{same_Some}
 use Rattle.std.proofs.lemmas.Slice.Eq.{bytes_eq-Decides}
 use Rattle.std.proofs.Math.Seq.{get_or-append_seam}
 use Rattle.std.specs.Str.{bytes_eq}
-use Rattle.stm_lists.specs.Lists.{Lists, Place, list_at, entries_at, HasList, HasNode, StandsAt, Updates}
+use Rattle.stm_lists.specs.Lists.{Lists, Place, list_at, entries_at, HasList, HasNode, StandsAt, Updates, first_node}
 use Rattle.stm_watch.specs.declared.watched.Watched.{Watched}
 use Rattle.stm_watch.specs.declared.watched.Watched.TheVariants.{Key, Range}
-use Rattle.stm_watch.specs.Kept.{Holds, AreListed, list_in}
-use Rattle.stm_watch.proofs.Linked.{place_on, more_new, more_kept, more_from, more_there, less_kept, less_from, less_there}
-use Rattle.stm_watch.proofs.Marked.{within, read_at, slot_of_more}
+use Rattle.stm_watch.specs.declared.watched.Watcher.{Watcher}
+use Rattle.stm_watch.specs.Calls.{is_ready, IsNextReady}
+use Rattle.stm_watch.specs.Kept.{Holds, AreListed, AreCovered, list_in, list_among}
+use Rattle.stm_watch.proofs.At.{within, read_at, slot_of_more, set_twice}
+use Rattle.stm_watch.proofs.Linked.{place_on, front_on, no_front, more_new, more_kept, more_from, more_there, less_kept, less_from, less_there}
 
 pub some_is : {A : Type 0} (o : Option A) → IsSome o → (x : A) × (o ≡ Some x)
 some_is None some = absurd (cc)
 some_is (Some x) some = (x, refl)
 
+-- ---- the lists of watchers
+
 -- nothing but room changed
-pub listed_same : (old new : Lists ℕ) (lists_of new_lists_of : Watched → Option ℕ) (nodes new_nodes : List (Option ℕ)) (ws : List (Option Watched))
-    → new.lists ≡ old.lists → ((w : Watched) → new_lists_of w ≡ lists_of w) → new_nodes ≡ nodes → AreListed old lists_of nodes ws
+listed_same : (old new : Lists ℕ) (lists_of new_lists_of : Watcher → Option ℕ) (nodes new_nodes : List (Option ℕ)) (ws : List (Option Watcher))
+    → new.lists ≡ old.lists → ((w : Watcher) → new_lists_of w ≡ lists_of w) → new_nodes ≡ nodes → AreListed old lists_of nodes ws
     → AreListed new new_lists_of new_nodes ws
 listed_same old new lists_of new_lists_of nodes new_nodes ws same_lists same_for same_nodes listed =
     record {
@@ -37,15 +41,21 @@ listed_same old new lists_of new_lists_of nodes new_nodes ws same_lists same_for
             subst (λ ls. Holds (unwrap_or (slice_index_or ls had.0 None) []) had.1 i) (sym same_lists) had.4,
           );
       only = λ l n i h.
-          ap (λ ns. slice_index_or ns i None) same_nodes
-          ∙ listed.only l n i (subst (λ ls. Holds (unwrap_or (slice_index_or ls l None) []) n i) same_lists h);
+          let had = listed.only l n i (subst (λ ls. Holds (unwrap_or (slice_index_or ls l None) []) n i) same_lists h) in (
+            ap (λ ns. slice_index_or ns i None) same_nodes
+                ∙ had.0,
+            had.1,
+            had.2,
+            same_for had.1
+                ∙ had.3,
+          );
     }
 
--- a key gets a list
-pub listed_new : (old new : Lists ℕ) (lists_of new_lists_of : Watched → Option ℕ) (nodes : List (Option ℕ)) (ws : List (Option Watched)) (list : ℕ)
+-- there is one list more
+listed_new : (old new : Lists ℕ) (lists_of new_lists_of : Watcher → Option ℕ) (nodes : List (Option ℕ)) (ws : List (Option Watcher)) (list : ℕ)
     → list_at old list ≡ None → Updates old new list (Some [])
-    → ((w : Watched) (l : ℕ) → lists_of w ≡ Some l → new_lists_of w ≡ Some l)
-    → ((w : Watched) (l : ℕ) → new_lists_of w ≡ Some l → (l ≡ list) ⊎ (lists_of w ≡ Some l))
+    → ((w : Watcher) (l : ℕ) → lists_of w ≡ Some l → new_lists_of w ≡ Some l)
+    → ((w : Watcher) (l : ℕ) → new_lists_of w ≡ Some l → (l ≡ list) ⊎ (lists_of w ≡ Some l))
     → AreListed old lists_of nodes ws → AreListed new new_lists_of nodes ws
 listed_new old new lists_of new_lists_of nodes ws list fresh updates to from listed =
     record {
@@ -60,7 +70,9 @@ listed_new old new lists_of new_lists_of nodes ws list fresh updates to from lis
       only = λ l n i h. elim (cases_eq l list) [
         | inl same ↦ absurd (subst (λ (xs : List (ℕ × ℕ)). Holds xs n i) (ap (λ o. unwrap_or o []) updates.changed)
             (subst (λ (k : ℕ). Holds (entries_at new k) n i) same h))
-        | inr differs ↦ listed.only l n i (subst (λ (xs : List (ℕ × ℕ)). Holds xs n i) (ap (λ o. unwrap_or o []) (updates.others l differs)) h)
+        | inr differs ↦
+            let had = listed.only l n i (subst (λ (xs : List (ℕ × ℕ)). Holds xs n i) (ap (λ o. unwrap_or o []) (updates.others l differs)) h) in
+            (had.0, had.1, had.2, to had.1 l had.3)
       ];
     }
   where
@@ -77,32 +89,8 @@ listed_new old new lists_of new_lists_of nodes ws list fresh updates to from lis
       | inr differs ↦ subst (λ (xs : List (ℕ × ℕ)). Holds xs n i) (sym (ap (λ o. unwrap_or o []) (updates.others l differs))) h
     ]
 
--- which lists there are after a key got one
-pub lists_to : (of_key new_of_key : List ℕ → Option ℕ) (ranges list : ℕ) (key : List ℕ) → of_key key ≡ None
-    → ((q : List ℕ) → new_of_key q ≡ cond (bytes_eq key q) (Some list) (of_key q))
-    → (w : Watched) (l : ℕ) → list_in of_key ranges w ≡ Some l → list_in new_of_key ranges w ≡ Some l
-lists_to of_key new_of_key ranges list key none keys (Range first end) l is = is
-lists_to of_key new_of_key ranges list key none keys (Key q) l is = elim (cases_Bool (bytes_eq key q)) [
-  | inl same ↦ let never = ap of_key (sym ((bytes_eq-Decides key q).0 same)) ∙ none in absurd (cc)
-  | inr differs ↦ keys q ∙ ap (λ b. cond b (Some list) (of_key q)) differs ∙ is
-]
-
-pub lists_from : (of_key new_of_key : List ℕ → Option ℕ) (ranges list : ℕ) (key : List ℕ)
-    → ((q : List ℕ) → new_of_key q ≡ cond (bytes_eq key q) (Some list) (of_key q))
-    → (w : Watched) (l : ℕ) → list_in new_of_key ranges w ≡ Some l → (l ≡ list) ⊎ (list_in of_key ranges w ≡ Some l)
-lists_from of_key new_of_key ranges list key keys (Range first end) l is = inr is
-lists_from of_key new_of_key ranges list key keys (Key q) l is = elim (cases_Bool (bytes_eq key q)) [
-  | inl same ↦ inl (sym (same_Some list l (sym (ap (λ b. cond b (Some list) (of_key q)) same) ∙ sym (keys q) ∙ is)))
-  | inr differs ↦ inr (sym (ap (λ b. cond b (Some list) (of_key q)) differs) ∙ sym (keys q) ∙ is)
-]
-
-pub lists_same : (of_key new_of_key : List ℕ → Option ℕ) (ranges : ℕ) → ((q : List ℕ) → new_of_key q ≡ of_key q)
-    → (w : Watched) → list_in new_of_key ranges w ≡ list_in of_key ranges w
-lists_same of_key new_of_key ranges same (Key q) = same q
-lists_same of_key new_of_key ranges same (Range first end) = refl
-
 -- one watcher more
-pub listed_more : (old new : Lists ℕ) (lists_of : Watched → Option ℕ) (nodes : List (Option ℕ)) (ws : List (Option Watched)) (list node : ℕ) (w : Watched)
+listed_more : (old new : Lists ℕ) (lists_of : Watcher → Option ℕ) (nodes : List (Option ℕ)) (ws : List (Option Watcher)) (list node : ℕ) (w : Watcher)
     → AreListed old lists_of nodes ws → lists_of w ≡ Some list
     → Updates old new list (Some (entries_at old list ++ (node, length nodes) ∷ []))
     → AreListed new lists_of (nodes ++ Some node ∷ []) (ws ++ Some w ∷ [])
@@ -134,17 +122,29 @@ listed_more old new lists_of nodes ws list node w listed is updates =
       ];
       only = λ l n i h. elim (more_from old new list node (length nodes) updates l n i h) [
         | inl before ↦
-            let had = listed.only l n i before in
-            get_or_append_left nodes (Some node ∷ []) None i (within nodes i (subst IsSome (sym had) refl)) ∙ had
-        | inr now ↦
-            ap (λ (k : ℕ). slice_index_or (nodes ++ Some node ∷ []) k None) now.2
-            ∙ get_or-append_seam nodes (Some node) [] None
-            ∙ ap Some (sym now.1)
+            let had = listed.only l n i before in (
+              get_or_append_left nodes (Some node ∷ []) None i (within nodes i (subst IsSome (sym had.0) refl))
+                  ∙ had.0,
+              had.1,
+              get_or_append_left ws (Some w ∷ []) None i (within ws i (subst IsSome (sym had.2) refl))
+                  ∙ had.2,
+              had.3,
+            )
+        | inr here ↦ (
+          ap (λ (k : ℕ). slice_index_or (nodes ++ Some node ∷ []) k None) here.2
+              ∙ get_or-append_seam nodes (Some node) [] None
+              ∙ ap Some (sym here.1),
+          w,
+          ap (λ (k : ℕ). slice_index_or (ws ++ Some w ∷ []) k None) (here.2 ∙ listed.long)
+              ∙ get_or-append_seam ws (Some w) [] None,
+          is
+              ∙ ap Some (sym here.0),
+        )
       ];
     }
 
 -- the node of a watcher that is there
-pub listed_node : (lists : Lists ℕ) (lists_of : Watched → Option ℕ) (nodes : List (Option ℕ)) (ws : List (Option Watched)) (i node : ℕ) (o : Option ℕ)
+listed_node : (lists : Lists ℕ) (lists_of : Watcher → Option ℕ) (nodes : List (Option ℕ)) (ws : List (Option Watcher)) (i node : ℕ) (o : Option ℕ)
     → AreListed lists lists_of nodes ws → IsSome (slice_index_or ws i None) → o ≡ slice_index_or nodes i o → o ≡ Some node
     → (list : ℕ) × (slice_index_or nodes i None ≡ Some node) × Holds (entries_at lists list) node i
 listed_node lists lists_of nodes ws i node o listed some at is =
@@ -156,7 +156,7 @@ listed_node lists lists_of nodes ws i node o listed some at is =
     (had.0, here, subst (λ (n : ℕ). Holds (entries_at lists had.0) n i) same had.4)
 
 -- one watcher less
-pub listed_less : (old new : Lists ℕ) (lists_of : Watched → Option ℕ) (nodes : List (Option ℕ)) (ws : List (Option Watched)) (i node list : ℕ)
+listed_less : (old new : Lists ℕ) (lists_of : Watcher → Option ℕ) (nodes : List (Option ℕ)) (ws : List (Option Watcher)) (i node list : ℕ)
     → AreListed old lists_of nodes ws → slice_index_or nodes i None ≡ Some node → Holds (entries_at old list) node i
     → ((place : Place ℕ) → StandsAt old node place → Updates old new place.list (Some (place.before ++ place.after)))
     → (HasNode new node → ⊥) → i < length ws → AreListed new lists_of (slice_set nodes i None) (slice_set ws i None)
@@ -186,7 +186,329 @@ listed_less old new lists_of nodes ws i node list listed at holds unlinked gone 
           let was = listed.only l n j had.0 in
           elim (cases_eq j i) [
             | inl same ↦
-                absurd (had.1 (same_Some n node (sym was ∙ ap (λ (k : ℕ). slice_index_or nodes k None) same ∙ at)))
-            | inr differs ↦ get_or-set_other nodes i j None None differs ∙ was
+                absurd (had.1 (same_Some n node (sym was.0 ∙ ap (λ (k : ℕ). slice_index_or nodes k None) same ∙ at)))
+            | inr differs ↦ (
+              get_or-set_other nodes i j None None differs
+                  ∙ was.0,
+              was.1,
+              get_or-set_other ws i j None None differs
+                  ∙ was.2,
+              was.3,
+            )
           ];
     }
+
+-- a watcher at a place where none is
+listed_again : (old new : Lists ℕ) (lists_of : Watcher → Option ℕ) (nodes : List (Option ℕ)) (ws : List (Option Watcher)) (list node i : ℕ) (w : Watcher)
+    → AreListed old lists_of nodes ws → i < length nodes → slice_index_or nodes i None ≡ None → lists_of w ≡ Some list
+    → Updates old new list (Some (entries_at old list ++ (node, i) ∷ []))
+    → AreListed new lists_of (slice_set nodes i (Some node)) (slice_set ws i (Some w))
+listed_again old new lists_of nodes ws list node i w listed below none is updates =
+    record {
+      long = length-set nodes i (Some node) ∙ listed.long ∙ sym (length-set ws i (Some w));
+      there = λ v l at. more_there old new list node i updates l (listed.there v l at);
+      stands = λ j v at. elim (cases_eq j i) [
+        | inl same ↦
+            let here : w ≡ v = same_Some w v (sym set_here
+            ∙ subst (λ (k : ℕ). slice_index_or (slice_set ws i (Some w)) k None ≡ Some v) same at) in (
+              list,
+              node,
+              ap lists_of (sym here)
+                  ∙ is,
+              ap (λ (k : ℕ). slice_index_or (slice_set nodes i (Some node)) k None) same
+                  ∙ get_or-set_same nodes i (Some node) None below,
+              subst (λ (k : ℕ). Holds (entries_at new list) node k) (sym same) (more_new old new list node i updates),
+            )
+        | inr differs ↦
+            let had = listed.stands j v (sym (get_or-set_other ws i j (Some w) None differs) ∙ at) in (
+              had.0,
+              had.1,
+              had.2,
+              get_or-set_other nodes i j (Some node) None differs
+                  ∙ had.3,
+              more_kept old new list node i updates had.0 had.1 j had.4,
+            )
+      ];
+      only = λ l n j h. elim (more_from old new list node i updates l n j h) [
+        | inl before ↦
+            let was = listed.only l n j before in
+            elim (cases_eq j i) [
+              | inl same ↦
+                  let some : slice_index_or nodes i None ≡ Some n = subst (λ (k : ℕ). slice_index_or nodes k None ≡ Some n) same was.0 in
+                  absurd (cc)
+              | inr differs ↦ (
+                get_or-set_other nodes i j (Some node) None differs
+                    ∙ was.0,
+                was.1,
+                get_or-set_other ws i j (Some w) None differs
+                    ∙ was.2,
+                was.3,
+              )
+            ]
+        | inr here ↦ (
+          ap (λ (k : ℕ). slice_index_or (slice_set nodes i (Some node)) k None) here.2
+              ∙ get_or-set_same nodes i (Some node) None below
+              ∙ ap Some (sym here.1),
+          w,
+          ap (λ (k : ℕ). slice_index_or (slice_set ws i (Some w)) k None) here.2
+              ∙ set_here,
+          is
+              ∙ ap Some (sym here.0),
+        )
+      ];
+    }
+  where
+    set_here : slice_index_or (slice_set ws i (Some w)) i None ≡ Some w
+    set_here = get_or-set_same ws i (Some w) None (subst (λ (n : ℕ). i < n) listed.long below)
+
+-- ---- the lists of keys
+
+-- which lists there are after a key got one
+lists_to : (of_key new_of_key : List ℕ → Option ℕ) (ranges list : ℕ) (key : List ℕ) → of_key key ≡ None
+    → ((q : List ℕ) → new_of_key q ≡ cond (bytes_eq key q) (Some list) (of_key q))
+    → (watched : Watched) (l : ℕ) → list_in of_key ranges watched ≡ Some l → list_in new_of_key ranges watched ≡ Some l
+lists_to of_key new_of_key ranges list key none keys (Range first end) l is = is
+lists_to of_key new_of_key ranges list key none keys (Key q) l is = elim (cases_Bool (bytes_eq key q)) [
+  | inl same ↦ let never = ap of_key (sym ((bytes_eq-Decides key q).0 same)) ∙ none in absurd (cc)
+  | inr differs ↦ keys q ∙ ap (λ b. cond b (Some list) (of_key q)) differs ∙ is
+]
+
+lists_from : (of_key new_of_key : List ℕ → Option ℕ) (ranges list : ℕ) (key : List ℕ)
+    → ((q : List ℕ) → new_of_key q ≡ cond (bytes_eq key q) (Some list) (of_key q))
+    → (watched : Watched) (l : ℕ) → list_in new_of_key ranges watched ≡ Some l → (l ≡ list) ⊎ (list_in of_key ranges watched ≡ Some l)
+lists_from of_key new_of_key ranges list key keys (Range first end) l is = inr is
+lists_from of_key new_of_key ranges list key keys (Key q) l is = elim (cases_Bool (bytes_eq key q)) [
+  | inl same ↦ inl (sym (same_Some list l (sym (ap (λ b. cond b (Some list) (of_key q)) same) ∙ sym (keys q) ∙ is)))
+  | inr differs ↦ inr (sym (ap (λ b. cond b (Some list) (of_key q)) differs) ∙ sym (keys q) ∙ is)
+]
+
+lists_same : (of_key new_of_key : List ℕ → Option ℕ) (ranges : ℕ) → ((q : List ℕ) → new_of_key q ≡ of_key q)
+    → (watched : Watched) → list_in new_of_key ranges watched ≡ list_in of_key ranges watched
+lists_same of_key new_of_key ranges same (Key q) = same q
+lists_same of_key new_of_key ranges same (Range first end) = refl
+
+-- the same of the lists on which watchers stand
+among_to : (ready l : ℕ) (idle new_idle : Option ℕ) (b : Bool) → (idle ≡ Some l → new_idle ≡ Some l) → cond b (Some ready) idle ≡ Some l
+    → cond b (Some ready) new_idle ≡ Some l
+among_to ready l idle new_idle true to is = is
+among_to ready l idle new_idle false to is = to is
+
+among_from : (ready list l : ℕ) (idle new_idle : Option ℕ) (b : Bool) → (new_idle ≡ Some l → (l ≡ list) ⊎ (idle ≡ Some l))
+    → cond b (Some ready) new_idle ≡ Some l → (l ≡ list) ⊎ (cond b (Some ready) idle ≡ Some l)
+among_from ready list l idle new_idle true from is = inr is
+among_from ready list l idle new_idle false from is = from is
+
+-- a list that is looked for with success is there
+some_to : (o p : Option ℕ) → ((l : ℕ) → o ≡ Some l → p ≡ Some l) → IsSome o → IsSome p
+some_to o p to some = let is = some_is o some in subst IsSome (sym (to is.0 is.1)) refl
+
+-- ---- all watchers
+
+-- no watchers
+pub covered_none : (none one two : Lists ℕ) (of_key : List ℕ → Option ℕ) (ranges ready : ℕ) → none.lists ≡ [] → Updates none one ranges (Some [])
+    → list_at one ready ≡ None → Updates one two ready (Some []) → ((q : List ℕ) → of_key q ≡ None) → AreCovered two of_key ranges ready [] []
+covered_none none one two of_key ranges ready empty first fresh second keys = record {
+  listed = record {
+    long = refl;
+    there = λ w l is. there_by l (is_some w.first) w.watching.watched is;
+    stands = λ i w at. absurd (cc);
+    only = λ l n i h. absurd (subst (λ (xs : List (ℕ × ℕ)). Holds xs n i) (entries l) h);
+  };
+  waiting = λ i w at. absurd (cc);
+  apart = apart_by;
+}
+  where
+    differs : ranges ≢ ready
+    differs same =
+        let some : IsSome (list_at one ready) = subst (HasList one) same (subst IsSome (sym first.changed) refl) in
+        let never : IsSome {T = List (ℕ × ℕ)} None = subst IsSome fresh some in
+        absurd (cc)
+
+    ranges_there : list_at two ranges ≡ Some []
+    ranges_there = second.others ranges differs ∙ first.changed
+
+    entries : (l : ℕ) → entries_at two l ≡ []
+    entries l = elim (cases_eq l ready) [
+      | inl same ↦ ap (λ (k : ℕ). entries_at two k) same ∙ ap (λ o. unwrap_or o []) second.changed
+      | inr other ↦ elim (cases_eq l ranges) [
+        | inl same ↦ ap (λ (k : ℕ). entries_at two k) same ∙ ap (λ o. unwrap_or o []) ranges_there
+        | inr apart ↦
+            ap (λ o. unwrap_or o []) (second.others l other ∙ first.others l apart) ∙ ap (λ ls. unwrap_or (slice_index_or ls l None) []) empty
+      ]
+    ]
+
+    there_by : (l : ℕ) (b : Bool) (watched : Watched) → cond b (Some ready) (list_in of_key ranges watched) ≡ Some l → HasList two l
+    there_by l true watched is = subst (HasList two) (same_Some ready l is) (subst IsSome (sym second.changed) refl)
+    there_by l false (Key key) is = let never : None ≡ Some l = sym (keys key) ∙ is in absurd (cc)
+    there_by l false (Range low high) is = subst (HasList two) (same_Some ranges l is) (subst IsSome (sym ranges_there) refl)
+
+    apart_by : (watched : Watched) → list_in of_key ranges watched ≢ Some ready
+    apart_by (Key key) is = let never : None ≡ Some ready = sym (keys key) ∙ is in absurd (cc)
+    apart_by (Range low high) is = differs (same_Some ranges ready is)
+
+module _ (of_key : List ℕ → Option ℕ) (ranges ready : ℕ) where
+  -- the lists of ready and of idle watchers are there
+  pub ready_there : (lists : Lists ℕ) (nodes : List (Option ℕ)) (ws : List (Option Watcher)) → AreCovered lists of_key ranges ready nodes ws → HasList lists ready
+  ready_there lists nodes ws covered = covered.listed.there (record { watching = record { watched = Key []; seen = 0 }; first = Some 0 }) ready refl
+
+  pub idle_there : (lists : Lists ℕ) (nodes : List (Option ℕ)) (ws : List (Option Watcher)) (watched : Watched) (list : ℕ) → AreCovered lists of_key ranges ready nodes ws
+      → list_in of_key ranges watched ≡ Some list → HasList lists list
+  idle_there lists nodes ws watched list covered is = covered.listed.there (record { watching = record { watched = watched; seen = 0 }; first = None }) list is
+
+  pub covered_same : (old new : Lists ℕ) (new_of_key : List ℕ → Option ℕ) (nodes new_nodes : List (Option ℕ)) (ws : List (Option Watcher))
+      → new.lists ≡ old.lists → ((q : List ℕ) → new_of_key q ≡ of_key q) → new_nodes ≡ nodes
+      → AreCovered old of_key ranges ready nodes ws → AreCovered new new_of_key ranges ready new_nodes ws
+  covered_same old new new_of_key nodes new_nodes ws same_lists same_keys same_nodes covered = record {
+    listed = listed_same old new (list_among of_key ranges ready) (list_among new_of_key ranges ready) nodes new_nodes ws same_lists
+        (λ w. ap (cond (is_some w.first) (Some ready)) (lists_same of_key new_of_key ranges same_keys w.watching.watched)) same_nodes covered.listed;
+    waiting = λ i w at. subst IsSome (sym (lists_same of_key new_of_key ranges same_keys w.watching.watched)) (covered.waiting i w at);
+    apart = λ watched is. covered.apart watched (sym (lists_same of_key new_of_key ranges same_keys watched) ∙ is);
+  }
+
+  -- a key gets a list
+  pub covered_new : (old new : Lists ℕ) (new_of_key : List ℕ → Option ℕ) (nodes : List (Option ℕ)) (ws : List (Option Watcher)) (list : ℕ) (key : List ℕ)
+      → of_key key ≡ None → ((q : List ℕ) → new_of_key q ≡ cond (bytes_eq key q) (Some list) (of_key q))
+      → list_at old list ≡ None → Updates old new list (Some [])
+      → AreCovered old of_key ranges ready nodes ws → AreCovered new new_of_key ranges ready nodes ws
+  covered_new old new new_of_key nodes ws list key none keys fresh updates covered = record {
+    listed = listed_new old new (list_among of_key ranges ready) (list_among new_of_key ranges ready) nodes ws list fresh updates
+        (λ w l. among_to ready l (list_in of_key ranges w.watching.watched) (list_in new_of_key ranges w.watching.watched) (is_some w.first)
+        (lists_to of_key new_of_key ranges list key none keys w.watching.watched l))
+        (λ w l. among_from ready list l (list_in of_key ranges w.watching.watched) (list_in new_of_key ranges w.watching.watched) (is_some w.first)
+        (lists_from of_key new_of_key ranges list key keys w.watching.watched l))
+        covered.listed;
+    waiting = λ i w at. some_to (list_in of_key ranges w.watching.watched) (list_in new_of_key ranges w.watching.watched)
+        (lists_to of_key new_of_key ranges list key none keys w.watching.watched) (covered.waiting i w at);
+    apart = λ watched is. elim (lists_from of_key new_of_key ranges list key keys watched ready is) [
+      | inl same ↦
+          let there : IsSome (list_at old list) = subst (HasList old) same (ready_there old nodes ws covered) in
+          let never : IsSome {T = List (ℕ × ℕ)} None = subst IsSome fresh there in
+          absurd (cc)
+      | inr before ↦ covered.apart watched before
+    ];
+  }
+
+  -- one watcher more
+  pub covered_more : (old new : Lists ℕ) (nodes : List (Option ℕ)) (ws : List (Option Watcher)) (list node : ℕ) (w : Watcher)
+      → AreCovered old of_key ranges ready nodes ws → list_among of_key ranges ready w ≡ Some list → IsSome (list_in of_key ranges w.watching.watched)
+      → Updates old new list (Some (entries_at old list ++ (node, length nodes) ∷ []))
+      → AreCovered new of_key ranges ready (nodes ++ Some node ∷ []) (ws ++ Some w ∷ [])
+  covered_more old new nodes ws list node w covered is waits updates = record {
+    listed = listed_more old new (list_among of_key ranges ready) nodes ws list node w covered.listed is updates;
+    waiting = λ i v at. elim (slot_of_more ws w v i at) [
+      | inl before ↦ covered.waiting i v before
+      | inr here ↦ subst (λ (x : Watcher). IsSome (list_in of_key ranges x.watching.watched)) here.1 waits
+    ];
+    apart = covered.apart;
+  }
+
+  pub covered_node : (lists : Lists ℕ) (nodes : List (Option ℕ)) (ws : List (Option Watcher)) (i node : ℕ) (o : Option ℕ)
+      → AreCovered lists of_key ranges ready nodes ws → IsSome (slice_index_or ws i None) → o ≡ slice_index_or nodes i o → o ≡ Some node
+      → (list : ℕ) × (slice_index_or nodes i None ≡ Some node) × Holds (entries_at lists list) node i
+  covered_node lists nodes ws i node o covered some at is = listed_node lists (list_among of_key ranges ready) nodes ws i node o covered.listed some at is
+
+  -- one watcher less
+  pub covered_less : (old new : Lists ℕ) (nodes : List (Option ℕ)) (ws : List (Option Watcher)) (i node list : ℕ)
+      → AreCovered old of_key ranges ready nodes ws → slice_index_or nodes i None ≡ Some node → Holds (entries_at old list) node i
+      → ((place : Place ℕ) → StandsAt old node place → Updates old new place.list (Some (place.before ++ place.after)))
+      → (HasNode new node → ⊥) → i < length ws → AreCovered new of_key ranges ready (slice_set nodes i None) (slice_set ws i None)
+  covered_less old new nodes ws i node list covered at holds unlinked gone below = record {
+    listed = listed_less old new (list_among of_key ranges ready) nodes ws i node list covered.listed at holds unlinked gone below;
+    waiting = λ j v is. elim (cases_eq j i) [
+      | inl same ↦
+          let none : slice_index_or (slice_set ws i None) i None ≡ None = get_or-set_same ws i None None below in
+          let some : slice_index_or (slice_set ws i None) i None ≡ Some v = subst (λ (n : ℕ). slice_index_or (slice_set ws i None) n None ≡ Some v) same is in
+          absurd (cc)
+      | inr differs ↦ covered.waiting j v (sym (get_or-set_other ws i j None None differs) ∙ is)
+    ];
+    apart = covered.apart;
+  }
+
+  -- a watcher at a place where none is
+  pub covered_again : (old new : Lists ℕ) (nodes : List (Option ℕ)) (ws : List (Option Watcher)) (list node i : ℕ) (w : Watcher)
+      → AreCovered old of_key ranges ready (slice_set nodes i None) (slice_set ws i None) → i < length nodes → i < length ws
+      → list_among of_key ranges ready w ≡ Some list → IsSome (list_in of_key ranges w.watching.watched)
+      → Updates old new list (Some (entries_at old list ++ (node, i) ∷ []))
+      → AreCovered new of_key ranges ready (slice_set nodes i (Some node)) (slice_set ws i (Some w))
+  covered_again old new nodes ws list node i w covered below there is waits updates =
+      subst (λ ns. AreCovered new of_key ranges ready ns (slice_set ws i (Some w))) (set_twice nodes i None (Some node))
+      (subst (AreCovered new of_key ranges ready (slice_set (slice_set nodes i None) i (Some node))) (set_twice ws i None (Some w))
+      (record {
+        listed = listed_again old new (list_among of_key ranges ready) (slice_set nodes i None) (slice_set ws i None) list node i w covered.listed
+            (subst (λ (n : ℕ). i < n) (sym (length-set nodes i None)) below) (get_or-set_same nodes i None None below) is updates;
+        waiting = λ j v at. elim (cases_eq j i) [
+          | inl same ↦
+              let here : w ≡ v = same_Some w v (sym (get_or-set_same (slice_set ws i None) i (Some w) None
+              (subst (λ (n : ℕ). i < n) (sym (length-set ws i None)) there))
+              ∙ subst (λ (k : ℕ). slice_index_or (slice_set (slice_set ws i None) i (Some w)) k None ≡ Some v) same at) in
+              subst (λ (x : Watcher). IsSome (list_in of_key ranges x.watching.watched)) here waits
+          | inr differs ↦ covered.waiting j v (sym (get_or-set_other (slice_set ws i None) i j (Some w) None differs) ∙ at)
+        ];
+        apart = covered.apart;
+      }))
+
+  -- ---- one that is ready
+
+  module _ (lists : Lists ℕ) (nodes : List (Option ℕ)) (ws : List (Option Watcher)) (covered : AreCovered lists of_key ranges ready nodes ws) where
+    -- a watcher on an idle list is idle, and one on the list of the ready ones is ready
+    pub is_idle : (w : Watcher) (watched : Watched) (list : ℕ) → list_in of_key ranges watched ≡ Some list → list_among of_key ranges ready w ≡ Some list
+        → is_some w.first ≡ false
+    is_idle w watched list idle is = elim (cases_Bool (is_some w.first)) [
+      | inl some ↦
+          let same : ready ≡ list = same_Some ready list (sym (ap (λ b. cond b (Some ready) (list_in of_key ranges w.watching.watched)) some) ∙ is) in
+          absurd (covered.apart watched (idle ∙ ap Some (sym same)))
+      | inr none ↦ none
+    ]
+
+    on_ready : (w : Watcher) → list_among of_key ranges ready w ≡ Some ready → is_some w.first ≡ true
+    on_ready w is = elim (cases_Bool (is_some w.first)) [
+      | inl some ↦ some
+      | inr none ↦ absurd (covered.apart w.watching.watched (sym (ap (λ b. cond b (Some ready) (list_in of_key ranges w.watching.watched)) none) ∙ is))
+    ]
+
+    none_ready : first_node (entries_at lists ready) ≡ None → (i : ℕ) → is_ready (slice_index_or ws i None) ≡ false
+    none_ready none i = by_slot (slice_index_or ws i None) refl
+      where
+        by_slot : (o : Option Watcher) → slice_index_or ws i None ≡ o → is_ready (slice_index_or ws i None) ≡ false
+        by_slot None is = ap is_ready is
+        by_slot (Some w) is = elim (cases_Bool (is_some w.first)) [
+          | inl some ↦
+              let had = covered.listed.stands i w is in
+              let same : ready ≡ had.0 =
+              same_Some ready had.0 (sym (ap (λ b. cond b (Some ready) (list_in of_key ranges w.watching.watched)) some) ∙ had.2) in
+              absurd (no_front lists ready had.1 i none (subst (λ (l : ℕ). Holds (entries_at lists l) had.1 i) (sym same) had.4))
+          | inr idle ↦ ap is_ready is ∙ idle
+        ]
+
+    pub none_next : first_node (entries_at lists ready) ≡ None → IsNextReady ws None
+    none_next none id = by_id (nat_eq id 0)
+      where
+        by_id : (b : Bool) → is_ready (cond b None (slice_index_or ws (id - 1) None)) ≡ false
+        by_id true = refl
+        by_id false = none_ready none (id - 1)
+
+    pub first_node_of : (node : ℕ) → first_node (entries_at lists ready) ≡ Some node → HasNode lists node
+    first_node_of node is =
+        let on = front_on lists ready node is in
+        let place = place_on lists ready node on.0 on.1 in
+        (place.place, place.stands)
+
+    pub first_below : (node i : ℕ) → first_node (entries_at lists ready) ≡ Some node → ((place : Place ℕ) → StandsAt lists node place → i ≡ place.value)
+        → i < length nodes
+    first_below node i is got =
+        let on = front_on lists ready node is in
+        let place = place_on lists ready node on.0 on.1 in
+        let had = covered.listed.only ready node on.0 on.1 in
+        subst (λ (k : ℕ). k < length nodes) (sym (got place.place place.stands ∙ place.number)) (within nodes on.0 (subst IsSome (sym had.0) refl))
+
+    pub first_next : (node i : ℕ) → first_node (entries_at lists ready) ≡ Some node → ((place : Place ℕ) → StandsAt lists node place → i ≡ place.value)
+        → IsNextReady ws (Some (i + 1))
+    first_next node i is got =
+        let on = front_on lists ready node is in
+        let place = place_on lists ready node on.0 on.1 in
+        let had = covered.listed.only ready node on.0 on.1 in
+        let before : i + 1 - 1 ≡ i = omega arith in
+        ap (λ b. is_ready (cond b None (slice_index_or ws (i + 1 - 1) None))) (ne_eqb (i + 1) 0 (λ e. absurd (omega (arith, e))))
+        ∙ ap (λ (k : ℕ). is_ready (slice_index_or ws k None)) (before ∙ got place.place place.stands ∙ place.number)
+        ∙ ap is_ready had.2
+        ∙ on_ready had.1 had.3

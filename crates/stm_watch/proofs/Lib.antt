@@ -3,7 +3,7 @@ pub mod Giving
 pub mod Standing
 pub mod WorkedExamples
 pub mod Linked
-pub mod Marked
+pub mod At
 pub mod Indexed
 pub mod Placed
 pub mod Touching

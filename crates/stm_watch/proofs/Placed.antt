@@ -1,52 +1,21 @@
--- The places of watchers and the marks of which are ready.
-use Rattle.std.proofs.Common.{◌≡◌, ◌≢◌, ℕ, ◌<◌, ◌-◌, Bool, true, false, cond}
-use Rattle.std.proofs.Common.{List, length, Option, Some, None, IsSome, is_some, option_map, slice_index_or, slice_set, Result, Ok, Err}
+-- What a poll makes of the watchers at all places.
+use Rattle.std.proofs.Common.{◌≡◌, ℕ, ◌<◌, ◌-◌, false}
+use Rattle.std.proofs.Common.{List, length, Option, Some, None, IsSome, option_map, slice_index_or, slice_set, Result, Ok, Err, OnErr}
 use Rattle.std.proofs.Common.{refl, sym, ap, subst, ◌∙◌, nat_eq}
-use Rattle.std.proofs.lemmas.List.{map-set, set-get_or}
+use Rattle.std.proofs.lemmas.List.{map-set, set-get_or, get_or-set_same}
+use Rattle.std.proofs.lemmas.Option.{same_Some}
 use Rattle.std.proofs.Math.ListN.{get_or-map}
 use Rattle.stm_history.specs.History.{History}
 use Rattle.stm_watch.specs.declared.watched.Watcher.{Watcher}
 use Rattle.stm_watch.specs.declared.watchers.Batch.{Batch}
-use Rattle.stm_watch.specs.Calls.{is_ready, IsNextReady, PollTells, StandFor, poll, watchings}
-use Rattle.stm_watch.specs.Kept.{readiness_of, watched_of}
-use Rattle.stm_watch.specs.Ready.{IsFirst}
-use Rattle.stm_watch.specs.Slots.{IsPolled, SlotPolls, PlacePolls, made_ready}
+use Rattle.stm_watch.specs.Calls.{PollTells, StandFor, poll, watchings}
+use Rattle.stm_watch.specs.Kept.{watched_of}
+use Rattle.stm_watch.specs.Pending.{after_poll}
+use Rattle.stm_watch.specs.Slots.{IsPolled, SlotPolls, PlacePolls, standing}
 use Rattle.stm_watch.specs.declared.refusal.PollRefusal.{PollRefusal}
 use Rattle.stm_watch.specs.declared.refusal.PollRefusal.TheVariants.{NoWatcher, OutOfMemory}
-use Rattle.stm_watch.proofs.Marked.{read_at}
+use Rattle.stm_watch.proofs.At.{read_at}
 use Rattle.stm_watch.proofs.Standing.{polled, polled_stand}
-use Rattle.stm_watch.specs.Touch.{wants}
-
--- what was polled is marked as it is
-pub polled_mark : (h : History) (most : ℕ) (old new : Option Watcher) (batch : Batch) → IsPolled h most old batch new
-    → Some (is_ready new) ≡ option_map (λ (w : Watcher). is_some w.first) new
-polled_mark h most None new batch did = absurd did
-polled_mark h most (Some w) new batch did = subst (λ o. Some (is_ready o) ≡ option_map (λ (w : Watcher). is_some w.first) o) (sym did.1) refl
-
--- what wants to know is there
-pub wanted_mark : (revision : ℕ) (key : List ℕ) (o : Option Watcher) → wants revision key o ≡ true
-    → option_map (λ (w : Watcher). is_some w.first) (option_map (made_ready revision) o) ≡ Some true
-wanted_mark revision key None wanted = absurd (cc)
-wanted_mark revision key (Some w) wanted = refl
-
-not_ready : (o : Option Watcher) → option_map (λ (w : Watcher). is_some w.first) o ≢ Some true → is_ready o ≡ false
-not_ready None other = refl
-not_ready (Some w) other = by_mark (is_some w.first) refl
-  where
-    by_mark : (b : Bool) → is_some w.first ≡ b → is_some w.first ≡ false
-    by_mark true is = absurd (other (ap Some is))
-    by_mark false is = is
-
-pub none_ready : (ws : List (Option Watcher)) (marks : List (Option Bool)) → marks ≡ readiness_of ws → IsFirst marks None → IsNextReady ws None
-none_ready ws marks same none id = by_id (nat_eq id 0)
-  where
-    at : (i : ℕ) → is_ready (slice_index_or ws i None) ≡ false
-    at i = not_ready (slice_index_or ws i None)
-        (λ is. none i (ap (λ l. slice_index_or l i None) same ∙ get_or-map (option_map (λ (w : Watcher). is_some w.first)) ws i None ∙ is))
-
-    by_id : (b : Bool) → is_ready (cond b None (slice_index_or ws (id - 1) None)) ≡ false
-    by_id true = refl
-    by_id false = at (id - 1)
 
 -- ---- a poll at one of several places
 
@@ -80,6 +49,49 @@ module _ (h : History) (i most : ℕ) (old new : List (Option Watcher)) (result 
       ∙ sym (get_or-map (option_map (λ (w : Watcher). w.watching.watched)) old i None))
       ∙ set-get_or (watched_of old) i None
 
+  polled_there : (o slot : Option Watcher) (batch : Batch) → IsPolled h most o batch slot
+      → (was : Watcher) × (is : Watcher) × (o ≡ Some was) × (slot ≡ Some is) × (is.watching.watched ≡ was.watching.watched)
+  polled_there None slot batch did = absurd did
+  polled_there (Some w) slot batch did = (w, standing h (after_poll most h w.watching), refl, did.1, refl)
+
+  found_there : (batch : Batch) → result ≡ Ok batch → (was : Watcher) × (is : Watcher) × (slice_index_or old i None ≡ Some was)
+      × (new ≡ slice_set old i (Some is)) × (is.watching.watched ≡ was.watching.watched)
+  found_there batch same =
+      let found = polled_there (slice_index_or old i None) did.0 batch (subst (λ r. SlotPolls h most (slice_index_or old i None) r did.0) same did.2) in
+      (found.0, found.1, found.2, did.1 ∙ ap (slice_set old i) found.3, found.4)
+
+  here : (w : Watcher) → new ≡ slice_set old i (Some w) → slice_index_or new i None ≡ Some w
+  here w is = ap (λ ws. slice_index_or ws i None) is ∙ get_or-set_same old i (Some w) None there
+
+  -- a watcher that was polled is there still
+  pub polled_some : (batch : Batch) → result ≡ Ok batch → IsSome (slice_index_or new i None)
+  polled_some batch same = let found = found_there batch same in subst IsSome (sym (here found.1 found.3)) refl
+
+  -- and watches what it did
+  pub polled_slot : (batch : Batch) → result ≡ Ok batch → (w : Watcher) → slice_index_or new i None ≡ Some w
+      → (was : Watcher) × (slice_index_or old i None ≡ Some was) × (new ≡ slice_set old i (Some w)) × (w.watching.watched ≡ was.watching.watched)
+  polled_slot batch same w at =
+      let found = found_there batch same in
+      let is : found.1 ≡ w = same_Some found.1 w (sym (here found.1 found.3) ∙ at) in (
+        found.0,
+        found.2,
+        found.3
+            ∙ ap (λ (x : Watcher). slice_set old i (Some x)) is,
+        ap (λ (x : Watcher). x.watching.watched) (sym is)
+            ∙ found.4,
+      )
+
+  refused : (e : PollRefusal) (o slot : Option Watcher) → SlotPolls h most o (Err e) slot → slot ≡ o
+  refused NoWatcher o slot did = did.1
+  refused OutOfMemory o slot did = did.1
+
+  -- a refusal changes nothing
+  pub place_refused : (e : PollRefusal) → result ≡ Err e → new ≡ old
+  place_refused e same =
+      did.1
+      ∙ ap (slice_set old i) (refused e (slice_index_or old i None) did.0 (subst (λ r. SlotPolls h most (slice_index_or old i None) r did.0) same did.2))
+      ∙ set-get_or old i None
+
 some_mapped : {A B : Type 0} (f : A → B) (o : Option A) → IsSome o → IsSome (option_map f o)
 some_mapped f None some = absurd (cc)
 some_mapped f (Some x) some = refl
@@ -88,3 +100,8 @@ pub watched_there : (ws : List (Option Watcher)) (i : ℕ) → IsSome (slice_ind
 watched_there ws i some =
     subst IsSome (sym (get_or-map (option_map (λ (w : Watcher). w.watching.watched)) ws i None))
     (some_mapped (λ (w : Watcher). w.watching.watched) (slice_index_or ws i None) some)
+
+-- what holds anyway holds where a call is refused
+pub on_any : {T E P : Type 0} (r : Result T E) → P → OnErr r P
+on_any (Ok value) holds = tt
+on_any (Err cause) holds = holds

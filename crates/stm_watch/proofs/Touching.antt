@@ -1,6 +1,6 @@
 -- What a new revision makes of the watchers, key by key.
 use Rattle.std.proofs.Common.{◌≡◌, ◌⊎◌, ℕ, zero, suc, ◌<◌, ◌≤◌, ◌+◌, Bool, true, false, ◌||◌, ◌&&◌}
-use Rattle.std.proofs.Common.{List, [], ◌∷◌, ◌++◌, length, map, Option, Some, None, IsSome, unwrap_or, option_map, slice_index_or, slice_set}
+use Rattle.std.proofs.Common.{List, [], ◌∷◌, ◌++◌, length, map, Option, Some, None, IsSome, is_some, cond, unwrap_or, option_map, slice_index_or, slice_set}
 use Rattle.std.proofs.Common.{refl, sym, ap, subst, ◌∙◌, inl, inr, arith, length-append, append_assoc}
 use Rattle.std.specs.Prelude.{nat_lt}
 use Rattle.std.proofs.lemmas.Bool.{cases_Bool, cases_eq}
@@ -18,11 +18,11 @@ use Rattle.stm_watch.specs.declared.watched.Watched.TheVariants.{Key, Range}
 use Rattle.stm_watch.specs.declared.watched.Watcher.{Watcher}
 use Rattle.stm_watch.specs.Keys.{is_watched, is_any_watched}
 use Rattle.stm_watch.specs.declared.page.Page.{Page}
-use Rattle.stm_watch.specs.Kept.{Holds, AreListed, list_in, watched_of, places_on, places_at}
+use Rattle.stm_watch.specs.Kept.{Holds, AreCovered, list_in, watched_of, places_on, places_at}
 use Rattle.stm_watch.specs.Pages.{IsAny, IsOneOf, StandsOn, ReachesOn, IsTouched, AreEntered, entry_of}
-use Rattle.stm_watch.specs.Touch.{touch, touch_key, touch_at, touch_each, first_with}
+use Rattle.stm_watch.specs.Touch.{touch, touch_key, touch_at, touch_each, first_with, wants}
 use Rattle.stm_watch.proofs.Entered.{any-left, any-right, any-parts, any-map}
-use Rattle.stm_watch.proofs.Marked.{read_at, slot_of_map}
+use Rattle.stm_watch.proofs.At.{read_at, slot_of_map}
 
 -- ---- one place
 
@@ -45,6 +45,11 @@ touched_past revision key i ws past = set_past ws i (option_map (touch_key revis
     set_past [] j x past = refl
     set_past (y ∷ xs) zero x past = absurd (omega arith)
     set_past (y ∷ xs) (suc j) x past = ap (λ l. y ∷ l) (set_past xs j x (omega arith))
+
+-- an idle watcher wants to know of it
+pub wanted : (revision : ℕ) (key : List ℕ) (o : Option Watcher) → wants revision key o ≡ true → (w : Watcher) × (o ≡ Some w)
+wanted revision key None is = absurd (cc)
+wanted revision key (Some w) is = (w, refl)
 
 never : (revision : ℕ) (o : Option ℕ) (b : Bool) → first_with revision (b && false) o ≡ o
 never revision (Some n) b = refl
@@ -164,12 +169,14 @@ module _ (revision : ℕ) (key : List ℕ) where
       → IsTouched revision key so old new
   touched_as at so old new to touched = record { places = touched.places; done = touched.done; all = λ i reached. touched.all i (to i reached) }
 
-  -- ---- a walk along a list
+  -- ---- a walk along a list, from which some go
 
-  pub record IsWalked (lists : Lists ℕ) (list count : ℕ) (next : Option ℕ) (old ws : List (Option Watcher)) : Type 0 where
+  pub record IsWalked (first now : Lists ℕ) (list count : ℕ) (next : Option ℕ) (old ws : List (Option Watcher)) : Type 0 where
     pub passed : List (ℕ × ℕ)
+    pub kept : List (ℕ × ℕ)
     pub rest : List (ℕ × ℕ)
-    pub split : entries_at lists list ≡ passed ++ rest
+    pub split : entries_at first list ≡ passed ++ rest
+    pub here : list_at now list ≡ Some (kept ++ rest)
     pub counted : length passed ≡ count
     pub next_is : next ≡ first_node rest
     pub done : ws ≡ touch_each revision key (map (λ e. e.1) passed) old
@@ -178,80 +185,119 @@ module _ (revision : ℕ) (key : List ℕ) where
   there None some = absurd (cc)
   there (Some xs) some = refl
 
-  -- the place of the next node
-  pub record IsNextPlace (lists : Lists ℕ) (list count : ℕ) (node : ℕ) (old ws : List (Option Watcher)) : Type 0 where
-    pub place : Place ℕ
-    pub stands : StandsAt lists node place
-    pub here : place.list ≡ list
-    pub counted : length place.before ≡ count
-    pub done : ws ≡ touch_each revision key (map (λ e. e.1) place.before) old
+  pub walk_begins : (lists : Lists ℕ) (list : ℕ) (next : Option ℕ) (old : List (Option Watcher)) → HasList lists list → next ≡ first_node (entries_at lists list)
+      → IsWalked lists lists list 0 next old old
+  walk_begins lists list next old has is = record {
+    passed = [];
+    kept = [];
+    rest = entries_at lists list;
+    split = refl;
+    here = there (list_at lists list) has;
+    counted = refl;
+    next_is = is;
+    done = refl;
+  }
 
-  pub walk_place : (lists : Lists ℕ) (list count : ℕ) (next : Option ℕ) (node : ℕ) (old ws : List (Option Watcher)) → HasList lists list
-      → IsWalked lists list count next old ws → next ≡ Some node → IsNextPlace lists list count node old ws
-  walk_place lists list count next node old ws has walked is = by_rest walked.rest walked.split (sym walked.next_is ∙ is)
+  -- where the next node stands
+  pub record IsNextPlace (first now : Lists ℕ) (list count node : ℕ) (old ws : List (Option Watcher)) : Type 0 where
+    pub passed : List (ℕ × ℕ)
+    pub kept : List (ℕ × ℕ)
+    pub value : ℕ
+    pub after : List (ℕ × ℕ)
+    pub split : entries_at first list ≡ passed ++ (node, value) ∷ after
+    pub stands : StandsAt now node (record { list = list; before = kept; value = value; after = after })
+    pub counted : length passed ≡ count
+    pub done : ws ≡ touch_each revision key (map (λ e. e.1) passed) old
+
+  walk_place : (first now : Lists ℕ) (list count : ℕ) (next : Option ℕ) (node : ℕ) (old ws : List (Option Watcher))
+      → IsWalked first now list count next old ws → next ≡ Some node → IsNextPlace first now list count node old ws
+  walk_place first now list count next node old ws walked is = by_rest walked.rest walked.split walked.here (sym walked.next_is ∙ is)
     where
-      by_rest : (rest : List (ℕ × ℕ)) → entries_at lists list ≡ walked.passed ++ rest → first_node rest ≡ Some node → IsNextPlace lists list count node old ws
-      by_rest [] split first = absurd (cc)
-      by_rest (entry ∷ rest) split first =
-          let same : entry.0 ≡ node = same_Some entry.0 node first in
-          let entries : entries_at lists list ≡ walked.passed ++ (node, entry.1) ∷ rest = split ∙ ap (λ (n : ℕ). walked.passed ++ (n, entry.1) ∷ rest) same in
+      by_rest : (rest : List (ℕ × ℕ)) → entries_at first list ≡ walked.passed ++ rest → list_at now list ≡ Some (walked.kept ++ rest)
+          → first_node rest ≡ Some node → IsNextPlace first now list count node old ws
+      by_rest [] split here front = absurd (cc)
+      by_rest (entry ∷ rest) split here front =
+          let same : entry.0 ≡ node = same_Some entry.0 node front in
           record {
-            place = record { list = list; before = walked.passed; value = entry.1; after = rest };
-            stands = record { stands = there (list_at lists list) has ∙ ap Some entries };
-            here = refl;
+            passed = walked.passed;
+            kept = walked.kept;
+            value = entry.1;
+            after = rest;
+            split = split ∙ ap (λ (n : ℕ). walked.passed ++ (n, entry.1) ∷ rest) same;
+            stands = record { stands = here ∙ ap (λ (n : ℕ). Some (walked.kept ++ (n, entry.1) ∷ rest)) same };
             counted = walked.counted;
             done = walked.done;
           }
 
-  pub walk_node : (lists : Lists ℕ) (list count : ℕ) (next : Option ℕ) (node : ℕ) (old ws : List (Option Watcher)) → HasList lists list
-      → IsWalked lists list count next old ws → next ≡ Some node → HasNode lists node
-  walk_node lists list count next node old ws has walked is =
-      let found = walk_place lists list count next node old ws has walked is in (found.place, found.stands)
+  pub walk_node : (first now : Lists ℕ) (list count : ℕ) (next : Option ℕ) (node : ℕ) (old ws : List (Option Watcher))
+      → IsWalked first now list count next old ws → next ≡ Some node → HasNode now node
+  walk_node first now list count next node old ws walked is =
+      let found = walk_place first now list count next node old ws walked is in
+      (record { list = list; before = found.kept; value = found.value; after = found.after }, found.stands)
 
-  pub walk_more : (lists : Lists ℕ) (list count : ℕ) (next : Option ℕ) (node i : ℕ) (after : Option ℕ) (old ws new : List (Option Watcher)) → HasList lists list
-      → IsWalked lists list count next old ws → next ≡ Some node → ((place : Place ℕ) → StandsAt lists node place → i ≡ place.value)
-      → ((place : Place ℕ) → StandsAt lists node place → after ≡ first_node place.after)
-      → new ≡ touch_at revision key i ws → IsWalked lists list (count + 1) after old new
-  walk_more lists list count next node i after old ws new has walked is got follows touched =
-      let found = walk_place lists list count next node old ws has walked is in
-      let place = found.place in
-      let value = got place found.stands in
-      let entries : entries_at lists list ≡ place.before ++ (node, place.value) ∷ place.after =
-      ap (λ (l : ℕ). entries_at lists l) (sym found.here) ∙ ap (λ o. unwrap_or o []) found.stands.stands in
+  pub walk_more : (first now then : Lists ℕ) (list count : ℕ) (next : Option ℕ) (node i : ℕ) (after : Option ℕ) (old ws new : List (Option Watcher))
+      → IsWalked first now list count next old ws → next ≡ Some node
+      → ((place : Place ℕ) → StandsAt now node place → i ≡ place.value)
+      → ((place : Place ℕ) → StandsAt now node place → after ≡ first_node place.after)
+      → ((place : Place ℕ) → StandsAt now node place → place.value ≡ i → place.list ≡ list
+      → (still : List (ℕ × ℕ)) × (list_at then place.list ≡ Some (place.before ++ (still ++ place.after))))
+      → new ≡ touch_at revision key i ws → IsWalked first then list (count + 1) after old new
+  walk_more first now then list count next node i after old ws new walked is got follows left touched =
+      let found = walk_place first now list count next node old ws walked is in
+      let place : Place ℕ = record { list = list; before = found.kept; value = found.value; after = found.after } in
+      let value : i ≡ found.value = got place found.stands in
+      let stays = left place found.stands (sym value) refl in
       record {
-        passed = place.before ++ (node, place.value) ∷ [];
-        rest = place.after;
-        split = entries ∙ sym (append_assoc place.before ((node, place.value) ∷ []) place.after);
-        counted = length-append place.before ((node, place.value) ∷ []) ∙ ap (λ (n : ℕ). n + 1) found.counted;
+        passed = found.passed ++ (node, found.value) ∷ [];
+        kept = found.kept ++ stays.0;
+        rest = found.after;
+        split = found.split ∙ sym (append_assoc found.passed ((node, found.value) ∷ []) found.after);
+        here = stays.1 ∙ ap Some (sym (append_assoc found.kept stays.0 found.after));
+        counted = length-append found.passed ((node, found.value) ∷ []) ∙ ap (λ (n : ℕ). n + 1) found.counted;
         next_is = follows place found.stands;
         done = touched
             ∙ ap (λ (k : ℕ). touch_at revision key k ws) value
-            ∙ ap (touch_at revision key place.value) found.done
-            ∙ sym (each_more (map (λ e. e.1) place.before) place.value old)
-            ∙ ap (λ is. touch_each revision key is old) (sym (map-append (λ e. e.1) place.before ((node, place.value) ∷ [])));
+            ∙ ap (touch_at revision key found.value) found.done
+            ∙ sym (each_more (map (λ e. e.1) found.passed) found.value old)
+            ∙ ap (λ is. touch_each revision key is old) (sym (map-append (λ e. e.1) found.passed ((node, found.value) ∷ [])));
       }
 
   -- ---- all that a key concerns
 
-  module _ (lists : Lists ℕ) (of_key : List ℕ → Option ℕ) (ranges : ℕ) (nodes : List (Option ℕ)) (pages : List Page) (ws new : List (Option Watcher))
-      (listed : AreListed lists (list_in of_key ranges) nodes (watched_of ws)) (entered : AreEntered pages (watched_of ws))
+  -- a ready watcher stays as it is
+  stays : (w : Watcher) → is_some w.first ≡ true → touch_key revision key w ≡ w
+  stays w some = ap (λ (o : Option ℕ). record w { first = o }) (by_first w.first (nat_lt w.watching.seen revision && is_watched w.watching.watched key) some)
+    where
+      by_first : (o : Option ℕ) (b : Bool) → is_some o ≡ true → first_with revision b o ≡ o
+      by_first None b some = absurd (cc)
+      by_first (Some n) b some = refl
+
+  module _ (lists : Lists ℕ) (of_key : List ℕ → Option ℕ) (ranges ready : ℕ) (nodes : List (Option ℕ)) (pages : List Page) (ws new : List (Option Watcher))
+      (covered : AreCovered lists of_key ranges ready nodes ws) (entered : AreEntered pages (watched_of ws))
       (touched : IsTouched revision key (λ i. IsAny (ReachesOn key i) pages) (touch_each revision key (places_at lists (of_key key)) ws) new) where
     abbrev own : List (Option Watcher)
     own = touch_each revision key (places_at lists (of_key key)) ws
 
-    -- a watcher of the key is on the key's list, and one of a range that has the key on a page
-    reached : (w : Watched) (j : ℕ) → slice_index_or (watched_of ws) j None ≡ Some w → is_watched w key ≡ true
+    -- an idle watcher of the key is on the key's list, and one of a range that has the key on a page
+    reached : (w : Watcher) (j : ℕ) (watched : Watched) → slice_index_or ws j None ≡ Some w → is_some w.first ≡ false → w.watching.watched ≡ watched
+        → is_watched watched key ≡ true
         → slice_index_or (touch_each revision key touched.places own) j None ≡ option_map (touch_key revision key) (slice_index_or ws j None)
-    reached (Key watched) j is matches =
-        let had = listed.stands j (Key watched) is in
-        let same : watched ≡ key = (bytes_eq-Decides watched key).0 matches in
-        let at : of_key key ≡ Some had.0 = ap of_key (sym same) ∙ had.2 in
+    reached w j (Key k) is idle what matches =
+        let had = covered.listed.stands j w is in
+        let same : k ≡ key = (bytes_eq-Decides k key).0 matches in
+        let on : of_key k ≡ Some had.0 =
+        ap (list_in of_key ranges) (sym what)
+        ∙ sym (ap (λ b. cond b (Some ready) (list_in of_key ranges w.watching.watched)) idle)
+        ∙ had.2 in
+        let at : of_key key ≡ Some had.0 = ap of_key (sym same) ∙ on in
         each_after touched.places j own (slice_index_or ws j None)
         (ap (λ o. slice_index_or (touch_each revision key (places_at lists o) ws) j None) at
         ∙ each_among (places_on lists had.0) j ws (holds_one (entries_at lists had.0) had.1 j had.4))
-    reached (Range first end) j is matches =
+    reached w j (Range first end) is idle what matches =
+        let at : slice_index_or (watched_of ws) j None ≡ Some (Range first end) =
+        slot_of_map (λ (w : Watcher). w.watching.watched) ws j ∙ ap (option_map (λ (w : Watcher). w.watching.watched)) is ∙ ap Some what in
         let on = any-map (StandsOn (entry_of first end j)) (ReachesOn key j) (λ page stands. (entry_of first end j, stands, (refl, matches))) pages
-        (entered j (Range first end) is) in
+        (entered j (Range first end) at) in
         each_among touched.places j own (touched.all j on)
         ∙ again (slice_index_or own j None) (slice_index_or ws j None) (each_either (places_at lists (of_key key)) j ws)
 
@@ -269,11 +315,12 @@ module _ (revision : ℕ) (key : List ℕ) where
         by_slot : (o : Option Watcher) → slice_index_or ws j None ≡ o
             → slice_index_or (touch_each revision key touched.places own) j None ≡ option_map (touch_key revision key) (slice_index_or ws j None)
         by_slot None is = either_same j (ap (option_map (touch_key revision key)) is ∙ sym is)
-        by_slot (Some w) is = elim (cases_Bool (is_watched w.watching.watched key)) [
-          | inl matches ↦
-              reached w.watching.watched j
-              (slot_of_map (λ (w : Watcher). w.watching.watched) ws j ∙ ap (option_map (λ (w : Watcher). w.watching.watched)) is) matches
-          | inr other ↦ either_same j (ap (option_map (touch_key revision key)) is ∙ ap Some (untouched revision key w other) ∙ sym is)
+        by_slot (Some w) is = elim (cases_Bool (is_some w.first)) [
+          | inl some ↦ either_same j (ap (option_map (touch_key revision key)) is ∙ ap Some (stays w some) ∙ sym is)
+          | inr idle ↦ elim (cases_Bool (is_watched w.watching.watched key)) [
+            | inl matches ↦ reached w j w.watching.watched is idle refl matches
+            | inr other ↦ either_same j (ap (option_map (touch_key revision key)) is ∙ ap Some (untouched revision key w other) ∙ sym is)
+          ]
         ]
 
     pub all_touched : new ≡ map (option_map (touch_key revision key)) ws

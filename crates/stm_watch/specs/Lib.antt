@@ -5,6 +5,5 @@ pub mod Pending
 pub mod Calls
 pub mod Walk
 pub mod Slots
-pub mod Ready
 pub mod Kept
 pub mod Pages

@@ -10,7 +10,7 @@ use Rattle.stm_watch.specs.declared.ranges.Ranges.{Ranges}
 use Rattle.stm_watch.specs.declared.watched.Watched.{Watched}
 use Rattle.stm_watch.specs.declared.watched.Watched.TheVariants.{Key, Range}
 use Rattle.stm_watch.specs.declared.watched.Watcher.{Watcher}
-use Rattle.stm_watch.specs.Kept.{Covers}
+use Rattle.stm_watch.specs.Kept.{Covers, watched_of}
 use Rattle.stm_watch.specs.Keys.{is_watched}
 use Rattle.stm_watch.specs.Touch.{touch_each}
 
@@ -54,10 +54,10 @@ IsEntered (Range first end) place pages = HasEntry pages (entry_of first end pla
 abbrev pub AreEntered : List Page → List (Option Watched) → Type 0
 AreEntered pages ws = (i : ℕ) (w : Watched) → slice_index_or ws i None ≡ Some w → IsEntered w i pages
 
--- all watchers are found by what they watch
-pub record AreFound (index : Index) (ranges : Ranges) (ws : List (Option Watched)) : Type 0 where
+-- all watchers are found
+pub record AreFound (index : Index) (ranges : Ranges) (ws : List (Option Watcher)) : Type 0 where
   pub covers : Covers index ws
-  pub entered : AreEntered ranges.pages.items ws
+  pub entered : AreEntered ranges.pages.items (watched_of ws)
 
 -- ---- who is touched
 

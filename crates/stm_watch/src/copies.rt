@@ -3,7 +3,6 @@ ghost use Rattle.std.specs.Prelude.{◌≡◌, List, ℕ, IfOk};
 ghost use Rattle.indexmap.specs.IndexMap.{get_by_text};
 
 use crate::page::RangeEntry;
-use crate::readiness::Mark;
 use crate::watched::Watcher;
 use indexmap::IndexMap;
 use std::alloc::AllocError;
@@ -32,14 +31,6 @@ pub(crate) fn copy_nodes(nodes: &Vec<Option<NodeId>>) -> Result<Vec<Option<NodeI
     ensures { IfOk result (λ copy. copy.items ≡ nodes.now.items) }
 {
     let copy = nodes.clone()?;
-    Ok(copy)
-}
-
-/// A copy of the watchers' marks.
-pub(crate) fn copy_marks(marks: &Vec<Option<Mark>>) -> Result<Vec<Option<Mark>>, AllocError>
-    ensures { IfOk result (λ copy. copy.items ≡ marks.now.items) }
-{
-    let copy = marks.clone()?;
     Ok(copy)
 }
 

@@ -1,32 +1,39 @@
-//! The watchers of each key, and those of ranges.
-ghost use Rattle.std.specs.Prelude.{◌≡◌, ◌++◌, [], ◌∷◌, List, Option, Some, None, IfOk, OnOk, IsSome, slice_set, slice_index_or};
-ghost use Rattle.stm_lists.specs.Lists.{HasList};
+//! The lists on which watchers stand.
+ghost use Rattle.std.specs.Prelude.{◌≡◌, ◌≢◌, ◌++◌, [], ◌∷◌, List, Option, Some, None, IfOk, OnOk, IsSome, slice_set, slice_index_or, ℕ};
+ghost use Rattle.stm_lists.specs.Lists.{HasList, Place, StandsAt, list_at};
 ghost use Rattle.indexmap.specs.IndexMap.{get_by_text};
-ghost use Rattle.stm_watch.specs.Kept.{Covers, HasRoom, list_for};
+ghost use Rattle.stm_watch.specs.Kept.{Covers, HasRoom, idle_list, list_for};
+ghost use Rattle.stm_watch.specs.Calls.{IsNextReady};
 
 use crate::copies::{copy_keys, copy_lists, copy_nodes};
-use crate::watched::Watched;
+use crate::watched::{Watched, Watcher};
 use indexmap::IndexMap;
 use std::alloc::{AllocError, Global};
 use stm_history::Text;
 use stm_lists::{ListId, Lists, NodeId};
 
-/// Finds the watchers of a key, and has a node of each watcher of a range. They are named by their places, 0, 1, 2, ..
-/// Which ranges have a key is found by `Ranges`.
+/// Finds the watchers that a change of a key may make ready, and one that is ready. They are named by their places, 0, 1, 2, ..
 ///
-/// A key keeps its list where its last watcher is cancelled, for the next one.
+/// Each stands on one list: the ready ones on one list, the idle ones of each key on another, and all idle ones of
+/// ranges on one more. So a change of a key passes the watchers by that are ready already. Which ranges have a key is
+/// found by `Ranges`.
+///
+/// A key keeps its list where no watcher stands on it, for those that will be idle again.
 #[derive(Drop)]
 pub(crate) struct Index {
-    /// The places of the watchers of each key on a list, and of all that watch ranges on another.
     pub lists: Lists<usize>,
+    /// The list of the idle watchers of each key.
     pub keys: IndexMap<String, ListId>,
+    /// The list of the idle watchers of ranges.
     pub ranges: ListId,
+    /// The list of the watchers that are ready.
+    pub ready: ListId,
     /// The node of the watcher at each place.
     pub nodes: Vec<Option<NodeId>>,
 }
 
 impl Index {
-    ghost use Rattle.stm_watch.specs.declared.watched.Watched.{Watched as Kept};
+    ghost use Rattle.stm_watch.specs.declared.watched.Watcher.{Watcher as Kept};
 
     /// No watchers.
     pub(crate) fn new(alloc: Global) -> Result<Index, AllocError>
@@ -34,15 +41,18 @@ impl Index {
     {
         let mut lists = Lists::new(alloc);
         let ranges = lists.new_list()?;
+        let ready = lists.new_list()?;
         Ok(Index {
             lists,
             keys: IndexMap::new(alloc),
             ranges,
+            ready,
             nodes: Vec::new(alloc),
         })
     }
 
-    /// The list of the watchers of a key, if there is one. An empty table is not asked, so that its key need not be hashed.
+    /// The list of the idle watchers of a key, if there is one. An empty table is not asked, so that its key need not be
+    /// hashed.
     pub(crate) fn list_of(&self, key: &Text) -> Option<ListId>
         ensures { result ≡ get_by_text self.now.keys key.now }
     {
@@ -55,44 +65,72 @@ impl Index {
         }
     }
 
+    /// The list on which a watcher stands.
+    pub(crate) fn list_for(&self, watcher: &Watcher) -> ListId
+        requires { IsSome (idle_list self.now watcher.now.watching.watched) }
+        ensures { list_for self.now watcher.now ≡ Some result }
+    {
+        if watcher.first.is_some() {
+            return self.ready;
+        }
+        let Watched::Key(key) = &watcher.watching.watched else {
+            return self.ranges;
+        };
+        let Some(list) = self.list_of(key) else {
+            unreachable!()
+        };
+        list
+    }
+
     /// Makes the list of a key that has none.
-    fn add_list(&mut self, key: &Text) -> Result<ListId, AllocError>
+    fn add_list(&mut self, key: &Text) -> Result<(), AllocError>
         requires { get_by_text self.old.keys key.now ≡ None }
         ensures kept { (ws : List (Option Kept)) → Covers self.old ws → Covers self.new ws }
-        ensures list { IfOk result (λ list. get_by_text self.new.keys key.now ≡ Some list) }
+        ensures list { OnOk result (IsSome (get_by_text self.new.keys key.now)) }
         ensures room { HasRoom self.old → HasRoom self.new }
     {
         let key = String::from_str(*self.keys.allocator(), key.as_str())?;
         self.keys.reserve(1)?;
         let list = self.lists.new_list()?;
         match self.keys.insert(key, list) {
-            Ok(_) => Ok(list),
+            Ok(_) => Ok(()),
             Err(_) => unreachable!(),
         }
     }
 
-    /// The list for a new watcher, with room for it. Want of memory leaves no watcher out.
-    pub(crate) fn make_room(&mut self, watched: &Watched) -> Result<ListId, AllocError>
+    /// Makes the list of a key that is watched, where it has none.
+    fn make_list(&mut self, watched: &Watched) -> Result<(), AllocError>
         ensures kept { (ws : List (Option Kept)) → Covers self.old ws → Covers self.new ws }
-        ensures list { IfOk result (λ list. list_for self.new watched.now ≡ Some list) }
+        ensures list { OnOk result (IsSome (idle_list self.new watched.now)) }
+        ensures room { HasRoom self.old → HasRoom self.new }
+    {
+        let Watched::Key(key) = watched else {
+            return Ok(());
+        };
+        if self.list_of(key).is_some() {
+            return Ok(());
+        }
+        self.add_list(key)
+    }
+
+    /// Makes room for one more watcher, and the list on which it stands when it is idle. Want of memory leaves no
+    /// watcher out.
+    pub(crate) fn make_room(&mut self, watched: &Watched) -> Result<(), AllocError>
+        ensures kept { (ws : List (Option Kept)) → Covers self.old ws → Covers self.new ws }
+        ensures list { OnOk result (IsSome (idle_list self.new watched.now)) }
         ensures room { OnOk result (HasRoom self.new) }
     {
         self.lists.reserve(1)?;
         self.nodes.reserve(1)?;
-        let Watched::Key(key) = watched else {
-            return Ok(self.ranges);
-        };
-        match self.list_of(key) {
-            Some(list) => Ok(list),
-            None => self.add_list(key),
-        }
+        self.make_list(watched)
     }
 
-    /// Adds a watcher, on the list that `make_room` gave.
+    /// Adds a watcher, on its list.
     pub(crate) fn push(&mut self, list: ListId)
         requires room { HasRoom self.old }
         requires list { HasList self.old.lists list }
-        ensures { (ws : List (Option Kept)) (w : Kept) → Covers self.old ws → list_for self.old w ≡ Some list → Covers self.new (ws ++ Some w ∷ []) }
+        ensures { (ws : List (Option Kept)) (w : Kept) → Covers self.old ws → list_for self.old w ≡ Some list
+            → IsSome (idle_list self.old w.watching.watched) → Covers self.new (ws ++ Some w ∷ []) }
     {
         let Ok(node) = self.lists.push_back(list, self.nodes.len()) else {
             unreachable!()
@@ -111,10 +149,43 @@ impl Index {
         self.lists.unlink(node);
         self.nodes[index] = None;
     }
+
+    /// Moves a watcher to the back of a list, on which it is to stand from now on.
+    pub(crate) fn move_to(&mut self, index: usize, list: ListId)
+        requires there { (ws : List (Option Kept)) × Covers self.old ws × IsSome (slice_index_or ws index None) }
+        requires list { HasList self.old.lists list }
+        ensures covers { (ws : List (Option Kept)) (w : Kept) → Covers self.old ws → IsSome (slice_index_or ws index None) → list_for self.old w ≡ Some list
+            → IsSome (idle_list self.old w.watching.watched) → Covers self.new (slice_set ws index (Some w)) }
+        ensures left { (node : ℕ) (place : Place ℕ) → slice_index_or self.old.nodes.items index None ≡ Some node → StandsAt self.old.lists node place
+            → place.list ≢ list → list_at self.new.lists place.list ≡ Some (place.before ++ place.after) }
+        ensures keys { self.new.keys ≡ self.old.keys }
+        ensures ready { self.new.ready ≡ self.old.ready }
+    {
+        let Some(node) = self.nodes[index] else {
+            unreachable!()
+        };
+        // The room of the node that leaves is that of the new one.
+        self.lists.unlink(node);
+        let Ok(moved) = self.lists.push_back(list, index) else {
+            unreachable!()
+        };
+        self.nodes[index] = Some(moved);
+    }
+
+    /// The number of a watcher that is ready, if there is one.
+    pub(crate) fn next_ready(&self) -> Option<u64>
+        requires { (ws : List (Option Kept)) × Covers self.now ws }
+        ensures { (ws : List (Option Kept)) → Covers self.now ws → IsNextReady ws result }
+    {
+        match self.lists.front(self.ready) {
+            None => None,
+            Some(node) => Some(*self.lists.get(node) as u64 + 1),
+        }
+    }
 }
 
 impl Index {
-    ghost use Rattle.stm_watch.specs.declared.watched.Watched.{Watched as Kept};
+    ghost use Rattle.stm_watch.specs.declared.watched.Watcher.{Watcher as Kept};
 
     /// A copy, which finds the same watchers.
     pub(crate) fn copy(&self) -> Result<Index, AllocError>
@@ -127,6 +198,7 @@ impl Index {
             lists,
             keys,
             ranges: self.ranges,
+            ready: self.ready,
             nodes,
         })
     }

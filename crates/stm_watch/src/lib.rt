@@ -10,7 +10,6 @@ mod gather;
 mod index;
 mod page;
 mod ranges;
-mod readiness;
 mod refusal;
 mod slots;
 mod told;

@@ -1,15 +1,13 @@
 //! The places of watchers: watcher 1 stands first.
-ghost use Rattle.std.specs.Prelude.{◌≡◌, ◌<◌, ◌++◌, [], ◌∷◌, Some, None, IfOk, OnOk, OnErr, IsSome, is_some, true, option_map, slice_set, slice_index_or, length};
-ghost use Rattle.stm_watch.specs.Kept.{watched_of};
+ghost use Rattle.std.specs.Prelude.{◌≡◌, ◌<◌, ◌++◌, [], ◌∷◌, Some, None, OnOk, OnErr, IfOk, IsSome, is_some, true, false, option_map, slice_set, slice_index_or, length};
 ghost use Rattle.stm_watch.specs.Touch.{wants, touch_at};
-ghost use Rattle.stm_watch.specs.Calls.{Stands, is_ready, IsNextReady};
+ghost use Rattle.stm_watch.specs.Calls.{Stands};
 ghost use Rattle.stm_watch.specs.Slots.{SlotPolls, PlacePolls, made_ready};
 
 use crate::copies::copy_watchers;
 use crate::gather::{Gathered, gather};
-use crate::readiness::Readiness;
 use crate::refusal::PollRefusal;
-use crate::watched::{Watched, Watcher};
+use crate::watched::Watcher;
 use crate::watchers::Batch;
 use std::alloc::{AllocError, Global};
 use std::marker::Model;
@@ -42,16 +40,6 @@ fn clear(slot: &mut Option<Watcher>)
     drop(slot.take());
 }
 
-/// Whether a watcher that is ready stands at a place.
-fn is_ready(slot: &Option<Watcher>) -> bool
-    ensures { result ≡ is_ready slot.now }
-{
-    match slot {
-        None => false,
-        Some(watcher) => watcher.first.is_some(),
-    }
-}
-
 /// A poll of what stands at a place. A refusal leaves it as it was.
 pub(crate) fn poll_slot(
     alloc: Global,
@@ -71,37 +59,33 @@ pub(crate) fn poll_slot(
     Ok(batch)
 }
 
-/// Places of watchers. One that is ready is found in one step.
+/// Places of watchers.
 ///
 /// Contracts see what stands at each place: nothing where a watcher was cancelled.
 #[derive(Drop)]
 pub(crate) struct Slots {
     watchers: Vec<Option<Watcher>>,
-    readiness: Readiness,
 }
 
 impl Model for Slots {
-    ghost use Rattle.std.specs.Prelude.{◌≡◌, List, Option};
+    ghost use Rattle.std.specs.Prelude.{List, Option};
     ghost use Rattle.stm_watch.specs.declared.watched.Watcher.{Watcher as Kept};
-    ghost use Rattle.stm_watch.specs.Kept.{readiness_of};
 
     ghost Value = { List (Option Kept) };
 
     ghost view = { λ s. s.watchers.items };
-
-    ghost invariant = { λ s. s.readiness ≡ readiness_of s.watchers.items };
 }
 
 impl Slots {
+    ghost use Rattle.stm_watch.specs.declared.watched.Watcher.{Watcher as Kept};
+
     /// No places.
-    pub(crate) fn new(alloc: Global) -> Result<Slots, AllocError>
-        ensures { IfOk result (λ slots. slots ≡ []) }
+    pub(crate) fn new(alloc: Global) -> Slots
+        ensures { result ≡ [] }
     {
-        let readiness = Readiness::new(alloc)?;
-        Ok(Slots {
+        Slots {
             watchers: Vec::new(alloc),
-            readiness,
-        })
+        }
     }
 
     /// The number of places.
@@ -118,13 +102,13 @@ impl Slots {
         index < self.watchers.len() && self.watchers[index].is_some()
     }
 
-    /// What the watcher at a place watches.
-    pub(crate) fn watched(&self, index: usize) -> &Watched
+    /// The watcher at a place.
+    pub(crate) fn watcher(&self, index: usize) -> &Watcher
         requires { IsSome (slice_index_or self.now index None) }
-        ensures { slice_index_or (watched_of self.now) index None ≡ Some result.now }
+        ensures { slice_index_or self.now index None ≡ Some result.now }
     {
         match &self.watchers[index] {
-            Some(watcher) => &watcher.watching.watched,
+            Some(watcher) => watcher,
             None => unreachable!(),
         }
     }
@@ -133,9 +117,7 @@ impl Slots {
     pub(crate) fn reserve(&mut self) -> Result<(), AllocError>
         ensures { self.new ≡ self.old }
     {
-        self.watchers.reserve(1)?;
-        self.readiness.reserve()?;
-        Ok(())
+        self.watchers.reserve(1)
     }
 
     /// Adds a watcher. Want of memory changes nothing.
@@ -144,7 +126,6 @@ impl Slots {
         ensures err { OnErr result (self.new ≡ self.old) }
     {
         self.watchers.reserve(1)?;
-        self.readiness.push(watcher.first.is_some())?;
         self.watchers.push_reserved(Some(watcher));
         Ok(())
     }
@@ -155,28 +136,22 @@ impl Slots {
         ensures { self.new ≡ slice_set self.old index None }
     {
         clear(&mut self.watchers[index]);
-        self.readiness.remove(index);
     }
 
-    /// Notes a change of a key at a new revision at one place, if there is such a place.
-    pub(crate) fn touch(&mut self, index: usize, revision: u64, key: &Text)
-        ensures { self.new ≡ touch_at revision key.now index self.old }
+    /// Notes a change of a key at a new revision at one place, and tells whether it made the watcher there ready.
+    pub(crate) fn touch(&mut self, index: usize, revision: u64, key: &Text) -> bool
+        ensures touched { self.new ≡ touch_at revision key.now index self.old }
+        ensures made { result ≡ true → (w : Kept) × (slice_index_or self.old index None ≡ Some w) × (self.new ≡ slice_set self.old index (Some (made_ready revision w))) }
+        ensures same { result ≡ false → self.new ≡ self.old }
     {
         if index >= self.watchers.len() {
-            return;
+            return false;
         }
-        if wants(&self.watchers[index], revision, key) {
-            make_ready(&mut self.watchers[index], revision);
-            self.readiness.set(index, true);
+        if !wants(&self.watchers[index], revision, key) {
+            return false;
         }
-    }
-
-    /// The number of a watcher that is ready, if there is one.
-    pub(crate) fn first_ready(&self) -> Option<u64>
-        ensures { IsNextReady self.now result }
-    {
-        let index = self.readiness.first()?;
-        Some(index as u64 + 1)
+        make_ready(&mut self.watchers[index], revision);
+        true
     }
 
     /// A poll of what stands at a place. A refusal leaves it as it was.
@@ -191,9 +166,7 @@ impl Slots {
         ensures { PlacePolls keys.now.history most index self.old result self.new }
     {
         let alloc = *self.watchers.allocator();
-        let batch = poll_slot(alloc, &mut self.watchers[index], keys, most)?;
-        self.readiness.set(index, is_ready(&self.watchers[index]));
-        Ok(batch)
+        poll_slot(alloc, &mut self.watchers[index], keys, most)
     }
 }
 
@@ -203,10 +176,6 @@ impl Slots {
         ensures { IfOk result (λ copy. copy ≡ self.now) }
     {
         let watchers = copy_watchers(&self.watchers)?;
-        let readiness = self.readiness.copy()?;
-        Ok(Slots {
-            watchers,
-            readiness,
-        })
+        Ok(Slots { watchers })
     }
 }

@@ -43,12 +43,11 @@ impl Model for Watchers {
 
     ghost Value = { List (Option Kept) };
 
-    ghost use Rattle.stm_watch.specs.Kept.{watched_of};
     ghost use Rattle.stm_watch.specs.Pages.{AreFound};
 
     ghost view = { λ s. s.slots };
 
-    ghost invariant = { λ s. AreFound s.index s.ranges (watched_of s.slots) };
+    ghost invariant = { λ s. AreFound s.index s.ranges s.slots };
 }
 
 impl Watchers {
@@ -59,7 +58,7 @@ impl Watchers {
         ensures { IfOk result (λ watchers. watchers ≡ []) }
     {
         Ok(Watchers {
-            slots: Slots::new(alloc)?,
+            slots: Slots::new(alloc),
             index: Index::new(alloc)?,
             ranges: Ranges::new(alloc),
             alloc,
@@ -71,7 +70,8 @@ impl Watchers {
         ensures ok { OnOk result (self.new ≡ self.old ++ Some watcher ∷ []) }
         ensures err { OnErr result (self.new ≡ self.old) }
     {
-        let list = self.index.make_room(&watcher.watching.watched)?;
+        self.index.make_room(&watcher.watching.watched)?;
+        let list = self.index.list_for(&watcher);
         // The entry of a range is for a watcher that has room.
         self.slots.reserve()?;
         self.ranges
@@ -151,7 +151,8 @@ impl Watchers {
         if !self.slots.has(index) {
             return Err(NoWatcher);
         }
-        self.ranges.remove(self.slots.watched(index), index);
+        self.ranges
+            .remove(&self.slots.watcher(index).watching.watched, index);
         self.index.remove(index);
         self.slots.remove(index);
         Ok(())
@@ -164,7 +165,13 @@ impl Watchers {
         ensures same { watchings self.new ≡ watchings self.old }
         ensures stand { (h : History) → StandFor h self.old → revision ≡ now h + 1 → StandFor (add_revision h (map change_of_event events.now)) self.new }
     {
-        touch_all(&mut self.slots, &self.index, &self.ranges, revision, events);
+        touch_all(
+            &mut self.slots,
+            &mut self.index,
+            &self.ranges,
+            revision,
+            events,
+        );
     }
 
     /// A watcher that is ready, `None` where none is. It takes no memory.
@@ -174,7 +181,7 @@ impl Watchers {
         ensures ready { IsNextReady self.now result }
         ensures pending { (h : History) → StandFor h self.now → IsNextPending h (watchings self.now) result }
     {
-        self.slots.first_ready()
+        self.index.next_ready()
     }
 
     /// Gives a watcher the pending events of at most so many revisions, and whole revisions only.
@@ -191,7 +198,11 @@ impl Watchers {
         if id == 0 || id > self.slots.len() as u64 {
             return Err(PollRefusal::NoWatcher);
         }
-        self.slots.poll((id - 1) as usize, keys, most)
+        let place = (id - 1) as usize;
+        let batch = self.slots.poll(place, keys, most)?;
+        let list = self.index.list_for(self.slots.watcher(place));
+        self.index.move_to(place, list);
+        Ok(batch)
     }
 }
 

@@ -3,18 +3,13 @@ use Rattle.std.proofs.lemmas.Grind.{take_at_read}
 use Rattle.stm_keys.specs.declared.event.Event.{Event}
 use Rattle.stm_keys.specs.Events.{change_of_event, key_of_event}
 use Rattle.stm_watch.specs.Kept.{watched_of}
-use Rattle.stm_watch.specs.Pages.{AreFound}
+use Rattle.stm_watch.specs.Pages.{AreEntered}
 use Rattle.stm_watch.specs.Touch.{touch, touch_key}
 use Rattle.stm_watch.proofs.Touching.{touch_none, touch_next, watched_touched}
 use Rattle.stm_watch.proofs.touch.touch_all.Goals as goal
 
 pub loop-event-init : goal.loop-event-init
-loop-event-init c = touch_none c.args.revision c.args.slots.now
-
-pub touch_of-requires : goal.touch_of-requires
-touch_of-requires c =
-    subst (AreFound c.args.index.now c.args.ranges.now) (sym (ap watched_of c.loop-event.invariant
-    ∙ watched_touched (touch c.args.revision (map change_of_event (take c.loop-event.event-index c.args.events.now))) c.args.slots.now (λ w. refl))) c.requires
+loop-event-init c = record { noted = touch_none c.args.revision c.args.slots.now; found = c.requires }
 
 pub loop-event-preserved : goal.loop-event-preserved
 loop-event-preserved c =
@@ -23,8 +18,17 @@ loop-event-preserved c =
     let e : Event = c.event-item.result in
     let one : take (c.loop-event.event-index + 1) events ≡ so_far ++ e ∷ [] =
     (take_at_read events c.loop-event.event-index e c.loop-event-test.true).1 ∙ ap (λ (x : Event). so_far ++ x ∷ []) (sym c.event-item.is) in
-    c.touch_of.ensures
-    ∙ ap (λ k. map (option_map (touch_key c.args.revision k)) c.loop-event.slots) c.key.ensures
-    ∙ ap (map (option_map (touch_key c.args.revision (key_of_event e)))) c.loop-event.invariant
-    ∙ touch_next c.args.revision e so_far c.args.slots.now
-    ∙ ap (λ es. map (option_map (touch c.args.revision (map change_of_event es))) c.args.slots.now) (sym one)
+    record {
+      noted =
+          c.touch_of.ensures.slots
+          ∙ ap (λ k. map (option_map (touch_key c.args.revision k)) c.loop-event.slots) c.key.ensures
+          ∙ ap (map (option_map (touch_key c.args.revision (key_of_event e)))) c.loop-event.invariant.noted
+          ∙ touch_next c.args.revision e so_far c.args.slots.now
+          ∙ ap (λ es. map (option_map (touch c.args.revision (map change_of_event es))) c.args.slots.now) (sym one);
+      found = record {
+        covers = c.touch_of.ensures.covers;
+        entered = subst (AreEntered c.args.ranges.now.pages.items)
+            (sym (ap watched_of c.touch_of.ensures.slots ∙ watched_touched (touch_key c.args.revision c.key.result.now) c.loop-event.slots (λ w. refl)))
+            c.loop-event.invariant.found.entered;
+      };
+    }

@@ -7,7 +7,10 @@ use Rattle.stm_watch.proofs.Touching.{touched_none, touched_more}
 use Rattle.stm_watch.proofs.touch.touch_entries.Goals as goal
 
 pub loop-entry-init : goal.loop-entry-init
-loop-entry-init c = touched_none c.args.revision c.args.key.now (λ i. IsAny (Reaches c.args.key.now i) []) c.args.slots.now (λ i any. any)
+loop-entry-init c = record {
+  touched = touched_none c.args.revision c.args.key.now (λ i. IsAny (Reaches c.args.key.now i) []) c.args.slots.now (λ i any. any);
+  covers = c.requires;
+}
 
 pub loop-entry-preserved : goal.loop-entry-preserved
 loop-entry-preserved c =
@@ -16,10 +19,14 @@ loop-entry-preserved c =
     let one : take (c.loop-entry.entry-index + 1) entries ≡ take c.loop-entry.entry-index entries ++ x ∷ [] =
     (take_at_read entries c.loop-entry.entry-index x c.loop-entry-test.true).1
     ∙ ap (λ (y : RangeEntry). take c.loop-entry.entry-index entries ++ y ∷ []) (sym c.entry-item.is) in
-    touched_more c.args.revision c.args.key.now (Reaches c.args.key.now) (take c.loop-entry.entry-index entries) (take (c.loop-entry.entry-index + 1) entries) x
-    c.args.slots.now c.loop-entry.slots c.touch_range.new.slots one c.loop-entry.invariant c.touch_range.ensures
+    record {
+      touched = touched_more c.args.revision c.args.key.now (Reaches c.args.key.now) (take c.loop-entry.entry-index entries)
+          (take (c.loop-entry.entry-index + 1) entries) x c.args.slots.now c.loop-entry.slots c.touch_range.new.slots one c.loop-entry.invariant.touched
+          c.touch_range.ensures.slots;
+      covers = c.touch_range.ensures.covers;
+    }
 
-pub returns : goal.returns
-returns c =
+pub returns-clause-slots : goal.returns-clause-slots
+returns-clause-slots c =
     subst (λ (xs : List RangeEntry). IsTouched c.args.revision c.args.key.now (λ i. IsAny (Reaches c.args.key.now i) xs) c.args.slots.now c.loop-entry.slots)
-    (take_all c.loop-entry.entry-index c.args.entries.now c.loop-entry-test.false) c.loop-entry.invariant
+    (take_all c.loop-entry.entry-index c.args.entries.now c.loop-entry-test.false) c.loop-entry.invariant.touched

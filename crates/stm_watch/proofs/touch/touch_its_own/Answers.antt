@@ -1,6 +1,5 @@
 use Rattle.std.proofs.Common.{◌∙◌, sym}
-use Rattle.stm_watch.specs.declared.watched.Watched.TheVariants.{Key}
 use Rattle.stm_watch.proofs.touch.touch_its_own.Goals as goal
 
-pub touch_list-requires : goal.touch_list-requires
-touch_list-requires c = c.requires.there (Key c.args.key.now) c.in-Some.list (sym c.list_of.ensures ∙ c.in-Some.is)
+pub touch_list-requires-clause-list : goal.touch_list-requires-clause-list
+touch_list-requires-clause-list c = sym c.list_of.ensures ∙ c.in-Some.is

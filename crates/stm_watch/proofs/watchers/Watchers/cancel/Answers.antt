@@ -3,25 +3,25 @@ use Rattle.std.proofs.lemmas.List.{map-set}
 use Rattle.stm_watch.specs.Calls.{StandFor, cancelled, watchings}
 use Rattle.stm_watch.specs.declared.watched.Watcher.{Watcher}
 use Rattle.stm_watch.specs.Kept.{watched_of}
-use Rattle.stm_watch.specs.Pages.{AreFound}
+use Rattle.stm_watch.specs.Pages.{AreEntered, AreFound}
 use Rattle.stm_watch.proofs.Entered.{entered_less}
 use Rattle.stm_watch.proofs.Placed.{watched_there}
 use Rattle.stm_watch.proofs.Standing.{watchings_set, stand_set}
 use Rattle.stm_watch.proofs.watchers.Watchers.cancel.Goals as goal
 
 pub remove-requires-2 : goal.remove-requires-2
-remove-requires-2 c =
-    (watched_of c.self.inside.slots, c.self.invariant.covers, watched_there c.self.inside.slots (c.args.id - 1) (sym c.has.ensures ∙ c.if-not-has.false))
+remove-requires-2 c = (c.self.inside.slots, c.self.invariant.covers, sym c.has.ensures ∙ c.if-not-has.false)
 
 pub invariant_of-self : goal.invariant_of-self
 invariant_of-self c =
-    let some = watched_there c.self.inside.slots (c.args.id - 1) (sym c.has.ensures ∙ c.if-not-has.false) in
-    subst (AreFound c.remove-2.new.self c.remove.new.self)
-    (sym (ap watched_of c.remove-3.ensures ∙ map-set (option_map (λ (w : Watcher). w.watching.watched)) c.self.inside.slots (c.args.id - 1) None))
+    let some = sym c.has.ensures ∙ c.if-not-has.false in
+    subst (AreFound c.remove-2.new.self c.remove.new.self) (sym c.remove-3.ensures)
     (record {
-      covers = c.remove-2.ensures (watched_of c.self.inside.slots) c.self.invariant.covers some;
-      entered = entered_less c.self.inside.ranges.pages.items c.remove.new.self.pages.items (watched_of c.self.inside.slots) (c.args.id - 1) c.remove.ensures some
-          c.self.invariant.entered;
+      covers = c.remove-2.ensures c.self.inside.slots c.self.invariant.covers some;
+      entered = subst (AreEntered c.remove.new.self.pages.items)
+          (sym (map-set (option_map (λ (w : Watcher). w.watching.watched)) c.self.inside.slots (c.args.id - 1) None))
+          (entered_less c.self.inside.ranges.pages.items c.remove.new.self.pages.items (watched_of c.self.inside.slots) (c.args.id - 1) c.remove.ensures
+          (watched_there c.self.inside.slots (c.args.id - 1) some) c.self.invariant.entered);
     })
 
 pub returns-clause-ok : goal.returns-clause-ok

@@ -7,6 +7,7 @@ mod report_text;
 mod run_script;
 
 pub use laws::{one_report, reports_are_of_right_runs};
+pub use leases::live_leases;
 pub use report_text::report;
 pub use run_script::{ScriptFault, script};
 pub use stm_devices::{DeviceFault, Sink, Source, Std, write_all};

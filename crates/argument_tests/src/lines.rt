@@ -131,12 +131,33 @@ fn command_lines(rt: HostRuntime) {
         "Statuses: 0 done or yes, 1 no, 2 bad input",
     ];
     let hint = ["Usage: stmrun", "--help"];
-    let input = Asked::Script { scenario: None };
+    let input = Asked::Script {
+        scenario: None,
+        format: None,
+    };
     asks(&rt, alloc, &[name, script], &[], input, input);
     let file = Asked::Script {
         scenario: Some("scripts"),
+        format: None,
     };
     asks(&rt, alloc, &[name, script, other], &[], file, file);
+    let text = Asked::Script {
+        scenario: Some("scripts"),
+        format: Some("text"),
+    };
+    let format = "--format".as_bytes();
+    let word = "text".as_bytes();
+    let joined = "--format=text".as_bytes();
+    asks(
+        &rt,
+        alloc,
+        &[name, script, format, word, other],
+        &[],
+        text,
+        text,
+    );
+    asks(&rt, alloc, &[name, script, other, joined], &[], text, text);
+    asks(&rt, alloc, &[name, script, format], &hint, usage, usage);
     asks(&rt, alloc, &[name, help], &whole, shown, failed);
     let version = ["stmrun 0.1.0 (rattle-kit-13b)"];
     for asked in ["--version", "-V"] {

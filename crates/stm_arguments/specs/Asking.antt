@@ -21,10 +21,12 @@ is_set None = false
 is_set (Some text) = bytes_eq text (codes "true")
 
 -- a command of this name, with what stands in the places of its arguments, asks for a script of its file, or of standard
--- input where it names none, for a check of its files, a whole one where that flag is set, for a run of its file by so many threads,
+-- input where it names none, in the format that it names, for a check of its files, a whole one where that flag is set, for a run of its file by so many threads,
 -- from 1 to 16, with the ends of its jobs where that flag is set, or for the recipe of its words
 abbrev pub AsksAt : Text → List Row → Asked → Type 0
-AsksAt name rows (Script file) = (name ≡ codes "script") × (first_of (codes "FILE") rows ≡ option_map (λ path. path.now) file)
+AsksAt name rows (Script file format) =
+    (name ≡ codes "script") × (first_of (codes "FILE") rows ≡ option_map (λ path. path.now) file)
+    × (first_of (codes "format") rows ≡ option_map (λ word. word.now) format)
 AsksAt name rows (Check scenario report whole) =
     (name ≡ codes "check") × (first_of (codes "SCENARIO") rows ≡ Some scenario.now) × (first_of (codes "REPORT") rows ≡ Some report.now)
     × (whole ≡ is_set (first_of (codes "whole") rows))

@@ -16,8 +16,12 @@ wanted name = record (new_rule name) { required = true }
 abbrev pub flag_rule : List ℕ → Rule
 flag_rule name = record (new_rule name) { long = Some name; action = Some SetTrue }
 
+-- an option that may be there, with a word
+abbrev pub format_rule : Rule
+format_rule = record (new_rule (codes "format")) { long = Some (codes "format"); value_names = 1 }
+
 abbrev pub script_app : App
-script_app = with_rule (new_app (codes "script")) (new_rule (codes "FILE"))
+script_app = with_rule (with_rule (new_app (codes "script")) (new_rule (codes "FILE"))) format_rule
 
 abbrev pub check_app : App
 check_app =

@@ -1,7 +1,7 @@
 //! The command line.
 ghost use Rattle.std.specs.Prelude.{◌≡◌, ◌≤◌, ◌⊎◌, codes, false, IfOk, IfErr, IfNone, IfSome, Some, map, option_map, string_bytes};
 ghost use Rattle.clap.specs.Words.{IsUnsignedIn, app_of, first_of, found_of, kind_of, new_rule, rows_of, rule_of, subcommand_rows_of};
-ghost use Rattle.stm_arguments.specs.CommandLine.{script_app, check_app, threads_app, recipe_app, stmrun_app, flag_rule, wanted, workers_rule, IsAddedAs, IsToldBy};
+ghost use Rattle.stm_arguments.specs.CommandLine.{format_rule, script_app, check_app, threads_app, recipe_app, stmrun_app, flag_rule, wanted, workers_rule, IsAddedAs, IsToldBy};
 ghost use Rattle.stm_arguments.specs.Asking.{Asks, AsksAt, AsksBy, HasFiles, HasName, HasWorkers, IsWhole, NamesNumber, is_set};
 
 use clap::error::ErrorKind;
@@ -14,9 +14,11 @@ use stm_recipe_lines::RecipeWords;
 /// What a command line asks for.
 #[derive(Clone, Copy, Debug, PartialEq, Eq)]
 pub enum Asked<'a> {
-    /// A script, by the path of its scenario; of standard input, where there is none.
+    /// A script, by the path of its scenario; of standard input, where there is none. Its report is in the format of this name; in lines,
+    /// where there is none.
     Script {
         scenario: Option<&'a str>,
+        format: Option<&'a str>,
     },
     /// A check of a report, by the paths of its scenario and of itself: of each line, where it is to be whole.
     Check {
@@ -87,7 +89,15 @@ first fault and the cause stand on standard error. If s.json holds the example o
 
   stmrun script s.json
 
-prints its report, and so does stmrun script < s.json. From this scenario, which lacks the runner of its step,
+prints its report, and so does stmrun script < s.json. With --format FORMAT the report has another form:
+
+  lines   the default: each line is a JSON array, which stmrun check reads
+  json    each line is a JSON object with named fields
+  text    a row for each event, in the column of its runner or of the store; then the keys that are present,
+          and which runners are unfinished
+  svg     the rows of the text as a picture
+
+From this scenario, which lacks the runner of its step,
 
   [[\"step\"]]
 
@@ -206,6 +216,17 @@ fn flag<'a>(alloc: Global, name: &'a str, help: &'a str) -> Arg<'a>
         .help(help)
 }
 
+/// The format of a report, which may be there.
+fn format<'a>(alloc: Global) -> Arg<'a>
+    ensures rule { rule_of result ≡ format_rule }
+    ensures local { result.global ≡ false }
+{
+    Arg::new(alloc, "format")
+        .long("format")
+        .value_name("FORMAT")
+        .help("The form of the report: lines (the default), json, text or svg")
+}
+
 /// The command `script`.
 fn script_command<'a>(alloc: Global) -> Result<Command<'a>, AllocError>
     ensures { IfOk result (IsAddedAs script_app) }
@@ -215,10 +236,12 @@ fn script_command<'a>(alloc: Global) -> Result<Command<'a>, AllocError>
         "FILE",
         "The file of the scenario, in the place of standard input",
     );
+    let form = format(alloc);
     Command::new(alloc, "script")
         .about("Runs a scenario, and prints its report")
         .after_help(SCRIPT_EXAMPLE)
-        .arg(input)
+        .arg(input)?
+        .arg(form)
 }
 
 /// The command `check`.
@@ -450,7 +473,8 @@ fn asked_at<'a>(name: &str, found: &ArgMatches<'a>) -> Option<Asked<'a>>
 {
     if name == "script" {
         let scenario = word_of(found, "FILE");
-        return Some(Asked::Script { scenario });
+        let format = word_of(found, "format");
+        return Some(Asked::Script { scenario, format });
     }
     if name == "check" {
         return files_of(found);

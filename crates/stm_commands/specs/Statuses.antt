@@ -7,6 +7,9 @@ use Rattle.stm_report.specs.declared.run_script.ScriptFault.{ScriptFault}
 use Rattle.stm_report.specs.declared.run_script.ScriptFault.TheVariants.{OutOfMemory, Bad, Read, Write}
 use Rattle.stm_devices.specs.Transfers.{WritesFront}
 use Rattle.stm_report.specs.Script.{Devices, Does}
+use Rattle.stm_commands.specs.declared.formats.TheConstants.{NO_FORMAT}
+use Rattle.stm_formats.specs.declared.format.Format.{Format}
+use Rattle.stm_formats.specs.Script.{DoesAs}
 
 -- 2 for bad input, 3 for want of memory and a failed device
 abbrev pub status_of : ScriptFault → ℕ
@@ -42,3 +45,12 @@ EndsBy before after failed (Err fault) status = SaysOf before after failed fault
 abbrev pub Ends : Devices → Option (List ℕ) → Option (List ℕ) → Bool → ℕ → Type 0
 Ends devices before after failed status =
     (ended : Result (Unit {0}) ScriptFault) × Does devices ended × EndsBy before after failed ended status
+
+-- the same of a script that writes in a format
+abbrev pub EndsAs : Format → Devices → Option (List ℕ) → Option (List ℕ) → Bool → ℕ → Type 0
+EndsAs format devices before after failed status =
+    (ended : Result (Unit {0}) ScriptFault) × DoesAs format devices ended × EndsBy before after failed ended status
+
+-- what is said of a word that names no format, in the manner of the other usage faults
+abbrev pub SaysNoFormat : Option (List ℕ) → Option (List ℕ) → Bool → ℕ → Type 0
+SaysNoFormat before after failed status = (status ≡ 2) × Says before after failed NO_FORMAT.now

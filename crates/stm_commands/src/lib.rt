@@ -2,15 +2,18 @@
 #![tactic(auto)]
 
 mod checking;
+mod formats;
 mod messages;
 mod recipes;
 mod scripting;
 mod whole_checking;
 
 pub use checking::check_to;
+pub use formats::{NO_FORMAT, no_format_to, script_as_to};
 pub use messages::{write_bad, write_text};
 pub use recipes::{USAGE, recipe_to};
 pub use scripting::script_to;
+pub use stm_formats::Format;
 pub use stm_recipe_lines::RecipeWords;
 pub use stm_report::{BadInput, DeviceFault, Sink, Source, Std};
 pub use whole_checking::check_whole_to;

@@ -31,7 +31,7 @@ fn write_message<E: Sink>(err: &mut E, fault: &ScriptFault) -> Result<(), Device
 }
 
 /// Says what went wrong, and gives the status. Takes no memory.
-fn tell<E: Sink>(err: &mut E, fault: &ScriptFault) -> u8
+pub(crate) fn tell<E: Sink>(err: &mut E, fault: &ScriptFault) -> u8
     requires { E.failed err.old ≡ false }
     ensures { SaysOf (E.held err.old) (E.held err.new) (E.failed err.new) fault.now result }
 {

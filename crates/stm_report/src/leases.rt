@@ -30,8 +30,8 @@ fn take_entry(leases: &mut BTreeMap<u64, LiveLease>, entry: &Entry) -> Result<()
     }
 }
 
-/// The leases that are live after these entries, by id.
-pub(crate) fn live_leases(
+/// The leases that are live after these entries, by id. It fails where a growth was refused.
+pub fn live_leases(
     alloc: Global,
     entries: &[Entry],
 ) -> Result<BTreeMap<u64, LiveLease>, AllocError>

@@ -10,6 +10,7 @@ pub use laws::{
     checks_say_yes, one_report, reports_are_of_right_runs, reports_are_read_back,
     scripts_pass_checks,
 };
+pub use leases::live_leases;
 pub use report_text::report;
 pub use run_script::{ScriptFault, script};
 pub use stm_check::{Checked, WrongCause, check};

@@ -1,7 +1,7 @@
 //! Files of these tests' own, run and checked.
 
 use crate::files::open;
-use crate::{run_check, run_script, script_to};
+use crate::{run_check, run_script_in, script_to};
 use std::fs;
 use std::test::Fail;
 use stm_commands::Std;
@@ -61,8 +61,10 @@ fn commands_on_files(rt: HostRuntime) -> Result<(), Fail> {
     fs::write(&rt, "commands.json", SCENARIO.as_bytes())?;
     fs::write(&rt, "commands.report", REPORT.as_bytes())?;
     fs::write(&rt, "commands.other", OTHER_REPORT.as_bytes())?;
-    let script = run_script(&rt, Some("commands.json"));
-    let no_script = run_script(&rt, Some("commands.report"));
+    let script = run_script_in(&rt, Some("commands.json"), None);
+    let picture = run_script_in(&rt, Some("commands.json"), Some("svg"));
+    let no_format = run_script_in(&rt, Some("commands.json"), Some("xml"));
+    let no_script = run_script_in(&rt, Some("commands.report"), Some("text"));
     let yes = run_check(&rt, "commands.json", "commands.report", false);
     let no = run_check(&rt, "commands.json", "commands.other", false);
     let turned = run_check(&rt, "commands.report", "commands.json", false);
@@ -73,7 +75,7 @@ fn commands_on_files(rt: HostRuntime) -> Result<(), Fail> {
     fs::remove_file(&rt, "commands.json")?;
     fs::remove_file(&rt, "commands.report")?;
     fs::remove_file(&rt, "commands.other")?;
-    assert_eq!(rt; (script, no_script), (0, 2));
+    assert_eq!(rt; (script, picture, no_format, no_script), (0, 0, 2, 2));
     assert_eq!(rt; (yes, no, turned, missing), (0, 1, 2, 3));
     assert_eq!(rt; (whole, not_whole, both_on_input), (0, 1, 2));
     Ok(())

@@ -18,8 +18,8 @@ use std::process::ExitCode;
 use std::sync::Wait;
 use std::thread::Threads;
 use stm_arguments::{Asked, asked_of, read_words};
-use stm_commands::{RecipeWords, Std};
-pub use stm_commands::{check_to, check_whole_to, recipe_to, script_to};
+use stm_commands::{Format, RecipeWords, Std, no_format_to};
+pub use stm_commands::{check_to, check_whole_to, recipe_to, script_as_to, script_to};
 pub use threading::{threads_to, threads_with_ends_to};
 
 /// The path of an input that may be named: that of standard input where it is not.
@@ -28,11 +28,27 @@ fn path_of(named: Option<&str>) -> &str {
 }
 
 /// Runs the scenario of a path, or that on standard input.
-fn run_script(rt: &HostRuntime, scenario: Option<&str>) -> u8 {
+fn run_script(rt: &HostRuntime, scenario: Option<&str>, format: Format) -> u8 {
     let mut input = Std::new(open(rt, path_of(scenario)));
     let mut out = Std::new(rt.stdout());
     let mut err = Std::new(rt.stderr());
-    script_to(rt.alloc(), &mut input, &mut out, &mut err)
+    script_as_to(rt.alloc(), format, &mut input, &mut out, &mut err)
+}
+
+/// The format of this name, or that of lines.
+fn format_of(word: Option<&str>) -> Option<Format> {
+    match word {
+        Some(word) => Format::named(word),
+        None => Some(Format::Lines),
+    }
+}
+
+/// Runs a scenario, where the word names a format.
+fn run_script_in(rt: &HostRuntime, scenario: Option<&str>, word: Option<&str>) -> u8 {
+    match format_of(word) {
+        Some(format) => run_script(rt, scenario, format),
+        None => no_format_to(&mut Std::new(rt.stderr())),
+    }
 }
 
 /// Checks the report of a path beside the scenario of another: each line, where it is to be whole. Only one of them can be standard input.
@@ -84,7 +100,7 @@ fn run<T: Threads + Wait + Sync>(rt: &HostRuntime, threads: &T) -> u8 {
         Err(status) => return status,
     };
     match asked_of(rt, rt.alloc(), words.as_slice()) {
-        Asked::Script { scenario } => run_script(rt, scenario),
+        Asked::Script { scenario, format } => run_script_in(rt, scenario, format),
         Asked::Check {
             scenario,
             report,

@@ -10,10 +10,12 @@ neither a b left right = ap₂ (λ (x y : Bool). x || y) left right
 pub returns : goal.returns
 returns c =
     let bare_is : app_of c.after_help.result ≡ new_app (codes "script") = search rules in
-    IfOk-weaker c.arg.result _ _ (λ m adds. λ (old new : Command). λ (h : AddsSubcommand old m new).
-    h.shape (adds.globals
-    ∙ neither _ _ ((λ i. (c.after_help.ensures i).has_globals) ∙ ((λ i. (c.about.ensures i).has_globals) ∙ c.new.ensures.local))
-    c.optional-input.ensures.local)
+    let alone_is = (λ i. (c.after_help.ensures i).has_globals) ∙ ((λ i. (c.about.ensures i).has_globals) ∙ c.new.ensures.local) in
+    let local_is = neither _ _ alone_is c.optional-input.ensures.local in
+    IfOk-weaker c.arg-2.result _ _ (λ m adds. λ (old new : Command). λ (h : AddsSubcommand old m new).
+    h.shape (adds.globals ∙ neither _ _ (c.in_ok-arg.ensures.globals ∙ local_is) c.format-form.ensures.local)
     ∙ ap (λ (a : App). with_subcommand (app_of old) a.top)
-    (adds.shape c.optional-input.ensures.local ∙ ap₂ with_rule bare_is c.optional-input.ensures.rule))
-    c.arg.ensures
+    (adds.shape c.format-form.ensures.local
+    ∙ ap₂ with_rule (c.in_ok-arg.ensures.shape c.optional-input.ensures.local ∙ ap₂ with_rule bare_is c.optional-input.ensures.rule)
+    c.format-form.ensures.rule))
+    c.arg-2.ensures

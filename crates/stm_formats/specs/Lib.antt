@@ -1,0 +1,13 @@
+pub mod Format
+pub mod Shown
+pub mod Escaped
+pub mod Pieces
+pub mod Words
+pub mod Rows
+pub mod Columns
+pub mod Notes
+pub mod TextForm
+pub mod Svg
+pub mod Fields
+pub mod Script
+pub mod Laws

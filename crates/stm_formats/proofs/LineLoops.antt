@@ -1,5 +1,5 @@
 -- Adding objects one after the other, as a loop does.
-use Rattle.std.proofs.Common.{◌≡◌, ℕ, ◌+◌, ◌<◌, ◌≤◌, List, [], ◌∷◌, ◌++◌, length, map, drop, get_or, Option, Some, sym, ap, ◌∙◌}
+use Rattle.std.proofs.Common.{◌≡◌, ℕ, ◌+◌, ◌<◌, ◌≤◌, List, [], ◌∷◌, ◌++◌, length, map, drop, get_or, Option, Some, refl, sym, ap, ◌∙◌}
 use Rattle.std.proofs.Common.{String, string_bytes, append_assoc, append-nil}
 use Rattle.std.proofs.lemmas.List.{drop_all}
 use Rattle.std.specs.BTreeMap.{BTreeMap, IsOrdered}
@@ -13,10 +13,16 @@ use Rattle.stm_entries.specs.declared.live_leases.LiveLease.{LiveLease}
 use Rattle.stm_entries.specs.LiveLeases.{HasLeases}
 use Rattle.stm_entries.proofs.ListedLeases.{terms, listed}
 use Rattle.stm_reports.specs.Text.{line_text, lines_text}
-use Rattle.stm_report.proofs.LineLoops.{lines_text-append}
 use Rattle.stm_formats.specs.Fields.{key_object, objects_of_key, key_objects, objects_of_leases}
 use Rattle.stm_formats.specs.Notes.{key_note, notes_of_key, key_notes}
 use Rattle.stm_formats.proofs.Joining.{left_at}
+
+-- ---- lines
+
+lines_text-append : (ds es : List Data) → lines_text (ds ++ es) ≡ lines_text ds ++ lines_text es
+lines_text-append [] es = refl
+lines_text-append (d ∷ ds) es = ap (λ (t : List ℕ). line_text d ++ t) (lines_text-append ds es)
+    ∙ sym (append_assoc (line_text d) (lines_text ds) (lines_text es))
 
 -- ---- objects of keys
 

@@ -159,7 +159,7 @@ fn command_lines(rt: HostRuntime) {
     asks(&rt, alloc, &[name, script, other, joined], &[], text, text);
     asks(&rt, alloc, &[name, script, format], &hint, usage, usage);
     asks(&rt, alloc, &[name, help], &whole, shown, failed);
-    let version = ["stmrun 0.1.0 (rattle-kit-13b)"];
+    let version = ["stmrun 0.1.0 (rattle-kit-13f)"];
     for asked in ["--version", "-V"] {
         let line = [name, asked.as_bytes()];
         asks(&rt, alloc, &line, &version, shown, failed);

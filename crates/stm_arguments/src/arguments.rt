@@ -51,7 +51,7 @@ enum WordsFault {
 const MOST_WORKERS: usize = 16;
 
 /// What `--version` prints behind the name: the program's version, and the kit that it is proved with.
-const VERSION: &str = "0.1.0 (rattle-kit-13b)";
+const VERSION: &str = "0.1.0 (rattle-kit-13f)";
 
 const EXAMPLE: &str = "A scenario is a JSON array of events, in their order:
 

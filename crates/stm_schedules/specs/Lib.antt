@@ -5,3 +5,4 @@ pub mod Scenarios
 pub mod Outcomes
 pub mod Merges
 pub mod Exchange
+pub mod Fewer

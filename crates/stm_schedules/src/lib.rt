@@ -5,6 +5,7 @@
 //! gone through.
 #![tactic(auto)]
 
+pub mod laws;
 mod moves;
 mod outcome;
 

@@ -1,0 +1,12 @@
+pub mod Members
+pub mod MoveLemmas
+pub mod Runs
+pub mod BadSchedules
+pub mod Lengths
+pub mod Splits
+pub mod Gathered
+pub mod Merging
+pub mod Exchanging
+pub mod Sorting
+pub mod FewerLemmas
+pub mod WorkedExamples

@@ -1,0 +1,73 @@
+//! The laws of schedules. Each function does nothing: its contract is the law.
+ghost use Rattle.stm_schedules.specs.Exchange.{QuietStepsExchange};
+ghost use Rattle.stm_schedules.specs.Fewer.{FewerAreEnough};
+ghost use Rattle.stm_schedules.specs.Keeping.{FirstBadIsFirst, LongestIsAll, RulesEnd};
+ghost use Rattle.stm_schedules.specs.Merges.{MergesKeep};
+ghost use Rattle.stm_schedules.specs.Outcomes.{OutcomesAreThose};
+ghost use Rattle.stm_schedules.specs.Places.{MovesAreThose};
+ghost use Rattle.stm_schedules.specs.Scenarios.{ScenariosAreSplit};
+ghost use Rattle.stm_schedules.specs.Schedules.{SchedulesAreRuns};
+
+/// The moves that can be made at a place are exactly the steps of the runners that have not ended, and the next event of the others where
+/// one is left.
+pub fn moves_are_those()
+    ensures { MovesAreThose }
+{}
+
+/// A schedule leads to the world of its events, run one after another; and a schedule from where another one leads can stand behind it.
+pub fn schedules_are_runs()
+    ensures { SchedulesAreRuns }
+{}
+
+/// The events up to the last start and those behind it are the scenario, and no start stands behind the last one. A scenario with the
+/// events of a schedule in the place of those behind its last start leads to the world that the schedule leads to. A scenario whose starts
+/// are at another level is split at the same place.
+pub fn scenarios_are_split()
+    ensures { ScenariosAreSplit }
+{}
+
+/// Whatever the rule is: where no first bad schedule of up to n moves is found, all of up to n moves keep it. One that is found does not
+/// keep it, no shorter schedule breaks it, and none of its length that stands before it. Where some schedule of up to n moves breaks it,
+/// one is found.
+pub fn first_bad_is_first()
+    ensures { FirstBadIsFirst }
+{}
+
+/// Where some schedule has n moves and none has one more, the longest has n; and where all schedules of up to the length of the longest keep
+/// a rule, all schedules keep it.
+pub fn longest_is_all()
+    ensures { LongestIsAll }
+{}
+
+/// Every list of steps of runners of any numbers, merged with a front of the others' events in their order, leads to the world of a schedule
+/// that is no longer. So a rule that all schedules of up to n moves keep is kept after all such lists of up to n events, and a rule that
+/// all schedules keep is kept after all such lists. A step of a runner that has ended, or was never started, changes nothing.
+pub fn merges_keep()
+    ensures { MergesKeep }
+{}
+
+/// A rule that is run alone on the state of a world comes to an end.
+pub fn rules_end()
+    ensures { RulesEnd }
+{}
+
+/// The outcomes that are computed of up to n moves are exactly those of whole schedules of up to n moves; where no schedule is longer, of
+/// all whole schedules.
+pub fn outcomes_are_those()
+    ensures { OutcomesAreThose }
+{}
+
+/// Two steps of different runners, neither of which enters anything (a fetch, an abort, a fault, a commit that fails or is refused), come to
+/// the same world in either order, each is told the same reply, and neither enters anything behind the other.
+pub fn quiet_steps_exchange()
+    ensures { QuietStepsExchange }
+{}
+
+/// Fewer schedules are enough. Of those that differ by exchanges of neighbouring quiet steps of different runners one is looked at: it has
+/// no quiet step right behind a quiet step of a runner of a higher number. For each schedule there is one that is looked at, which comes to
+/// the same world and the same ends of runners, is as long and does not stand behind it.
+///
+/// So the first bad schedule of those that are looked at is the first of all, their lengths are those of all, and so are their outcomes.
+pub fn fewer_are_enough()
+    ensures { FewerAreEnough }
+{}

@@ -1,3 +1,4 @@
 pub mod Checking
 pub mod Recipes
 pub mod Statuses
+pub mod WholeChecking

@@ -104,7 +104,7 @@ fn status(fault: &CheckFault) -> u8
 }
 
 /// Says what went wrong, and gives the status. Takes no memory.
-fn tell<E: Sink>(err: &mut E, fault: &CheckFault) -> u8
+pub(crate) fn tell<E: Sink>(err: &mut E, fault: &CheckFault) -> u8
     requires { E.failed err.old ≡ false }
     ensures { SaysOf (E.held err.old) (E.held err.new) (E.failed err.new) fault.now result }
 {

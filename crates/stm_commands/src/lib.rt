@@ -5,6 +5,7 @@ mod checking;
 mod messages;
 mod recipes;
 mod scripting;
+mod whole_checking;
 
 pub use checking::check_to;
 pub use messages::{write_bad, write_text};
@@ -12,3 +13,4 @@ pub use recipes::{USAGE, recipe_to};
 pub use scripting::script_to;
 pub use stm_recipe_lines::RecipeWords;
 pub use stm_report::{BadInput, DeviceFault, Sink, Source, Std};
+pub use whole_checking::check_whole_to;

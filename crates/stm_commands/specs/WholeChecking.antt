@@ -1,0 +1,67 @@
+-- What the command `check --whole` does to its devices, its statuses, and what it says.
+use Rattle.std.specs.Prelude.{◌≡◌, ◌⊎◌, ◌==◌, ℕ, List, ◌++◌, length, Bool, true, false, if◌then◌else◌, Option, Result, Ok, Err, codes, decimal}
+use Rattle.std.specs.Io.KnownBytes.{Appends, Keeps}
+use Rattle.stm_devices.specs.Transfers.{WritesFront}
+use Rattle.stm_check.specs.declared.judging.CheckFault.{CheckFault}
+use Rattle.stm_check.specs.declared.judging.CheckFault.TheVariants.{OutOfMemory, BadScenario, BadReport, Device}
+use Rattle.stm_check.specs.Judging.{Sources, NoneFailed}
+use Rattle.stm_whole.specs.declared.comparing.WholeChecked.{WholeChecked}
+use Rattle.stm_whole.specs.declared.comparing.WholeChecked.TheVariants.{Yes, No}
+use Rattle.stm_whole.specs.Judging.{Judges}
+use Rattle.stm_commands.specs.Checking.{Devices, SaysOf}
+use Rattle.stm_commands.specs.Statuses.{Says}
+
+-- ---- answers
+
+abbrev pub no_text : ℕ → List ℕ
+no_text line = codes "no " ++ decimal line ++ codes " Differs\n"
+
+abbrev pub answer_text : WholeChecked → List ℕ
+answer_text Yes = codes "yes\n"
+answer_text (No line expected) = no_text line
+
+-- the line that is expected, with its line feed, or that there is none
+abbrev pub expected_text : List ℕ → List ℕ
+expected_text line = if length line == 0 then codes "stmrun: expected no more lines\n" else codes "stmrun: expected " ++ line
+
+-- what is said and answered of a no
+abbrev pub SaysExpected : Option (List ℕ) → Option (List ℕ) → Bool → List ℕ → ℕ → Type 0
+SaysExpected before after failed expected status = (status ≡ 1) × Says before after failed (expected_text expected)
+
+-- what is said and answered of an answer: nothing and 0, or what is expected and 1
+abbrev pub SaysOfAnswer : Option (List ℕ) → Option (List ℕ) → Bool → WholeChecked → ℕ → Type 0
+SaysOfAnswer before after failed Yes status = (status ≡ 0) × (failed ≡ false) × Keeps before after
+SaysOfAnswer before after failed (No line expected) status = SaysExpected before after failed expected status
+
+-- ---- the command
+
+-- what writing the line of an answer did: what the sink held before and holds, whether it has failed then, and the result
+abbrev pub Prints : {A : Type 0} → Option (List ℕ) → Option (List ℕ) → Bool → WholeChecked → Result A CheckFault → Type 0
+Prints before after failed checked (Ok u) = (failed ≡ false) × Appends before after (answer_text checked)
+Prints before after failed checked (Err OutOfMemory) = (failed ≡ false) × Keeps before after
+Prints before after failed checked (Err Device) = (failed ≡ true) × WritesFront before after (answer_text checked)
+Prints before after failed checked (Err other) = ⊥
+
+-- What a check of a whole report did, by its answer. At an answer its line was written; at a bad input, want of memory and a failed source
+-- nothing was; at a failed sink a front of the line was.
+abbrev pub DoesTo : Devices → Result WholeChecked CheckFault → Type 0
+DoesTo d (Ok checked) = Judges d.sources (Ok checked) × (d.sink_failed ≡ false) × Appends d.before d.after (answer_text checked)
+DoesTo d (Err OutOfMemory) = NoneFailed d.sources × (d.sink_failed ≡ false) × Keeps d.before d.after
+DoesTo d (Err (BadScenario fault)) = Judges d.sources (Err (BadScenario fault)) × (d.sink_failed ≡ false) × Keeps d.before d.after
+DoesTo d (Err (BadReport fault)) = Judges d.sources (Err (BadReport fault)) × (d.sink_failed ≡ false) × Keeps d.before d.after
+DoesTo d (Err Device) =
+    (Judges d.sources (Err Device) × (d.sink_failed ≡ false) × Keeps d.before d.after)
+    ⊎ ((d.sink_failed ≡ true) × (checked : WholeChecked) × Judges d.sources (Ok checked) × WritesFront d.before d.after (answer_text checked))
+
+abbrev pub Does : Sources → Option (List ℕ) → Option (List ℕ) → Bool → Result WholeChecked CheckFault → Type 0
+Does sources before after failed result =
+    DoesTo (record { sources = sources; before = before; after = after; sink_failed = failed }) result
+
+abbrev pub EndsBy : Option (List ℕ) → Option (List ℕ) → Bool → Result WholeChecked CheckFault → ℕ → Type 0
+EndsBy before after failed (Ok checked) status = SaysOfAnswer before after failed checked status
+EndsBy before after failed (Err fault) status = SaysOf before after failed fault status
+
+-- The command's end: an answer, with its status and what is said of it, or a fault, with what is said of it.
+abbrev pub Ends : Devices → Option (List ℕ) → Option (List ℕ) → Bool → ℕ → Type 0
+Ends devices before after failed status =
+    (ended : Result WholeChecked CheckFault) × DoesTo devices ended × EndsBy before after failed ended status

@@ -1,0 +1,152 @@
+//! The command `check --whole` over devices.
+ghost use Rattle.std.specs.Prelude.{◌≡◌, ◌≤◌, ◌+◌, ◌++◌, codes, false, IfOk, string_bytes};
+ghost use Rattle.stm_devices.specs.declared.transfer.TheConstants.{MOST_READ};
+ghost use Rattle.stm_devices.specs.Transfers.{HasWritten};
+ghost use Rattle.stm_commands.specs.WholeChecking.{no_text, answer_text, expected_text, Prints, SaysExpected, SaysOfAnswer, Does, Ends};
+
+use crate::checking::tell;
+use crate::messages::write_text;
+use std::alloc::{AllocError, Global};
+use stm_check::CheckFault;
+use stm_report::{DeviceFault, Sink, Source, write_all};
+use stm_whole::{WholeChecked, check_whole};
+
+/// The line of a line that is not as expected.
+fn no_line(alloc: Global, line: u64) -> Result<String, AllocError>
+    ensures { IfOk result (λ text. string_bytes text ≡ no_text line) }
+{
+    format!(in alloc; "no {line} Differs\n")
+}
+
+/// The line of an answer.
+fn text_of(alloc: Global, checked: &WholeChecked) -> Result<String, AllocError>
+    ensures { IfOk result (λ text. string_bytes text ≡ answer_text checked.now) }
+{
+    match checked {
+        WholeChecked::Yes => String::from_str(alloc, "yes\n"),
+        WholeChecked::No { line, .. } => no_line(alloc, *line),
+    }
+}
+
+/// Writes the line of an answer.
+fn print<W: Sink>(alloc: Global, out: &mut W, checked: &WholeChecked) -> Result<(), CheckFault>
+    requires { W.failed out.old ≡ false }
+    ensures { Prints (W.held out.old) (W.held out.new) (W.failed out.new) checked.now result }
+{
+    let Ok(text) = text_of(alloc, checked) else {
+        return Err(CheckFault::OutOfMemory);
+    };
+    match write_text(out, text.as_str()) {
+        Ok(()) => Ok(()),
+        Err(_) => Err(CheckFault::Device),
+    }
+}
+
+/// Compares the report, and writes the line of the answer.
+fn answer<S: Source, R: Source, W: Sink>(
+    alloc: Global,
+    scenario: &mut S,
+    report: &mut R,
+    out: &mut W,
+) -> Result<WholeChecked, CheckFault>
+    requires scenario_works { S.failed scenario.old ≡ false }
+    requires report_works { R.failed report.old ≡ false }
+    requires out_works { W.failed out.old ≡ false }
+    ensures done { Does (record {
+      scenario = S.left scenario.old;
+      report = R.left report.old;
+      scenario_failed = S.failed scenario.new;
+      report_failed = R.failed report.new;
+    }) (W.held out.old) (W.held out.new) (W.failed out.new) result }
+    ensures scenario_bounded { S.reads scenario.new ≤ S.reads scenario.old + MOST_READ }
+    ensures report_bounded { R.reads report.new ≤ R.reads report.old + MOST_READ }
+{
+    let checked = match check_whole(alloc, scenario, report) {
+        Ok(checked) => checked,
+        Err(fault) => return Err(fault),
+    };
+    match print(alloc, out, &checked) {
+        Ok(()) => Ok(checked),
+        Err(fault) => Err(fault),
+    }
+}
+
+/// Writes which line is expected, and that none is where the report has ended. Where the sink fails, a front of that was written.
+fn write_expected<E: Sink>(err: &mut E, expected: &[u8]) -> Result<(), DeviceFault>
+    requires { E.failed err.old ≡ false }
+    ensures { HasWritten (E.held err.old) (E.held err.new) (E.failed err.new) result (expected_text expected.now) }
+{
+    if expected.is_empty() {
+        return write_text(err, "stmrun: expected no more lines\n");
+    }
+    write_line(err, expected)
+}
+
+/// Writes the line that is expected, which has its line feed. Where the sink fails, a front of that was written.
+fn write_line<E: Sink>(err: &mut E, line: &[u8]) -> Result<(), DeviceFault>
+    requires { E.failed err.old ≡ false }
+    ensures { HasWritten (E.held err.old) (E.held err.new) (E.failed err.new) result (codes "stmrun: expected " ++ line.now) }
+{
+    write_text(err, "stmrun: expected ")?;
+    write_all(err, line)?;
+    Ok(())
+}
+
+/// Says which line is expected, and gives the status of a no. Takes no memory.
+fn say_expected<E: Sink>(err: &mut E, expected: &[u8]) -> u8
+    requires { E.failed err.old ≡ false }
+    ensures { SaysExpected (E.held err.old) (E.held err.new) (E.failed err.new) expected.now result }
+{
+    let _ = write_expected(err, expected);
+    1
+}
+
+/// Says which line is expected where one is not alike, and gives the status. Takes no memory.
+fn say<E: Sink>(err: &mut E, checked: &WholeChecked) -> u8
+    requires { E.failed err.old ≡ false }
+    ensures { SaysOfAnswer (E.held err.old) (E.held err.new) (E.failed err.new) checked.now result }
+{
+    match checked {
+        WholeChecked::Yes => 0,
+        WholeChecked::No { expected, .. } => say_expected(err, expected.as_slice()),
+    }
+}
+
+/// Compares the text of `report` with the report that `script` writes of the scenario of `scenario`, line by line, and writes `yes` or
+/// `no LINE Differs` to `out`: the first line that is not alike, counted from 1.
+///
+/// The scenario is read and judged first, then the text. Gives the status: 0 for yes, 1 for no, 2 where the scenario is bad or the text
+/// is no report in its format, 3 where a growth was refused or one of the devices but `err` failed. On `err` it says at a no what is
+/// expected, `stmrun: expected LINE`, or `stmrun: expected no more lines` where the scenario's report has ended, and of a fault what `check` says of it; that
+/// takes no memory, and is whole where `err` then has not failed. That `err` fails changes no status. None of the devices has failed before.
+/// `scenario` and `report` are read at most 16777217 times each.
+pub fn check_whole_to<S: Source, R: Source, W: Sink, E: Sink>(
+    alloc: Global,
+    scenario: &mut S,
+    report: &mut R,
+    out: &mut W,
+    err: &mut E,
+) -> u8
+    requires scenario_works { S.failed scenario.old ≡ false }
+    requires report_works { R.failed report.old ≡ false }
+    requires out_works { W.failed out.old ≡ false }
+    requires err_works { E.failed err.old ≡ false }
+    ensures ends { Ends (record {
+      sources = record {
+        scenario = S.left scenario.old;
+        report = R.left report.old;
+        scenario_failed = S.failed scenario.new;
+        report_failed = R.failed report.new;
+      };
+      before = W.held out.old;
+      after = W.held out.new;
+      sink_failed = W.failed out.new;
+    }) (E.held err.old) (E.held err.new) (E.failed err.new) result }
+    ensures scenario_bounded { S.reads scenario.new ≤ S.reads scenario.old + MOST_READ }
+    ensures report_bounded { R.reads report.new ≤ R.reads report.old + MOST_READ }
+{
+    match answer(alloc, scenario, report, out) {
+        Ok(checked) => say(err, &checked),
+        Err(fault) => tell(err, &fault),
+    }
+}

@@ -138,6 +138,11 @@ fn command_lines(rt: HostRuntime) {
     };
     asks(&rt, alloc, &[name, script, other], &[], file, file);
     asks(&rt, alloc, &[name, help], &whole, shown, failed);
+    let version = ["stmrun 0.1.0 (rattle-kit-13b)"];
+    for asked in ["--version", "-V"] {
+        let line = [name, asked.as_bytes()];
+        asks(&rt, alloc, &line, &version, shown, failed);
+    }
     asks(
         &rt,
         alloc,
@@ -174,8 +179,30 @@ fn command_lines_of_check(rt: HostRuntime) {
     let both = Asked::Check {
         scenario: "s.json",
         report: "r.txt",
+        whole: false,
     };
     asks(&rt, alloc, &[name, check, one, two], &[], both, both);
+    let each_line = Asked::Check {
+        scenario: "-",
+        report: "r.txt",
+        whole: true,
+    };
+    let (flag, input) = ("--whole".as_bytes(), "-".as_bytes());
+    let line = [name, check, flag, input, two];
+    asks(&rt, alloc, &line, &[], each_line, each_line);
+    let line = [name, check, input, two, flag];
+    asks(&rt, alloc, &line, &[], each_line, each_line);
+    let line = [name, check, flag, one, two, flag];
+    asks(&rt, alloc, &line, &hint, usage, usage);
+    let valued = "--whole=true".as_bytes();
+    asks(
+        &rt,
+        alloc,
+        &[name, check, valued, one, two],
+        &hint,
+        usage,
+        usage,
+    );
     asks(&rt, alloc, &[name, check, one], &hint, usage, usage);
     asks(
         &rt,
@@ -185,7 +212,14 @@ fn command_lines_of_check(rt: HostRuntime) {
         usage,
         usage,
     );
-    let explained = ["SCENARIO", "REPORT", "no LINE CAUSE", "no 3 Final"];
+    let explained = [
+        "SCENARIO",
+        "REPORT",
+        "--whole",
+        "no LINE CAUSE",
+        "no 3 Final",
+        "no LINE Differs",
+    ];
     asks(&rt, alloc, &[name, check, help], &explained, shown, failed);
 }
 
@@ -201,6 +235,7 @@ fn command_lines_of_threads(rt: HostRuntime) {
     let input = Asked::Threads {
         scenario: None,
         workers: 4,
+        ends: false,
     };
     asks(
         &rt,
@@ -213,10 +248,18 @@ fn command_lines_of_threads(rt: HostRuntime) {
     let most = Asked::Threads {
         scenario: Some("s.json"),
         workers: 16,
+        ends: false,
     };
     let sixteen = "--workers=16".as_bytes();
     asks(&rt, alloc, &[name, threads, file, sixteen], &[], most, most);
     asks(&rt, alloc, &[name, threads, sixteen, file], &[], most, most);
+    let with_ends = Asked::Threads {
+        scenario: Some("s.json"),
+        workers: 16,
+        ends: true,
+    };
+    let line = [name, threads, "--ends".as_bytes(), file, sixteen];
+    asks(&rt, alloc, &line, &[], with_ends, with_ends);
     let missing = ["Usage: stmrun", "--workers"];
     asks(&rt, alloc, &[name, threads, file], &missing, usage, usage);
     let wrong = ["--workers", "--help"];
@@ -224,7 +267,7 @@ fn command_lines_of_threads(rt: HostRuntime) {
         let line = [name, threads, option, number.as_bytes()];
         asks(&rt, alloc, &line, &wrong, usage, usage);
     }
-    let explained = ["--workers <N>", "[\"committed\",1]", "audit JOB"];
+    let explained = ["--workers <N>", "--ends", "[\"committed\",1]", "audit JOB"];
     asks(
         &rt,
         alloc,

@@ -1,10 +1,11 @@
-//! Reports that are checked over memory: each line that is wrong is named with its cause, and the reports of the table are right.
+//! Reports that are checked over memory: each line that is wrong is named with its cause, and the reports of the table are right. A report
+//! that is checked as a whole is right line by line.
 
 use crate::scenarios::REPORTS;
 use std::alloc::Global;
 use std::process::Abort;
 use std::test::Fail;
-use stm_commands::{Std, check_to};
+use stm_commands::{Std, check_to, check_whole_to};
 
 /// A check over memory has this status, and writes this to the two sinks.
 pub fn checks(
@@ -115,6 +116,129 @@ fn reports_are_checked(rt: HostRuntime) -> Result<(), Fail> {
     );
     for (_, scenario, report) in REPORTS {
         checks(&rt, alloc, scenario, report, 0, "yes\n", "");
+    }
+    Ok(())
+}
+
+/// A check of a whole report over memory has this status, and writes this to the two sinks.
+fn checks_whole(
+    rt: &impl Abort,
+    alloc: Global,
+    scenario: &str,
+    report: &str,
+    status: u8,
+    says: &str,
+    complains: &str,
+) {
+    let mut first = Std::new(scenario.as_bytes());
+    let mut second = Std::new(report.as_bytes());
+    let mut out = Std::new(Vec::new(alloc));
+    let mut err = Std::new(Vec::new(alloc));
+    let ended = check_whole_to(alloc, &mut first, &mut second, &mut out, &mut err);
+    assert_eq!(rt; ended, status, "{report}");
+    assert!(rt; out.device.as_slice() == says.as_bytes(), "{report}");
+    assert!(rt; err.device.as_slice() == complains.as_bytes(), "{report}");
+}
+
+/// Texts in the place of a line of the skew's report, each with what a check of the whole report comes to.
+const OTHER_LINES: [(usize, &str, u8, &str, &str); 7] = [
+    (0, "", 0, "yes\n", ""),
+    // Another revision of a read.
+    (
+        5,
+        "[5,\"fetched\",1,\"x\",3,3,3]\n",
+        1,
+        "no 5 Differs\n",
+        "stmrun: expected [5,\"fetched\",1,\"x\",2,3,3]\n",
+    ),
+    // A conflict over another key.
+    (
+        10,
+        "[10,\"conflict\",2,\"y\",3,4]\n",
+        1,
+        "no 10 Differs\n",
+        "stmrun: expected [10,\"conflict\",2,\"x\",2,4]\n",
+    ),
+    // The end line is missing.
+    (
+        14,
+        "",
+        1,
+        "no 14 Differs\n",
+        "stmrun: expected [\"end\",4,4]\n",
+    ),
+    // A line behind the end line.
+    (
+        14,
+        "[\"end\",4,4]\n[\"end\",4,4]\n",
+        1,
+        "no 15 Differs\n",
+        "stmrun: expected no more lines\n",
+    ),
+    // White space that a report may have, and that none is written with.
+    (
+        3,
+        "[3, \"started\",1]\n",
+        1,
+        "no 3 Differs\n",
+        "stmrun: expected [3,\"started\",1]\n",
+    ),
+    // No line feed at the end.
+    (
+        14,
+        "[\"end\",4,4]",
+        2,
+        "",
+        "stmrun: bad report at /13: Shape\n",
+    ),
+];
+
+/// One program that puts a key, and the report that calls its commit an abort: no line of it is wrong by the replay.
+const PUT: &str = "[[\"start\",\"Serializable\",1,[[\"put\",\"a\",\"1\",0]]],[\"step\",1]]";
+
+const DENIED: &str = "[1,\"started\",1]
+[2,\"aborted\",1,\"because\"]
+[\"end\",1,0]
+";
+
+#[test]
+fn whole_reports_are_checked(rt: HostRuntime) -> Result<(), Fail> {
+    let alloc = rt.alloc();
+    for (place, line, status, says, complains) in OTHER_LINES {
+        let report = skew_with(alloc, place, line)?;
+        checks_whole(&rt, alloc, SKEW, report.as_str(), status, says, complains);
+    }
+    checks(&rt, alloc, PUT, DENIED, 0, "yes\n", "");
+    checks_whole(
+        &rt,
+        alloc,
+        PUT,
+        DENIED,
+        1,
+        "no 2 Differs\n",
+        "stmrun: expected [2,\"committed\",1,2,1,[],[],[]]\n",
+    );
+    checks_whole(
+        &rt,
+        alloc,
+        PUT,
+        "",
+        1,
+        "no 1 Differs\n",
+        "stmrun: expected [1,\"started\",1]\n",
+    );
+    // The scenario is judged first.
+    checks_whole(
+        &rt,
+        alloc,
+        "{}",
+        "[",
+        2,
+        "",
+        "stmrun: bad scenario at : Shape\n",
+    );
+    for (_, scenario, report) in REPORTS {
+        checks_whole(&rt, alloc, scenario, report, 0, "yes\n", "");
     }
     Ok(())
 }

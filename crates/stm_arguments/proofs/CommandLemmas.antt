@@ -32,8 +32,8 @@ asks_something (Some named) status by = by
 
 pub asks : (words : List Text) (asked : Asked) → faults_of words ≡ [] → AsksBy (subcommand_of stmrun_app words) asked → Asks words asked
 asks words (Script file) none by = (none, by)
-asks words (Check scenario report) none by = (none, by)
-asks words (Threads file workers) none by = (none, by)
+asks words (Check scenario report whole) none by = (none, by)
+asks words (Threads file workers ends) none by = (none, by)
 asks words (Recipe named) none by = (none, by)
 asks words (Nothing status) none by = absurd (asks_something (subcommand_of stmrun_app words) status by)
 

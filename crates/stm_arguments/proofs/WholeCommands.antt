@@ -1,7 +1,8 @@
 -- A command line in which `clap` finds no fault names a command of stmrun, with its files, its number of threads or its name of a recipe.
-use Rattle.std.proofs.Common.{◌≡◌, ◌++◌, ◌∷◌, ◌&&◌, ◌||◌, ℕ, Bool, cond, codes, true, false, not, zero, suc, refl, sym, ap, subst, inl, inr}
+use Rattle.std.proofs.Common.{◌≡◌, ◌⊎◌, ◌++◌, ◌∷◌, ◌&&◌, ◌||◌, nat_eq, arith, ℕ, Bool, cond, codes, true, false, not, zero, suc, refl, sym, ap, subst, inl, inr}
 use Rattle.std.proofs.Common.{List, [], length, drop, Option, Some, None, IfSome, IsSome, IsSomeAnd, is_some, option_map, option_and_then, find, fold}
 use Rattle.std.proofs.Common.{slice_get, bytes_eq, chars, encode_utf8, true≢false}
+use Rattle.std.proofs.lemmas.Bool.Decides.{nat_tests}
 use Rattle.std.specs.List.{list_any}
 use Rattle.std.specs.Option.{option_map_or}
 use Rattle.clap.specs.Lexer.{long_of, short_of}
@@ -31,7 +32,7 @@ use Rattle.clap.specs.declared.builder.value_parser.ValueParser.TheVariants.{Uns
 use Rattle.clap.specs.declared.error.kind.ErrorKind.{ErrorKind}
 use Rattle.clap.specs.declared.error.kind.ErrorKind.TheVariants as kind
 use Rattle.clap.specs.declared.parser.matches.ValueSource.{ValueSource}
-use Rattle.clap.specs.declared.parser.matches.ValueSource.TheVariants.{CommandLine}
+use Rattle.clap.specs.declared.parser.matches.ValueSource.TheVariants.{CommandLine, DefaultValue}
 use Rattle.stm_arguments.specs.Asking.{HasFiles, HasName, HasWorkers, IsWhole}
 use Rattle.stm_arguments.specs.CommandLine.{stmrun_app}
 
@@ -87,9 +88,14 @@ AllStart P (r ∷ rs) = Starts P r.id r.values × AllStart P rs
 abbrev row_made : Text → Reading → ValueSource → List Text → Row
 row_made id how s values = record { id = id; values = values; count = None; source = Some s; reading = how }
 
+-- an argument with this action has the values of its one use
+abbrev IsSetting : ArgAction → Type 0
+IsSetting x = (x ≡ action.Set) ⊎ (x ≡ action.SetTrue)
+
 -- where a use of the argument has no fault, it sets such a value
 abbrev Sets : (Text → Text → Type 0) → Bool → Rule → Type 0
-Sets P again a = (values : List Text) (rows : List Row) → use_fault again a values rows ≡ [] → (action_of a ≡ action.Set) × Starts P a.id values
+Sets P again a =
+    (values : List Text) (rows : List Row) → use_fault again a values rows ≡ [] → IsSetting (action_of a) × Starts P a.id (values_or_missing a values)
 
 module _ (P : Text → Text → Type 0) where
   front : (id : Text) (xs ys : List Text) → Starts P id xs → Starts P id (xs ++ ys)
@@ -119,10 +125,13 @@ module _ (P : Text → Text → Type 0) where
   without_keeps : (id : Text) (rows : List Row) → AllStart P rows → AllStart P (without id rows)
   without_keeps id rows all = at_row_keeps id (λ _. []) [] rows (λ r h. tt) tt all
 
-  set_keeps : (x : ArgAction) (a : Rule) (values : List Text) (rows : List Row) → x ≡ action.Set → Starts P a.id values → AllStart P rows
-      → AllStart P (used_as x a.id (reading_by a) (values_or_missing a values) rows)
+  set_keeps : (x : ArgAction) (a : Rule) (values : List Text) (rows : List Row) → IsSetting x → Starts P a.id values → AllStart P rows
+      → AllStart P (used_as x a.id (reading_by a) values rows)
   set_keeps x a [] rows is starts all = absurd starts
-  set_keeps x a (v ∷ vs) rows is starts all =
+  set_keeps x a (v ∷ vs) rows (inl is) starts all =
+      subst (λ (y : ArgAction). AllStart P (used_as y a.id (reading_by a) (v ∷ vs) rows)) (sym is)
+      (with_values_keeps a.id (reading_by a) CommandLine v vs (without a.id rows) starts (without_keeps a.id rows all))
+  set_keeps x a (v ∷ vs) rows (inr is) starts all =
       subst (λ (y : ArgAction). AllStart P (used_as y a.id (reading_by a) (v ∷ vs) rows)) (sym is)
       (with_values_keeps a.id (reading_by a) CommandLine v vs (without a.id rows) starts (without_keeps a.id rows all))
 
@@ -130,7 +139,7 @@ module _ (P : Text → Text → Type 0) where
       → AllStart P (used a values rows)
   used_keeps again a values rows sets none all =
       let made = sets values rows none in
-      set_keeps (action_of a) a values rows made.0 made.1 all
+      set_keeps (action_of a) a (values_or_missing a values) rows made.0 made.1 all
 
 abbrev AllSet : (Text → Text → Type 0) → Bool → List Rule → Type 0
 AllSet P again [] = Unit {0}
@@ -253,12 +262,30 @@ abbrev HasNoDefaults : List Rule → Type 0
 HasNoDefaults [] = Unit {0}
 HasNoDefaults (a ∷ rest) = (a.defaults ≡ []) × HasNoDefaults rest
 
-defaults_keep : (P : Text → Text → Type 0) (xs : List Rule) (rows : List Row) → HasNoDefaults xs → AllStart P rows → AllStart P (fold with_default rows xs)
-defaults_keep P [] rows bare all = all
-defaults_keep P (a ∷ rest) rows bare all =
-    defaults_keep P rest (with_default rows a) bare.1
+-- a first default value is one that P lets its argument have
+abbrev MayStart : (Text → Text → Type 0) → Text → List Text → Type 0
+MayStart P id [] = Unit {0}
+MayStart P id (v ∷ vs) = P id v
+
+abbrev DefaultsStart : (Text → Text → Type 0) → List Rule → Type 0
+DefaultsStart P [] = Unit {0}
+DefaultsStart P (a ∷ rest) = MayStart P a.id a.defaults × DefaultsStart P rest
+
+no_defaults_start : (P : Text → Text → Type 0) (xs : List Rule) → HasNoDefaults xs → DefaultsStart P xs
+no_defaults_start P [] bare = tt
+no_defaults_start P (a ∷ rest) bare = (subst (λ (d : List Text). MayStart P a.id d) (sym bare.0) tt, no_defaults_start P rest bare.1)
+
+default_keeps : (P : Text → Text → Type 0) (id : Text) (how : Reading) (d : List Text) (rows : List Row) → MayStart P id d → AllStart P rows
+    → AllStart P (default_rows id how d rows)
+default_keeps P id how [] rows may all = all
+default_keeps P id how (v ∷ vs) rows may all = with_values_keeps P id how DefaultValue v vs rows may all
+
+defaults_keep : (P : Text → Text → Type 0) (xs : List Rule) (rows : List Row) → DefaultsStart P xs → AllStart P rows → AllStart P (fold with_default rows xs)
+defaults_keep P [] rows may all = all
+defaults_keep P (a ∷ rest) rows may all =
+    defaults_keep P rest (with_default rows a) may.1
     (either P (has_row a.id rows) rows (default_rows a.id (reading_by a) a.defaults rows) all
-    (subst (λ (d : List Text). AllStart P (default_rows a.id (reading_by a) d rows)) (sym bare.0) all))
+    (default_keeps P a.id (reading_by a) a.defaults rows may.0 all))
 
 module _ (P : Text → Text → Type 0) (s : Shape) (sets : AllSet P s.args_override_self s.rules) where
   uses : (p : Rule → Bool) → IfSome (find p s.rules) (Sets P s.args_override_self)
@@ -321,15 +348,19 @@ module _ (P : Text → Text → Type 0) (s : Shape) (sets : AllSet P s.args_over
       walk_keeps names (walked s.rules names w word) rest parts.1 (turn_keeps names w word parts.0 all)
 
   -- the rows at the end of a command without subcommands, which pass the last checks
-  level_keeps : (words : List Text) → HasNoDefaults s.rules → level_fault s [] nothing_held words false [] ≡ []
+  level_starts : (words : List Text) → DefaultsStart P s.rules → level_fault s [] nothing_held words false [] ≡ []
       → AllStart P (rows_after s.rules [] words) × (check_fault s (rows_after s.rules [] words) false ≡ [])
-  level_keeps words bare none =
+  level_starts words may none =
       let end = (walk s.rules [] nothing_held words).held in
       let walked_well = neither _ _ none in
       let settles = neither _ _ walked_well.1 in
       let defaults = neither _ _ settles.1 in
       let kept = settled_keeps P s.args_override_self s.rules uses end settles.0 (walk_keeps [] (walk_from nothing_held) words walked_well.0 tt) in
-      (defaults_keep P s.rules (settled s.rules end).rows bare kept, defaults.1)
+      (defaults_keep P s.rules (settled s.rules end).rows may kept, defaults.1)
+
+  level_keeps : (words : List Text) → HasNoDefaults s.rules → level_fault s [] nothing_held words false [] ≡ []
+      → AllStart P (rows_after s.rules [] words) × (check_fault s (rows_after s.rules [] words) false ≡ [])
+  level_keeps words bare none = level_starts words (no_defaults_start P s.rules bare) none
 
 -- what is given has a first value
 first_may : (P : Text → Text → Type 0) (Q : Text → Type 0) (id : Text) (values : List Text) → ((v : Text) → P id v → Q v) → Starts P id values
@@ -358,7 +389,7 @@ is_there (Some v) Q there = refl
 
 one_starts : (P : Text → Text → Type 0) (again : Bool) (a : Rule) (values : List Text) (rows : List Row)
     → ((v : Text) (vs : List Text) → values_fault a (v ∷ vs) ≡ [] → P a.id v) → range_kinds 1 1 (length values) ≡ []
-    → action_fault action.Set again a (values_or_missing a values) rows ≡ [] → Starts P a.id values
+    → action_fault action.Set again a (values_or_missing a values) rows ≡ [] → Starts P a.id (values_or_missing a values)
 one_starts P again a [] rows may ranged none = absurd (some_kind kind.InvalidValue [] ranged)
 one_starts P again a (v ∷ vs) rows may ranged none = may v vs (neither (repeat_fault again a.id rows) (values_fault a (v ∷ vs)) none).1
 
@@ -367,10 +398,33 @@ one_value : (P : Text → Text → Type 0) (again : Bool) (a : Rule) → unwrap_
 one_value P again a one set may values rows none =
     let ranged = range_kinds (unwrap_or_range a.range).start_inclusive (most_values a) (length values) in
     let parts = neither ranged (action_fault (action_of a) again a (values_or_missing a values) rows) none in (
-      set,
+      inl set,
       one_starts P again a values rows may
           (subst (λ (r : ValueRange). range_kinds r.start_inclusive r.end_inclusive (length values) ≡ []) one parts.0)
           (subst (λ (x : ArgAction). action_fault x again a (values_or_missing a values) rows ≡ []) set parts.1),
+    )
+
+-- a flag sets what stands for its value
+flag_starts : (P : Text → Text → Type 0) (a : Rule) (values : List Text) → a.missing ≡ codes "true" ∷ [] → P a.id (codes "true")
+    → range_kinds 0 0 (length values) ≡ [] → Starts P a.id (values_or_missing a values)
+flag_starts P a [] missing may ranged = subst (λ (vs : List Text). Starts P a.id vs) (sym missing) may
+flag_starts P a (v ∷ vs) missing may ranged = absurd (wrong_number (nat_eq 0 (suc (length vs))) (not_none (length vs)) ranged)
+  where
+    not_none : (n : ℕ) → nat_eq 0 (suc n) ≡ false
+    not_none n = grind (arith, nat_tests)
+
+    wrong_number : (b : Bool) → b ≡ false → cond b [] (kind.WrongNumberOfValues ∷ []) ≡ [] → ⊥
+    wrong_number true is none = true≢false is
+    wrong_number false is none = some_kind kind.WrongNumberOfValues [] none
+
+one_flag : (P : Text → Text → Type 0) (again : Bool) (a : Rule) → unwrap_or_range a.range ≡ record { start_inclusive = 0; end_inclusive = 0 }
+    → action_of a ≡ action.SetTrue → a.missing ≡ codes "true" ∷ [] → P a.id (codes "true") → Sets P again a
+one_flag P again a bare set missing may values rows none =
+    let ranged = range_kinds (unwrap_or_range a.range).start_inclusive (most_values a) (length values) in
+    let parts = neither ranged (action_fault (action_of a) again a (values_or_missing a values) rows) none in (
+      inr set,
+      flag_starts P a values missing may
+          (subst (λ (r : ValueRange). range_kinds r.start_inclusive r.end_inclusive (length values) ≡ []) bare parts.0),
     )
 
 no_request : (P : Text → Text → Type 0) (again : Bool) (a : Rule) → action_of a ≡ action.Help → Sets P again a
@@ -544,7 +598,8 @@ check_sets =
     let again = check_shape.args_override_self in
     let scenario = one_value AnyText again (first_of_rules check_shape.rules) refl refl (λ v vs none. tt) in
     let report = one_value AnyText again (first_of_rules (drop 1 check_shape.rules)) refl refl (λ v vs none. tt) in
-    (scenario, (report, (no_request AnyText again (first_of_rules (drop 2 check_shape.rules)) refl, tt)))
+    let whole = one_flag AnyText again (first_of_rules (drop 2 check_shape.rules)) refl refl refl tt in
+    (scenario, (report, (whole, (no_request AnyText again (first_of_rules (drop 3 check_shape.rules)) refl, tt))))
 
 both_given : (one two : Bool) → (not one || (not two || false)) ≡ false → (one ≡ true) × (two ≡ true)
 both_given true true none = (refl, refl)
@@ -554,7 +609,7 @@ both_given false two none = absurd (true≢false none)
 files_given : (words : List Text) → level_fault check_shape [] nothing_held words false [] ≡ [] → HasFiles (rows_after check_shape.rules [] words)
 files_given words none =
     let rows = rows_after check_shape.rules [] words in
-    let kept = level_keeps AnyText check_shape check_sets words (refl, (refl, (refl, tt))) none in
+    let kept = level_starts AnyText check_shape check_sets words (tt, (tt, (tt, (tt, tt)))) none in
     let both = both_given (is_given (codes "SCENARIO") rows) (is_given (codes "REPORT") rows) (last_checks check_shape rows false kept.1).1 in
     let scenario = given_first AnyText (AnyText []) (codes "SCENARIO") rows (λ other v same may. tt) kept.0 both.0 in
     let report = given_first AnyText (AnyText []) (codes "REPORT") rows (λ other v same may. tt) kept.0 both.1 in
@@ -580,7 +635,8 @@ threads_sets =
     let again = threads_shape.args_override_self in
     let file = one_value IsWorkersIfThere again (first_of_rules threads_shape.rules) refl refl (λ v vs none same. absurd (true≢false (sym same))) in
     let workers = one_value IsWorkersIfThere again (first_of_rules (drop 1 threads_shape.rules)) refl refl (λ v vs none same. number_passes v _ none) in
-    (file, (workers, (no_request IsWorkersIfThere again (first_of_rules (drop 2 threads_shape.rules)) refl, tt)))
+    let ends = one_flag IsWorkersIfThere again (first_of_rules (drop 2 threads_shape.rules)) refl refl refl (λ same. absurd (true≢false (sym same))) in
+    (file, (workers, (ends, (no_request IsWorkersIfThere again (first_of_rules (drop 3 threads_shape.rules)) refl, tt))))
 
 one_given : (one : Bool) → (not one || false) ≡ false → one ≡ true
 one_given true none = refl
@@ -589,7 +645,7 @@ one_given false none = absurd (true≢false none)
 workers_given : (words : List Text) → level_fault threads_shape [] nothing_held words false [] ≡ [] → HasWorkers (rows_after threads_shape.rules [] words)
 workers_given words none =
     let rows = rows_after threads_shape.rules [] words in
-    let kept = level_keeps IsWorkersIfThere threads_shape threads_sets words (refl, (refl, (refl, tt))) none in
+    let kept = level_starts IsWorkersIfThere threads_shape threads_sets words (tt, (tt, ((λ same. absurd (true≢false (sym same))), (tt, tt)))) none in
     let given = one_given (is_given (codes "workers") rows) (last_checks threads_shape rows false kept.1).1 in
     given_first IsWorkersIfThere (IsUnsignedIn 1 16) (codes "workers") rows (λ other v same may. may same) kept.0 given
 

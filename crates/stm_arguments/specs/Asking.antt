@@ -1,5 +1,5 @@
 -- What a command line asks for.
-use Rattle.std.specs.Prelude.{◌≡◌, ◌⊎◌, ℕ, ◌≤◌, List, [], Option, None, Some, IsSome, IsSomeAnd, codes, option_map}
+use Rattle.std.specs.Prelude.{◌≡◌, ◌⊎◌, ℕ, ◌≤◌, List, [], Bool, false, bytes_eq, Option, None, Some, IsSome, IsSomeAnd, codes, option_map}
 use Rattle.std.specs.Str.Parse.{digits_value, without_leading_plus}
 use Rattle.clap.specs.Words.{IsUnsignedIn, Text, Row, first_of, subcommand_of}
 use Rattle.stm_arguments.specs.declared.arguments.Asked.{Asked}
@@ -15,16 +15,23 @@ abbrev pub NumberAt : Option Text → ℕ → Type 0
 NumberAt None n = ⊥
 NumberAt (Some text) n = NamesNumber text n
 
+-- the flag is set of which this text, if any, was found
+abbrev pub is_set : Option Text → Bool
+is_set None = false
+is_set (Some text) = bytes_eq text (codes "true")
+
 -- a command of this name, with what stands in the places of its arguments, asks for a script of its file, or of standard
--- input where it names none, for a check of its files, for a run of its file by so many threads, from 1 to 16, or for the
--- recipe of its words
+-- input where it names none, for a check of its files, a whole one where that flag is set, for a run of its file by so many threads,
+-- from 1 to 16, with the ends of its jobs where that flag is set, or for the recipe of its words
 abbrev pub AsksAt : Text → List Row → Asked → Type 0
 AsksAt name rows (Script file) = (name ≡ codes "script") × (first_of (codes "FILE") rows ≡ option_map (λ path. path.now) file)
-AsksAt name rows (Check scenario report) =
+AsksAt name rows (Check scenario report whole) =
     (name ≡ codes "check") × (first_of (codes "SCENARIO") rows ≡ Some scenario.now) × (first_of (codes "REPORT") rows ≡ Some report.now)
-AsksAt name rows (Threads file workers) =
+    × (whole ≡ is_set (first_of (codes "whole") rows))
+AsksAt name rows (Threads file workers ends) =
     (name ≡ codes "threads") × (first_of (codes "FILE") rows ≡ option_map (λ path. path.now) file)
     × NumberAt (first_of (codes "workers") rows) workers × (1 ≤ workers) × (workers ≤ 16)
+    × (ends ≡ is_set (first_of (codes "ends") rows))
 AsksAt name rows (Recipe words) =
     (name ≡ codes "recipe") × (first_of (codes "NAME") rows ≡ Some words.name.now)
     × (first_of (codes "FIRST") rows ≡ option_map (λ word. word.now) words.first)

@@ -1,28 +1,34 @@
 -- The command, and the status of each kind of fault that `clap` finds in a command line.
 use Rattle.std.specs.Prelude.{◌≡◌, ◌⊎◌, ℕ, List, Some, codes, true}
 use Rattle.clap.specs.Words.{AddsSubcommand, App, IsAmong, Kinds, Rule, Text, app_of, fault_of, new_app, new_rule, with_rule, with_subcommand}
+use Rattle.clap.specs.declared.builder.action.ArgAction.TheVariants.{SetTrue}
 use Rattle.clap.specs.declared.builder.command.Command.{Command}
 use Rattle.clap.specs.declared.builder.value_parser.ValueParser.TheVariants.{Unsigned}
 use Rattle.clap.specs.Simple.{on_top}
 use Rattle.clap.specs.declared.error.kind.ErrorKind.{ErrorKind}
-use Rattle.clap.specs.declared.error.kind.ErrorKind.TheVariants.{DisplayHelp, OutOfMemory}
+use Rattle.clap.specs.declared.error.kind.ErrorKind.TheVariants.{DisplayHelp, DisplayVersion, OutOfMemory}
 
 -- an argument that has to be there, by its place
 abbrev pub wanted : List ℕ → Rule
 wanted name = record (new_rule name) { required = true }
 
+-- a flag: true where it stands in the command line, else false
+abbrev pub flag_rule : List ℕ → Rule
+flag_rule name = record (new_rule name) { long = Some name; action = Some SetTrue }
+
 abbrev pub script_app : App
 script_app = with_rule (new_app (codes "script")) (new_rule (codes "FILE"))
 
 abbrev pub check_app : App
-check_app = with_rule (with_rule (new_app (codes "check")) (wanted (codes "SCENARIO"))) (wanted (codes "REPORT"))
+check_app =
+    with_rule (with_rule (with_rule (new_app (codes "check")) (wanted (codes "SCENARIO"))) (wanted (codes "REPORT"))) (flag_rule (codes "whole"))
 
 -- an option that has to be there, with a number from 1 to 16
 abbrev pub workers_rule : Rule
 workers_rule = record (wanted (codes "workers")) { long = Some (codes "workers"); value_names = 1; parser = Some (Unsigned 1 16) }
 
 abbrev pub threads_app : App
-threads_app = with_rule (with_rule (new_app (codes "threads")) (new_rule (codes "FILE"))) workers_rule
+threads_app = with_rule (with_rule (with_rule (new_app (codes "threads")) (new_rule (codes "FILE"))) workers_rule) (flag_rule (codes "ends"))
 
 abbrev pub recipe_app : App
 recipe_app =
@@ -34,24 +40,25 @@ recipe_app =
 abbrev pub IsAddedAs : App → Command → Type 0
 IsAddedAs app command = (old new : Command) → AddsSubcommand old command new → app_of new ≡ with_subcommand (app_of old) app.top
 
--- stmrun: it wants a subcommand, script, check, threads or recipe
+-- stmrun: it has a version, and wants a subcommand, script, check, threads or recipe
 abbrev pub stmrun_app : App
 stmrun_app =
     with_subcommand
     (with_subcommand
-    (with_subcommand (with_subcommand (on_top (λ top. record top { subcommand_required = true }) (new_app (codes "stmrun"))) script_app.top) check_app.top)
+    (with_subcommand (with_subcommand (on_top (λ top. record top { subcommand_required = true; has_version = true }) (new_app (codes "stmrun"))) script_app.top) check_app.top)
     threads_app.top)
     recipe_app.top
 
--- 0 for help, 3 for want of memory and 2 for usage
+-- 0 for help and the version, 3 for want of memory and 2 for usage
 abbrev pub status_of_kind : ErrorKind → ℕ
 status_of_kind DisplayHelp = 0
+status_of_kind DisplayVersion = 0
 status_of_kind OutOfMemory = 3
 status_of_kind _ = 2
 
--- the status of a fault of this kind: for help also 3, where it could not be printed
+-- the status of a fault of this kind: for help and the version also 3, where it could not be printed
 abbrev pub IsToldBy : ErrorKind → ℕ → Type 0
-IsToldBy kind status = (status ≡ status_of_kind kind) ⊎ ((kind ≡ DisplayHelp) × (status ≡ 3))
+IsToldBy kind status = (status ≡ status_of_kind kind) ⊎ (((kind ≡ DisplayHelp) ⊎ (kind ≡ DisplayVersion)) × (status ≡ 3))
 
 -- the kinds that the first fault of a command line may have, the program's name first in it; none where it is right
 abbrev pub faults_of : List Text → Kinds

@@ -1,11 +1,11 @@
 //! The command line.
 ghost use Rattle.std.specs.Prelude.{◌≡◌, ◌≤◌, ◌⊎◌, codes, false, IfOk, IfErr, IfNone, IfSome, Some, map, option_map, string_bytes};
 ghost use Rattle.clap.specs.Words.{IsUnsignedIn, app_of, first_of, found_of, kind_of, new_rule, rows_of, rule_of, subcommand_rows_of};
-ghost use Rattle.stm_arguments.specs.CommandLine.{script_app, check_app, threads_app, recipe_app, stmrun_app, wanted, workers_rule, IsAddedAs, IsToldBy};
-ghost use Rattle.stm_arguments.specs.Asking.{Asks, AsksAt, AsksBy, HasFiles, HasName, HasWorkers, IsWhole, NamesNumber};
+ghost use Rattle.stm_arguments.specs.CommandLine.{script_app, check_app, threads_app, recipe_app, stmrun_app, flag_rule, wanted, workers_rule, IsAddedAs, IsToldBy};
+ghost use Rattle.stm_arguments.specs.Asking.{Asks, AsksAt, AsksBy, HasFiles, HasName, HasWorkers, IsWhole, NamesNumber, is_set};
 
 use clap::error::ErrorKind;
-use clap::{Arg, ArgMatches, Command, Error};
+use clap::{Arg, ArgAction, ArgMatches, Command, Error};
 use std::alloc::{AllocError, Global};
 use std::rt::Env;
 use std::{env, io};
@@ -18,15 +18,18 @@ pub enum Asked<'a> {
     Script {
         scenario: Option<&'a str>,
     },
-    /// A check of a report, by the paths of its scenario and of itself.
+    /// A check of a report, by the paths of its scenario and of itself: of each line, where it is to be whole.
     Check {
         scenario: &'a str,
         report: &'a str,
+        whole: bool,
     },
-    /// A run of the scenario's jobs by so many threads, by the path of the scenario; of standard input, where there is none.
+    /// A run of the scenario's jobs by so many threads, by the path of the scenario; of standard input, where there is none. The end of each
+    /// job is shown, or is not.
     Threads {
         scenario: Option<&'a str>,
         workers: usize,
+        ends: bool,
     },
     /// The program of a recipe, by its name and its arguments.
     Recipe(RecipeWords<'a>),
@@ -44,6 +47,9 @@ enum WordsFault {
 
 /// How many threads may run jobs, at most.
 const MOST_WORKERS: usize = 16;
+
+/// What `--version` prints behind the name: the program's version, and the kit that it is proved with.
+const VERSION: &str = "0.1.0 (rattle-kit-13b)";
 
 const EXAMPLE: &str = "A scenario is a JSON array of events, in their order:
 
@@ -100,6 +106,10 @@ from 1, and why it is wrong:
   Replay    it tells of a commit, a change or a refusal something else than the replay gives
   Final     it stands behind the events' lines, and is not the key, lease or end line that is due there
 
+What was fetched, what failed and what a watcher was given is not compared. With --whole every line is, with
+what script prints, and yes means that REPORT is just that. Else no LINE Differs is printed, with the first
+line that is not alike, missing or too many, and on standard error what is expected there.
+
 If s.json holds the example of stmrun --help and r.txt its report,
 
   stmrun check s.json r.txt
@@ -124,6 +134,10 @@ then stmrun threads --workers 2 s.json prints
   [\"value\",\"a\",\"1\"]
   [\"value\",\"b\",\"1\"]
   [\"end\",3]
+
+With --ends a line for each job stands behind the second, [\"job\",0,\"committed\",3] here: the job's number, how it
+ended, and the revision after its commit, its abort's text, its fault, why it was refused (ended), or the key
+of its last conflict (gaveup).
 
 Which job goes first is not said, nor that the run ends. Statuses: 0 done, 2 bad input or usage, 3 want of
 memory, a failed device, no thread, or a job whose end is not what the store says (audit JOB).";
@@ -181,6 +195,17 @@ fn optional<'a>(alloc: Global, name: &'a str, help: &'a str) -> Arg<'a>
     Arg::new(alloc, name).help(help)
 }
 
+/// A flag, which is set where it stands in the command line.
+fn flag<'a>(alloc: Global, name: &'a str, help: &'a str) -> Arg<'a>
+    ensures rule { rule_of result ≡ flag_rule name.now }
+    ensures local { result.global ≡ false }
+{
+    Arg::new(alloc, name)
+        .long(name)
+        .action(ArgAction::SetTrue)
+        .help(help)
+}
+
 /// The command `script`.
 fn script_command<'a>(alloc: Global) -> Result<Command<'a>, AllocError>
     ensures { IfOk result (IsAddedAs script_app) }
@@ -202,11 +227,17 @@ fn check_command<'a>(alloc: Global) -> Result<Command<'a>, AllocError>
 {
     let scenario = required(alloc, "SCENARIO", "The file of the scenario");
     let report = required(alloc, "REPORT", "The file of the report");
+    let whole = flag(
+        alloc,
+        "whole",
+        "Whether REPORT is, line by line, what script prints for SCENARIO",
+    );
     Command::new(alloc, "check")
         .about("Says whether REPORT is a report of SCENARIO, and if not, which line is wrong first")
         .after_help(CHECK_EXAMPLE)
         .arg(scenario)?
-        .arg(report)
+        .arg(report)?
+        .arg(whole)
 }
 
 /// The number of threads, which has to be there.
@@ -233,11 +264,17 @@ fn threads_command<'a>(alloc: Global) -> Result<Command<'a>, AllocError>
         "The file of the scenario, in the place of standard input",
     );
     let count = workers(alloc);
+    let ends = flag(
+        alloc,
+        "ends",
+        "Whether a line is printed for the end of each job",
+    );
     Command::new(alloc, "threads")
         .about("Runs the starts of a scenario as jobs, by several threads on one store")
         .after_help(THREADS_EXAMPLE)
         .arg(input)?
-        .arg(count)
+        .arg(count)?
+        .arg(ends)
 }
 
 /// The command `recipe`.
@@ -268,6 +305,7 @@ fn command<'a>(alloc: Global) -> Result<Command<'a>, AllocError>
     Command::new(alloc, "stmrun")
         .about("Runs transactional programs over an etcd-like store, one event at a time")
         .after_help(EXAMPLE)
+        .version(VERSION)
         .subcommand_required(true)
         .subcommand(script)?
         .subcommand(check)?
@@ -275,14 +313,14 @@ fn command<'a>(alloc: Global) -> Result<Command<'a>, AllocError>
         .subcommand(recipe)
 }
 
-/// The status of a command line that is refused, or that asks for help, once its text is printed: 0 for help that was
-/// printed, 3 for want of memory and for help that could not be printed, and 2 for usage, printed or not.
+/// The status of a command line that is refused, or that asks for help or the version, once its text is printed: 0 for help and
+/// version that were printed, 3 for want of memory and where they could not be printed, and 2 for usage, printed or not.
 fn told<R: Print + Eprint>(rt: &R, error: &Error) -> u8
     ensures { IsToldBy (kind_of error.now) result }
 {
     match error.kind() {
         ErrorKind::OutOfMemory => fail(rt, "stmrun: out of memory", 3),
-        ErrorKind::DisplayHelp => match error.print(rt) {
+        ErrorKind::DisplayHelp | ErrorKind::DisplayVersion => match error.print(rt) {
             Ok(()) => 0,
             Err(_) => fail(rt, "stmrun: device fault", 3),
         },
@@ -321,6 +359,16 @@ fn word_of<'a>(found: &ArgMatches<'a>, name: &str) -> Option<&'a str>
     found.get_str(name)
 }
 
+/// Whether a flag is set.
+fn flag_of(found: &ArgMatches<'_>, name: &str) -> bool
+    ensures { result ≡ is_set (first_of name.now (rows_of (found_of found.now))) }
+{
+    match word_of(found, name) {
+        Some(word) => word == "true",
+        None => false,
+    }
+}
+
 /// What a check with these files asks for; `None` where one is missing.
 fn files_of<'a>(found: &ArgMatches<'a>) -> Option<Asked<'a>>
     ensures asks { IfSome result (AsksAt (codes "check") (rows_of (found_of found.now))) }
@@ -328,7 +376,12 @@ fn files_of<'a>(found: &ArgMatches<'a>) -> Option<Asked<'a>>
 {
     let scenario = word_of(found, "SCENARIO")?;
     let report = word_of(found, "REPORT")?;
-    Some(Asked::Check { scenario, report })
+    let whole = flag_of(found, "whole");
+    Some(Asked::Check {
+        scenario,
+        report,
+        whole,
+    })
 }
 
 /// A number that was read, where it is one of workers.
@@ -364,7 +417,12 @@ fn threads_of<'a>(found: &ArgMatches<'a>) -> Option<Asked<'a>>
     let scenario = word_of(found, "FILE");
     let text = word_of(found, "workers")?;
     let workers = workers_in(text)?;
-    Some(Asked::Threads { scenario, workers })
+    let ends = flag_of(found, "ends");
+    Some(Asked::Threads {
+        scenario,
+        workers,
+        ends,
+    })
 }
 
 /// What a recipe with these arguments asks for; `None` where its name is missing.
@@ -419,8 +477,8 @@ fn asked_by<'a>(matches: &ArgMatches<'a>) -> Option<Asked<'a>>
 
 /// What these words ask for, of which the first is the program's name.
 ///
-/// Where they are refused, or ask for help, that was printed, and nothing more is asked for: the status is 0 for help, 2 for usage, printed or
-/// not, and 3 for want of memory and for help that could not be printed.
+/// Where they are refused, or ask for help or the version, that was printed, and nothing more is asked for: the status is 0 for help and
+/// version, 2 for usage, printed or not, and 3 for want of memory and where help or version could not be printed.
 pub fn asked_of<'a, R: Print + Eprint>(rt: &R, alloc: Global, words: &'a [String]) -> Asked<'a>
     ensures { Asks (map string_bytes words.now) result }
 {

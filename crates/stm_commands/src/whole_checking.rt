@@ -117,9 +117,9 @@ fn say<E: Sink>(err: &mut E, checked: &WholeChecked) -> u8
 ///
 /// The scenario is read and judged first, then the text. Gives the status: 0 for yes, 1 for no, 2 where the scenario is bad or the text
 /// is no report in its format, 3 where a growth was refused or one of the devices but `err` failed. On `err` it says at a no what is
-/// expected, `stmrun: expected LINE`, or `stmrun: expected no more lines` where the scenario's report has ended, and of a fault what `check` says of it; that
-/// takes no memory, and is whole where `err` then has not failed. That `err` fails changes no status. None of the devices has failed before.
-/// `scenario` and `report` are read at most 16777217 times each.
+/// expected, `stmrun: expected LINE`, or `stmrun: expected no more lines` where the scenario's report has ended, and of a fault what
+/// `check` says of it; that takes no memory, and is whole where `err` then has not failed. That `err` fails changes no status. None of
+/// the devices has failed before. `scenario` and `report` are read at most 16777217 times each.
 pub fn check_whole_to<S: Source, R: Source, W: Sink, E: Sink>(
     alloc: Global,
     scenario: &mut S,

@@ -1,5 +1,5 @@
 -- From the run of the jobs to what is printed of it, and from there to what the devices saw.
-use Rattle.std.proofs.Common.{◌≡◌, ℕ, List, length, map, Option, Some, None, Result, Ok, Err, IfOk, IfErr, IfSome, false}
+use Rattle.std.proofs.Common.{◌≡◌, ℕ, List, length, map, Bool, Option, Some, None, Result, Ok, Err, IfOk, IfErr, IfSome, false}
 use Rattle.std.proofs.Common.{refl, sym, ap, subst, ◌∙◌, take}
 use Rattle.std.specs.Io.KnownBytes.{Appends}
 use Rattle.stm_devices.specs.Transfers.{WritesFront}
@@ -30,10 +30,10 @@ use Rattle.stm_jobs.specs.Running.{AreLinesOfRun, IsBrokenOffFor, IsBrokenOff, I
 -- ---- the run
 
 -- the lines are of the hall that the jobs were run to, from the one over this store
-pub are_of_run : (start : ℕ) (calls : List WorldEvent) (jobs : List Job) (text : List ℕ) (standing : Standing) (ends : List JobEnd) (committed : ℕ)
+pub are_of_run : (shown : Bool) (start : ℕ) (calls : List WorldEvent) (jobs : List Job) (text : List ℕ) (standing : Standing) (ends : List JobEnd) (committed : ℕ)
     (before after : HallState) → standing ≡ (world_after calls (opened start)).standing → before ≡ made_over standing
-    → RanTo before jobs ends committed after → AreLinesOf (length jobs) committed after.standing.history text → AreLinesOfRun start calls jobs text
-are_of_run start calls jobs text standing ends committed before after stands made ran lines = record {
+    → RanTo before jobs ends committed after → AreLinesOf shown ends (length jobs) committed after.standing.history text → AreLinesOfRun shown start calls jobs text
+are_of_run shown start calls jobs text standing ends committed before after stands made ran lines = record {
   ends = ends;
   committed = committed;
   after = after;
@@ -75,13 +75,13 @@ broken_at s sorted start calls jobs cause is_accepted opens called are_its broke
   },
 )
 
-module _ {X : Type 0} where
+module _ {X : Type 0} (shown : Bool) where
   -- of a scenario that was accepted: the lines of a run of its jobs, or a run that was broken off
   pub answers_of : (view : X → List ℕ) (s : Scenario) (sorted : Sorted) (start : ℕ) (calls : List WorldEvent) (jobs : List Job) (result : Result X JobsFault)
       → accepted s ≡ Ok sorted → start ≡ opening_of s → calls ≡ sorted.calls → map task_of jobs ≡ sorted.tasks
-      → IfOk result (λ x. AreLinesOfRun start calls jobs (view x)) → IfErr result (IsBrokenOff start calls jobs) → Answers view (Ok s) result
+      → IfOk result (λ x. AreLinesOfRun shown start calls jobs (view x)) → IfErr result (IsBrokenOff start calls jobs) → Answers shown view (Ok s) result
   answers_of view s sorted start calls jobs (Ok x) is_accepted opens called are_its printed broken =
-      let from_there : AreLinesOfRun (opening_of s) calls jobs (view x) = subst (λ n. AreLinesOfRun n calls jobs (view x)) opens printed in (
+      let from_there : AreLinesOfRun shown (opening_of s) calls jobs (view x) = subst (λ n. AreLinesOfRun shown n calls jobs (view x)) opens printed in (
         s,
         refl,
         record {
@@ -89,7 +89,7 @@ module _ {X : Type 0} where
           is_accepted = is_accepted;
           jobs = jobs;
           are_its = are_its;
-          of_run = subst (λ (cs : List WorldEvent). AreLinesOfRun (opening_of s) cs jobs (view x)) called from_there;
+          of_run = subst (λ (cs : List WorldEvent). AreLinesOfRun shown (opening_of s) cs jobs (view x)) called from_there;
         },
       )
   answers_of view s sorted start calls jobs (Err OutOfMemory) is_accepted opens called are_its printed broken = tt
@@ -102,13 +102,13 @@ module _ {X : Type 0} where
   answers_of view s sorted start calls jobs (Err Write) is_accepted opens called are_its printed broken = absurd broken
 
   -- of one that was not accepted, and of an input that is none: its first fault
-  of_fault : (view : X → List ℕ) (reading : Outcome Scenario) (e : ReadError) → TellsFault e (judged reading) → Answers view reading (Err (fault_read e))
+  of_fault : (view : X → List ℕ) (reading : Outcome Scenario) (e : ReadError) → TellsFault e (judged reading) → Answers shown view reading (Err (fault_read e))
   of_fault view reading error.OutOfMemory told = tt
   of_fault view reading (error.Bad fault) told = told
 
   pub answers_fault : (view : X → List ℕ) (reading : Outcome Scenario) (e : ReadError) (result : Result X JobsFault) → TellsFault e (judged reading)
-      → result ≡ Err (fault_read e) → Answers view reading result
-  answers_fault view reading e result told is = subst (λ (r : Result X JobsFault). Answers view reading r) (sym is) (of_fault view reading e told)
+      → result ≡ Err (fault_read e) → Answers shown view reading result
+  answers_fault view reading e result told is = subst (λ (r : Result X JobsFault). Answers shown view reading r) (sym is) (of_fault view reading e told)
 
 -- the fault of reading is that of what was read
 pub judged_unread : (reading : Outcome Scenario) (e : ReadError) → TellsFault e reading → TellsFault e (judged reading)
@@ -123,16 +123,16 @@ told_at bytes None P read holds = tt
 told_at bytes (Some all) P read holds = subst P (ap scenario_in read ∙ scenario_in-front all) holds
 
 -- what was done for the bytes that were read was done for the input
-pub does_of : {A : Type 0} (d : Devices) (bytes : List ℕ) (result : Result A JobsFault) → IfSome d.input (λ all. bytes ≡ take MOST_READ all)
-    → d.source_failed ≡ false → Writes bytes d.before d.after d.sink_failed result → Does d result
-does_of d bytes (Ok u) read works did =
-    (works, did.0, told_at bytes d.input (λ outcome. (text : List ℕ) × IsPrintedOf outcome text × Appends d.before d.after text) read (did.1, did.2, did.3))
-does_of d bytes (Err (Bad fault)) read works did = ((works, did.0, did.1), told_at bytes d.input (λ outcome. judged outcome ≡ Err fault) read did.2)
-does_of d bytes (Err Read) read works did = absurd did
-does_of d bytes (Err Write) read works did =
-    (works, did.0, told_at bytes d.input (λ outcome. (text : List ℕ) × IsPrintedOf outcome text × WritesFront d.before d.after text) read (did.1, did.2, did.3))
-does_of d bytes (Err OutOfMemory) read works did = (works, did.0, did.1)
-does_of d bytes (Err Spawn) read works did =
+pub does_of : {A : Type 0} (shown : Bool) (d : Devices) (bytes : List ℕ) (result : Result A JobsFault) → IfSome d.input (λ all. bytes ≡ take MOST_READ all)
+    → d.source_failed ≡ false → Writes shown bytes d.before d.after d.sink_failed result → Does shown d result
+does_of shown d bytes (Ok u) read works did =
+    (works, did.0, told_at bytes d.input (λ outcome. (text : List ℕ) × IsPrintedOf shown outcome text × Appends d.before d.after text) read (did.1, did.2, did.3))
+does_of shown d bytes (Err (Bad fault)) read works did = ((works, did.0, did.1), told_at bytes d.input (λ outcome. judged outcome ≡ Err fault) read did.2)
+does_of shown d bytes (Err Read) read works did = absurd did
+does_of shown d bytes (Err Write) read works did =
+    (works, did.0, told_at bytes d.input (λ outcome. (text : List ℕ) × IsPrintedOf shown outcome text × WritesFront d.before d.after text) read (did.1, did.2, did.3))
+does_of shown d bytes (Err OutOfMemory) read works did = (works, did.0, did.1)
+does_of shown d bytes (Err Spawn) read works did =
     ((works, did.0, did.1), told_at bytes d.input (λ outcome. IsBrokenOffOf outcome NoThread) read did.2)
-does_of d bytes (Err (Audit job)) read works did =
+does_of shown d bytes (Err (Audit job)) read works did =
     ((works, did.0, did.1), told_at bytes d.input (λ outcome. IsBrokenOffOf outcome (AtFault job)) read did.2)

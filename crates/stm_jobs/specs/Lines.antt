@@ -1,10 +1,16 @@
 -- What is printed of a run of jobs, as JSON data and as text.
 --
 -- The words are those of docs/FORMATS.md, "The command line".
-use Rattle.std.specs.Prelude.{◌≡◌, ℕ, List, [], ◌∷◌, ◌++◌, map, codes}
+use Rattle.std.specs.Prelude.{◌≡◌, ℕ, suc, Bool, true, false, List, [], ◌∷◌, ◌++◌, map, codes}
 use Rattle.serde_json.specs.Data.{Data, string}
 use Rattle.stm_history.specs.History.{History, now}
 use Rattle.stm_meaning.specs.declared.state.StateEntry.{StateEntry}
+use Rattle.stm_meaning.specs.Faults.{fault_name}
+use Rattle.stm_txn.specs.Names.{refusal_name}
+use Rattle.stm_workers.specs.declared.job_end.JobEnd.{JobEnd}
+use Rattle.stm_workers.specs.declared.job_end.JobEnd.TheVariants.{Committed, Aborted, Faulted, Refused, GaveUp}
+use Rattle.stm_workers.specs.declared.job_end.JobRefusal.{JobRefusal}
+use Rattle.stm_workers.specs.declared.job_end.JobRefusal.TheVariants.{Store, Behind, Unvouched}
 use Rattle.stm_lines.specs.Lines.{list, whole}
 use Rattle.stm_report.specs.Report.{line_text, lines_text, ArePresentKeys}
 use Rattle.stm_hall.specs.StateOf.{IsStateOf}
@@ -22,16 +28,50 @@ value_lines entries = map (λ (e : StateEntry). value_line e.key e.value) entrie
 abbrev pub keys_in : List StateEntry → List (List ℕ)
 keys_in entries = map (λ (e : StateEntry). e.key) entries
 
--- how many jobs there are and how many committed, the value of each key that is present, ascending by bytes, and the revision
-abbrev pub text_of : ℕ → ℕ → List StateEntry → ℕ → List ℕ
-text_of jobs committed entries revision =
+-- ---- the ends of jobs
+
+-- why a call of a job was refused, by its name
+abbrev pub job_refusal_name : JobRefusal → List ℕ
+job_refusal_name (Store refusal) = refusal_name refusal.cause
+job_refusal_name (Behind seen now) = codes "Behind"
+job_refusal_name (Unvouched key) = codes "Unvouched"
+
+-- the line of a job: its number, how it ended, and what tells more of that
+abbrev pub job_line : ℕ → List ℕ → Data → Data
+job_line job word told = list (string (codes "job") ∷ whole job ∷ string word ∷ told ∷ [])
+
+-- a commit tells the revision after it, an abort its text, a fault and a refusal their names, and a job that gave up the key of its last conflict
+abbrev pub end_of_job : ℕ → JobEnd → Data
+end_of_job job (Committed index revision) = job_line job (codes "committed") (whole revision)
+end_of_job job (Aborted text reads) = job_line job (codes "aborted") (string text)
+end_of_job job (Faulted fault reads) = job_line job (codes "faulted") (string (fault_name fault))
+end_of_job job (Refused refusal) = job_line job (codes "ended") (string (job_refusal_name refusal))
+end_of_job job (GaveUp key) = job_line job (codes "gaveup") (string key)
+
+-- a line for each job, numbered from n
+abbrev pub lines_of_ends : ℕ → List JobEnd → List Data
+lines_of_ends n [] = []
+lines_of_ends n (end ∷ ends) = end_of_job n end ∷ lines_of_ends (suc n) ends
+
+-- the lines of the ends, where they are shown
+abbrev pub ends_shown : Bool → List JobEnd → List Data
+ends_shown false ends = []
+ends_shown true ends = lines_of_ends 0 ends
+
+-- ---- the whole
+
+-- how many jobs there are and how many committed, these lines of their ends, the value of each key that is present, ascending by bytes, and the
+-- revision
+abbrev pub text_of : ℕ → ℕ → List Data → List StateEntry → ℕ → List ℕ
+text_of jobs committed told entries revision =
     line_text (count_line (codes "jobs") jobs)
     ++ line_text (count_line (codes "committed") committed)
+    ++ lines_text told
     ++ lines_text (value_lines entries)
     ++ line_text (count_line (codes "end") revision)
 
--- the text is that of so many jobs, of which so many committed, and of the state that the history has come to
-abbrev pub AreLinesOf : ℕ → ℕ → History → List ℕ → Type 0
-AreLinesOf jobs committed h text =
+-- the text is that of so many jobs, of which so many committed, of their ends, where these are shown, and of the state that the history has come to
+abbrev pub AreLinesOf : Bool → List JobEnd → ℕ → ℕ → History → List ℕ → Type 0
+AreLinesOf shown ends jobs committed h text =
     (entries : List StateEntry) × IsStateOf h entries × ArePresentKeys h (keys_in entries)
-    × (text ≡ text_of jobs committed entries (now h))
+    × (text ≡ text_of jobs committed (ends_shown shown ends) entries (now h))

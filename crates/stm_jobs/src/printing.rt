@@ -1,15 +1,17 @@
 //! What is printed of a run of jobs.
 ghost use Rattle.std.specs.Prelude.{◌≡◌, ◌++◌, false, IfOk, OnOk, string_bytes};
+ghost use Rattle.serde_json.specs.Data.{string};
 ghost use Rattle.serde_json.specs.View.{view};
 ghost use Rattle.serde_json.specs.Written.{has_float};
+ghost use Rattle.stm_lines.specs.Lines.{whole};
 ghost use Rattle.stm_meaning.specs.States.{IsAscending};
 ghost use Rattle.stm_report.specs.Report.{line_text, lines_text};
-ghost use Rattle.stm_jobs.specs.Lines.{count_line, value_line, value_lines, AreLinesOf};
+ghost use Rattle.stm_jobs.specs.Lines.{count_line, value_line, value_lines, job_line, job_refusal_name, end_of_job, lines_of_ends, ends_shown, AreLinesOf};
 
 use serde_json::{Value as Json, json};
 use std::alloc::{AllocError, Global};
 use stm_meaning::State;
-use stm_workers::Gathered;
+use stm_workers::{Gathered, JobEnd, JobRefusal};
 
 /// The line of a count.
 fn count_json(alloc: Global, word: &str, count: u64) -> Result<Json, AllocError>
@@ -51,6 +53,100 @@ fn push_value(alloc: Global, text: &mut String, key: &str, value: &str) -> Resul
     push_line(alloc, text, &line)
 }
 
+/// The line of a job whose end tells a number.
+fn number_json(alloc: Global, job: u64, word: &str, told: u64) -> Result<Json, AllocError>
+    ensures { IfOk result (λ v. view v ≡ job_line job word.now (whole told)) }
+{
+    json!(in alloc; ["job", job, word, told])
+}
+
+/// The line of a job whose end tells a text.
+fn text_json(alloc: Global, job: u64, word: &str, told: &str) -> Result<Json, AllocError>
+    ensures { IfOk result (λ v. view v ≡ job_line job word.now (string told.now)) }
+{
+    json!(in alloc; ["job", job, word, told])
+}
+
+/// Adds the line of a job whose end tells a number.
+fn push_number(
+    alloc: Global,
+    text: &mut String,
+    job: u64,
+    word: &str,
+    told: u64,
+) -> Result<(), AllocError>
+    ensures { OnOk result (string_bytes text.new ≡ string_bytes text.old ++ line_text (job_line job word.now (whole told))) }
+{
+    let line = number_json(alloc, job, word, told)?;
+    push_line(alloc, text, &line)
+}
+
+/// Adds the line of a job whose end tells a text.
+fn push_text(
+    alloc: Global,
+    text: &mut String,
+    job: u64,
+    word: &str,
+    told: &str,
+) -> Result<(), AllocError>
+    ensures { OnOk result (string_bytes text.new ≡ string_bytes text.old ++ line_text (job_line job word.now (string told.now))) }
+{
+    let line = text_json(alloc, job, word, told)?;
+    push_line(alloc, text, &line)
+}
+
+/// The name of the refusal that ended a job.
+fn refusal_name(refusal: &JobRefusal) -> &'static str
+    ensures { result.now ≡ job_refusal_name refusal.now }
+{
+    match refusal {
+        JobRefusal::Store(refusal) => refusal.cause.name(),
+        JobRefusal::Behind { .. } => "Behind",
+        JobRefusal::Unvouched { .. } => "Unvouched",
+    }
+}
+
+/// Adds the line of the end of a job.
+fn push_end(alloc: Global, text: &mut String, job: u64, end: &JobEnd) -> Result<(), AllocError>
+    ensures { OnOk result (string_bytes text.new ≡ string_bytes text.old ++ line_text (end_of_job job end.now)) }
+{
+    match end {
+        JobEnd::Committed { revision, .. } => {
+            push_number(alloc, text, job, "committed", *revision)
+        }
+        JobEnd::Aborted { text: told, .. } => push_text(alloc, text, job, "aborted", told.as_str()),
+        JobEnd::Faulted { fault, .. } => push_text(alloc, text, job, "faulted", fault.name()),
+        JobEnd::Refused(refusal) => push_text(alloc, text, job, "ended", refusal_name(refusal)),
+        JobEnd::GaveUp { key } => push_text(alloc, text, job, "gaveup", key.as_str()),
+    }
+}
+
+/// Adds a line for the end of each job, numbered from 0.
+fn push_ends(alloc: Global, text: &mut String, ends: &[JobEnd]) -> Result<(), AllocError>
+    ensures { OnOk result (string_bytes text.new ≡ string_bytes text.old ++ lines_text (lines_of_ends 0 ends.now)) }
+{
+    for (job, end) in ends.iter().enumerate() {
+        push_end(alloc, text, job as u64, end)?;
+    }
+    Ok(())
+}
+
+/// Adds the lines of the ends, where they are to be shown.
+fn push_shown(
+    alloc: Global,
+    text: &mut String,
+    ends: &[JobEnd],
+    with_ends: bool,
+) -> Result<(), AllocError>
+    ensures { OnOk result (string_bytes text.new ≡ string_bytes text.old ++ lines_text (ends_shown with_ends ends.now)) }
+{
+    if with_ends {
+        push_ends(alloc, text, ends)
+    } else {
+        Ok(())
+    }
+}
+
 /// Adds a line for each key of the state. Its keys ascend.
 fn push_values(alloc: Global, text: &mut String, state: &State) -> Result<(), AllocError>
     ensures text { OnOk result (string_bytes text.new ≡ string_bytes text.old ++ lines_text (value_lines state.now)) }
@@ -63,17 +159,23 @@ fn push_values(alloc: Global, text: &mut String, state: &State) -> Result<(), Al
     Ok(())
 }
 
-/// What is printed of a run of so many jobs: how many there are and how many of them committed, a line for each key that is present with its
-/// value, ascending by bytes, and the store's revision.
+/// What is printed of a run of so many jobs: how many there are and how many of them committed, a line for the end of each, where these are to be
+/// shown, one for each key that is present with its value, ascending by bytes, and the store's revision.
 ///
 /// Each line is a compact JSON array and a line feed. It fails where a growth was refused.
-pub fn lines(alloc: Global, jobs: usize, gathered: &Gathered) -> Result<String, AllocError>
-    ensures { IfOk result (λ text. AreLinesOf jobs gathered.now.committed gathered.now.hall.standing.history (string_bytes text)) }
+pub fn lines(
+    alloc: Global,
+    jobs: usize,
+    gathered: &Gathered,
+    with_ends: bool,
+) -> Result<String, AllocError>
+    ensures { IfOk result (λ text. AreLinesOf with_ends gathered.now.ends.items jobs gathered.now.committed gathered.now.hall.standing.history (string_bytes text)) }
 {
     let state = gathered.hall.state()?;
     let mut text = String::new(alloc);
     push_count(alloc, &mut text, "jobs", jobs as u64)?;
     push_count(alloc, &mut text, "committed", gathered.committed as u64)?;
+    push_shown(alloc, &mut text, gathered.ends.as_slice(), with_ends)?;
     push_values(alloc, &mut text, &state)?;
     push_count(alloc, &mut text, "end", gathered.hall.revision())?;
     Ok(text)

@@ -82,11 +82,16 @@ fn fault_of_run(broken: RunFault) -> JobsFault
 }
 
 /// What is printed of a run of so many jobs.
-fn lines_of_run(alloc: Global, jobs: usize, gathered: Gathered) -> Result<String, JobsFault>
-    ensures lines { IfOk result (λ text. AreLinesOf jobs gathered.committed gathered.hall.standing.history (string_bytes text)) }
+fn lines_of_run(
+    alloc: Global,
+    jobs: usize,
+    gathered: Gathered,
+    with_ends: bool,
+) -> Result<String, JobsFault>
+    ensures lines { IfOk result (λ text. AreLinesOf with_ends gathered.ends.items jobs gathered.committed gathered.hall.standing.history (string_bytes text)) }
     ensures fault { IfErr result (λ fault. fault ≡ OutOfMemory) }
 {
-    match lines(alloc, jobs, &gathered) {
+    match lines(alloc, jobs, &gathered, with_ends) {
         Ok(text) => Ok(text),
         Err(_) => Err(JobsFault::OutOfMemory),
     }
@@ -99,15 +104,16 @@ fn lines_on<R: Threads + Wait + Sync>(
     store: Store,
     jobs: &[Job],
     workers: usize,
+    with_ends: bool,
 ) -> Result<String, JobsFault>
     requires { (1 ≤ workers) × (workers ≤ 16) }
     ensures lines { IfOk result (λ text. (start : ℕ) (calls : List WorldEvent) → store.standing ≡ (world_after calls (opened start)).standing
-        → AreLinesOfRun start calls jobs.now (string_bytes text)) }
+        → AreLinesOfRun with_ends start calls jobs.now (string_bytes text)) }
     ensures fault { IfErr result (λ fault. (start : ℕ) (calls : List WorldEvent) → store.standing ≡ (world_after calls (opened start)).standing
         → IsBrokenOff start calls jobs.now fault) }
 {
     match run_workers(rt, alloc, jobs, workers, Hall::new(alloc, store), &NoGate) {
-        Ok(gathered) => lines_of_run(alloc, jobs.len(), gathered),
+        Ok(gathered) => lines_of_run(alloc, jobs.len(), gathered, with_ends),
         Err(broken) => Err(fault_of_run(broken)),
     }
 }
@@ -120,13 +126,14 @@ fn lines_of<R: Threads + Wait + Sync>(
     calls: &[WorldEvent],
     jobs: &[Job],
     workers: usize,
+    with_ends: bool,
 ) -> Result<String, JobsFault>
     requires { (1 ≤ workers) × (workers ≤ 16) × (1 ≤ start) × (start ≤ HIGHEST_REVISION) }
-    ensures lines { IfOk result (λ text. AreLinesOfRun start calls.now jobs.now (string_bytes text)) }
+    ensures lines { IfOk result (λ text. AreLinesOfRun with_ends start calls.now jobs.now (string_bytes text)) }
     ensures fault { IfErr result (IsBrokenOff start calls.now jobs.now) }
 {
     match open_store(alloc, start, calls) {
-        Ok(store) => lines_on(rt, alloc, store, jobs, workers),
+        Ok(store) => lines_on(rt, alloc, store, jobs, workers, with_ends),
         Err(_) => Err(JobsFault::OutOfMemory),
     }
 }
@@ -137,10 +144,11 @@ fn lines_of_scenario<R: Threads + Wait + Sync>(
     alloc: Global,
     scenario: Scenario,
     workers: usize,
+    with_ends: bool,
 ) -> Result<String, JobsFault>
     requires workers { (1 ≤ workers) × (workers ≤ 16) }
     requires opening { IsOpening scenario.opening }
-    ensures { Answers string_bytes (Ok scenario) result }
+    ensures { Answers with_ends string_bytes (Ok scenario) result }
 {
     let start = scenario.opening.unwrap_or(1);
     let sorted = accept(alloc, scenario)?;
@@ -151,6 +159,7 @@ fn lines_of_scenario<R: Threads + Wait + Sync>(
         sorted.calls.as_slice(),
         sorted.jobs.as_slice(),
         workers,
+        with_ends,
     )
 }
 
@@ -160,12 +169,13 @@ fn lines_of_bytes<R: Threads + Wait + Sync>(
     alloc: Global,
     bytes: &[u8],
     workers: usize,
+    with_ends: bool,
 ) -> Result<String, JobsFault>
     requires { (1 ≤ workers) × (workers ≤ 16) }
-    ensures { Answers string_bytes (scenario_in bytes.now) result }
+    ensures { Answers with_ends string_bytes (scenario_in bytes.now) result }
 {
     let scenario = read_scenario(alloc, bytes)?;
-    lines_of_scenario(rt, alloc, scenario, workers)
+    lines_of_scenario(rt, alloc, scenario, workers, with_ends)
 }
 
 /// Writes what is printed of the jobs of the scenario that bytes spell, once it is whole.
@@ -174,13 +184,14 @@ fn write_lines<R: Threads + Wait + Sync, W: Sink>(
     alloc: Global,
     bytes: &[u8],
     workers: usize,
+    with_ends: bool,
     sink: &mut W,
 ) -> Result<(), JobsFault>
     requires workers { (1 ≤ workers) × (workers ≤ 16) }
     requires sink_works { W.failed sink.old ≡ false }
-    ensures { Writes bytes.now (W.held sink.old) (W.held sink.new) (W.failed sink.new) result }
+    ensures { Writes with_ends bytes.now (W.held sink.old) (W.held sink.new) (W.failed sink.new) result }
 {
-    let text = match lines_of_bytes(rt, alloc, bytes, workers) {
+    let text = match lines_of_bytes(rt, alloc, bytes, workers, with_ends) {
         Ok(text) => text,
         Err(fault) => return Err(fault),
     };
@@ -190,7 +201,8 @@ fn write_lines<R: Threads + Wait + Sync, W: Sink>(
     }
 }
 
-/// Reads a scenario of jobs from a source to its end, runs the jobs by so many threads, and writes what is printed of the run to a sink.
+/// Reads a scenario of jobs from a source to its end, runs the jobs by so many threads, and writes what is printed of the run to a sink: with a line
+/// for the end of each job, where these are to be shown.
 ///
 /// The scenario is read whole, and then judged as one of jobs, before anything runs. Nothing is written before the run has ended.
 /// Neither device has failed before. It fails as `Bad` with the first fault, as `OutOfMemory` where a growth was refused, as `Read` where the
@@ -202,12 +214,13 @@ pub fn run_jobs<R: Threads + Wait + Sync, S: Source, W: Sink>(
     alloc: Global,
     source: &mut S,
     workers: usize,
+    with_ends: bool,
     sink: &mut W,
 ) -> Result<(), JobsFault>
     requires workers { (1 ≤ workers) × (workers ≤ 16) }
     requires source_works { S.failed source.old ≡ false }
     requires sink_works { W.failed sink.old ≡ false }
-    ensures done { Does (record {
+    ensures done { Does with_ends (record {
       input = S.left source.old;
       before = W.held sink.old;
       after = W.held sink.new;
@@ -217,7 +230,7 @@ pub fn run_jobs<R: Threads + Wait + Sync, S: Source, W: Sink>(
     ensures bounded { S.reads source.new ≤ S.reads source.old + MOST_READ }
 {
     match read_all(alloc, source) {
-        Ok(bytes) => write_lines(rt, alloc, bytes.as_slice(), workers, sink),
+        Ok(bytes) => write_lines(rt, alloc, bytes.as_slice(), workers, with_ends, sink),
         Err(ReadFault::OutOfMemory) => Err(JobsFault::OutOfMemory),
         Err(ReadFault::Device) => Err(JobsFault::Read),
     }

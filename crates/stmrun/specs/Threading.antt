@@ -32,8 +32,8 @@ abbrev pub EndsBy : {A : Type 0} → Option (List ℕ) → Option (List ℕ) →
 EndsBy before after failed (Ok u) status = (status ≡ 0) × (failed ≡ false) × Keeps before after
 EndsBy before after failed (Err fault) status = SaysOf before after failed fault status
 
--- What the command does to its devices, and its status: a run of the jobs, with status 0 and nothing said at a good one, and else
--- what is said of its fault.
-abbrev pub Ends : Devices → Option (List ℕ) → Option (List ℕ) → Bool → ℕ → Type 0
-Ends devices before after failed status =
-    (ended : Result (Unit {0}) JobsFault) × Does devices ended × EndsBy before after failed ended status
+-- What the command does to its devices, and its status: a run of the jobs, with their ends where these are shown, with status 0 and
+-- nothing said at a good one, and else what is said of its fault.
+abbrev pub Ends : Bool → Devices → Option (List ℕ) → Option (List ℕ) → Bool → ℕ → Type 0
+Ends shown devices before after failed status =
+    (ended : Result (Unit {0}) JobsFault) × Does shown devices ended × EndsBy before after failed ended status

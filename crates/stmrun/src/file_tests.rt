@@ -63,14 +63,18 @@ fn commands_on_files(rt: HostRuntime) -> Result<(), Fail> {
     fs::write(&rt, "commands.other", OTHER_REPORT.as_bytes())?;
     let script = run_script(&rt, Some("commands.json"));
     let no_script = run_script(&rt, Some("commands.report"));
-    let yes = run_check(&rt, "commands.json", "commands.report");
-    let no = run_check(&rt, "commands.json", "commands.other");
-    let turned = run_check(&rt, "commands.report", "commands.json");
-    let missing = run_check(&rt, "commands.json", "commands.none");
+    let yes = run_check(&rt, "commands.json", "commands.report", false);
+    let no = run_check(&rt, "commands.json", "commands.other", false);
+    let turned = run_check(&rt, "commands.report", "commands.json", false);
+    let missing = run_check(&rt, "commands.json", "commands.none", false);
+    let whole = run_check(&rt, "commands.json", "commands.report", true);
+    let not_whole = run_check(&rt, "commands.json", "commands.other", true);
+    let both_on_input = run_check(&rt, "-", "-", true);
     fs::remove_file(&rt, "commands.json")?;
     fs::remove_file(&rt, "commands.report")?;
     fs::remove_file(&rt, "commands.other")?;
     assert_eq!(rt; (script, no_script), (0, 2));
     assert_eq!(rt; (yes, no, turned, missing), (0, 1, 2, 3));
+    assert_eq!(rt; (whole, not_whole, both_on_input), (0, 1, 2));
     Ok(())
 }

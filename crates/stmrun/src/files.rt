@@ -1,27 +1,37 @@
-//! Files as readers.
+//! Files and standard input as readers.
 
 use std::fs;
-use std::io::{self, ErrorKind, Read};
+use std::io::{self, ErrorKind, Input, Read};
 use std::rt::Files;
 
-/// A file. One that could not be opened fails when it is read.
+/// A file, or standard input. A file that could not be opened fails when it is read.
 #[derive(Drop)]
-pub(crate) struct Opened<F> {
-    file: Option<F>,
+pub(crate) enum Opened<F, I> {
+    /// An open file.
+    File(F),
+    /// Standard input.
+    Standard(I),
+    /// None could be opened.
+    Missing,
 }
 
-/// The file of a path.
-pub(crate) fn open<R: Files>(rt: &R, path: &str) -> Opened<R::File> {
-    Opened {
-        file: fs::open(rt, path).ok(),
+/// The file of a path, or standard input where the path is `-`.
+pub(crate) fn open<R: Files + Input>(rt: &R, path: &str) -> Opened<R::File, R::Reader> {
+    if path == "-" {
+        return Opened::Standard(rt.reader());
+    }
+    match fs::open(rt, path) {
+        Ok(file) => Opened::File(file),
+        Err(_) => Opened::Missing,
     }
 }
 
-impl<F: Read> Read for Opened<F> {
+impl<F: Read, I: Read> Read for Opened<F, I> {
     fn read(&mut self, buffer: &mut [u8]) -> io::Result<usize> {
-        match &mut self.file {
-            Some(file) => file.read(buffer),
-            None => Err(io::Error::from(ErrorKind::NotFound)),
+        match self {
+            Opened::File(file) => file.read(buffer),
+            Opened::Standard(input) => input.read(buffer),
+            Opened::Missing => Err(io::Error::from(ErrorKind::NotFound)),
         }
     }
 }

@@ -14,68 +14,60 @@ mod threading;
 mod threading_tests;
 
 use files::open;
-use std::io::Read;
 use std::process::ExitCode;
 use std::sync::Wait;
 use std::thread::Threads;
 use stm_arguments::{Asked, asked_of, read_words};
 use stm_commands::{RecipeWords, Std};
-pub use stm_commands::{check_to, recipe_to, script_to};
-pub use threading::threads_to;
+pub use stm_commands::{check_to, check_whole_to, recipe_to, script_to};
+pub use threading::{threads_to, threads_with_ends_to};
 
-/// Runs the scenario of an input.
-fn run_input<R: Read + Drop>(rt: &HostRuntime, input: R) -> u8 {
-    let mut input = Std::new(input);
+/// The path of an input that may be named: that of standard input where it is not.
+fn path_of(named: Option<&str>) -> &str {
+    named.unwrap_or("-")
+}
+
+/// Runs the scenario of a path, or that on standard input.
+fn run_script(rt: &HostRuntime, scenario: Option<&str>) -> u8 {
+    let mut input = Std::new(open(rt, path_of(scenario)));
     let mut out = Std::new(rt.stdout());
     let mut err = Std::new(rt.stderr());
     script_to(rt.alloc(), &mut input, &mut out, &mut err)
 }
 
-/// Runs the scenario of a path, or that on standard input.
-fn run_script(rt: &HostRuntime, scenario: Option<&str>) -> u8 {
-    match scenario {
-        Some(path) => run_input(rt, open(rt, path)),
-        None => run_input(rt, rt.reader()),
+/// Checks the report of a path beside the scenario of another: each line, where it is to be whole. Only one of them can be standard input.
+fn run_check(rt: &HostRuntime, scenario: &str, report: &str, whole: bool) -> u8 {
+    if scenario == "-" && report == "-" {
+        let _ = rt.eprintln("stmrun: standard input can be only one of SCENARIO and REPORT");
+        return 2;
     }
-}
-
-/// Checks the report of a path beside the scenario of another.
-fn run_check(rt: &HostRuntime, scenario: &str, report: &str) -> u8 {
     let mut scenario = Std::new(open(rt, scenario));
     let mut report = Std::new(open(rt, report));
     let mut out = Std::new(rt.stdout());
     let mut err = Std::new(rt.stderr());
+    if whole {
+        return check_whole_to(rt.alloc(), &mut scenario, &mut report, &mut out, &mut err);
+    }
     check_to(rt.alloc(), &mut scenario, &mut report, &mut out, &mut err)
 }
 
-/// Runs the jobs of an input by so many threads.
-fn run_jobs_of<T: Threads + Wait + Sync, R: Read + Drop>(
-    rt: &HostRuntime,
-    threads: &T,
-    input: R,
-    workers: usize,
-) -> u8
-    requires { (1 ≤ workers) × (workers ≤ 16) }
-{
-    let mut input = Std::new(input);
-    let mut out = Std::new(rt.stdout());
-    let mut err = Std::new(rt.stderr());
-    threads_to(threads, rt.alloc(), &mut input, workers, &mut out, &mut err)
-}
-
-/// Runs the jobs of the scenario of a path, or of that on standard input.
+/// Runs the jobs of the scenario of a path, or of that on standard input, by so many threads. The ends of the jobs are printed too, or are not.
 fn run_threads<T: Threads + Wait + Sync>(
     rt: &HostRuntime,
     threads: &T,
     scenario: Option<&str>,
     workers: usize,
+    ends: bool,
 ) -> u8
     requires { (1 ≤ workers) × (workers ≤ 16) }
 {
-    match scenario {
-        Some(path) => run_jobs_of(rt, threads, open(rt, path), workers),
-        None => run_jobs_of(rt, threads, rt.reader(), workers),
+    let mut input = Std::new(open(rt, path_of(scenario)));
+    let mut out = Std::new(rt.stdout());
+    let mut err = Std::new(rt.stderr());
+    if ends {
+        return threads_with_ends_to(threads, rt.alloc(), &mut input, workers, &mut out, &mut err);
     }
+    threads_to(threads, rt.alloc(), &mut input, workers, &mut out, &mut err)
 }
 
 /// Prints the program of the recipe that these words name.
@@ -93,8 +85,16 @@ fn run<T: Threads + Wait + Sync>(rt: &HostRuntime, threads: &T) -> u8 {
     };
     match asked_of(rt, rt.alloc(), words.as_slice()) {
         Asked::Script { scenario } => run_script(rt, scenario),
-        Asked::Check { scenario, report } => run_check(rt, scenario, report),
-        Asked::Threads { scenario, workers } => run_threads(rt, threads, scenario, workers),
+        Asked::Check {
+            scenario,
+            report,
+            whole,
+        } => run_check(rt, scenario, report, whole),
+        Asked::Threads {
+            scenario,
+            workers,
+            ends,
+        } => run_threads(rt, threads, scenario, workers, ends),
         Asked::Recipe(words) => run_recipe(rt, &words),
         Asked::Nothing(status) => status,
     }

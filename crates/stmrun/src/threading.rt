@@ -1,5 +1,5 @@
 //! The command `threads` over devices.
-ghost use Rattle.std.specs.Prelude.{◌≡◌, ◌≤◌, ◌+◌, false, decimal};
+ghost use Rattle.std.specs.Prelude.{◌≡◌, ◌≤◌, ◌+◌, true, false, decimal};
 ghost use Rattle.stm_devices.specs.declared.transfer.TheConstants.{MOST_READ};
 ghost use Rattle.stm_devices.specs.Transfers.{HasWritten};
 ghost use Rattle.stm_jobs.specs.declared.running.JobsFault.TheVariants.{Audit};
@@ -67,6 +67,35 @@ fn tell<E: Sink>(err: &mut E, fault: &JobsFault) -> u8
     status(fault)
 }
 
+/// Runs the jobs of the scenario of `input`, prints what is to be shown of the run, and gives the status.
+fn run_to<R: Threads + Wait + Sync, S: Source, W: Sink, E: Sink>(
+    rt: &R,
+    alloc: Global,
+    input: &mut S,
+    workers: usize,
+    with_ends: bool,
+    out: &mut W,
+    err: &mut E,
+) -> u8
+    requires workers { (1 ≤ workers) × (workers ≤ 16) }
+    requires input_works { S.failed input.old ≡ false }
+    requires out_works { W.failed out.old ≡ false }
+    requires err_works { E.failed err.old ≡ false }
+    ensures ends { Ends with_ends (record {
+      input = S.left input.old;
+      before = W.held out.old;
+      after = W.held out.new;
+      source_failed = S.failed input.new;
+      sink_failed = W.failed out.new;
+    }) (E.held err.old) (E.held err.new) (E.failed err.new) result }
+    ensures bounded { S.reads input.new ≤ S.reads input.old + MOST_READ }
+{
+    match run_jobs(rt, alloc, input, workers, with_ends, out) {
+        Ok(()) => 0,
+        Err(fault) => tell(err, &fault),
+    }
+}
+
 /// Runs the starts of the scenario of `input` as jobs, by so many threads behind one lock, from 1 to 16. Its txn, grant, keep, revoke and
 /// advance events are applied to the store first, in their order. To `out` go the number of jobs, how many committed, the value of each key
 /// that is present, and the revision, whole or not at all but for a failed `out`.
@@ -88,7 +117,7 @@ pub fn threads_to<R: Threads + Wait + Sync, S: Source, W: Sink, E: Sink>(
     requires input_works { S.failed input.old ≡ false }
     requires out_works { W.failed out.old ≡ false }
     requires err_works { E.failed err.old ≡ false }
-    ensures ends { Ends (record {
+    ensures ends { Ends false (record {
       input = S.left input.old;
       before = W.held out.old;
       after = W.held out.new;
@@ -97,8 +126,30 @@ pub fn threads_to<R: Threads + Wait + Sync, S: Source, W: Sink, E: Sink>(
     }) (E.held err.old) (E.held err.new) (E.failed err.new) result }
     ensures bounded { S.reads input.new ≤ S.reads input.old + MOST_READ }
 {
-    match run_jobs(rt, alloc, input, workers, out) {
-        Ok(()) => 0,
-        Err(fault) => tell(err, &fault),
-    }
+    run_to(rt, alloc, input, workers, false, out, err)
+}
+
+/// Does what `threads_to` does, and behind the number of commits writes a line for the end of each job, in their order.
+pub fn threads_with_ends_to<R: Threads + Wait + Sync, S: Source, W: Sink, E: Sink>(
+    rt: &R,
+    alloc: Global,
+    input: &mut S,
+    workers: usize,
+    out: &mut W,
+    err: &mut E,
+) -> u8
+    requires workers { (1 ≤ workers) × (workers ≤ 16) }
+    requires input_works { S.failed input.old ≡ false }
+    requires out_works { W.failed out.old ≡ false }
+    requires err_works { E.failed err.old ≡ false }
+    ensures ends { Ends true (record {
+      input = S.left input.old;
+      before = W.held out.old;
+      after = W.held out.new;
+      source_failed = S.failed input.new;
+      sink_failed = W.failed out.new;
+    }) (E.held err.old) (E.held err.new) (E.failed err.new) result }
+    ensures bounded { S.reads input.new ≤ S.reads input.old + MOST_READ }
+{
+    run_to(rt, alloc, input, workers, true, out, err)
 }

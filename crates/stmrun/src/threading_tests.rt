@@ -1,7 +1,7 @@
 //! The command `threads`, run over memory and devices that fail. What is expected comes from the rules, and never from a run.
 ghost use Rattle.std.specs.Prelude.{◌≤◌};
 
-use crate::threads_to;
+use crate::{threads_to, threads_with_ends_to};
 use std::alloc::{AllocError, Global};
 use std::io;
 use std::io::{ErrorKind, Read, Write};
@@ -50,6 +50,36 @@ fn leaves<R: Abort + Threads + Wait + Sync>(
     assert_eq!(rt; ended, status, "{scenario}");
     assert!(rt; out.device.as_slice() == printed.as_bytes(), "{scenario}");
     assert!(rt; err.device.as_slice() == said.as_bytes(), "{scenario}");
+}
+
+/// Jobs of which one commits, one aborts, one comes to a fault, and the commit of one is refused.
+const ENDED: &str =
+    "[[\"txn\",[],[[\"put\",\"a\",\"1\",0]],[]],[\"start\",\"Serializable\",1,[[\"put\",\"b\",[\"get\",\"a\"],0]]],[\"start\",\"Serializable\",1,[[\"abort\",\"no\"]]],[\"start\",\"Serializable\",1,[[\"emit\",[\"div\",1,0]]]],[\"start\",\"Serializable\",1,[[\"put\",\"c\",\"1\",7]]]]";
+
+/// What is printed of them with their ends, in the order of the jobs.
+const ENDS: &str = "[\"jobs\",4]
+[\"committed\",1]
+[\"job\",0,\"committed\",3]
+[\"job\",1,\"aborted\",\"no\"]
+[\"job\",2,\"faulted\",\"ZeroDivisor\"]
+[\"job\",3,\"ended\",\"LeaseNotFound\"]
+[\"value\",\"a\",\"1\"]
+[\"value\",\"b\",\"1\"]
+[\"end\",3]
+";
+
+#[test]
+fn ends_of_jobs(rt: HostRuntime) {
+    let alloc = rt.alloc();
+    for workers in [1usize, 4] {
+        let mut input = Std::new(ENDED.as_bytes());
+        let mut out = Std::new(Vec::new(alloc));
+        let mut err = Std::new(Vec::new(alloc));
+        let ended = threads_with_ends_to(&rt, alloc, &mut input, workers, &mut out, &mut err);
+        assert_eq!(rt; ended, 0);
+        assert!(rt; out.device.as_slice() == ENDS.as_bytes());
+        assert!(rt; err.device.is_empty());
+    }
 }
 
 /// Scenarios, each with what is printed of it.

@@ -10,11 +10,13 @@ neither a b left right = ap₂ (λ (x y : Bool). x || y) left right
 pub returns : goal.returns
 returns c =
     let bare_is : app_of c.after_help.result ≡ new_app (codes "check") = search rules in
-    let local_is =
-    neither _ _ ((λ i. (c.after_help.ensures i).has_globals) ∙ ((λ i. (c.about.ensures i).has_globals) ∙ c.new.ensures.local)) c.required-scenario.ensures.local in
-    IfOk-weaker c.arg-2.result _ _ (λ m adds. λ (old new : Command). λ (h : AddsSubcommand old m new).
-    h.shape (adds.globals ∙ neither _ _ (c.in_ok-arg.ensures.globals ∙ local_is) c.required-report.ensures.local)
+    let alone_is = (λ i. (c.after_help.ensures i).has_globals) ∙ ((λ i. (c.about.ensures i).has_globals) ∙ c.new.ensures.local) in
+    let one_is = neither _ _ alone_is c.required-scenario.ensures.local in
+    let two_are = neither _ _ (c.in_ok-arg.ensures.globals ∙ one_is) c.required-report.ensures.local in
+    let with_scenario = c.in_ok-arg.ensures.shape c.required-scenario.ensures.local ∙ ap₂ with_rule bare_is c.required-scenario.ensures.rule in
+    let with_report = c.in_ok-arg-2.ensures.shape c.required-report.ensures.local ∙ ap₂ with_rule with_scenario c.required-report.ensures.rule in
+    IfOk-weaker c.arg-3.result _ _ (λ m adds. λ (old new : Command). λ (h : AddsSubcommand old m new).
+    h.shape (adds.globals ∙ neither _ _ (c.in_ok-arg-2.ensures.globals ∙ two_are) c.flag-whole.ensures.local)
     ∙ ap (λ (a : App). with_subcommand (app_of old) a.top)
-    (adds.shape c.required-report.ensures.local
-    ∙ ap₂ with_rule (c.in_ok-arg.ensures.shape c.required-scenario.ensures.local ∙ ap₂ with_rule bare_is c.required-scenario.ensures.rule) c.required-report.ensures.rule))
-    c.arg-2.ensures
+    (adds.shape c.flag-whole.ensures.local ∙ ap₂ with_rule with_report c.flag-whole.ensures.rule))
+    c.arg-3.ensures

@@ -7,7 +7,7 @@ use Rattle.stm_arguments.proofs.arguments.command.Goals as goal
 
 pub returns : goal.returns
 returns c =
-    let top_is : app_of c.subcommand_required.result ≡ on_top (λ top. record top { subcommand_required = true }) (new_app (codes "stmrun")) = search rules in
+    let top_is : app_of c.subcommand_required.result ≡ on_top (λ top. record top { subcommand_required = true; has_version = true }) (new_app (codes "stmrun")) = search rules in
     IfOk-weaker c.subcommand-4.result _ _ (λ m. λ (h : AddsSubcommand c.in_ok-subcommand-3.field-0 c.in_ok-recipe.recipe m).
     c.in_ok-recipe.ensures c.in_ok-subcommand-3.field-0 m h
     ∙ ap (λ (a : App). with_subcommand a recipe_app.top)

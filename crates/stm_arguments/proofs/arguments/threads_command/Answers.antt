@@ -11,11 +11,12 @@ pub returns : goal.returns
 returns c =
     let bare_is : app_of c.after_help.result ≡ new_app (codes "threads") = search rules in
     let alone_is = (λ i. (c.after_help.ensures i).has_globals) ∙ ((λ i. (c.about.ensures i).has_globals) ∙ c.new.ensures.local) in
-    let local_is = neither _ _ alone_is c.optional-input.ensures.local in
-    IfOk-weaker c.arg-2.result _ _ (λ m adds. λ (old new : Command). λ (h : AddsSubcommand old m new).
-    h.shape (adds.globals ∙ neither _ _ (c.in_ok-arg.ensures.globals ∙ local_is) c.workers-count.ensures.local)
+    let one_is = neither _ _ alone_is c.optional-input.ensures.local in
+    let two_are = neither _ _ (c.in_ok-arg.ensures.globals ∙ one_is) c.workers-count.ensures.local in
+    let with_file = c.in_ok-arg.ensures.shape c.optional-input.ensures.local ∙ ap₂ with_rule bare_is c.optional-input.ensures.rule in
+    let with_count = c.in_ok-arg-2.ensures.shape c.workers-count.ensures.local ∙ ap₂ with_rule with_file c.workers-count.ensures.rule in
+    IfOk-weaker c.arg-3.result _ _ (λ m adds. λ (old new : Command). λ (h : AddsSubcommand old m new).
+    h.shape (adds.globals ∙ neither _ _ (c.in_ok-arg-2.ensures.globals ∙ two_are) c.flag-ends.ensures.local)
     ∙ ap (λ (a : App). with_subcommand (app_of old) a.top)
-    (adds.shape c.workers-count.ensures.local
-    ∙ ap₂ with_rule (c.in_ok-arg.ensures.shape c.optional-input.ensures.local ∙ ap₂ with_rule bare_is c.optional-input.ensures.rule)
-    c.workers-count.ensures.rule))
-    c.arg-2.ensures
+    (adds.shape c.flag-ends.ensures.local ∙ ap₂ with_rule with_count c.flag-ends.ensures.rule))
+    c.arg-3.ensures

@@ -11,6 +11,7 @@ returns-clause-asks c = (
   subst (λ o. NumberAt o c.in_ok-workers.workers) c.in_ok-text.ensures c.in_ok-workers.ensures.number.2,
   c.in_ok-workers.ensures.number.0,
   c.in_ok-workers.ensures.number.1,
+  c.flag_of-ends.ensures,
 )
 
 -- what stands in the place of the number is none

@@ -13,10 +13,10 @@ returns-in_err-scenario g c =
     let p = err_from_is_err_and c.from_residual.result c.from_residual.ensures.1 in
     let reading : Outcome Scenario = scenario_in c.args.bytes.now in
     let fault = c.in_err-scenario.field-0.0 in
-    answers_fault string_bytes reading fault c.from_residual.result (judged_unread reading fault c.in_err-scenario.ensures.exact)
+    answers_fault c.args.with_ends string_bytes reading fault c.from_residual.result (judged_unread reading fault c.in_err-scenario.ensures.exact)
     (p.1 ∙ ap (λ (f : JobsFault). Err f) p.2)
 
 pub returns : goal.returns
 returns g c =
-    subst (λ (reading : Outcome Scenario). Answers string_bytes reading c.lines_of_scenario.result) (sym c.in_ok-scenario.ensures.exact)
+    subst (λ (reading : Outcome Scenario). Answers c.args.with_ends string_bytes reading c.lines_of_scenario.result) (sym c.in_ok-scenario.ensures.exact)
     c.lines_of_scenario.ensures

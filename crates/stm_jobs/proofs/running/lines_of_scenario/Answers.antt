@@ -8,11 +8,11 @@ use Rattle.stm_jobs.proofs.running.lines_of_scenario.Goals as goal
 pub returns-in_err-sorted : goal.returns-in_err-sorted
 returns-in_err-sorted g c =
     let p = err_from_is_err_and c.from_residual.result c.from_residual.ensures.1 in
-    answers_fault string_bytes (Ok c.args.scenario) c.in_err-sorted.field-0.0 c.from_residual.result c.in_err-sorted.ensures
+    answers_fault c.args.with_ends string_bytes (Ok c.args.scenario) c.in_err-sorted.field-0.0 c.from_residual.result c.in_err-sorted.ensures
     (p.1 ∙ ap (λ (fault : JobsFault). Err fault) p.2)
 
 pub returns : goal.returns
 returns g c =
-    answers_of string_bytes c.args.scenario (sorted_of c.in_ok-sorted.sorted) c.unwrap_or-start.result c.as_slice.result.now
+    answers_of c.args.with_ends string_bytes c.args.scenario (sorted_of c.in_ok-sorted.sorted) c.unwrap_or-start.result c.as_slice.result.now
     c.as_slice-2.result.now c.lines_of.result c.in_ok-sorted.ensures c.unwrap_or-start.ensures c.as_slice.ensures (ap (map task_of) c.as_slice-2.ensures)
     c.lines_of.ensures.lines c.lines_of.ensures.fault

@@ -4,7 +4,7 @@ use Rattle.stm_jobs.proofs.running.run_jobs.Goals as goal
 pub returns-in-Ok-clause-done : goal.returns-in-Ok-clause-done
 returns-in-Ok-clause-done g c =
     let did = rw c.as_slice.ensures.value at c.write_lines.ensures in
-    does_of (record {
+    does_of c.args.with_ends (record {
       input = g.S.Source.left c.args.source.now;
       before = g.W.Sink.held c.args.sink.now;
       after = g.W.Sink.held c.write_lines.new.sink;

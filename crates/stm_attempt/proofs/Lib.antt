@@ -6,3 +6,4 @@ pub mod NextLemmas
 pub mod ProgressLemmas
 pub mod AttemptLemmas
 pub mod WorkedExamples
+pub mod Copied

@@ -59,6 +59,16 @@ fn first_of(answers: ReadSet, count: usize) -> Sequence<ReadAnswer>
     Sequence::of(first)
 }
 
+/// A copy of the program that an attempt has, if it has one.
+fn copy_program(program: &Option<Program>) -> Result<Option<Program>, AllocError>
+    ensures { IfOk result (λ copy. copy ≡ program.now) }
+{
+    match program {
+        None => Ok(None),
+        Some(program) => Ok(Some(program.clone()?)),
+    }
+}
+
 impl Attempt {
     ghost use Rattle.stm_attempt.specs.AttemptState.{begun, IsOf, advanced, supplied, awaited};
     ghost use Rattle.stm_attempt.specs.Next.{next_of, key_asked};
@@ -208,5 +218,27 @@ impl Attempt {
         self.told = 0;
         put(&mut self.progress, Progress::Fresh);
         first_of(reads, told)
+    }
+}
+
+impl Attempt {
+    /// A copy of the attempt. Where it goes on, it runs its program from the start, on what the attempt has read.
+    ///
+    /// Want of memory is its only refusal.
+    pub fn copy(&self) -> Result<Attempt, AllocError>
+        ensures { IfOk result (λ copy. copy ≡ self.now) }
+    {
+        let program = copy_program(&self.program)?;
+        let reads = self.reads.clone()?;
+        let prefetched = self.prefetched.clone()?;
+        Ok(Attempt {
+            program,
+            level: self.level,
+            reads,
+            told: self.told,
+            prefetched,
+            progress: Progress::Fresh,
+            alloc: self.alloc,
+        })
     }
 }

@@ -1,4 +1,8 @@
 //! An entry of a store's log.
+ghost use Rattle.std.specs.Prelude.{◌≡◌, IfOk};
+ghost use Rattle.stm_entries.specs.declared.entry.Entry.TheVariants.{Program as ProgramEntry, Foreign as ForeignEntry};
+
+use std::alloc::AllocError;
 use stm_history::{ReadAnswer, Sequence};
 use stm_meaning::{TraceItem, Value};
 use stm_program::{Level, Program};
@@ -40,4 +44,88 @@ pub enum Entry {
     Expire {
         id: u64,
     },
+}
+
+/// A copy of the answers that a commit was made on.
+fn copy_answers(answers: &Sequence<ReadAnswer>) -> Result<Sequence<ReadAnswer>, AllocError>
+    ensures { IfOk result (λ copy. copy ≡ answers.now) }
+{
+    let copy = answers.clone()?;
+    Ok(copy)
+}
+
+/// A copy of what a commit has emitted.
+fn copy_output(output: &Sequence<Value>) -> Result<Sequence<Value>, AllocError>
+    ensures { IfOk result (λ copy. copy ≡ output.now) }
+{
+    let copy = output.clone()?;
+    Ok(copy)
+}
+
+/// A copy of what a commit has seen.
+fn copy_trace(trace: &Sequence<TraceItem>) -> Result<Sequence<TraceItem>, AllocError>
+    ensures { IfOk result (λ copy. copy ≡ trace.now) }
+{
+    let copy = trace.clone()?;
+    Ok(copy)
+}
+
+/// The entry of a commit, of copies of these.
+fn commit_of(
+    program: &Program,
+    level: Level,
+    answers: &Sequence<ReadAnswer>,
+    output: &Sequence<Value>,
+    trace: &Sequence<TraceItem>,
+    revision: u64,
+) -> Result<Entry, AllocError>
+    ensures { IfOk result (λ entry. entry ≡ ProgramEntry program.now level answers.now output.now trace.now revision) }
+{
+    let program = program.clone()?;
+    let answers = copy_answers(answers)?;
+    let output = copy_output(output)?;
+    let trace = copy_trace(trace)?;
+    Ok(Entry::Program {
+        program,
+        level,
+        answers,
+        output,
+        trace,
+        revision,
+    })
+}
+
+/// The entry of a copy of this transaction.
+fn foreign_of(txn: &Txn) -> Result<Entry, AllocError>
+    ensures { IfOk result (λ entry. entry ≡ ForeignEntry txn.now) }
+{
+    let txn = txn.clone()?;
+    Ok(Entry::Foreign { txn })
+}
+
+/// The copy is the same entry. It shares all but the outermost statements of a program.
+impl Clone for Entry {
+    ghost is_clone = { λ entry copy. copy ≡ entry };
+
+    fn clone(&self) -> Result<Entry, AllocError> {
+        match self {
+            Entry::Program {
+                program,
+                level,
+                answers,
+                output,
+                trace,
+                revision,
+            } => commit_of(program, *level, answers, output, trace, *revision),
+            Entry::Foreign { txn } => foreign_of(txn),
+            Entry::Grant { id, ttl, at } => Ok(Entry::Grant {
+                id: *id,
+                ttl: *ttl,
+                at: *at,
+            }),
+            Entry::Renew { id, at } => Ok(Entry::Renew { id: *id, at: *at }),
+            Entry::Revoke { id } => Ok(Entry::Revoke { id: *id }),
+            Entry::Expire { id } => Ok(Entry::Expire { id: *id }),
+        }
+    }
 }

@@ -9,3 +9,4 @@ pub mod Present
 pub mod Steps
 pub mod Order
 pub mod Newest
+pub mod Copied

@@ -1,7 +1,8 @@
 //! The events of one revision.
-ghost use Rattle.std.specs.Prelude.{◌≡◌, [], ◌∷◌};
+ghost use Rattle.std.specs.Prelude.{◌≡◌, [], ◌∷◌, IfOk};
 
 use crate::event::Event;
+use std::alloc::AllocError;
 use std::marker::Model;
 use std::slice;
 
@@ -30,6 +31,34 @@ impl Model for Events {
     ghost Value = { List Event };
 
     ghost view = { λ e. events_held e.held };
+}
+
+/// A copy of one event, which is held in the revision itself.
+fn copy_one(event: &Event) -> Result<Events, AllocError>
+    ensures { IfOk result (λ copy. copy ≡ event.now ∷ []) }
+{
+    let event = event.clone()?;
+    Ok(Events::one(event))
+}
+
+/// A copy of events that are held in memory of their own.
+fn copy_more(events: &Vec<Event>) -> Result<Events, AllocError>
+    ensures { IfOk result (λ copy. copy ≡ events.now.items) }
+{
+    let events = events.clone()?;
+    Ok(Events::of(events))
+}
+
+/// The copy shares the text of each key.
+impl Clone for Events {
+    ghost is_clone = { λ events copy. copy ≡ events };
+
+    fn clone(&self) -> Result<Events, AllocError> {
+        match &self.held {
+            Held::One(event) => copy_one(event),
+            Held::More(events) => copy_more(events),
+        }
+    }
 }
 
 impl Events {

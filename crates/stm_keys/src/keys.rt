@@ -11,6 +11,7 @@ use crate::chains::{
     Chains, NO_HINT, add_places, find_newest, find_now, find_present, find_state, hint_of,
     make_room,
 };
+use crate::copies::{copy_chains, copy_revisions};
 use crate::event::Event;
 use crate::events::Events;
 use crate::refusal::{ApplyRefusal, ReadRefusal};
@@ -393,5 +394,23 @@ impl Keys {
         ensures { slice_get self.now.present index ≡ Some (result.0.now, result.1.now) }
     {
         find_present(&self.chains, self.revisions.as_slice(), index)
+    }
+}
+
+impl Keys {
+    /// A copy of the keys at every revision. It shares the texts of the keys that events show.
+    ///
+    /// It takes a step for each revision and for each change in it, and want of memory is its only refusal.
+    pub fn copy(&self) -> Result<Keys, AllocError>
+        ensures { IfOk result (λ copy. copy ≡ self.now) }
+    {
+        let chains = copy_chains(&self.chains)?;
+        let revisions = copy_revisions(&self.revisions)?;
+        Ok(Keys {
+            opening: self.opening,
+            revisions,
+            chains,
+            present: self.present,
+        })
     }
 }

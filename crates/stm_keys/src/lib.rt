@@ -5,6 +5,7 @@
 #![tactic(auto)]
 
 mod chains;
+mod copies;
 mod event;
 mod events;
 mod keys;

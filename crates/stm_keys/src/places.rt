@@ -35,6 +35,27 @@ impl Model for Places {
     ghost invariant = { λ p. option_map place_of p.newest ≡ slice_get (reverse (map place_of p.versions.items)) 0 };
 }
 
+/// A copy of the versions.
+fn copy_versions(versions: &Vec<Version>) -> Result<Vec<Version>, AllocError>
+    ensures { IfOk result (λ copy. copy.items ≡ versions.now.items) }
+{
+    let copy = versions.clone()?;
+    Ok(copy)
+}
+
+/// The copy has the same places. How much room it has is left open.
+impl Clone for Places {
+    ghost is_clone = { λ chain copy. copy.places ≡ chain.places };
+
+    fn clone(&self) -> Result<Places, AllocError> {
+        let versions = copy_versions(&self.versions)?;
+        Ok(Places {
+            versions,
+            newest: self.newest,
+        })
+    }
+}
+
 impl Places {
     ghost use Rattle.stm_keys.specs.Places.{newest_below, place_of};
 

@@ -7,3 +7,4 @@ pub mod DueLaws
 pub mod KeyLaws
 pub mod Played
 pub mod Timed
+pub mod Copied

@@ -9,3 +9,4 @@ pub mod Due
 pub mod Kept
 pub mod GrantNames
 pub mod KeysNames
+pub mod Copies

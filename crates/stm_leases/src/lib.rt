@@ -6,6 +6,7 @@
 
 mod bounds;
 mod collect;
+mod copies;
 mod errors;
 pub mod laws;
 mod lease;

@@ -7,6 +7,7 @@ ghost use Rattle.stm_leases.specs.LeaseLog.{LogItem, Grant, Renew, Revoke, Expir
 
 use crate::bounds::{HIGHEST_ID, HIGHEST_TTL};
 use crate::collect::texts;
+use crate::copies::{copy_attached, copy_leases};
 use crate::errors::{GrantError, KeysError, LeaseNotFound};
 use crate::lease::{Attachment, Lease};
 use crate::tournament::Tournament;
@@ -260,5 +261,27 @@ impl Leases {
         ensures { result ≡ finmap.len self.now.live }
     {
         self.leases.len()
+    }
+}
+
+impl Leases {
+    /// A copy of the leases and of the keys that hang on them, with no room yet for further attaches.
+    ///
+    /// Want of memory is its only refusal.
+    pub fn copy(&self) -> Result<Leases, AllocError>
+        ensures { IfOk result (λ copy. copy ≡ record self.now { spare = 0 }) }
+    {
+        let due = self.due.copy()?;
+        let leases = copy_leases(&self.leases)?;
+        let attached = copy_attached(&self.attached)?;
+        let keys = self.keys.clone()?;
+        Ok(Leases {
+            leases,
+            attached,
+            keys,
+            due,
+            spare: 0,
+            alloc: self.alloc,
+        })
     }
 }

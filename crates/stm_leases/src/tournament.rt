@@ -137,6 +137,18 @@ impl Tournament {
         Ok(grown)
     }
 
+    /// The same slots. It takes one growth.
+    pub fn copy(&self) -> Result<Tournament, AllocError>
+        ensures nodes { IfOk result (λ copy. copy.nodes.items ≡ self.now.nodes.items) }
+        ensures slots { IfOk result (λ copy. copy.slots ≡ self.now.slots) }
+    {
+        let nodes = self.nodes.clone()?;
+        Ok(Tournament {
+            nodes,
+            slots: self.slots,
+        })
+    }
+
     /// The first of all slots, `None` where all of them are empty. It takes one step.
     pub fn first(&self) -> Option<DueAt>
         requires { IsPlayed self.now }

@@ -4,3 +4,4 @@ pub mod Counts
 pub mod Steps
 pub mod Operations
 pub mod Viewed
+pub mod Cloned

@@ -1,3 +1,5 @@
 pub mod Links
 pub mod Lists
 pub mod Chain
+pub mod Clones
+pub mod NodeClone

@@ -4,6 +4,7 @@
 //! So a node is found, moved and unlinked in constant time, and contracts see plain lists.
 #![tactic(auto)]
 
+mod clones;
 mod ids;
 mod linked;
 mod links;

@@ -4,6 +4,7 @@ ghost use Rattle.std.specs.Prelude.{IsTrue, IsOk, OnOk, OnErr, IfOk, IfErr};
 ghost use Rattle.stm_lists.specs.Lists.{Place, list_at, entries_at, first_node, last_node, HasList, HasNode, IsApart, StandsAt, Updates, MovesToBack};
 ghost use Rattle.stm_lists.specs.Chain.{node_at};
 
+use crate::clones::{clone_nodes, copy_heads};
 use crate::ids::{ListId, NodeId};
 use crate::links::{Head, Node, push, unlink};
 use slab::Slab;
@@ -38,6 +39,23 @@ impl<T> Model for Lists<T> {
     ghost view = { λ s. view_of s.nodes s.heads s.spare };
 
     ghost invariant = { λ s. IsStored s.nodes s.heads s.spare };
+}
+
+/// The lists and their nodes keep their ids. The clone has no spare room.
+impl<T: Clone + Drop> Clone for Lists<T> {
+    ghost use Rattle.stm_lists.specs.Clones.{AreListClones};
+
+    ghost is_clone = { AreListClones T.is_clone };
+
+    fn clone(&self) -> Result<Lists<T>, AllocError> {
+        let nodes = clone_nodes(&self.nodes)?;
+        let heads = copy_heads(&self.heads)?;
+        Ok(Lists {
+            nodes,
+            heads,
+            spare: 0,
+        })
+    }
 }
 
 impl<T> Lists<T> {

@@ -8,6 +8,7 @@ ghost use Rattle.stm_lists.specs.declared.links.Head.{Head};
 
 use crate::ids::{ListId, NodeId};
 use slab::Slab;
+use std::alloc::AllocError;
 
 /// The nodes of all lists.
 type Nodes<T> = Slab<Node<T>>;
@@ -25,6 +26,22 @@ pub(crate) struct Node<T> {
     pub previous: Link,
     pub next: Link,
     pub value: T,
+}
+
+impl<T: Clone> Clone for Node<T> {
+    ghost use Rattle.stm_lists.specs.NodeClone.{IsNodeClone};
+
+    ghost is_clone = { IsNodeClone T.is_clone };
+
+    fn clone(&self) -> Result<Node<T>, AllocError> {
+        let value = self.value.clone()?;
+        Ok(Node {
+            list: self.list,
+            previous: self.previous,
+            next: self.next,
+            value,
+        })
+    }
 }
 
 /// The ends of one list, and how many nodes it has.

@@ -110,3 +110,35 @@ impl Machine {
         }
     }
 }
+
+/// A copy of the places of the runners.
+fn copy_runners(runners: &Vec<Slot>) -> Result<Vec<Slot>, AllocError>
+    ensures { IfOk result (λ copy. copy.items ≡ runners.now.items) }
+{
+    let copy = runners.clone()?;
+    Ok(copy)
+}
+
+/// A copy of the entries.
+fn copy_entries(entries: &Vec<Entry>) -> Result<Vec<Entry>, AllocError>
+    ensures { IfOk result (λ copy. copy.items ≡ entries.now.items) }
+{
+    let copy = entries.clone()?;
+    Ok(copy)
+}
+
+impl Machine {
+    /// A copy of the store, of the runners and of the entries.
+    pub(crate) fn copy(&self) -> Result<Machine, AllocError>
+        ensures { IfOk result (λ copy. copy ≡ self.now) }
+    {
+        let entries = copy_entries(&self.entries)?;
+        let runners = copy_runners(&self.runners)?;
+        let store = self.store.copy()?;
+        Ok(Machine {
+            store,
+            runners,
+            entries,
+        })
+    }
+}

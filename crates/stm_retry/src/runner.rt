@@ -152,3 +152,20 @@ impl Runner {
         Ok(())
     }
 }
+
+/// The copy is the same runner. Where it goes on, it runs its program from the start, on what it has read.
+impl Clone for Runner {
+    ghost is_clone = { λ runner copy. copy ≡ runner };
+
+    fn clone(&self) -> Result<Runner, AllocError> {
+        let program = self.program.clone()?;
+        let attempt = self.attempt.copy()?;
+        Ok(Runner {
+            program,
+            level: self.level,
+            limit: self.limit,
+            failures: self.failures,
+            attempt,
+        })
+    }
+}

@@ -1,9 +1,10 @@
 //! The places of runners: runner 1 stands first.
-ghost use Rattle.std.specs.Prelude.{◌≡◌, ◌-◌, ◌<◌, ◌≤◌, ◌^◌, None, Some, option_map, slice_get, IfNone, OnSome, vec_len};
-ghost use Rattle.stm_world.specs.World.{runner_at, with_slot, Over as Left, Live as Stands};
+ghost use Rattle.std.specs.Prelude.{◌≡◌, ◌-◌, ◌<◌, ◌≤◌, ◌^◌, None, Some, is_some, option_map, slice_get, IfNone, OnSome, vec_len};
+ghost use Rattle.stm_world.specs.World.{live_in, runner_at, with_slot, Over as Left, Live as Stands};
 ghost use Rattle.stm_retry.specs.RunnerView.{RunnerView, slot_of};
 
 use crate::runner::Runner;
+use std::alloc::AllocError;
 use std::marker::Model;
 use std::mem;
 
@@ -41,6 +42,13 @@ impl Slot {
         Slot {
             runner: Some(runner),
         }
+    }
+
+    /// Whether a runner stands here.
+    fn is_live(&self) -> bool
+        ensures { result ≡ is_some (live_in (Some self.now)) }
+    {
+        self.runner.is_some()
     }
 
     /// Takes the runner away, if one stands here.
@@ -87,4 +95,26 @@ pub(crate) fn put_slot(slots: &mut Vec<Slot>, id: u64, slot: Slot)
     ensures { slots.new.items ≡ with_slot id slot slots.old.items }
 {
     slots[(id - 1) as usize].put(slot);
+}
+
+/// The copy has the same runner, or none.
+impl Clone for Slot {
+    ghost is_clone = { λ slot copy. copy ≡ slot };
+
+    fn clone(&self) -> Result<Slot, AllocError> {
+        match &self.runner {
+            None => Ok(Slot::over()),
+            Some(runner) => Ok(Slot::live(runner.clone()?)),
+        }
+    }
+}
+
+/// Whether a runner that has not ended stands at the place of this number.
+pub(crate) fn is_running(slots: &[Slot], id: u64) -> bool
+    ensures { result ≡ is_some (runner_at id slots.now) }
+{
+    if id == 0 || id > slots.len() as u64 {
+        return false;
+    }
+    slots[(id - 1) as usize].is_live()
 }

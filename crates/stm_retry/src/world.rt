@@ -1,5 +1,5 @@
 //! The world.
-ghost use Rattle.std.specs.Prelude.{◌≡◌, ◌≢◌, ◌≤◌, ℕ, false, List, [], ◌∷◌, ◌++◌, Result, Ok, Err, IfOk, IfErr, OnOk, OnErr};
+ghost use Rattle.std.specs.Prelude.{◌≡◌, ◌≢◌, ◌≤◌, ℕ, false, List, [], ◌∷◌, ◌++◌, length, is_some, Result, Ok, Err, IfOk, IfErr, OnOk, OnErr};
 ghost use Rattle.stm_history.specs.declared.revisions.TheConstants.{HIGHEST_REVISION};
 ghost use Rattle.stm_history.specs.History.{AreRevisions};
 ghost use Rattle.stm_txn.specs.declared.refusal.Refusal.TheVariants.{OutOfMemory};
@@ -16,11 +16,12 @@ ghost use Rattle.stm_world.specs.Appended.{HasAppended};
 ghost use Rattle.stm_world.specs.Headline.{Holds};
 ghost use Rattle.stm_world.specs.ReadsNow.{ReadsAreNow};
 ghost use Rattle.stm_world.specs.Sound.{IsSound};
-ghost use Rattle.stm_world.specs.World.{opened, start_runner, world_after, replies_to};
+ghost use Rattle.stm_world.specs.World.{opened, runner_at, start_runner, world_after, replies_to};
 ghost use Rattle.stm_retry.specs.Tells.{Tells, ran_out, expired_of, IsRunStop};
 ghost use Rattle.stm_retry.specs.Stops.{GoesOnAlike};
 
 use crate::machine::Machine;
+use crate::slots::is_running;
 use std::alloc::{AllocError, Global};
 use std::marker::Model;
 use stm_calls::state_of;
@@ -258,5 +259,35 @@ impl World {
         ensures { IfOk result (λ state. IsStateOf self.now.standing.history state) }
     {
         state_of(self.alloc, self.machine.store.keys())
+    }
+}
+
+impl World {
+    /// A world of its own that is equal to this one: what is done to one of them changes nothing of the other.
+    ///
+    /// No event is taken again. It takes a step for each revision, lease, watcher, runner and entry; the inner blocks of
+    /// programs and the texts of keys are shared. Want of memory is its only refusal.
+    pub fn copy(&self) -> Result<World, AllocError>
+        ensures { IfOk result (λ copy. copy ≡ self.now) }
+    {
+        let machine = self.machine.copy()?;
+        Ok(World {
+            alloc: self.alloc,
+            machine,
+        })
+    }
+
+    /// The number of runners that were started. They have the numbers from 1 up to this one.
+    pub fn runner_count(&self) -> usize
+        ensures { result ≡ length self.now.runners }
+    {
+        self.machine.runners.len()
+    }
+
+    /// Whether the runner with this number was started and has not ended.
+    pub fn is_running(&self, runner: u64) -> bool
+        ensures { result ≡ is_some (runner_at runner self.now.runners) }
+    {
+        is_running(self.machine.runners.as_slice(), runner)
     }
 }

@@ -33,47 +33,57 @@ use Rattle.stm_world.specs.World.{World, Runner, Slot, Over, Live, Stepped, runn
 use Rattle.stm_world.specs.World.{commit_told, commit, finish, step_on, step_live, step_runner, step}
 use Rattle.stm_world.proofs.Slots.{runner_there, runner_other}
 use Rattle.stm_schedules.specs.declared.outcome.RunnerEnd.{RunnerEnd}
-use Rattle.stm_schedules.specs.declared.outcome.RunnerEnd.TheVariants.{GaveUp as GaveUpEnd, Aborted as AbortedRun, Faulted as FaultedRun, Ended as EndedEnd}
-use Rattle.stm_schedules.specs.Outcomes.{Ends, with_end, after_told}
+use Rattle.stm_schedules.specs.declared.outcome.RunnerEnd.TheVariants.{Committed as CommittedEnd, GaveUp as GaveUpEnd, Aborted as AbortedRun, Faulted as FaultedRun, Ended as EndedEnd}
+use Rattle.stm_schedules.specs.Outcomes.{Ends, with_end, after_told, IsKnown}
 use Rattle.stm_schedules.specs.Exchange.{after_step, IsQuiet, is_committed, is_quiet, Exchange, QuietStepsExchange}
 
-abbrev world : Standing → List Slot → List Entry → World
+abbrev pub world : Standing → List Slot → List Entry → World
 world s slots entries = record { standing = s; runners = slots; entries = entries }
 
 -- a runner's place is written, or nothing is
-abbrev put : ℕ → Option Slot → List Slot → List Slot
+abbrev pub put : ℕ → Option Slot → List Slot → List Slot
 put id None slots = slots
 put id (Some slot) slots = with_slot id slot slots
 
-abbrev stepped : Result Reply Denied → World → Stepped
+abbrev pub stepped : Result Reply Denied → World → Stepped
 stepped reply next = record { reply = reply; next = next }
 
 -- what is known of a runner's end is written, or nothing is
-abbrev put_end : ℕ → Option RunnerEnd → Ends → Ends
+abbrev pub put_end : ℕ → Option RunnerEnd → Ends → Ends
 put_end id None ends = ends
 put_end id (Some end) ends = with_end id end ends
+
+-- what is written fits together: an end where the run is over, and none where it goes on
+abbrev pub IsKnownChange : Option Slot → Option RunnerEnd → Type 0
+IsKnownChange None None = Unit {0}
+IsKnownChange None (Some end) = ⊥
+IsKnownChange (Some slot) end = IsKnown slot end
 
 -- ---- what a step does over a store, whatever the other runners and the entries are
 
 -- it tells one reply, which is no commit, and touches its own place at most
-record Touches (id : ℕ) (s : Standing) (f : World → Stepped) : Type 0 where
-  reply : Result Reply Denied
-  slot : Option Slot
-  end : Option RunnerEnd
-  is : (slots : List Slot) (entries : List Entry) → f (world s slots entries) ≡ stepped reply (world s (put id slot slots) entries)
-  told : is_committed reply ≡ false
-  known : (ends : Ends) → after_told reply ends ≡ put_end id end ends
+pub record Touches (id : ℕ) (s : Standing) (f : World → Stepped) : Type 0 where
+  pub reply : Result Reply Denied
+  pub slot : Option Slot
+  pub end : Option RunnerEnd
+  pub is : (slots : List Slot) (entries : List Entry) → f (world s slots entries) ≡ stepped reply (world s (put id slot slots) entries)
+  pub told : is_committed reply ≡ false
+  pub known : (ends : Ends) → after_told reply ends ≡ put_end id end ends
+  pub fits : IsKnownChange slot end
 
 -- it enters something, and its one reply tells a commit
-record Enters (s : Standing) (f : World → Stepped) : Type 0 where
-  entry : Entry
-  reply : Result Reply Denied
-  is : (slots : List Slot) (entries : List Entry) → (f (world s slots entries)).next.entries ≡ entries ++ entry ∷ []
-  tells : (slots : List Slot) (entries : List Entry) → (f (world s slots entries)).reply ≡ reply
-  told : is_committed reply ≡ true
+pub record Enters (id : ℕ) (s : Standing) (f : World → Stepped) : Type 0 where
+  pub entry : Entry
+  pub reply : Result Reply Denied
+  pub end : RunnerEnd
+  pub is : (slots : List Slot) (entries : List Entry) → (f (world s slots entries)).next.entries ≡ entries ++ entry ∷ []
+  pub tells : (slots : List Slot) (entries : List Entry) → (f (world s slots entries)).reply ≡ reply
+  pub told : is_committed reply ≡ true
+  pub over : (slots : List Slot) (entries : List Entry) → (f (world s slots entries)).next.runners ≡ with_slot id Over slots
+  pub known : (ends : Ends) → after_told reply ends ≡ with_end id end ends
 
-abbrev Does : ℕ → Standing → (World → Stepped) → Type 0
-Does id s f = Touches id s f ⊎ Enters s f
+abbrev pub Does : ℕ → Standing → (World → Stepped) → Type 0
+Does id s f = Touches id s f ⊎ Enters id s f
 
 does_alike : (id : ℕ) (s : Standing) (f g : World → Stepped) →
     ((slots : List Slot) (entries : List Entry) → g (world s slots entries) ≡ f (world s slots entries)) → Does id s f → Does id s g
@@ -85,13 +95,17 @@ does_alike id s f g same does = elim does [
     is = λ slots entries. same slots entries ∙ t.is slots entries;
     told = t.told;
     known = t.known;
+    fits = t.fits;
   })
   | inr e ↦ inr (record {
     entry = e.entry;
     reply = e.reply;
+    end = e.end;
     is = λ slots entries. ap (λ (x : Stepped). x.next.entries) (same slots entries) ∙ e.is slots entries;
     tells = λ slots entries. ap (λ (x : Stepped). x.reply) (same slots entries) ∙ e.tells slots entries;
     told = e.told;
+    over = λ slots entries. ap (λ (x : Stepped). x.next.runners) (same slots entries) ∙ e.over slots entries;
+    known = e.known;
   })
 ]
 
@@ -104,6 +118,7 @@ fetch_touches id r key of_rev s = record {
   is = λ slots entries. refl;
   told = refl;
   known = λ ends. refl;
+  fits = tt;
 }
 
 failed_by : (id : ℕ) (r : Runner) (seen : Seen) (now_modified : ℕ) (s : Standing) (b : Bool) → Touches id s (λ w. cond b
@@ -117,6 +132,7 @@ failed_by id r seen now_modified s true = record {
   is = λ slots entries. refl;
   told = refl;
   known = λ ends. refl;
+  fits = tt;
 }
 failed_by id r seen now_modified s false = record {
   reply = Ok (GaveUp id (r.failures + 1) seen.key seen.mod_rev now_modified);
@@ -125,6 +141,7 @@ failed_by id r seen now_modified s false = record {
   is = λ slots entries. refl;
   told = refl;
   known = λ ends. refl;
+  fits = tt;
 }
 
 decided_does : (id : ℕ) (r : Runner) (reads : List ReadAnswer) (run : Run) (done : Done) (o : Option FailedCompare) (s : Standing) →
@@ -132,9 +149,12 @@ decided_does : (id : ℕ) (r : Runner) (reads : List ReadAnswer) (run : Run) (do
 decided_does id r reads run done None s = inr (record {
   entry = entry_of r.task reads run (now done.history);
   reply = Ok (Committed id (now done.history) (r.failures + 1) run.output run.trace (answers_told r.task.level reads));
+  end = CommittedEnd run.output;
   is = λ slots entries. refl;
   tells = λ slots entries. refl;
   told = refl;
+  over = λ slots entries. refl;
+  known = λ ends. refl;
 })
 decided_does id r reads run done (Some failed) s =
     inl (failed_by id r (seen_in (slice_get (seen_by reads (latest_writes run.writes)) failed.index)) failed.mod_rev s (nat_lt (r.failures + 1) r.task.limit))
@@ -149,6 +169,7 @@ told_does id r reads run (Err cause) s = inl (record {
   is = λ slots entries. refl;
   told = refl;
   known = λ ends. refl;
+  fits = tt;
 })
 
 commit_does : (id : ℕ) (r : Runner) (reads : List ReadAnswer) (run : Run) (s : Standing) → Does id s (commit id r reads run)
@@ -166,6 +187,7 @@ finish_does id r reads run (AbortedEnd text) s = inl (record {
   is = λ slots entries. refl;
   told = refl;
   known = λ ends. refl;
+  fits = tt;
 })
 finish_does id r reads run (FaultedEnd fault) s = inl (record {
   reply = Ok (Faulted id fault);
@@ -174,6 +196,7 @@ finish_does id r reads run (FaultedEnd fault) s = inl (record {
   is = λ slots entries. refl;
   told = refl;
   known = λ ends. refl;
+  fits = tt;
 })
 
 answered_does : (id : ℕ) (r : Runner) (reads : List ReadAnswer) (a : Answered) (s : Standing) → Does id s (step_on id r reads a)
@@ -186,9 +209,9 @@ live_does : (id : ℕ) (r : Runner) (s : Standing) → Does id s (step_live id r
 unfolding step_live
 live_does id r s = answered_does id r r.known.reads (run_on r.task.program r.known.reads) s
 
-runner_does : (id : ℕ) (o : Option Runner) (s : Standing) → Does id s (step_runner id o)
+pub runner_does : (id : ℕ) (o : Option Runner) (s : Standing) → Does id s (step_runner id o)
 runner_does id None s =
-    inl (record { reply = denied NoRunner; slot = None; end = None; is = λ slots entries. refl; told = refl; known = λ ends. refl })
+    inl (record { reply = denied NoRunner; slot = None; end = None; is = λ slots entries. refl; told = refl; known = λ ends. refl; fits = tt })
 runner_does id (Some r) s = live_does id r s
 
 -- ---- a quiet step
@@ -216,7 +239,7 @@ not_longer entries entry same =
 quiet_by : (id : ℕ) (o : Option Runner) (s : Standing) (slots : List Slot) (entries : List Entry) → runner_at id slots ≡ o →
     (step_runner id o (world s slots entries)).next.entries ≡ entries → Quiet id s (step_runner id o)
 quiet_by id None s slots entries is quiet = record {
-  touch = record { reply = denied NoRunner; slot = None; end = None; is = λ slots entries. refl; told = refl; known = λ ends. refl };
+  touch = record { reply = denied NoRunner; slot = None; end = None; is = λ slots entries. refl; told = refl; known = λ ends. refl; fits = tt };
   place = tt;
   end_place = tt;
 }

@@ -7,6 +7,7 @@ pub mod Splits
 pub mod Gathered
 pub mod Merging
 pub mod Exchanging
+pub mod KnownEnds
 pub mod Sorting
 pub mod FewerLemmas
 pub mod WorkedExamples

@@ -1,5 +1,5 @@
 -- Worked examples of schedules, computed by the definitions.
-use Rattle.std.proofs.Common.{◌≡◌, refl, ℕ, List, [], ◌∷◌, Some, true, false, codes, pos}
+use Rattle.std.proofs.Common.{◌≡◌, refl, ℕ, List, [], ◌∷◌, Some, None, true, false, codes, pos, length}
 use Rattle.stm_program.specs.Syntax.{ProgramTree, of_statements, Text, Number, Get, Rev, Less, Put as PutStatement, Del, If, Abort, End as EndBlock, Then}
 use Rattle.stm_program.specs.Writes.{last_write, latest_writes}
 use Rattle.stm_program.specs.declared.level.Level.{Level}
@@ -23,6 +23,7 @@ use Rattle.stm_schedules.specs.Schedules.{place_after}
 use Rattle.stm_schedules.specs.Keeping.{end_alone, keeps, first_bad, goes_on}
 use Rattle.stm_schedules.specs.Scenarios.{up_to_last_start, behind_last_start, begun, with_schedule}
 use Rattle.stm_schedules.specs.Outcomes.{ends_begun, outcomes_at, outcomes_up_to}
+use Rattle.stm_schedules.specs.Fewer.{fewer_outcomes_at}
 
 abbrev puts : List ℕ → List ℕ → WorldEvent
 puts key value = Txn (record { compares = []; success = Put key value 0 ∷ []; failure = [] })
@@ -91,3 +92,20 @@ snapshot_gives_up = refl
 three_moves : (goes_on 3 (begun 1 (covered Serializable)) ≡ true) × (goes_on 4 (begun 1 (covered Serializable)) ≡ false)
 unfolding start_runner fetch commit step_live settle run_over run_block evaluate key_in text_in put_of get_key last_write latest_writes fresh
 three_moves = (refl, refl)
+
+-- ---- two runners that each read x and put a key of their own: of the six schedules two begin with the fetch of the second one and then that
+-- of the first one, which stand for those that begin the other way round
+
+abbrev copy_to : List ℕ → ProgramTree
+copy_to key = of_statements (Then (PutStatement (Text key) (Get (Text (codes "x"))) 0) EndBlock)
+
+abbrev two_copies : List WorldEvent
+two_copies = Start (copy_to (codes "a")) ReadCommitted 1 ∷ Start (copy_to (codes "b")) ReadCommitted 1 ∷ []
+
+six_schedules : length (outcomes_at 4 (begun 1 two_copies) (ends_begun 1 two_copies)) ≡ 6
+unfolding start_runner fetch commit step_live settle run_over run_block evaluate key_in text_in put_of get_key last_write latest_writes fresh
+six_schedules = refl
+
+four_are_looked_at : length (fewer_outcomes_at 4 None (begun 1 two_copies) (ends_begun 1 two_copies)) ≡ 4
+unfolding start_runner fetch commit step_live settle run_over run_block evaluate key_in text_in put_of get_key last_write latest_writes fresh
+four_are_looked_at = refl

@@ -10,7 +10,7 @@ use Rattle.stm_world.specs.declared.event.WorldEvent.{WorldEvent}
 use Rattle.stm_world.specs.declared.reply.Reply.{Reply}
 use Rattle.stm_world.specs.declared.reply.Reply.TheVariants as reply
 use Rattle.stm_world.specs.declared.refusal.Denied.{Denied}
-use Rattle.stm_world.specs.World.{World, opened, replies_to}
+use Rattle.stm_world.specs.World.{World, Slot, Over, Live, opened, replies_to}
 use Rattle.stm_schedules.specs.declared.moves.Move.{Move}
 use Rattle.stm_schedules.specs.declared.outcome.KeyValue.{KeyValue}
 use Rattle.stm_schedules.specs.declared.outcome.Outcome.{Outcome}
@@ -18,7 +18,7 @@ use Rattle.stm_schedules.specs.declared.outcome.RunnerEnd.{RunnerEnd}
 use Rattle.stm_schedules.specs.declared.outcome.RunnerEnd.TheVariants.{Committed, GaveUp, Aborted, Faulted, Ended}
 use Rattle.stm_schedules.specs.Places.{Place, moves, event_of, moved}
 use Rattle.stm_schedules.specs.Schedules.{place_after, IsWhole, IsLongest, events_along}
-use Rattle.stm_schedules.specs.Scenarios.{up_to_last_start}
+use Rattle.stm_schedules.specs.Scenarios.{up_to_last_start, begun}
 
 -- ---- how runners end
 
@@ -108,6 +108,22 @@ abbrev pub outcomes_up_to : ℕ → Place → Ends → List Outcome
 outcomes_up_to zero p ends = outcomes_at zero p ends
 outcomes_up_to (suc n) p ends = outcomes_up_to n p ends ++ outcomes_at (suc n) p ends
 
+-- ---- when all ends are known
+
+-- nothing is known of the end of a runner whose run goes on, and an end of one that has ended
+abbrev pub IsKnown : Slot → Option RunnerEnd → Type 0
+IsKnown Over (Some end) = Unit {0}
+IsKnown Over None = ⊥
+IsKnown (Live r) None = Unit {0}
+IsKnown (Live r) (Some end) = ⊥
+
+-- so it is of each of these runners
+abbrev pub AreKnown : List Slot → Ends → Type 0
+AreKnown [] [] = Unit {0}
+AreKnown [] (end ∷ ends) = ⊥
+AreKnown (slot ∷ slots) [] = ⊥
+AreKnown (slot ∷ slots) (end ∷ ends) = IsKnown slot end × AreKnown slots ends
+
 -- ---- laws
 
 -- What is computed is exactly what whole schedules come to.
@@ -120,3 +136,11 @@ pub record OutcomesAreThose : Type 0 where
   pub up_to : (n : ℕ) (p : Place) (ends : Ends) (it : Outcome) → Contains (outcomes_up_to n p ends) it ↔ IsOutcomeWithin n p ends it
   -- where no schedule is longer, these are all
   pub all : (n : ℕ) (p : Place) (ends : Ends) (it : Outcome) → IsLongest n p → Contains (outcomes_up_to n p ends) it ↔ IsOutcome p ends it
+
+-- Along every schedule of a scenario the ends of exactly those runners are known that have ended, so a whole one shows an end of each.
+pub record EndsAreKnown : Type 0 where
+  pub along : (start : ℕ) (events : List WorldEvent) (schedule : List Move)
+      → AreKnown (place_after schedule (begun start events)).world.runners (ends_after schedule (begun start events) (ends_begun start events))
+  pub whole : (start : ℕ) (events : List WorldEvent) (schedule : List Move) → IsWhole schedule (begun start events)
+      → length (known_ends (ends_after schedule (begun start events) (ends_begun start events)))
+      ≡ length (place_after schedule (begun start events)).world.runners

@@ -3,7 +3,7 @@ ghost use Rattle.stm_schedules.specs.Exchange.{QuietStepsExchange};
 ghost use Rattle.stm_schedules.specs.Fewer.{FewerAreEnough};
 ghost use Rattle.stm_schedules.specs.Keeping.{FirstBadIsFirst, LongestIsAll, RulesEnd};
 ghost use Rattle.stm_schedules.specs.Merges.{MergesKeep};
-ghost use Rattle.stm_schedules.specs.Outcomes.{OutcomesAreThose};
+ghost use Rattle.stm_schedules.specs.Outcomes.{EndsAreKnown, OutcomesAreThose};
 ghost use Rattle.stm_schedules.specs.Places.{MovesAreThose};
 ghost use Rattle.stm_schedules.specs.Scenarios.{ScenariosAreSplit};
 ghost use Rattle.stm_schedules.specs.Schedules.{SchedulesAreRuns};
@@ -55,6 +55,12 @@ pub fn rules_end()
 /// all whole schedules.
 pub fn outcomes_are_those()
     ensures { OutcomesAreThose }
+{}
+
+/// Along every schedule of a scenario the ends of exactly those runners are known that have ended, so that the outcome of a whole one has an
+/// end of each runner.
+pub fn ends_are_known()
+    ensures { EndsAreKnown }
 {}
 
 /// Two steps of different runners, neither of which enters anything (a fetch, an abort, a fault, a commit that fails or is refused), come to

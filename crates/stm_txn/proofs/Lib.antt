@@ -14,3 +14,4 @@ pub mod Writing
 pub mod Fitting
 pub mod Touching
 pub mod Polling
+pub mod Copied

@@ -691,3 +691,23 @@ impl Store {
         }
     }
 }
+
+impl Store {
+    /// A copy of the store: its keys at every revision, its leases, its moment and its watchers.
+    ///
+    /// It takes a step for each revision, lease and watcher. Want of memory is its only refusal.
+    pub fn copy(&self) -> Result<Store, AllocError>
+        ensures { IfOk result (λ copy. copy ≡ self.now) }
+    {
+        let watchers = self.watchers.copy()?;
+        let leases = self.leases.copy()?;
+        let keys = self.keys.copy()?;
+        Ok(Store {
+            keys,
+            leases,
+            moment: self.moment,
+            watchers,
+            alloc: self.alloc,
+        })
+    }
+}

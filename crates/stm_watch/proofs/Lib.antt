@@ -9,3 +9,4 @@ pub mod Placed
 pub mod Touching
 pub mod Ordered
 pub mod Entered
+pub mod Copied

@@ -4,6 +4,7 @@ ghost use Rattle.stm_lists.specs.Lists.{HasList};
 ghost use Rattle.indexmap.specs.IndexMap.{get_by_text};
 ghost use Rattle.stm_watch.specs.Kept.{Covers, HasRoom, list_for};
 
+use crate::copies::{copy_keys, copy_lists, copy_nodes};
 use crate::watched::Watched;
 use indexmap::IndexMap;
 use std::alloc::{AllocError, Global};
@@ -109,5 +110,24 @@ impl Index {
         };
         self.lists.unlink(node);
         self.nodes[index] = None;
+    }
+}
+
+impl Index {
+    ghost use Rattle.stm_watch.specs.declared.watched.Watched.{Watched as Kept};
+
+    /// A copy, which finds the same watchers.
+    pub(crate) fn copy(&self) -> Result<Index, AllocError>
+        ensures { IfOk result (λ copy. (ws : List (Option Kept)) → Covers self.now ws → Covers copy ws) }
+    {
+        let lists = copy_lists(&self.lists)?;
+        let keys = copy_keys(&self.keys)?;
+        let nodes = copy_nodes(&self.nodes)?;
+        Ok(Index {
+            lists,
+            keys,
+            ranges: self.ranges,
+            nodes,
+        })
     }
 }

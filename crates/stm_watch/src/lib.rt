@@ -5,6 +5,7 @@
 //! watchers that there are.
 #![tactic(auto)]
 
+mod copies;
 mod gather;
 mod index;
 mod page;

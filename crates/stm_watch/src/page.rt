@@ -7,6 +7,7 @@ ghost use Rattle.stm_watch.specs.declared.page.RangeEntry.{RangeEntry as Entry};
 ghost use Rattle.stm_watch.specs.Keys.{is_watched};
 ghost use Rattle.stm_watch.specs.Pages.{IsOneOf, IsWithin, StandsOn, entry_of};
 
+use crate::copies::copy_entries;
 use std::alloc::{AllocError, Global};
 use stm_history::Text;
 
@@ -14,7 +15,7 @@ use stm_history::Text;
 const MOST_ENTRIES: usize = 128;
 
 /// What an index has of a watcher of a range: the keys from `first` on that are below `end`, and the watcher's place.
-#[derive(Drop)]
+#[derive(Drop, Clone)]
 pub(crate) struct RangeEntry {
     pub first: Text,
     pub end: Text,
@@ -155,6 +156,17 @@ fn move_half(entries: &mut Vec<RangeEntry>, upper: &mut Vec<RangeEntry>)
 pub(crate) struct Page {
     pub bounds: Bounds,
     pub entries: Vec<RangeEntry>,
+}
+
+/// The copy has the same bounds and the same entries.
+impl Clone for Page {
+    ghost is_clone = { λ page copy. (copy.bounds ≡ page.bounds) × (copy.entries.items ≡ page.entries.items) };
+
+    fn clone(&self) -> Result<Page, AllocError> {
+        let bounds = self.bounds.copied()?;
+        let entries = copy_entries(&self.entries)?;
+        Ok(Page { bounds, entries })
+    }
 }
 
 impl Page {

@@ -149,3 +149,13 @@ impl Ranges {
         self.remove_from(at, first, place);
     }
 }
+
+impl Ranges {
+    /// A copy, on which no entry is missing.
+    pub(crate) fn copy(&self) -> Result<Ranges, AllocError>
+        ensures { IfOk result (λ copy. Keeps self.now.pages.items copy.pages.items) }
+    {
+        let pages = self.pages.clone()?;
+        Ok(Ranges { pages })
+    }
+}

@@ -3,6 +3,7 @@ ghost use Rattle.std.specs.Prelude.{◌≡◌, ◌<◌, ℕ, ◌++◌, [], ◌�
 ghost use Rattle.stm_watch.specs.Kept.{AreMarked, list_of};
 ghost use Rattle.stm_watch.specs.Ready.{IsFirst};
 
+use crate::copies::{copy_lists, copy_marks};
 use std::alloc::{AllocError, Global};
 use std::marker::Model;
 use stm_lists::{ListId, Lists, NodeId};
@@ -127,5 +128,21 @@ impl Readiness {
     {
         let node = self.lists.front(self.ready)?;
         Some(*self.lists.get(node))
+    }
+}
+
+impl Readiness {
+    /// A copy: the same watchers are ready.
+    pub(crate) fn copy(&self) -> Result<Readiness, AllocError>
+        ensures { IfOk result (λ copy. copy ≡ self.now) }
+    {
+        let marks = copy_marks(&self.marks)?;
+        let lists = copy_lists(&self.lists)?;
+        Ok(Readiness {
+            marks,
+            lists,
+            ready: self.ready,
+            idle: self.idle,
+        })
     }
 }

@@ -5,6 +5,7 @@ ghost use Rattle.stm_watch.specs.Touch.{wants, touch_at};
 ghost use Rattle.stm_watch.specs.Calls.{Stands, is_ready, IsNextReady};
 ghost use Rattle.stm_watch.specs.Slots.{SlotPolls, PlacePolls, made_ready};
 
+use crate::copies::copy_watchers;
 use crate::gather::{Gathered, gather_for};
 use crate::readiness::Readiness;
 use crate::refusal::PollRefusal;
@@ -193,5 +194,19 @@ impl Slots {
         let batch = poll_slot(alloc, &mut self.watchers[index], keys, most)?;
         self.readiness.set(index, is_ready(&self.watchers[index]));
         Ok(batch)
+    }
+}
+
+impl Slots {
+    /// A copy of all places.
+    pub(crate) fn copy(&self) -> Result<Slots, AllocError>
+        ensures { IfOk result (λ copy. copy ≡ self.now) }
+    {
+        let watchers = copy_watchers(&self.watchers)?;
+        let readiness = self.readiness.copy()?;
+        Ok(Slots {
+            watchers,
+            readiness,
+        })
     }
 }

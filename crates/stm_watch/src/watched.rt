@@ -6,7 +6,7 @@ ghost use Rattle.stm_watch.specs.Pending.{watching_from};
 use stm_keys::{Keys, Text};
 
 /// The keys that a watcher watches.
-#[derive(Debug, Drop)]
+#[derive(Debug, Drop, Clone)]
 pub enum Watched {
     /// One key.
     Key(Text),
@@ -27,7 +27,7 @@ impl Watched {
 }
 
 /// A watcher as the rules see it.
-#[derive(Debug, Drop)]
+#[derive(Debug, Drop, Clone)]
 pub struct Watching {
     /// What it watches.
     pub watched: Watched,
@@ -53,7 +53,7 @@ impl Watching {
 }
 
 /// A watcher, and whether it stands among those that are ready.
-#[derive(Debug, Drop)]
+#[derive(Debug, Drop, Clone)]
 pub struct Watcher {
     /// What it watches, and how far it has been told.
     pub watching: Watching,

@@ -194,3 +194,22 @@ impl Watchers {
         self.slots.poll((id - 1) as usize, keys, most)
     }
 }
+
+impl Watchers {
+    /// A copy of the watchers: they keep their numbers, and the same ones are ready.
+    ///
+    /// Want of memory is its only refusal.
+    pub fn copy(&self) -> Result<Watchers, AllocError>
+        ensures { IfOk result (λ copy. copy ≡ self.now) }
+    {
+        let index = self.index.copy()?;
+        let ranges = self.ranges.copy()?;
+        let slots = self.slots.copy()?;
+        Ok(Watchers {
+            slots,
+            index,
+            ranges,
+            alloc: self.alloc,
+        })
+    }
+}

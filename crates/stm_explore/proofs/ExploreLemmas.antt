@@ -1,0 +1,71 @@
+-- What looks at places of greater and greater depth answer.
+use Rattle.std.proofs.Common.{◌≡◌, ◌∙◌, ◌⊎◌, inl, inr, ℕ, suc, ◌+◌, ◌<◌, ◌≤◌, Bool, true, false, List, length, Option, None, Some, refl, sym, ap, subst, arith}
+use Rattle.std.specs.Option.{option_or}
+use Rattle.stm_program.specs.Syntax.{ProgramTree}
+use Rattle.stm_meaning.specs.declared.run.End.{End}
+use Rattle.stm_world.specs.declared.event.WorldEvent.{WorldEvent}
+use Rattle.stm_world.specs.World.{World, world_after}
+use Rattle.stm_schedules.specs.declared.moves.Move.{Move}
+use Rattle.stm_schedules.specs.Places.{Place}
+use Rattle.stm_schedules.specs.Schedules.{place_after, IsLongest}
+use Rattle.stm_schedules.specs.Keeping.{end_alone, keeps, bad_at, first_bad, goes_on, FirstBadIsFirst, LongestIsAll}
+use Rattle.stm_schedules.specs.Merges.{IsMerge, MergesKeep}
+use Rattle.stm_explore.specs.declared.exploring.Explored.{Explored}
+use Rattle.stm_explore.specs.declared.exploring.Explored.TheVariants.{Always, Broken, Open}
+use Rattle.stm_explore.specs.declared.looked.Looked.{Looked}
+use Rattle.stm_explore.specs.declared.looked.Looked.TheVariants.{Kept as KeptAt, Broken as BrokenAt}
+use Rattle.stm_explore.specs.Seen.{IsSeen}
+use Rattle.stm_explore.specs.Explored.{IsExplored, MergesAreKept}
+
+-- none of up to n moves is bad: the first of up to one more is the first of exactly one more
+pub bad_next : (keep : World → Bool) (n k : ℕ) (p : Place) (found : Option (List Move)) → k ≡ suc n → first_bad keep n p ≡ None → bad_at keep k p ≡ found →
+    first_bad keep k p ≡ found
+bad_next keep n k p found is none =
+    subst (λ (j : ℕ). bad_at keep j p ≡ found → first_bad keep j p ≡ found) (sym is)
+    (λ at. ap (λ (o : Option (List Move)). option_or o (bad_at keep (suc n) p)) none ∙ at)
+
+pub always : (first : FirstBadIsFirst) (all : LongestIsAll) (rule : ProgramTree) (n : ℕ) (p : Place) → first_bad (keeps rule) n p ≡ None →
+    goes_on n p ≡ true → goes_on (suc n) p ≡ false → IsExplored rule p (Always n)
+always first all rule n p none as_long no_longer =
+    let longest : IsLongest n p = all.longest n p as_long no_longer in
+    (all.all (keeps rule) n p longest (first.none (keeps rule) n p none), longest)
+
+pub broken : (first : FirstBadIsFirst) (rule : ProgramTree) (n : ℕ) (p : Place) (schedule : List Move) (end : End) →
+    first_bad (keeps rule) n p ≡ Some schedule → end_alone rule (place_after schedule p).world ≡ Some end → IsExplored rule p (Broken schedule end)
+broken first rule n p schedule end found ends = (first.first (keeps rule) n p schedule found, ends)
+
+pub still_open : (first : FirstBadIsFirst) (rule : ProgramTree) (n : ℕ) (p : Place) → first_bad (keeps rule) n p ≡ None → goes_on (suc n) p ≡ true →
+    IsExplored rule p (Open n)
+still_open first rule n p none more = (first.none (keeps rule) n p none, more)
+
+-- ---- one look more ----
+
+pub kept_at_all : (first : FirstBadIsFirst) (all : LongestIsAll) (rule : ProgramTree) (n k : ℕ) (p : Place) → k ≡ suc n → first_bad (keeps rule) n p ≡ None →
+    goes_on (suc n) p ≡ true → IsSeen rule k p (KeptAt false) → IsExplored rule p (Always k)
+kept_at_all first all rule n k p is none more seen =
+    always first all rule k p (bad_next (keeps rule) n k p None is none seen.0) (ap (λ (j : ℕ). goes_on j p) is ∙ more) (sym seen.1)
+
+pub kept_so_far : (rule : ProgramTree) (n k : ℕ) (p : Place) → k ≡ suc n → first_bad (keeps rule) n p ≡ None → IsSeen rule k p (KeptAt true) →
+    (first_bad (keeps rule) k p ≡ None) × (goes_on (suc k) p ≡ true)
+kept_so_far rule n k p is none seen = (bad_next (keeps rule) n k p None is none seen.0, sym seen.1)
+
+pub broken_at : (first : FirstBadIsFirst) (rule : ProgramTree) (n k : ℕ) (p : Place) (schedule : List Move) (end : End) → k ≡ suc n →
+    first_bad (keeps rule) n p ≡ None → IsSeen rule k p (BrokenAt schedule end) → IsExplored rule p (Broken schedule end)
+broken_at first rule n k p schedule end is none seen =
+    broken first rule k p schedule end (bad_next (keeps rule) n k p (Some schedule) is none seen.0) seen.1
+
+pub kept_at_once : (first : FirstBadIsFirst) (all : LongestIsAll) (rule : ProgramTree) (p : Place) → IsSeen rule 0 p (KeptAt false) →
+    IsExplored rule p (Always 0)
+kept_at_once first all rule p seen = always first all rule 0 p seen.0 refl (sym seen.1)
+
+pub broken_at_once : (first : FirstBadIsFirst) (rule : ProgramTree) (p : Place) (schedule : List Move) (end : End) →
+    IsSeen rule 0 p (BrokenAt schedule end) → IsExplored rule p (Broken schedule end)
+broken_at_once first rule p schedule end seen = broken first rule 0 p schedule end seen.0 seen.1
+
+-- what is so of schedules is so of steps merged with what the others do
+pub merges_keep : (merges : MergesKeep) (rule : ProgramTree) (p : Place) (e : Explored) → IsExplored rule p e → MergesAreKept rule p e
+merges_keep merges rule p (Always longest) is = λ events merge. merges.always (keeps rule) p events is.0 merge
+merges_keep merges rule p (Broken schedule end) is = λ events merge shorter.
+    let s = merges.schedules events p merge in
+    ap (keeps rule) (sym s.same) ∙ is.0.earlier_keep s.schedule s.is_schedule (inl (omega (arith, s.no_longer)))
+merges_keep merges rule p (Open kept) is = λ events merge within. merges.kept (keeps rule) kept p events is.0 merge within

@@ -1,0 +1,130 @@
+-- One move more of those that are looked at.
+use Rattle.std.proofs.Common.{◌≡◌, ◌≢◌, ◌∙◌, ℕ, zero, suc, ◌+◌, ◌-◌, ◌<◌, ◌≤◌, ◌||◌, Bool, true, false, cond, List, [], ◌∷◌, length, Option, None, Some}
+use Rattle.std.proofs.Common.{refl, sym, ap, subst, get_or, drop, arith}
+use Rattle.std.specs.Prelude.{option_map}
+use Rattle.std.specs.Option.{option_or}
+use Rattle.std.specs.List.{list_any}
+use Rattle.std.proofs.lemmas.List.{at_drop_more, at_drop_all, get_or_default}
+use Rattle.stm_program.specs.Syntax.{ProgramTree}
+use Rattle.stm_meaning.specs.declared.run.End.{End}
+use Rattle.stm_world.specs.World.{World}
+use Rattle.stm_schedules.specs.declared.moves.Move.{Move}
+use Rattle.stm_schedules.specs.Places.{Place, moves, moved}
+use Rattle.stm_schedules.specs.Keeping.{keeps, first_of, bad_at, goes_on}
+use Rattle.stm_explore.specs.declared.looked.Looked.{Looked}
+use Rattle.stm_explore.specs.declared.looked.Looked.TheVariants.{Kept, Broken}
+use Rattle.stm_explore.specs.Seen.{IsSeen, IsSeenBehind}
+
+-- the first schedule of suc n moves that begins with this one and does not keep the rule
+abbrev pub bad_behind : (World → Bool) → ℕ → Place → Move → Option (List Move)
+bad_behind keep n p m = option_map (λ (ms : List Move). m ∷ ms) (bad_at keep n (moved m p))
+
+pub bad_at_deeper : (keep : World → Bool) (n : ℕ) (p : Place) → n ≢ 0 → bad_at keep n p ≡ first_of (bad_behind keep (n - 1) p) (moves p)
+bad_at_deeper keep zero p more = absurd (more refl)
+bad_at_deeper keep (suc n) p more = let e : suc n - 1 ≡ n = omega arith in rw e refl
+
+-- nothing is found at this one: what is found first is found behind it
+pub none_here : (f : Move → Option (List Move)) (ms : List Move) (i : ℕ) (m : Move) → i < length ms → m ≡ get_or ms i m → f m ≡ None →
+    first_of f (drop (i + 1) ms) ≡ first_of f (drop i ms)
+none_here f ms i m within is none =
+    sym (at_drop_more (first_of f) ms i m within
+    ∙ ap (λ (x : Move). option_or (f x) (first_of f (drop (i + 1) ms))) (sym is)
+    ∙ ap (λ (o : Option (List Move)). option_or o (first_of f (drop (i + 1) ms))) none)
+
+pub found_here : (f : Move → Option (List Move)) (ms : List Move) (i : ℕ) (m : Move) (found : List Move) → i < length ms → m ≡ get_or ms i m →
+    f m ≡ Some found → first_of f (drop i ms) ≡ Some found
+found_here f ms i m found within is some =
+    at_drop_more (first_of f) ms i m within
+    ∙ ap (λ (x : Move). option_or (f x) (first_of f (drop (i + 1) ms))) (sym is)
+    ∙ ap (λ (o : Option (List Move)). option_or o (first_of f (drop (i + 1) ms))) some
+
+pub none_left : (f : Move → Option (List Move)) (ms : List Move) (i : ℕ) → length ms ≤ i → first_of f (drop i ms) ≡ None
+none_left f ms i end = at_drop_all (first_of f) ms i end
+
+-- some one passes so far, or one of those that are left does
+abbrev pub passes : Bool → (Move → Bool) → List Move → Bool
+passes so_far test ms = so_far || list_any test ms
+
+passes_by : (so_far more : Bool) (test : Move → Bool) (m : Move) (ms : List Move) → more ≡ test m →
+    passes (so_far || more) test ms ≡ passes so_far test (m ∷ ms)
+passes_by true more test m ms is = refl
+passes_by false more test m ms is = ap (λ (b : Bool). b || list_any test ms) is
+
+pub passes_here : (so_far more : Bool) (test : Move → Bool) (ms : List Move) (i : ℕ) (m : Move) → i < length ms → m ≡ get_or ms i m → more ≡ test m →
+    passes (so_far || more) test (drop (i + 1) ms) ≡ passes so_far test (drop i ms)
+passes_here so_far more test ms i m within at is =
+    passes_by so_far more test m (drop (i + 1) ms) is
+    ∙ ap (λ (x : Move). passes so_far test (x ∷ drop (i + 1) ms)) at
+    ∙ sym (at_drop_more (passes so_far test) ms i m within)
+
+passes_none : (so_far : Bool) (test : Move → Bool) → passes so_far test [] ≡ so_far
+passes_none true test = refl
+passes_none false test = refl
+
+pub passes_left : (so_far : Bool) (test : Move → Bool) (ms : List Move) (i : ℕ) → length ms ≤ i → passes so_far test (drop i ms) ≡ so_far
+passes_left so_far test ms i end = at_drop_all (passes so_far test) ms i end ∙ passes_none so_far test
+
+-- ---- what is seen, move after move ----
+
+-- the first bad schedule of all is that of the moves that are left, and some schedule goes on behind a move so far or behind one that is left
+pub record SeenSoFar (rule : ProgramTree) (n : ℕ) (p : Place) (more : Bool) (left : List Move) : Type 0 where
+  pub bad : first_of (bad_behind (keeps rule) (n - 1) p) left ≡ bad_at (keeps rule) n p
+  pub going : passes more (λ (m : Move). goes_on n (moved m p)) left ≡ goes_on (suc n) p
+
+pub seen_here : (rule : ProgramTree) (n : ℕ) (p : Place) (looked : Looked) → n ≡ 0 → IsSeen rule 0 p looked → IsSeen rule n p looked
+seen_here rule n p looked is seen = subst (λ (k : ℕ). IsSeen rule k p looked) (sym is) seen
+
+pub seen_none : (rule : ProgramTree) (n : ℕ) (p : Place) (ms : List Move) → n ≢ 0 → ms ≡ moves p → SeenSoFar rule n p false ms
+seen_none rule n p ms deep is = record {
+  bad = ap (first_of (bad_behind (keeps rule) (n - 1) p)) is ∙ sym (bad_at_deeper (keeps rule) n p deep);
+  going = ap (list_any (λ (m : Move). goes_on n (moved m p))) is;
+}
+
+pub seen_more : (rule : ProgramTree) (n : ℕ) (p : Place) (ms : List Move) (i : ℕ) (m : Move) (so_far more : Bool) → n ≢ 0 → i < length ms → m ≡ get_or ms i m →
+    IsSeenBehind rule (n - 1) m p (Kept more) → SeenSoFar rule n p so_far (drop i ms) → SeenSoFar rule n p (so_far || more) (drop (i + 1) ms)
+seen_more rule n p ms i m so_far more deep within is seen old =
+    let e : suc (n - 1) ≡ n = omega (arith, deep) in
+    let here : more ≡ goes_on n (moved m p) = seen.1 ∙ ap (λ (k : ℕ). goes_on k (moved m p)) e in
+    record {
+      bad = none_here (bad_behind (keeps rule) (n - 1) p) ms i m within is (ap (option_map (λ (rest : List Move). m ∷ rest)) seen.0) ∙ old.bad;
+      going = passes_here so_far more (λ (m' : Move). goes_on n (moved m' p)) ms i m within is here ∙ old.going;
+    }
+
+-- the same by what one turn of the loop has
+pub seen_next : (rule : ProgramTree) (n : ℕ) (p : Place) (ms : List Move) (i : ℕ) (d : Move) (so_far more next : Bool) (looked : Looked) →
+    IsSeenBehind rule (n - 1) (get_or ms i d) p looked → looked ≡ Kept more → n ≢ 0 → i < length ms → next ≡ (so_far || more) →
+    SeenSoFar rule n p so_far (drop i ms) → SeenSoFar rule n p next (drop (i + 1) ms)
+seen_next rule n p ms i d so_far more next looked seen kept deep within is old =
+    let here : IsSeenBehind rule (n - 1) (get_or ms i d) p (Kept more)
+    = subst (λ (l : Looked). IsSeenBehind rule (n - 1) (get_or ms i d) p l) kept seen in
+    subst (λ (b : Bool). SeenSoFar rule n p b (drop (i + 1) ms)) (sym is)
+    (seen_more rule n p ms i (get_or ms i d) so_far more deep within (get_or_default ms i d (get_or ms i d) within) here old)
+
+pub seen_broken : (rule : ProgramTree) (n : ℕ) (p : Place) (ms : List Move) (i : ℕ) (m : Move) (so_far : Bool) (found : List Move) (end : End) →
+    i < length ms → m ≡ get_or ms i m → IsSeenBehind rule (n - 1) m p (Broken found end) → SeenSoFar rule n p so_far (drop i ms) →
+    IsSeen rule n p (Broken found end)
+seen_broken rule n p ms i m so_far found end within is seen old =
+    (sym old.bad ∙ found_here (bad_behind (keeps rule) (n - 1) p) ms i m found within is seen.0, seen.1)
+
+pub seen_all : (rule : ProgramTree) (n : ℕ) (p : Place) (ms : List Move) (i : ℕ) (so_far : Bool) → length ms ≤ i → SeenSoFar rule n p so_far (drop i ms) →
+    IsSeen rule n p (Kept so_far)
+seen_all rule n p ms i so_far end old = (
+  sym old.bad ∙ none_left (bad_behind (keeps rule) (n - 1) p) ms i end,
+  sym (passes_left so_far (λ (m : Move). goes_on n (moved m p)) ms i end) ∙ old.going,
+)
+
+-- what was seen after a move, as it is seen before it
+pub behind_kept : (rule : ProgramTree) (n : ℕ) (m : Move) (p : Place) (more : Bool) → IsSeen rule n (moved m p) (Kept more) → IsSeenBehind rule n m p (Kept more)
+behind_kept rule n m p more seen = seen
+
+pub behind_broken : (rule : ProgramTree) (n : ℕ) (m : Move) (p : Place) (found all : List Move) (end : End) → all ≡ m ∷ found →
+    IsSeen rule n (moved m p) (Broken found end) → IsSeenBehind rule n m p (Broken all end)
+behind_broken rule n m p found all end is seen =
+    subst (λ (ms : List Move). IsSeenBehind rule n m p (Broken ms end)) (sym is) (ap (option_map (λ (rest : List Move). m ∷ rest)) seen.0, seen.1)
+
+-- the place that a move leads to, by its parts
+pub seen_at : (rule : ProgramTree) (n : ℕ) (p q : Place) (looked : Looked) → q.world ≡ p.world → q.others ≡ p.others → IsSeen rule n q looked →
+    IsSeen rule n p looked
+seen_at rule n p q looked world others seen =
+    let same : q ≡ p = λ i. record { world = world i; others = others i } in
+    subst (λ (place : Place). IsSeen rule n place looked) same seen

@@ -1,0 +1,40 @@
+use Rattle.std.proofs.Common.{◌≡◌, ◌∙◌, ℕ, ◌+◌, Bool, false, ap, subst, arith}
+use Rattle.stm_schedules.specs.Places.{Place}
+use Rattle.stm_schedules.proofs.BadSchedules.{first_bad_is_first}
+use Rattle.stm_schedules.proofs.Lengths.{longest_is_all}
+use Rattle.stm_explore.specs.declared.looked.Looked.{Looked}
+use Rattle.stm_explore.specs.declared.looked.Looked.TheVariants.{Kept, Broken}
+use Rattle.stm_explore.specs.declared.exploring.Explored.TheVariants.{Open}
+use Rattle.stm_explore.specs.Seen.{IsSeen}
+use Rattle.stm_explore.specs.Explored.{IsExplored}
+use Rattle.stm_explore.proofs.ExploreLemmas.{kept_at_all, broken_at, still_open}
+use Rattle.stm_explore.proofs.exploring.look_deeper.Goals as goal
+
+pub returns-in-Ok-Kept-false : goal.returns-in-Ok-Kept-false
+returns-in-Ok-Kept-false c =
+    let p : Place = record { world = c.args.world.now; others = c.args.others.now } in
+    let n : ℕ = c.loop-kept.kept in
+    let seen : IsSeen c.args.rule.now (n + 1) p (Kept false) =
+    subst (λ (l : Looked). IsSeen c.args.rule.now (n + 1) p l)
+    (c.in-Ok-Kept-false.field-0-is ∙ ap (λ (b : Bool). Kept b) c.in-Ok-Kept-false.field-0-0-is ∙ ap (λ (b : Bool). Kept b) c.in-Ok-Kept-false.field-0-0-test) c.in-Ok-Kept-false.ensures in
+    kept_at_all first_bad_is_first longest_is_all c.args.rule.now n (n + 1) p (omega arith) c.loop-kept.invariant.none c.loop-kept.invariant.more seen
+
+pub returns-in-Ok-Broken : goal.returns-in-Ok-Broken
+returns-in-Ok-Broken c =
+    let p : Place = record { world = c.args.world.now; others = c.args.others.now } in
+    let n : ℕ = c.loop-kept.kept in
+    let seen : IsSeen c.args.rule.now (n + 1) p (Broken c.in-Ok-Broken.moves c.in-Ok-Broken.end) =
+    subst (λ (l : Looked). IsSeen c.args.rule.now (n + 1) p l) c.in-Ok-Broken.field-0-is c.in-Ok-Broken.ensures in
+    broken_at first_bad_is_first c.args.rule.now n (n + 1) p c.in-Ok-Broken.moves c.in-Ok-Broken.end (omega arith) c.loop-kept.invariant.none seen
+
+pub returns-in-Err-Spent : goal.returns-in-Err-Spent
+returns-in-Err-Spent c =
+    let p : Place = record { world = c.args.world.now; others = c.args.others.now } in
+    still_open first_bad_is_first c.args.rule.now c.loop-kept.kept p c.loop-kept.invariant.none c.loop-kept.invariant.more
+
+pub returns : goal.returns
+returns c =
+    let p : Place = record { world = c.args.world.now; others = c.args.others.now } in
+    let all : c.loop-kept.kept ≡ c.args.budget = omega arith in
+    subst (λ (n : ℕ). IsExplored c.args.rule.now p (Open n)) all
+    (still_open first_bad_is_first c.args.rule.now c.loop-kept.kept p c.loop-kept.invariant.none c.loop-kept.invariant.more)

@@ -1,0 +1,44 @@
+-- What a search through every schedule answers.
+use Rattle.std.specs.Prelude.{◌≡◌, ◌↔◌, ◌<◌, ◌≤◌, ℕ, suc, true, List, length, Option, None, Some, Contains}
+use Rattle.stm_program.specs.Syntax.{ProgramTree}
+use Rattle.stm_world.specs.declared.event.WorldEvent.{WorldEvent}
+use Rattle.stm_world.specs.World.{world_after}
+use Rattle.stm_schedules.specs.declared.outcome.Outcome.{Outcome}
+use Rattle.stm_schedules.specs.Places.{Place}
+use Rattle.stm_schedules.specs.Schedules.{place_after, IsLongest}
+use Rattle.stm_schedules.specs.Keeping.{end_alone, keeps, AllKeep, AllKeepUpTo, IsFirstBad, goes_on}
+use Rattle.stm_schedules.specs.Merges.{IsMerge}
+use Rattle.stm_schedules.specs.Outcomes.{Ends, IsOutcome}
+use Rattle.stm_explore.specs.Gathering.{AreDistinct}
+use Rattle.stm_explore.specs.declared.exploring.Explored.{Explored}
+use Rattle.stm_explore.specs.declared.exploring.Explored.TheVariants.{Always, Broken, Open}
+use Rattle.stm_explore.specs.declared.finding.Outcomes.{Outcomes}
+use Rattle.stm_explore.specs.declared.finding.Outcomes.TheVariants.{Found, Open as OpenAt}
+
+-- Every schedule keeps the rule, and the longest has so many moves; or this is the first one that does not, with the end that the
+-- program comes to behind it; or every schedule of up to so many moves keeps it, and some schedule has more.
+abbrev pub IsExplored : ProgramTree → Place → Explored → Type 0
+IsExplored rule p (Always longest) = AllKeep (keeps rule) p × IsLongest longest p
+IsExplored rule p (Broken schedule end) = IsFirstBad (keeps rule) p schedule × (end_alone rule (place_after schedule p).world ≡ Some end)
+IsExplored rule p (Open kept) = AllKeepUpTo (keeps rule) kept p × (goes_on (suc kept) p ≡ true)
+
+-- The same of steps of any runners, merged with a front of what the others do: whatever their number, or while they are fewer.
+abbrev pub MergesAreKept : ProgramTree → Place → Explored → Type 0
+MergesAreKept rule p (Always longest) = (events : List WorldEvent) → IsMerge events p.others → keeps rule (world_after events p.world) ≡ true
+MergesAreKept rule p (Broken schedule end) =
+    (events : List WorldEvent) → IsMerge events p.others → length events < length schedule → keeps rule (world_after events p.world) ≡ true
+MergesAreKept rule p (Open kept) =
+    (events : List WorldEvent) → IsMerge events p.others → length events ≤ kept → keeps rule (world_after events p.world) ≡ true
+
+-- exactly the outcomes of whole schedules, each once
+abbrev pub AreAllOutcomes : Place → Ends → List Outcome → Type 0
+AreAllOutcomes p ends outcomes = ((it : Outcome) → Contains outcomes it ↔ IsOutcome p ends it) × AreDistinct outcomes
+
+-- these are all; or schedules of up to so many moves were gone through, and some schedule has more
+abbrev pub IsCollected : Place → Ends → List Outcome → Option ℕ → Type 0
+IsCollected p ends found None = AreAllOutcomes p ends found
+IsCollected p ends found (Some gone_through) = goes_on (suc gone_through) p ≡ true
+
+abbrev pub AreOutcomes : Place → Ends → Outcomes → Type 0
+AreOutcomes p ends (Found outcomes) = AreAllOutcomes p ends outcomes
+AreOutcomes p ends (OpenAt gone_through) = goes_on (suc gone_through) p ≡ true

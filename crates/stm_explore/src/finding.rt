@@ -1,0 +1,107 @@
+//! What whole schedules come to.
+ghost use Rattle.std.specs.Prelude.{◌≡◌, true, [], IfOk};
+ghost use Rattle.stm_schedules.specs.Keeping.{goes_on};
+ghost use Rattle.stm_schedules.specs.Outcomes.{outcomes_at};
+ghost use Rattle.stm_explore.specs.Explored.{IsCollected, AreOutcomes};
+ghost use Rattle.stm_explore.specs.Gathering.{Gathers};
+
+use crate::collecting::{collect, collect_here};
+use crate::halt::Halt;
+use std::alloc::{AllocError, Global};
+use stm_history::Sequence;
+use stm_retry::World;
+use stm_schedules::{Outcome, RunnerEnd};
+use stm_world::WorldEvent;
+
+/// What whole schedules come to.
+#[derive(Debug, Drop)]
+pub enum Outcomes {
+    /// Each outcome of a whole schedule, once.
+    Found {
+        /// The outcomes.
+        outcomes: Sequence<Outcome>,
+    },
+    /// As many events were taken as may be, before all of them were found.
+    Open {
+        /// Every schedule of up to so many moves was gone through, and there are longer ones.
+        gone_through: u64,
+    },
+}
+
+/// Adds the outcomes of whole schedules that have some move, those of each length after those of shorter ones. No schedule has more
+/// moves than events may be taken.
+///
+/// The answer is None once all are found, and else up to which length every schedule was gone through.
+fn collect_deeper(
+    alloc: Global,
+    world: &World,
+    others: &[WorldEvent],
+    ends: &[Option<RunnerEnd>],
+    budget: u64,
+    found: &mut Vec<Outcome>,
+) -> Result<Option<u64>, AllocError>
+    requires found { Gathers (outcomes_at 0 (record { world = world.now; others = others.now }) ends.now) [] found.old.items }
+    requires more { goes_on 1 (record { world = world.now; others = others.now }) ≡ true }
+    ensures { IfOk result (IsCollected (record { world = world.now; others = others.now }) ends.now found.new.items) }
+{
+    let mut left = budget;
+    for gone_through in 0..budget {
+        match collect(
+            alloc,
+            world,
+            others,
+            ends,
+            gone_through + 1,
+            found,
+            &mut left,
+        ) {
+            Ok(true) => {}
+            Ok(false) => return Ok(None),
+            Err(Halt::Spent) => return Ok(Some(gone_through)),
+            Err(Halt::OutOfMemory) => return Err(AllocError),
+        }
+    }
+    Ok(Some(budget))
+}
+
+/// Adds the outcomes of all whole schedules. The answer is as for those that have some move.
+fn collect_all(
+    alloc: Global,
+    world: &World,
+    others: &[WorldEvent],
+    ends: &[Option<RunnerEnd>],
+    budget: u64,
+    found: &mut Vec<Outcome>,
+) -> Result<Option<u64>, AllocError>
+    requires { found.old.items ≡ [] }
+    ensures { IfOk result (IsCollected (record { world = world.now; others = others.now }) ends.now found.new.items) }
+{
+    if collect_here(alloc, world, others, ends, found)? {
+        return collect_deeper(alloc, world, others, ends, budget, found);
+    }
+    Ok(None)
+}
+
+/// What whole schedules come to: those of the moves of this world's runners, and of others that have these events yet to bring.
+///
+/// In `ends` stands what is known of the runners' ends before, by the runners' numbers, as `ends_told` tells it. Schedules are gone
+/// through by length, and at most `budget` events are taken.
+///
+/// Want of memory is the only refusal. The world is left as it was.
+pub fn find_outcomes(
+    alloc: Global,
+    world: &World,
+    others: &[WorldEvent],
+    ends: &[Option<RunnerEnd>],
+    budget: u64,
+) -> Result<Outcomes, AllocError>
+    ensures { IfOk result (AreOutcomes (record { world = world.now; others = others.now }) ends.now) }
+{
+    let mut found = Vec::new(alloc);
+    match collect_all(alloc, world, others, ends, budget, &mut found)? {
+        None => Ok(Outcomes::Found {
+            outcomes: Sequence::of(found),
+        }),
+        Some(gone_through) => Ok(Outcomes::Open { gone_through }),
+    }
+}

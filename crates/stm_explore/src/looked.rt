@@ -1,0 +1,57 @@
+//! What a look at places tells.
+ghost use Rattle.std.specs.Prelude.{◌≡◌, ◌||◌, ℕ, ◌∷◌, IfOk};
+ghost use Rattle.stm_program.specs.Syntax.{ProgramTree};
+ghost use Rattle.stm_schedules.specs.Places.{Place, moved};
+ghost use Rattle.stm_explore.specs.Seen.{IsSeen, IsSeenBehind};
+
+use std::alloc::AllocError;
+use stm_history::Sequence;
+use stm_meaning::End;
+use stm_schedules::Move;
+
+/// What a look at all places after so many moves tells.
+#[derive(Debug, Drop)]
+pub(crate) enum Looked {
+    /// In each of them the rule is kept.
+    Kept {
+        /// Whether a move can be made in one of them.
+        goes_on: bool,
+    },
+    /// In the first one where it is not: the moves to it, and the end that the rule's program has there.
+    Broken {
+        moves: Sequence<Move>,
+        end: End,
+    },
+}
+
+/// Whether one of two is so.
+pub(crate) fn is_either(one: bool, other: bool) -> bool
+    ensures { result ≡ (one || other) }
+{
+    one || other
+}
+
+/// The moves with one more in front.
+fn in_front(first: Move, moves: Sequence<Move>) -> Result<Sequence<Move>, AllocError>
+    ensures { IfOk result (λ all. all ≡ first ∷ moves) }
+{
+    let mut all = moves.into_vec();
+    all.insert(0, first)?;
+    Ok(Sequence::of(all))
+}
+
+impl Looked {
+    /// What was seen after a move, as it is seen before it.
+    pub(crate) fn behind(self, first: Move) -> Result<Looked, AllocError>
+        ensures { IfOk result (λ looked. (rule : ProgramTree) (n : ℕ) (p : Place) → IsSeen rule n (moved first p) self
+            → IsSeenBehind rule n first p looked) }
+    {
+        match self {
+            Looked::Kept { goes_on } => Ok(Looked::Kept { goes_on }),
+            Looked::Broken { moves, end } => {
+                let moves = in_front(first, moves)?;
+                Ok(Looked::Broken { moves, end })
+            }
+        }
+    }
+}

@@ -1,0 +1,183 @@
+-- The ends of exactly those runners are known that have ended.
+use Rattle.std.proofs.Common.{◌≡◌, ℕ, zero, suc, ◌+◌, ◌-◌, Bool, true, false, cond, nat_eq, List, [], ◌∷◌, ◌++◌, length, Option, Some, None, Result, Ok, Err}
+use Rattle.std.proofs.Common.{inl, inr, refl, sym, ◌∙◌, ap, subst, arith}
+use Rattle.std.specs.Prelude.{slice_get, slice_set}
+use Rattle.stm_txn.specs.declared.advance.Expired.{Expired}
+use Rattle.stm_txn.specs.declared.refusal.Refusal.{Refusal as StoreRefusal}
+use Rattle.stm_txn.specs.Standing.{Step as StoreStep}
+use Rattle.stm_txn.specs.Standing.{transacted, granted, kept_alive, revoked, advanced, watched, polled, cancelled}
+use Rattle.stm_watch.specs.declared.watched.Watched.TheVariants.{Key, Range}
+use Rattle.stm_world.specs.declared.event.WorldEvent.{WorldEvent}
+use Rattle.stm_world.specs.declared.event.WorldEvent.TheVariants.{Start, Step, Txn, Grant, Keep, Revoke, Advance}
+use Rattle.stm_world.specs.declared.event.WorldEvent.TheVariants.{WatchKey, WatchRange, Poll, Cancel}
+use Rattle.stm_world.specs.declared.reply.Reply.{Reply}
+use Rattle.stm_world.specs.declared.reply.Reply.TheVariants.{Started, Txn as TxnDone, Granted, Kept, Revoked, Watching, Cancelled}
+use Rattle.stm_world.specs.declared.refusal.Denied.{Denied}
+use Rattle.stm_world.specs.declared.refusal.Refusal.TheVariants.{BadLimit}
+use Rattle.stm_world.specs.Told.{reply_to, advance_reply, batch_reply}
+use Rattle.stm_world.specs.World.{World, Runner, Slot, Over, Live, Stepped, live_in, runner_at, with_slot, refused, begin, start_runner, step_runner, step, world_after, replies_to, opened}
+use Rattle.stm_world.specs.Task.{Task}
+use Rattle.stm_world.proofs.Slots.{other_number}
+use Rattle.stm_schedules.specs.declared.moves.Move.{Move}
+use Rattle.stm_schedules.specs.declared.moves.Move.TheVariants.{Step as StepOf}
+use Rattle.stm_schedules.specs.declared.outcome.RunnerEnd.{RunnerEnd}
+use Rattle.stm_schedules.specs.Places.{Place, moves}
+use Rattle.stm_schedules.specs.Schedules.{place_after, events_along}
+use Rattle.stm_schedules.specs.Scenarios.{up_to_last_start, begun}
+use Rattle.stm_schedules.specs.Outcomes.{Ends, after_reply, after_told, after_replies, ends_begun, ends_after, known_ends, IsKnown, AreKnown, EndsAreKnown}
+use Rattle.stm_schedules.proofs.Members.{IsAmong}
+use Rattle.stm_schedules.proofs.MoveLemmas.{step_is_move}
+use Rattle.stm_schedules.proofs.Runs.{world_along}
+use Rattle.stm_schedules.proofs.Exchanging.{put, put_end, IsKnownChange, Touches, Enters, runner_does}
+
+-- ---- places that are written
+
+known_set : (slots : List Slot) (ends : Ends) (i : ℕ) (slot : Slot) (end : Option RunnerEnd) → IsKnown slot end → AreKnown slots ends →
+    AreKnown (slice_set slots i slot) (slice_set ends i end)
+known_set [] [] zero slot end one known = tt
+known_set [] [] (suc i) slot end one known = tt
+known_set [] (e ∷ es) i slot end one known = absurd known
+known_set (s ∷ ss) [] i slot end one known = absurd known
+known_set (s ∷ ss) (e ∷ es) zero slot end one known = (one, known.1)
+known_set (s ∷ ss) (e ∷ es) (suc i) slot end one known = (known.0, known_set ss es i slot end one known.1)
+
+known_more : (slots : List Slot) (ends : Ends) (slot : Slot) (end : Option RunnerEnd) → IsKnown slot end → AreKnown slots ends →
+    AreKnown (slots ++ slot ∷ []) (ends ++ end ∷ [])
+known_more [] [] slot end one known = (one, tt)
+known_more [] (e ∷ es) slot end one known = absurd known
+known_more (s ∷ ss) [] slot end one known = absurd known
+known_more (s ∷ ss) (e ∷ es) slot end one known = (known.0, known_more ss es slot end one known.1)
+
+-- a run that goes on
+still_live : (slots : List Slot) (ends : Ends) (i : ℕ) (was now : Runner) → live_in (slice_get slots i) ≡ Some was → AreKnown slots ends →
+    AreKnown (slice_set slots i (Live now)) ends
+still_live [] ends i was now is known = absurd (cc)
+still_live (s ∷ ss) [] i was now is known = absurd known
+still_live (Over ∷ ss) (e ∷ es) zero was now is known = absurd (cc)
+still_live (Live r ∷ ss) (None ∷ es) zero was now is known = (tt, known.1)
+still_live (Live r ∷ ss) (Some end ∷ es) zero was now is known = absurd known.0
+still_live (s ∷ ss) (e ∷ es) (suc i) was now is known = (known.0, still_live ss es i was now is known.1)
+
+live_at : (b : Bool) (o : Option Runner) (r : Runner) → cond b None o ≡ Some r → o ≡ Some r
+live_at true o r is = absurd (cc)
+live_at false o r is = is
+
+known_put : (id : ℕ) (slots : List Slot) (ends : Ends) (r : Runner) (slot : Option Slot) (end : Option RunnerEnd) → runner_at id slots ≡ Some r →
+    IsKnownChange slot end → AreKnown slots ends → AreKnown (put id slot slots) (put_end id end ends)
+known_put id slots ends r None None runs fits known = known
+known_put id slots ends r None (Some end) runs fits known = absurd fits
+known_put id slots ends r (Some Over) None runs fits known = absurd fits
+known_put id slots ends r (Some Over) (Some end) runs fits known = known_set slots ends (id - 1) Over (Some end) tt known
+known_put id slots ends r (Some (Live now)) None runs fits known =
+    still_live slots ends (id - 1) r now (live_at (nat_eq id 0) (live_in (slice_get slots (id - 1))) r runs) known
+known_put id slots ends r (Some (Live now)) (Some end) runs fits known = absurd fits
+
+-- ---- events
+
+-- after a step that came to this, what is known of the ends is known of the runners
+abbrev StaysKnown : Ends → Stepped → Type 0
+StaysKnown ends x = AreKnown x.next.runners (after_told x.reply ends)
+
+touched : (id : ℕ) (r : Runner) (w : World) (ends : Ends) → runner_at id w.runners ≡ Some r → AreKnown w.runners ends →
+    Touches id w.standing (step_runner id (Some r)) → StaysKnown ends (step_runner id (Some r) w)
+touched id r w ends runs known t =
+    subst (StaysKnown ends) (sym (t.is w.runners w.entries))
+    (subst (λ (es : Ends). AreKnown (put id t.slot w.runners) es) (sym (t.known ends)) (known_put id w.runners ends r t.slot t.end runs t.fits known))
+
+entered : (id : ℕ) (r : Runner) (w : World) (ends : Ends) → AreKnown w.runners ends → Enters id w.standing (step_runner id (Some r)) →
+    StaysKnown ends (step_runner id (Some r) w)
+entered id r w ends known e =
+    subst (λ (slots : List Slot). AreKnown slots (after_told (step_runner id (Some r) w).reply ends)) (sym (e.over w.runners w.entries))
+    (subst (λ (told : Result Reply Denied). AreKnown (with_slot id Over w.runners) (after_told told ends)) (sym (e.tells w.runners w.entries))
+    (subst (λ (es : Ends). AreKnown (with_slot id Over w.runners) es) (sym (e.known ends)) (known_set w.runners ends (id - 1) Over (Some e.end) tt known)))
+
+known_step : (id : ℕ) (o : Option Runner) (w : World) (ends : Ends) → runner_at id w.runners ≡ o → AreKnown w.runners ends → StaysKnown ends (step_runner id o w)
+known_step id None w ends is known = known
+known_step id (Some r) w ends is known = elim (runner_does id (Some r) w.standing) [
+  | inl t ↦ touched id r w ends is known t
+  | inr e ↦ entered id r w ends known e
+]
+
+abbrev started : Task → World → Stepped
+started task w = record {
+  reply = Ok (Started (length w.runners + 1));
+  next = record { standing = w.standing; runners = w.runners ++ Live (begin task) ∷ []; entries = w.entries };
+}
+
+known_start_by : (b : Bool) (task : Task) (w : World) (ends : Ends) → AreKnown w.runners ends → StaysKnown ends (cond b (refused BadLimit w) (started task w))
+known_start_by true task w ends known = known
+known_start_by false task w ends known = known_more w.runners ends (Live (begin task)) None tt known
+
+known_start : (task : Task) (w : World) (ends : Ends) → AreKnown w.runners ends → StaysKnown ends (start_runner task w)
+unfolding start_runner
+known_start task w ends known = known_start_by (nat_eq task.limit 0) task w ends known
+
+-- a call of the store tells of no runner
+call_told : {A : Type 0} (tell : A → Reply) (o : Result (StoreStep A) StoreRefusal) (ends : Ends) → ((x : A) → after_reply (tell x) ends ≡ ends) →
+    after_told (reply_to tell o) ends ≡ ends
+call_told tell (Ok done) ends each = each done.answer
+call_told tell (Err cause) ends each = refl
+
+advance_told : (moment : ℕ) (expired : List Expired) (cause : Option StoreRefusal) (ends : Ends) → after_told (advance_reply moment expired cause) ends ≡ ends
+advance_told moment expired None ends = refl
+advance_told moment expired (Some cause) ends = refl
+
+by_call : {A : Type 0} (tell : A → Reply) (o : Result (StoreStep A) StoreRefusal) (w : World) (ends : Ends) → ((x : A) → after_reply (tell x) ends ≡ ends) →
+    AreKnown w.runners ends → AreKnown w.runners (after_told (reply_to tell o) ends)
+by_call tell o w ends each known = subst (λ (es : Ends). AreKnown w.runners es) (sym (call_told tell o ends each)) known
+
+known_event : (e : WorldEvent) (w : World) (ends : Ends) → AreKnown w.runners ends → StaysKnown ends (step e w)
+known_event (Start program level limit) w ends known = known_start (record { program = program; level = level; limit = limit }) w ends known
+known_event (Step id) w ends known = known_step id (runner_at id w.runners) w ends refl known
+known_event (Txn txn) w ends known = by_call TxnDone (transacted w.standing txn) w ends (λ x. refl) known
+known_event (Grant id ttl) w ends known = by_call (λ _. Granted id) (granted w.standing id ttl) w ends (λ x. refl) known
+known_event (Keep id) w ends known = by_call (λ _. Kept id) (kept_alive w.standing id) w ends (λ x. refl) known
+known_event (Revoke id) w ends known = by_call (Revoked id) (revoked w.standing id) w ends (λ x. refl) known
+known_event (Advance moment) w ends known =
+    let done = advanced w.standing moment in
+    subst (λ (es : Ends). AreKnown w.runners es) (sym (advance_told moment done.expired done.cause ends)) known
+known_event (WatchKey key from) w ends known = by_call Watching (watched w.standing (Key key) from) w ends (λ x. refl) known
+known_event (WatchRange first end from) w ends known = by_call Watching (watched w.standing (Range first end) from) w ends (λ x. refl) known
+known_event (Poll watcher most) w ends known = by_call (batch_reply watcher) (polled w.standing watcher most) w ends (λ x. refl) known
+known_event (Cancel watcher) w ends known = by_call (λ _. Cancelled watcher) (cancelled w.standing watcher) w ends (λ x. refl) known
+
+known_run : (events : List WorldEvent) (w : World) (ends : Ends) → AreKnown w.runners ends →
+    AreKnown (world_after events w).runners (after_replies (replies_to events w) ends)
+known_run [] w ends known = known
+known_run (e ∷ es) w ends known = known_run es (step e w).next (after_told (step e w).reply ends) (known_event e w ends known)
+
+along : (start : ℕ) (events : List WorldEvent) (schedule : List Move) →
+    AreKnown (place_after schedule (begun start events)).world.runners (ends_after schedule (begun start events) (ends_begun start events))
+along start events schedule =
+    let p : Place = begun start events in
+    subst (λ (w : World). AreKnown w.runners (ends_after schedule p (ends_begun start events))) (sym (world_along schedule p))
+    (known_run (events_along schedule p.others) p.world (ends_begun start events) (known_run (up_to_last_start events) (opened start) [] tt))
+
+-- ---- whole schedules
+
+none_runs : (p : Place) (id : ℕ) (r : Runner) → moves p ≡ [] → runner_at id p.world.runners ≡ Some r → ⊥
+none_runs p id r none runs = subst (λ (ms : List Move). IsAmong (StepOf id) ms) none (step_is_move p id r runs)
+
+runs_at : (slots : List Slot) (i : ℕ) (r : Runner) → live_in (slice_get slots i) ≡ Some r → runner_at (suc i) slots ≡ Some r
+runs_at slots i r is =
+    let same : suc i - 1 ≡ i = omega arith in
+    ap (λ b. cond b None (live_in (slice_get slots (suc i - 1)))) (other_number (suc i) 0 (omega arith))
+    ∙ ap (λ (k : ℕ). live_in (slice_get slots k)) same ∙ is
+
+all_over : (slots : List Slot) (ends : Ends) → ((i : ℕ) (r : Runner) → live_in (slice_get slots i) ≡ Some r → ⊥) → AreKnown slots ends →
+    length (known_ends ends) ≡ length slots
+all_over [] [] none known = refl
+all_over [] (e ∷ es) none known = absurd known
+all_over (s ∷ ss) [] none known = absurd known
+all_over (Live r ∷ ss) (e ∷ es) none known = absurd (none zero r refl)
+all_over (Over ∷ ss) (None ∷ es) none known = absurd known.0
+all_over (Over ∷ ss) (Some end ∷ es) none known = ap suc (all_over ss es (λ i r is. none (suc i) r is) known.1)
+
+pub ends_are_known : EndsAreKnown
+ends_are_known = record {
+  along = along;
+  whole = λ start events schedule whole.
+      all_over (place_after schedule (begun start events)).world.runners (ends_after schedule (begun start events) (ends_begun start events))
+      (λ i r is. none_runs (place_after schedule (begun start events)) (suc i) r whole.1
+      (runs_at (place_after schedule (begun start events)).world.runners i r is)) (along start events schedule);
+}

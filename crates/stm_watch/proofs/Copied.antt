@@ -1,0 +1,41 @@
+-- What copies of the tables and of the pages keep.
+use Rattle.std.proofs.Common.{◌≡◌, ℕ, cond, List, [], ◌∷◌, Some, String, refl, sym, ap, subst, ◌∙◌, inl, inr}
+use Rattle.std.specs.Prelude.{bytes_eq, string_bytes}
+use Rattle.std.specs.List.{AllZip}
+use Rattle.std.specs.Map.{lookup}
+use Rattle.stm_watch.specs.declared.page.RangeEntry.{RangeEntry}
+use Rattle.stm_watch.specs.declared.page.Bounds.{Bounds}
+use Rattle.stm_watch.specs.declared.page.Page.{Page}
+use Rattle.stm_watch.specs.Pages.{IsWithin, IsOneOf, StandsOn, Keeps}
+
+-- copies of texts and numbers are found like their originals
+pub copy_finds : {A : Type 0} (es fs : List (String A × ℕ)) (key : List ℕ)
+    → AllZip (λ e f. (string_bytes f.0 ≡ string_bytes e.0) × (f.1 ≡ e.1)) es fs
+    → lookup (λ k. bytes_eq key (string_bytes k)) fs ≡ lookup (λ k. bytes_eq key (string_bytes k)) es
+copy_finds [] [] key same = refl
+copy_finds [] (f ∷ fs) key same = absurd same
+copy_finds (e ∷ es) [] key same = absurd same
+copy_finds (e ∷ es) (f ∷ fs) key same =
+    ap (λ t. cond (bytes_eq key t) (Some f.1) (lookup (λ k. bytes_eq key (string_bytes k)) fs)) same.0.0
+    ∙ ap (λ n. cond (bytes_eq key (string_bytes e.0)) (Some n) (lookup (λ k. bytes_eq key (string_bytes k)) fs)) same.0.1
+    ∙ ap (cond (bytes_eq key (string_bytes e.0)) (Some e.1)) (copy_finds es fs key same.1)
+
+-- a copy of a page has its bounds and its entries
+abbrev pub IsPageCopy : Page → Page → Type 0
+IsPageCopy page copy = (copy.bounds ≡ page.bounds) × (copy.entries.items ≡ page.entries.items)
+
+stands_copied : (e : RangeEntry) (page copy : Page) → IsPageCopy page copy → StandsOn e page → StandsOn e copy
+stands_copied e page copy p stands =
+    record {
+      within = subst (λ (bounds : Bounds). IsWithin e bounds) (sym p.0) stands.within;
+      there = subst (λ (entries : List RangeEntry). IsOneOf e entries) (sym p.1) stands.there;
+    }
+
+pub keeps_copied : (pages copies : List Page) → AllZip IsPageCopy pages copies → Keeps pages copies
+keeps_copied [] copies p e has = absurd has
+keeps_copied (page ∷ pages) [] p e has = absurd p
+keeps_copied (page ∷ pages) (copy ∷ copies) p e has =
+    elim has [
+      | inl here ↦ inl (stands_copied e page copy p.0 here)
+      | inr there ↦ inr (keeps_copied pages copies p.1 e there)
+    ]

@@ -1,0 +1,10 @@
+use Rattle.indexmap.specs.IndexMap.{get_by_text}
+use Rattle.stm_watch.specs.Kept.{list_in}
+use Rattle.stm_watch.proofs.Indexed.{listed_same, lists_same}
+use Rattle.stm_watch.proofs.index.Index.copy.Goals as goal
+
+pub returns : goal.returns
+returns c ws covers =
+    listed_same c.args.self.now.lists c.in_ok-lists.lists (list_in (get_by_text c.args.self.now.keys) c.args.self.now.ranges)
+    (list_in (get_by_text c.in_ok-keys.keys) c.args.self.now.ranges) c.args.self.now.nodes.items c.in_ok-nodes.nodes.items ws c.in_ok-lists.ensures
+    (lists_same (get_by_text c.args.self.now.keys) (get_by_text c.in_ok-keys.keys) c.args.self.now.ranges c.in_ok-keys.ensures) c.in_ok-nodes.ensures covers

@@ -1,0 +1,5 @@
+use Rattle.stm_watch.proofs.Copied.{keeps_copied}
+use Rattle.stm_watch.proofs.ranges.Ranges.copy.Goals as goal
+
+pub returns : goal.returns
+returns c = keeps_copied c.args.self.now.pages.items c.in_ok-pages.pages.items c.in_ok-pages.ensures.cases.0

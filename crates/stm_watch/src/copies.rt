@@ -1,0 +1,62 @@
+//! Copies of the parts of the watchers.
+ghost use Rattle.std.specs.Prelude.{◌≡◌, List, ℕ, IfOk};
+ghost use Rattle.indexmap.specs.IndexMap.{get_by_text};
+
+use crate::page::RangeEntry;
+use crate::readiness::Mark;
+use crate::watched::Watcher;
+use indexmap::IndexMap;
+use std::alloc::AllocError;
+use stm_lists::{ListId, Lists, NodeId};
+
+/// A copy of lists of places. The lists and their nodes keep their ids.
+pub(crate) fn copy_lists(lists: &Lists<usize>) -> Result<Lists<usize>, AllocError>
+    ensures { IfOk result (λ copy. copy.lists ≡ lists.now.lists) }
+{
+    let copy = lists.clone()?;
+    Ok(copy)
+}
+
+/// A copy of the table of the keys' lists.
+pub(crate) fn copy_keys(
+    keys: &IndexMap<String, ListId>,
+) -> Result<IndexMap<String, ListId>, AllocError>
+    ensures { IfOk result (λ copy. (key : List ℕ) → get_by_text copy key ≡ get_by_text keys.now key) }
+{
+    let copy = keys.clone()?;
+    Ok(copy)
+}
+
+/// A copy of the watchers' nodes.
+pub(crate) fn copy_nodes(nodes: &Vec<Option<NodeId>>) -> Result<Vec<Option<NodeId>>, AllocError>
+    ensures { IfOk result (λ copy. copy.items ≡ nodes.now.items) }
+{
+    let copy = nodes.clone()?;
+    Ok(copy)
+}
+
+/// A copy of the watchers' marks.
+pub(crate) fn copy_marks(marks: &Vec<Option<Mark>>) -> Result<Vec<Option<Mark>>, AllocError>
+    ensures { IfOk result (λ copy. copy.items ≡ marks.now.items) }
+{
+    let copy = marks.clone()?;
+    Ok(copy)
+}
+
+/// A copy of what stands at the places.
+pub(crate) fn copy_watchers(
+    watchers: &Vec<Option<Watcher>>,
+) -> Result<Vec<Option<Watcher>>, AllocError>
+    ensures { IfOk result (λ copy. copy.items ≡ watchers.now.items) }
+{
+    let copy = watchers.clone()?;
+    Ok(copy)
+}
+
+/// A copy of the entries of a page.
+pub(crate) fn copy_entries(entries: &Vec<RangeEntry>) -> Result<Vec<RangeEntry>, AllocError>
+    ensures { IfOk result (λ copy. copy.items ≡ entries.now.items) }
+{
+    let copy = entries.clone()?;
+    Ok(copy)
+}

@@ -1,11 +1,10 @@
 -- The laws of what is written.
-use Rattle.std.proofs.Common.{◌≡◌, ℕ, ◌≤◌, List, [], ◌∷◌, ◌++◌, map, Option, Some, None, length, refl}
-use Rattle.serde_json.specs.Data.{Data, unsigned}
+use Rattle.std.proofs.Common.{ℕ, List, [], ◌∷◌, ◌++◌, map, Option, Some, None, refl}
+use Rattle.serde_json.specs.Data.{unsigned}
 use Rattle.serde_json.specs.View.{items_of}
 use Rattle.stm_program_json.specs.Writing.{written_number}
 use Rattle.stm_texts.specs.Grammar.{SpellsEvent, SpellsElements}
 use Rattle.stm_texts.specs.Reading.{IsOpening}
-use Rattle.stm_texts.specs.declared.scenario.Scenario.{Scenario}
 use Rattle.stm_txn_json.specs.Grammar.{SpellsEach}
 use Rattle.stm_world.specs.declared.event.WorldEvent.{WorldEvent}
 use Rattle.stm_scenario_json.specs.Laws.{AreSpelled, WrittenScenariosSpell}

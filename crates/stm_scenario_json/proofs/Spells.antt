@@ -1,6 +1,6 @@
 -- What is written of an event that can be spelled spells it.
 use Rattle.std.proofs.Common.{◌≡◌, ℕ, List, [], ◌∷◌, map, refl, subst, sym}
-use Rattle.serde_json.specs.Data.{Data, string, unsigned, Items, item}
+use Rattle.serde_json.specs.Data.{Data, string, unsigned, Items}
 use Rattle.serde_json.specs.View.{items_of}
 use Rattle.stm_history.specs.declared.revisions.TheConstants.{HIGHEST_NUMBER}
 use Rattle.stm_program_json.specs.Writing.{written_number, written_program}

@@ -8,7 +8,7 @@ use std::io;
 use std::io::ErrorKind;
 use std::process::Abort;
 use std::rt::Env;
-use stm_arguments::{Asked, RecipeWords, asked_of, read_words};
+use stm_arguments::{Asked, Level, RecipeWords, asked_of, read_level, read_words};
 
 /// A command line, whose texts are printed or not. It notes on which of the two a text with all the wanted words came.
 #[derive(Clone, Copy)]
@@ -297,6 +297,87 @@ fn command_lines_of_threads(rt: HostRuntime) {
         Asked::Nothing(0),
         Asked::Nothing(3),
     );
+}
+
+#[test]
+fn command_lines_of_explore(rt: HostRuntime) {
+    let alloc = rt.alloc();
+    let name = "stmrun".as_bytes();
+    let explore = "explore".as_bytes();
+    let file = "s.json".as_bytes();
+    let (keeps, rule) = ("--keeps".as_bytes(), "rule.json".as_bytes());
+    let (level, budget) = ("--level".as_bytes(), "--budget".as_bytes());
+    let usage = Asked::Nothing(2);
+    let bare = Asked::Explore {
+        scenario: "s.json",
+        keeps: None,
+        level: None,
+        budget: 5000000,
+    };
+    asks(&rt, alloc, &[name, explore, file], &[], bare, bare);
+    let whole = Asked::Explore {
+        scenario: "s.json",
+        keeps: Some("rule.json"),
+        level: Some("Serializable"),
+        budget: 0,
+    };
+    let serializable = "Serializable".as_bytes();
+    let none = "0".as_bytes();
+    let line = [
+        name,
+        explore,
+        file,
+        keeps,
+        rule,
+        level,
+        serializable,
+        budget,
+        none,
+    ];
+    asks(&rt, alloc, &line, &[], whole, whole);
+    let missing = ["Usage: stmrun explore", "SCENARIO"];
+    asks(&rt, alloc, &[name, explore], &missing, usage, usage);
+    let wrong = ["--budget", "--help"];
+    for number in ["-1", "x", "", "18446744073709551616"] {
+        let line = [name, explore, file, budget, number.as_bytes()];
+        asks(&rt, alloc, &line, &wrong, usage, usage);
+    }
+    let explained = ["--keeps <PROGRAM>", "[\"broken\",LENGTH,END]", "4 open"];
+    asks(
+        &rt,
+        alloc,
+        &[name, explore, "--help".as_bytes()],
+        &explained,
+        Asked::Nothing(0),
+        Asked::Nothing(3),
+    );
+}
+
+/// The level of a name, and the status and the usage of one that is none.
+#[test]
+fn levels_by_their_names(rt: HostRuntime) {
+    let alloc = rt.alloc();
+    let out = Cell::new(false);
+    let err = Cell::new(false);
+    let line = Line {
+        words: &[],
+        wanted: &[
+            "--level <LEVEL>",
+            "SerializableSnapshot",
+            "ReadCommitted",
+            "--help",
+        ],
+        prints: true,
+        alloc,
+        out: &out,
+        err: &err,
+    };
+    assert_eq!(rt; read_level(&line, None), Ok(None));
+    let named = read_level(&line, Some("RepeatableReads"));
+    assert_eq!(rt; named, Ok(Some(Level::RepeatableReads)));
+    assert!(rt; !err.get());
+    assert_eq!(rt; read_level(&line, Some("serializable")), Err(2));
+    assert!(rt; err.get() && !out.get());
 }
 
 /// A name and up to three arguments.

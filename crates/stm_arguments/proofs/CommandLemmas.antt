@@ -1,5 +1,5 @@
 -- What `clap` tells of words, said of the command stmrun.
-use Rattle.std.proofs.Common.{◌≡◌, ◌∙◌, ◌^◌, ◌<◌, ◌≤◌, ℕ, List, [], ◌∷◌, Option, Some, None, IfNone, IsSomeAnd, Ok, Err, true, codes, refl, sym, ap, subst}
+use Rattle.std.proofs.Common.{◌≡◌, ◌∙◌, ◌^◌, ◌<◌, ◌≤◌, ℕ, List, [], ◌∷◌, Option, Some, None, IfNone, IfSome, IsSomeAnd, Ok, Err, true, codes, refl, sym, ap, subst}
 use Rattle.std.proofs.Common.{⊎_elim, arith}
 use Rattle.std.specs.Prelude.{ℤ, pos}
 use Rattle.std.specs.Str.Parse.{IsNumeral, digits_value, without_leading_plus}
@@ -10,8 +10,8 @@ use Rattle.clap.specs.declared.builder.value_parser.ValueParser.TheVariants.{Uns
 use Rattle.clap.specs.declared.error.Error.{Error}
 use Rattle.clap.specs.declared.parser.matches.ArgMatches.{ArgMatches}
 use Rattle.stm_arguments.specs.declared.arguments.Asked.{Asked}
-use Rattle.stm_arguments.specs.declared.arguments.Asked.TheVariants.{Script, Check, Threads, Recipe, Nothing}
-use Rattle.stm_arguments.specs.Asking.{Asks, AsksBy, HasFiles, HasName, HasWorkers, IsWhole}
+use Rattle.stm_arguments.specs.declared.arguments.Asked.TheVariants.{Script, Check, Threads, Recipe, Explore, Nothing}
+use Rattle.stm_arguments.specs.Asking.{Asks, AsksBy, HasFiles, HasName, HasSearch, HasWorkers, IsWhole}
 use Rattle.stm_arguments.specs.CommandLine.{IsStatusOf, IsToldBy, faults_of, stmrun_app}
 
 module _ (app : App) (is : app ≡ stmrun_app) (words : List Text) where
@@ -35,6 +35,7 @@ asks words (Script file format) none by = (none, by)
 asks words (Check scenario report whole) none by = (none, by)
 asks words (Threads file workers ends) none by = (none, by)
 asks words (Recipe named) none by = (none, by)
+asks words (Explore scenario keeps level budget) none by = (none, by)
 asks words (Nothing status) none by = absurd (asks_something (subcommand_of stmrun_app words) status by)
 
 -- ---- the number of threads
@@ -65,6 +66,20 @@ pub no_workers : (rows : List Row) (text : Text) (asked : Option Asked) → Some
 no_workers rows text (Some asked) is not = tt
 no_workers rows text None is not = λ there. not (subst (λ (p : Option Text). IsSomeAnd p (IsUnsignedIn 1 16)) (sym is) there)
 
+-- ---- the number of events
+
+-- a text that spells no number of 64 bits is none
+pub no_number_at_all : (text : Text) → (IsNumeral 10 (without_leading_plus text) × (digits_value 10 (without_leading_plus text) < 2 ^ 64) → ⊥)
+    → IsUnsignedIn 0 18446744073709551615 text → ⊥
+no_number_at_all text not is = not (is.0, is.1)
+
+-- what stands in the place of the number of events is none
+pub no_budget : (rows : List Row) (text : Text) (asked : Option Asked) → Some text ≡ first_of (codes "budget") rows
+    → (IsUnsignedIn 0 18446744073709551615 text → ⊥) → IfNone asked (HasSearch rows → ⊥)
+no_budget rows text (Some asked) is not = tt
+no_budget rows text None is not =
+    λ there. not (subst (λ (p : Option Text). IfSome p (IsUnsignedIn 0 18446744073709551615)) (sym is) there.1)
+
 -- ---- which command is missing what
 
 abbrev first_byte : Text → ℕ
@@ -81,17 +96,27 @@ check_or_threads name = not_both name (codes "check") (codes "threads") (λ (sam
 check_or_recipe : (name : Text) → name ≡ codes "check" → name ≡ codes "recipe" → ⊥
 check_or_recipe name = not_both name (codes "check") (codes "recipe") (λ (same : 99 ≡ 114). absurd (omega (arith, same)))
 
+check_or_explore : (name : Text) → name ≡ codes "check" → name ≡ codes "explore" → ⊥
+check_or_explore name = not_both name (codes "check") (codes "explore") (λ (same : 99 ≡ 101). absurd (omega (arith, same)))
+
 threads_or_recipe : (name : Text) → name ≡ codes "threads" → name ≡ codes "recipe" → ⊥
 threads_or_recipe name = not_both name (codes "threads") (codes "recipe") (λ (same : 116 ≡ 114). absurd (omega (arith, same)))
 
+threads_or_explore : (name : Text) → name ≡ codes "threads" → name ≡ codes "explore" → ⊥
+threads_or_explore name = not_both name (codes "threads") (codes "explore") (λ (same : 116 ≡ 101). absurd (omega (arith, same)))
+
+recipe_or_explore : (name : Text) → name ≡ codes "recipe" → name ≡ codes "explore" → ⊥
+recipe_or_explore name = not_both name (codes "recipe") (codes "explore") (λ (same : 114 ≡ 101). absurd (omega (arith, same)))
+
 -- what is said of each command that is whole
 each : (name : Text) (rows : List Row) → (name ≡ codes "script" → ⊥) → (name ≡ codes "check" → HasFiles rows → ⊥)
-    → (name ≡ codes "threads" → HasWorkers rows → ⊥) → (name ≡ codes "recipe" → HasName rows → ⊥) → IsWhole (Some (name, rows)) → ⊥
-each name rows script check threads recipe whole = ⊎_elim
+    → (name ≡ codes "threads" → HasWorkers rows → ⊥) → (name ≡ codes "recipe" → HasName rows → ⊥) → (name ≡ codes "explore" → HasSearch rows → ⊥)
+    → IsWhole (Some (name, rows)) → ⊥
+each name rows script check threads recipe explore whole = ⊎_elim
     (λ is. script is)
     (λ rest. ⊎_elim
     (λ is. check is.0 is.1)
-    (λ more. ⊎_elim (λ is. threads is.0 is.1) (λ is. recipe is.0 is.1) more)
+    (λ more. ⊎_elim (λ is. threads is.0 is.1) (λ last. ⊎_elim (λ is. recipe is.0 is.1) (λ is. explore is.0 is.1) last) more)
     rest)
     whole
 
@@ -101,6 +126,7 @@ pub whole_check : (name : Text) (rows : List Row) (o : Option Asked) → name �
 whole_check name rows (Some asked) is other missing = tt
 whole_check name rows None is other missing =
     each name rows other (λ _. missing) (λ threads _. check_or_threads name is threads) (λ recipe _. check_or_recipe name is recipe)
+    (λ explore _. check_or_explore name is explore)
 
 -- nor is a run without its number of threads
 pub whole_threads : (name : Text) (rows : List Row) (o : Option Asked) → name ≡ codes "threads" → (name ≡ codes "script" → ⊥)
@@ -108,6 +134,7 @@ pub whole_threads : (name : Text) (rows : List Row) (o : Option Asked) → name 
 whole_threads name rows (Some asked) is other missing = tt
 whole_threads name rows None is other missing =
     each name rows other (λ check _. check_or_threads name check is) (λ _. missing) (λ recipe _. threads_or_recipe name is recipe)
+    (λ explore _. threads_or_explore name is explore)
 
 -- nor a recipe without its name
 pub whole_recipe : (name : Text) (rows : List Row) (o : Option Asked) → name ≡ codes "recipe" → (name ≡ codes "script" → ⊥)
@@ -115,8 +142,18 @@ pub whole_recipe : (name : Text) (rows : List Row) (o : Option Asked) → name �
 whole_recipe name rows (Some asked) is other missing = tt
 whole_recipe name rows None is other missing =
     each name rows other (λ check _. check_or_recipe name check is) (λ threads _. threads_or_recipe name threads is) (λ _. missing)
+    (λ explore _. recipe_or_explore name is explore)
+
+-- nor a search without its scenario, or with what is no number of events
+pub whole_explore : (name : Text) (rows : List Row) (o : Option Asked) → name ≡ codes "explore" → (name ≡ codes "script" → ⊥)
+    → IfNone o (HasSearch rows → ⊥) → IfNone o (IsWhole (Some (name, rows)) → ⊥)
+whole_explore name rows (Some asked) is other missing = tt
+whole_explore name rows None is other missing =
+    each name rows other (λ check _. check_or_explore name check is) (λ threads _. threads_or_explore name threads is)
+    (λ recipe _. recipe_or_explore name recipe is) (λ _. missing)
 
 -- nor one of another name
 pub whole_other : (name : Text) (rows : List Row) → (name ≡ codes "script" → ⊥) → (name ≡ codes "check" → ⊥) → (name ≡ codes "threads" → ⊥)
-    → (name ≡ codes "recipe" → ⊥) → IsWhole (Some (name, rows)) → ⊥
-whole_other name rows script check threads recipe = each name rows script (λ is _. check is) (λ is _. threads is) (λ is _. recipe is)
+    → (name ≡ codes "recipe" → ⊥) → (name ≡ codes "explore" → ⊥) → IsWhole (Some (name, rows)) → ⊥
+whole_other name rows script check threads recipe explore =
+    each name rows script (λ is _. check is) (λ is _. threads is) (λ is _. recipe is) (λ is _. explore is)

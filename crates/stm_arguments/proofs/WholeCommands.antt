@@ -33,7 +33,7 @@ use Rattle.clap.specs.declared.error.kind.ErrorKind.{ErrorKind}
 use Rattle.clap.specs.declared.error.kind.ErrorKind.TheVariants as kind
 use Rattle.clap.specs.declared.parser.matches.ValueSource.{ValueSource}
 use Rattle.clap.specs.declared.parser.matches.ValueSource.TheVariants.{CommandLine, DefaultValue}
-use Rattle.stm_arguments.specs.Asking.{HasFiles, HasName, HasWorkers, IsWhole}
+use Rattle.stm_arguments.specs.Asking.{HasFiles, HasName, HasSearch, HasWorkers, IsWhole}
 use Rattle.stm_arguments.specs.CommandLine.{stmrun_app}
 
 -- ---- kinds
@@ -530,28 +530,33 @@ threads_shape = first_of_subs (drop 2 whole_app.subs)
 abbrev recipe_shape : Shape
 recipe_shape = first_of_subs (drop 3 whole_app.subs)
 
+abbrev explore_shape : Shape
+explore_shape = first_of_subs (drop 4 whole_app.subs)
+
 abbrev help_shape : Shape
-help_shape = first_of_subs (drop 4 whole_app.subs)
+help_shape = first_of_subs (drop 5 whole_app.subs)
 
 abbrev IsNoHelp : Text → Type 0
 IsNoHelp name = answers_to name (codes "help", []) ≡ false
 
 -- the subcommand that a word without a fault names is not help
-abbrev picked : Bool → Bool → Bool → Bool → Bool → Option (Text × List Text)
-picked one two three four five =
+abbrev picked : Bool → Bool → Bool → Bool → Bool → Bool → Option (Text × List Text)
+picked one two three four five six =
     cond one (Some (codes "script", []))
     (cond two (Some (codes "check", []))
-    (cond three (Some (codes "threads", [])) (cond four (Some (codes "recipe", [])) (cond five (Some (codes "help", [])) None))))
+    (cond three (Some (codes "threads", []))
+    (cond four (Some (codes "recipe", [])) (cond five (Some (codes "explore", [])) (cond six (Some (codes "help", [])) None)))))
 
-named_so : (one two three four five : Bool) (word : Text) (h : Held)
-    → other_fault whole_app.top (option_map (λ (s : Text × List Text). s.0) (picked one two three four five)) word h ≡ []
-    → IfSome (option_map (λ (s : Text × List Text). s.0) (picked one two three four five)) IsNoHelp
-named_so true two three four five word h none = refl
-named_so false true three four five word h none = refl
-named_so false false true four five word h none = refl
-named_so false false false true five word h none = refl
-named_so false false false false true word h none = absurd (some_kind _ _ none)
-named_so false false false false false word h none = tt
+named_so : (one two three four five six : Bool) (word : Text) (h : Held)
+    → other_fault whole_app.top (option_map (λ (s : Text × List Text). s.0) (picked one two three four five six)) word h ≡ []
+    → IfSome (option_map (λ (s : Text × List Text). s.0) (picked one two three four five six)) IsNoHelp
+named_so true two three four five six word h none = refl
+named_so false true three four five six word h none = refl
+named_so false false true four five six word h none = refl
+named_so false false false true five six word h none = refl
+named_so false false false false true six word h none = refl
+named_so false false false false false true word h none = absurd (some_kind _ _ none)
+named_so false false false false false false word h none = tt
 
 called : (is_trailing : Bool) (waiting : Waiting) (word : Text) (h : Held) → word_fault whole_app.top (names_of whole_app) is_trailing waiting word h ≡ []
     → is_trailing ≡ false → IfSome (subcommand_met (names_of whole_app) waiting word) IsNoHelp
@@ -560,7 +565,7 @@ called false (option id) word h none first = tt
 called false positional word h none first = tt
 called false idle word h none first =
     named_so (answers_to word (codes "script", [])) (answers_to word (codes "check", [])) (answers_to word (codes "threads", []))
-    (answers_to word (codes "recipe", [])) (answers_to word (codes "help", [])) word h none
+    (answers_to word (codes "recipe", [])) (answers_to word (codes "explore", [])) (answers_to word (codes "help", [])) word h none
 
 -- the word itself passes where its turn does
 word_passes : (stop : Option (Text × List Text)) (a b : Kinds) → cond (is_some stop) [] (or_else a b) ≡ [] → stop ≡ None → a ≡ []
@@ -668,30 +673,83 @@ name_given words none =
     is_there (first_of (codes "NAME") rows) (AnyText [])
     (given_first AnyText (AnyText []) (codes "NAME") rows (λ other v same may. tt) kept.0 given)
 
+-- ---- the scenario and the number of events of a search
+
+-- what stands in the place of the number of events is a number; of the other places nothing is said
+abbrev IsBudgetIfThere : Text → Text → Type 0
+IsBudgetIfThere id v = bytes_eq id (codes "budget") ≡ true → IsUnsignedIn 0 18446744073709551615 v
+
+any_number_passes : (v : Text) (rest : Kinds) → or_else (value_kinds false (Unsigned 0 18446744073709551615) v) rest ≡ []
+    → IsUnsignedIn 0 18446744073709551615 v
+any_number_passes v rest none =
+    accepts-Accepts false (Unsigned 0 18446744073709551615) v
+    (accepted (accepts false (Unsigned 0 18446744073709551615) v) kind.ValueValidation (neither _ rest none).0)
+
+explore_sets : AllSet IsBudgetIfThere explore_shape.args_override_self explore_shape.rules
+explore_sets =
+    let again = explore_shape.args_override_self in
+    let scenario = one_value IsBudgetIfThere again (first_of_rules explore_shape.rules) refl refl (λ v vs none same. absurd (true≢false (sym same))) in
+    let keeps = one_value IsBudgetIfThere again (first_of_rules (drop 1 explore_shape.rules)) refl refl (λ v vs none same. absurd (true≢false (sym same))) in
+    let level = one_value IsBudgetIfThere again (first_of_rules (drop 2 explore_shape.rules)) refl refl (λ v vs none same. absurd (true≢false (sym same))) in
+    let budget = one_value IsBudgetIfThere again (first_of_rules (drop 3 explore_shape.rules)) refl refl (λ v vs none same. any_number_passes v _ none) in
+    (scenario, (keeps, (level, (budget, (no_request IsBudgetIfThere again (first_of_rules (drop 4 explore_shape.rules)) refl, tt)))))
+
+-- what is given, if anything is, has a first value
+first_if_there : (P : Text → Text → Type 0) (Q : Text → Type 0) (id : Text) (values : List Text) → ((v : Text) → P id v → Q v) → Starts P id values
+    → IfSome (slice_get values 0) Q
+first_if_there P Q id [] each starts = absurd starts
+first_if_there P Q id (v ∷ vs) each starts = each v starts
+
+row_if_there : (P : Text → Text → Type 0) (Q : Text → Type 0) (r : Row) (more : Option Row) (b : Bool) → (b ≡ true → (v : Text) → P r.id v → Q v)
+    → Starts P r.id r.values → IfSome (option_and_then (λ (x : Row). slice_get x.values 0) more) Q
+    → IfSome (option_and_then (λ (x : Row). slice_get x.values 0) (cond b (Some r) more)) Q
+row_if_there P Q r more true each starts rest = first_if_there P Q r.id r.values (each refl) starts
+row_if_there P Q r more false each starts rest = rest
+
+there_first : (P : Text → Text → Type 0) (Q : Text → Type 0) (id : Text) (rows : List Row) → ((other v : Text) → bytes_eq other id ≡ true → P other v → Q v)
+    → AllStart P rows → IfSome (first_of id rows) Q
+there_first P Q id [] each all = tt
+there_first P Q id (r ∷ rs) each all =
+    row_if_there P Q r (find (λ (x : Row). bytes_eq x.id id) rs) (bytes_eq r.id id) (λ same v. each r.id v same) all.0 (there_first P Q id rs each all.1)
+
+search_given : (words : List Text) → level_fault explore_shape [] nothing_held words false [] ≡ [] → HasSearch (rows_after explore_shape.rules [] words)
+search_given words none =
+    let rows = rows_after explore_shape.rules [] words in
+    let kept = level_keeps IsBudgetIfThere explore_shape explore_sets words (refl, (refl, (refl, (refl, (refl, tt))))) none in
+    let given = one_given (is_given (codes "SCENARIO") rows) (last_checks explore_shape rows false kept.1).1 in
+    let scenario = given_first IsBudgetIfThere (AnyText []) (codes "SCENARIO") rows (λ other v same may. tt) kept.0 given in (
+      is_there (first_of (codes "SCENARIO") rows) (AnyText []) scenario,
+      there_first IsBudgetIfThere (IsUnsignedIn 0 18446744073709551615) (codes "budget") rows (λ other v same may. may same) kept.0,
+    )
+
 -- ---- the whole command line
 
-abbrev picked_shape : Bool → Bool → Bool → Bool → Bool → Option Shape
-picked_shape one two three four five =
+abbrev picked_shape : Bool → Bool → Bool → Bool → Bool → Bool → Option Shape
+picked_shape one two three four five six =
     cond one (Some script_shape)
-    (cond two (Some check_shape) (cond three (Some threads_shape) (cond four (Some recipe_shape) (cond five (Some help_shape) None))))
+    (cond two (Some check_shape)
+    (cond three (Some threads_shape)
+    (cond four (Some recipe_shape) (cond five (Some explore_shape) (cond six (Some help_shape) None)))))
 
-chosen : (one two three four five : Bool) (words : List Text) → five ≡ false
-    → option_map_or (λ (s : Shape). level_fault s [] nothing_held words false []) (picked_shape one two three four five) [] ≡ []
-    → (not (is_some (option_map (λ (s : Shape). rows_at s words) (picked_shape one two three four five))) && true) ≡ false
-    → IsWhole (option_map (λ (s : Shape). rows_at s words) (picked_shape one two three four five))
-chosen true two three four five words no_help none entered_one = inl refl
-chosen false true three four five words no_help none entered_one = inr (inl (refl, files_given words none))
-chosen false false true four five words no_help none entered_one = inr (inr (inl (refl, workers_given words none)))
-chosen false false false true five words no_help none entered_one = inr (inr (inr (refl, name_given words none)))
-chosen false false false false true words no_help none entered_one = absurd (true≢false no_help)
-chosen false false false false false words no_help none entered_one = absurd (true≢false entered_one)
+chosen : (one two three four five six : Bool) (words : List Text) → six ≡ false
+    → option_map_or (λ (s : Shape). level_fault s [] nothing_held words false []) (picked_shape one two three four five six) [] ≡ []
+    → (not (is_some (option_map (λ (s : Shape). rows_at s words) (picked_shape one two three four five six))) && true) ≡ false
+    → IsWhole (option_map (λ (s : Shape). rows_at s words) (picked_shape one two three four five six))
+chosen true two three four five six words no_help none entered_one = inl refl
+chosen false true three four five six words no_help none entered_one = inr (inl (refl, files_given words none))
+chosen false false true four five six words no_help none entered_one = inr (inr (inl (refl, workers_given words none)))
+chosen false false false true five six words no_help none entered_one = inr (inr (inr (inl (refl, name_given words none))))
+chosen false false false false true six words no_help none entered_one = inr (inr (inr (inr (refl, search_given words none))))
+chosen false false false false false true words no_help none entered_one = absurd (true≢false no_help)
+chosen false false false false false false words no_help none entered_one = absurd (true≢false entered_one)
 
 named : (stop : Option (Text × List Text)) → IfSome stop (λ p. IsNoHelp p.0) → entered_fault whole_app stop ≡ []
     → (not (is_some (entered whole_app stop)) && true) ≡ false → IsWhole (entered whole_app stop)
 named None no_help none entered_one = absurd (true≢false entered_one)
 named (Some p) no_help none entered_one =
     chosen (answers_to p.0 (label_of script_shape)) (answers_to p.0 (label_of check_shape)) (answers_to p.0 (label_of threads_shape))
-    (answers_to p.0 (label_of recipe_shape)) (answers_to p.0 (label_of help_shape)) p.1 no_help none entered_one
+    (answers_to p.0 (label_of recipe_shape)) (answers_to p.0 (label_of explore_shape)) (answers_to p.0 (label_of help_shape)) p.1 no_help none
+    entered_one
 
 pub whole_command : (words : List Text) → fault_of stmrun_app words ≡ [] → IsWhole (subcommand_of stmrun_app words)
 whole_command words none =

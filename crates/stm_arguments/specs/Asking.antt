@@ -1,9 +1,13 @@
 -- What a command line asks for.
-use Rattle.std.specs.Prelude.{◌≡◌, ◌⊎◌, ℕ, ◌≤◌, List, [], Bool, false, bytes_eq, Option, None, Some, IsSome, IsSomeAnd, codes, option_map}
+use Rattle.std.specs.Prelude.{◌≡◌, ◌⊎◌, ℕ, ◌≤◌, List, [], Bool, false, bytes_eq, if◌then◌else◌, Option, None, Some, IsSome, IsSomeAnd, IfSome, codes}
+use Rattle.std.specs.Prelude.{option_map}
 use Rattle.std.specs.Str.Parse.{digits_value, without_leading_plus}
 use Rattle.clap.specs.Words.{IsUnsignedIn, Text, Row, first_of, subcommand_of}
+use Rattle.stm_program.specs.declared.level.Level.{Level}
+use Rattle.stm_program.specs.declared.level.Level.TheVariants.{SerializableSnapshot, Serializable, RepeatableReads, ReadCommitted}
+use Rattle.stm_arguments.specs.declared.exploring.TheConstants.{USUAL_BUDGET}
 use Rattle.stm_arguments.specs.declared.arguments.Asked.{Asked}
-use Rattle.stm_arguments.specs.declared.arguments.Asked.TheVariants.{Script, Check, Threads, Recipe, Nothing}
+use Rattle.stm_arguments.specs.declared.arguments.Asked.TheVariants.{Script, Check, Threads, Recipe, Explore, Nothing}
 use Rattle.stm_arguments.specs.CommandLine.{stmrun_app, faults_of, IsStatusOf}
 
 -- the text spells this number
@@ -20,9 +24,29 @@ abbrev pub is_set : Option Text → Bool
 is_set None = false
 is_set (Some text) = bytes_eq text (codes "true")
 
+-- the level of a name
+abbrev pub level_named : Text → Option Level
+level_named name =
+    if bytes_eq name (codes "SerializableSnapshot") then Some SerializableSnapshot
+    else (if bytes_eq name (codes "Serializable") then Some Serializable
+    else (if bytes_eq name (codes "RepeatableReads") then Some RepeatableReads
+    else (if bytes_eq name (codes "ReadCommitted") then Some ReadCommitted
+    else None)))
+
+-- the level that a text names, where there is one, and none where there is none
+abbrev pub LevelAt : Option Text → Option Level → Type 0
+LevelAt None level = level ≡ None
+LevelAt (Some name) level = IsSome level × (level_named name ≡ level)
+
+-- the number that the text at a place spells, and the usual one where nothing stands there
+abbrev pub BudgetAt : Option Text → ℕ → Type 0
+BudgetAt None n = n ≡ USUAL_BUDGET
+BudgetAt (Some text) n = NamesNumber text n
+
 -- a command of this name, with what stands in the places of its arguments, asks for a script of its file, or of standard
--- input where it names none, in the format that it names, for a check of its files, a whole one where that flag is set, for a run of its file by so many threads,
--- from 1 to 16, with the ends of its jobs where that flag is set, or for the recipe of its words
+-- input where it names none, in the format that it names, for a check of its files, a whole one where that flag is set, for a run of its file by so many
+-- threads, from 1 to 16, with the ends of its jobs where that flag is set, for the recipe of its words, or for a search of its files, at the
+-- level of a name, with so many events at most
 abbrev pub AsksAt : Text → List Row → Asked → Type 0
 AsksAt name rows (Script file format) =
     (name ≡ codes "script") × (first_of (codes "FILE") rows ≡ option_map (λ path. path.now) file)
@@ -39,6 +63,11 @@ AsksAt name rows (Recipe words) =
     × (first_of (codes "FIRST") rows ≡ option_map (λ word. word.now) words.first)
     × (first_of (codes "SECOND") rows ≡ option_map (λ word. word.now) words.second)
     × (first_of (codes "THIRD") rows ≡ option_map (λ word. word.now) words.third)
+AsksAt name rows (Explore scenario keeps level budget) =
+    (name ≡ codes "explore") × (first_of (codes "SCENARIO") rows ≡ Some scenario.now)
+    × (first_of (codes "keeps") rows ≡ option_map (λ path. path.now) keeps)
+    × (first_of (codes "level") rows ≡ option_map (λ name. name.now) level)
+    × BudgetAt (first_of (codes "budget") rows) budget
 AsksAt name rows (Nothing status) = ⊥
 
 -- the same, of the command that the words name
@@ -46,7 +75,7 @@ abbrev pub AsksBy : Option (Text × List Row) → Asked → Type 0
 AsksBy None asked = ⊥
 AsksBy (Some named) asked = AsksAt named.0 named.1 asked
 
--- a script, a check with its files, a run by threads, or a recipe, where the words have no fault, and else the status of their fault
+-- a script, a check with its files, a run by threads, a recipe, or a search, where the words have no fault, and else the status of their fault
 abbrev pub Asks : List Text → Asked → Type 0
 Asks words (Nothing status) = IsStatusOf (faults_of words) status
 Asks words asked = (faults_of words ≡ []) × AsksBy (subcommand_of stmrun_app words) asked
@@ -63,11 +92,16 @@ HasWorkers rows = IsSomeAnd (first_of (codes "workers") rows) (IsUnsignedIn 1 16
 abbrev pub HasName : List Row → Type 0
 HasName rows = IsSome (first_of (codes "NAME") rows)
 
--- what is found of the command that the words name is that of a script, of a check with its files, of a run by so many threads, or of
--- a recipe with a name
+-- a scenario stands in its place, and where a number of events is named, it is one
+abbrev pub HasSearch : List Row → Type 0
+HasSearch rows = IsSome (first_of (codes "SCENARIO") rows) × IfSome (first_of (codes "budget") rows) (IsUnsignedIn 0 18446744073709551615)
+
+-- what is found of the command that the words name is that of a script, of a check with its files, of a run by so many threads, of
+-- a recipe with a name, or of a search
 abbrev pub IsWhole : Option (Text × List Row) → Type 0
 IsWhole None = ⊥
 IsWhole (Some named) =
     (named.0 ≡ codes "script")
     ⊎ (((named.0 ≡ codes "check") × HasFiles named.1)
-    ⊎ (((named.0 ≡ codes "threads") × HasWorkers named.1) ⊎ ((named.0 ≡ codes "recipe") × HasName named.1)))
+    ⊎ (((named.0 ≡ codes "threads") × HasWorkers named.1)
+    ⊎ (((named.0 ≡ codes "recipe") × HasName named.1) ⊎ ((named.0 ≡ codes "explore") × HasSearch named.1))))

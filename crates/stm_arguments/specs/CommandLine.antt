@@ -3,7 +3,8 @@ use Rattle.std.specs.Prelude.{◌≡◌, ◌⊎◌, ℕ, List, Some, codes, true
 use Rattle.clap.specs.Words.{AddsSubcommand, App, IsAmong, Kinds, Rule, Text, app_of, fault_of, new_app, new_rule, with_rule, with_subcommand}
 use Rattle.clap.specs.declared.builder.action.ArgAction.TheVariants.{SetTrue}
 use Rattle.clap.specs.declared.builder.command.Command.{Command}
-use Rattle.clap.specs.declared.builder.value_parser.ValueParser.TheVariants.{Unsigned}
+use Rattle.clap.specs.declared.builder.value_parser.ValueParser.{ValueParser}
+use Rattle.clap.specs.declared.builder.value_parser.ValueParser.TheVariants.{Unsigned, String as AnyText}
 use Rattle.clap.specs.Simple.{on_top}
 use Rattle.clap.specs.declared.error.kind.ErrorKind.{ErrorKind}
 use Rattle.clap.specs.declared.error.kind.ErrorKind.TheVariants.{DisplayHelp, DisplayVersion, OutOfMemory}
@@ -40,18 +41,32 @@ recipe_app =
     (with_rule (with_rule (with_rule (new_app (codes "recipe")) (wanted (codes "NAME"))) (new_rule (codes "FIRST"))) (new_rule (codes "SECOND")))
     (new_rule (codes "THIRD"))
 
+-- an option with a value that may be there, and what the value has to be
+abbrev pub option_rule : List ℕ → ValueParser → Rule
+option_rule name parser = record (new_rule name) { long = Some name; value_names = 1; parser = Some parser }
+
+abbrev pub explore_app : App
+explore_app =
+    with_rule
+    (with_rule
+    (with_rule (with_rule (new_app (codes "explore")) (wanted (codes "SCENARIO"))) (option_rule (codes "keeps") AnyText))
+    (option_rule (codes "level") AnyText))
+    (option_rule (codes "budget") (Unsigned 0 18446744073709551615))
+
 -- a command that is added to another makes it that one with this as a subcommand, the last
 abbrev pub IsAddedAs : App → Command → Type 0
 IsAddedAs app command = (old new : Command) → AddsSubcommand old command new → app_of new ≡ with_subcommand (app_of old) app.top
 
--- stmrun: it has a version, and wants a subcommand, script, check, threads or recipe
+-- stmrun: it has a version, and wants a subcommand, script, check, threads, recipe or explore
 abbrev pub stmrun_app : App
 stmrun_app =
     with_subcommand
     (with_subcommand
+    (with_subcommand
     (with_subcommand (with_subcommand (on_top (λ top. record top { subcommand_required = true; has_version = true }) (new_app (codes "stmrun"))) script_app.top) check_app.top)
     threads_app.top)
-    recipe_app.top
+    recipe_app.top)
+    explore_app.top
 
 -- 0 for help and the version, 3 for want of memory and 2 for usage
 abbrev pub status_of_kind : ErrorKind → ℕ

@@ -4,6 +4,7 @@ ghost use Rattle.clap.specs.Words.{IsUnsignedIn, app_of, first_of, found_of, kin
 ghost use Rattle.stm_arguments.specs.CommandLine.{format_rule, script_app, check_app, threads_app, recipe_app, stmrun_app, flag_rule, wanted, workers_rule, IsAddedAs, IsToldBy};
 ghost use Rattle.stm_arguments.specs.Asking.{Asks, AsksAt, AsksBy, HasFiles, HasName, HasWorkers, IsWhole, NamesNumber, is_set};
 
+use crate::exploring::{explore_command, explore_of};
 use clap::error::ErrorKind;
 use clap::{Arg, ArgAction, ArgMatches, Command, Error};
 use std::alloc::{AllocError, Global};
@@ -35,6 +36,16 @@ pub enum Asked<'a> {
     },
     /// The program of a recipe, by its name and its arguments.
     Recipe(RecipeWords<'a>),
+    /// A search through the interleavings of a scenario, by its path.
+    Explore {
+        scenario: &'a str,
+        /// The path of the rule's program, where there is a rule.
+        keeps: Option<&'a str>,
+        /// The name of the level of each start, where one is named.
+        level: Option<&'a str>,
+        /// At most so many events are taken.
+        budget: u64,
+    },
     /// Nothing more: help was printed, or the command line was refused, with this status.
     Nothing(u8),
 }
@@ -81,7 +92,7 @@ the end line:
   [\"end\",2,1]
 
 Statuses: 0 done or yes, 1 no, 2 bad input or usage, 3 want of memory, a failed device, or a run of threads
-that was broken off.";
+that was broken off; of explore also 1 for a rule that is broken, and 4 where all its events were taken.";
 
 const SCRIPT_EXAMPLE: &str =
     "The report is printed once it is whole, and nothing of it where the scenario is bad: then the place of its
@@ -190,7 +201,7 @@ Usage: stmrun <COMMAND>
 For more information, try '--help'.";
 
 /// An argument that has to be there, by its place.
-fn required<'a>(alloc: Global, name: &'a str, help: &'a str) -> Arg<'a>
+pub(crate) fn required<'a>(alloc: Global, name: &'a str, help: &'a str) -> Arg<'a>
     ensures rule { rule_of result ≡ wanted name.now }
     ensures local { result.global ≡ false }
 {
@@ -325,6 +336,7 @@ fn command<'a>(alloc: Global) -> Result<Command<'a>, AllocError>
     let check = check_command(alloc)?;
     let threads = threads_command(alloc)?;
     let recipe = recipe_command(alloc)?;
+    let explore = explore_command(alloc)?;
     Command::new(alloc, "stmrun")
         .about("Runs transactional programs over an etcd-like store, one event at a time")
         .after_help(EXAMPLE)
@@ -333,7 +345,8 @@ fn command<'a>(alloc: Global) -> Result<Command<'a>, AllocError>
         .subcommand(script)?
         .subcommand(check)?
         .subcommand(threads)?
-        .subcommand(recipe)
+        .subcommand(recipe)?
+        .subcommand(explore)
 }
 
 /// The status of a command line that is refused, or that asks for help or the version, once its text is printed: 0 for help and
@@ -355,7 +368,7 @@ fn told<R: Print + Eprint>(rt: &R, error: &Error) -> u8
 }
 
 /// The status of a command line that is refused, once the line is printed. That printing fails changes no status.
-fn fail<R: Eprint>(rt: &R, line: &str, status: u8) -> u8
+pub(crate) fn fail<R: Eprint>(rt: &R, line: &str, status: u8) -> u8
     ensures { result ≡ status }
 {
     let _ = rt.eprintln(line);
@@ -376,7 +389,7 @@ fn words<R: Env + AllocGlobal>(rt: &R) -> Result<Vec<String>, WordsFault> {
 }
 
 /// The word in the place of an argument.
-fn word_of<'a>(found: &ArgMatches<'a>, name: &str) -> Option<&'a str>
+pub(crate) fn word_of<'a>(found: &ArgMatches<'a>, name: &str) -> Option<&'a str>
     ensures { option_map (λ word. word.now) result ≡ first_of name.now (rows_of (found_of found.now)) }
 {
     found.get_str(name)
@@ -466,7 +479,7 @@ fn recipe_of<'a>(found: &ArgMatches<'a>) -> Option<Asked<'a>>
 }
 
 /// What a command of this name asks for; `None` where it is no command of this program, or lacks what it has to have.
-#[tactic(auto, using(crate::proofs::CommandLemmas::whole_check, crate::proofs::CommandLemmas::whole_threads, crate::proofs::CommandLemmas::whole_recipe, crate::proofs::CommandLemmas::whole_other))]
+#[tactic(auto, using(crate::proofs::CommandLemmas::whole_check, crate::proofs::CommandLemmas::whole_threads, crate::proofs::CommandLemmas::whole_recipe, crate::proofs::CommandLemmas::whole_explore, crate::proofs::CommandLemmas::whole_other))]
 fn asked_at<'a>(name: &str, found: &ArgMatches<'a>) -> Option<Asked<'a>>
     ensures asks { IfSome result (AsksAt name.now (rows_of (found_of found.now))) }
     ensures missing { IfNone result (IsWhole (Some (name.now, rows_of (found_of found.now))) → ⊥) }
@@ -484,6 +497,9 @@ fn asked_at<'a>(name: &str, found: &ArgMatches<'a>) -> Option<Asked<'a>>
     }
     if name == "recipe" {
         return recipe_of(found);
+    }
+    if name == "explore" {
+        return explore_of(found);
     }
     None
 }

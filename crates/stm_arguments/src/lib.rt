@@ -2,6 +2,9 @@
 #![tactic(auto)]
 
 mod arguments;
+mod exploring;
 
 pub use arguments::{Asked, asked_of, read_words};
+pub use exploring::read_level;
+pub use stm_program::Level;
 pub use stm_recipe_lines::RecipeWords;

@@ -1,7 +1,8 @@
-//! The commands that start no thread, over devices: what `script`, `check` and `recipe` write, their statuses, and what they say of a fault.
+//! The commands that start no thread, over devices: what `script`, `check`, `explore` and `recipe` write, their statuses, and what they say of a fault.
 #![tactic(auto)]
 
 mod checking;
+mod exploring;
 mod formats;
 mod messages;
 mod recipes;
@@ -9,10 +10,12 @@ mod scripting;
 mod whole_checking;
 
 pub use checking::check_to;
+pub use exploring::{explore_to, outcomes_to};
 pub use formats::{NO_FORMAT, no_format_to, script_as_to};
 pub use messages::{write_bad, write_text};
 pub use recipes::{USAGE, recipe_to};
 pub use scripting::script_to;
+pub use stm_exploring::Level;
 pub use stm_formats::Format;
 pub use stm_recipe_lines::RecipeWords;
 pub use stm_report::{BadInput, DeviceFault, Sink, Source, Std};

@@ -1,5 +1,5 @@
 //! The program: runs scenarios of transactional programs over one store, by itself or by several threads, and reports what happened, checks
-//! reports, and prints the programs of recipes.
+//! reports, looks through the interleavings of a scenario, and prints the programs of recipes.
 #![tactic(auto)]
 
 ghost use Rattle.std.specs.Prelude.{◌≤◌};
@@ -17,9 +17,11 @@ use files::open;
 use std::process::ExitCode;
 use std::sync::Wait;
 use std::thread::Threads;
-use stm_arguments::{Asked, asked_of, read_words};
-use stm_commands::{Format, RecipeWords, Std, no_format_to};
-pub use stm_commands::{check_to, check_whole_to, recipe_to, script_as_to, script_to};
+use stm_arguments::{Asked, asked_of, read_level, read_words};
+use stm_commands::{Format, Level, RecipeWords, Std, no_format_to};
+pub use stm_commands::{
+    check_to, check_whole_to, explore_to, outcomes_to, recipe_to, script_as_to, script_to,
+};
 pub use threading::{threads_to, threads_with_ends_to};
 
 /// The path of an input that may be named: that of standard input where it is not.
@@ -67,6 +69,55 @@ fn run_check(rt: &HostRuntime, scenario: &str, report: &str, whole: bool) -> u8 
     check_to(rt.alloc(), &mut scenario, &mut report, &mut out, &mut err)
 }
 
+/// Looks through the interleavings of a path's scenario for one that breaks the rule of another path. Only one of them can be standard input.
+fn run_rule(
+    rt: &HostRuntime,
+    scenario: &str,
+    keeps: &str,
+    level: Option<Level>,
+    budget: u64,
+) -> u8 {
+    if scenario == "-" && keeps == "-" {
+        let _ = rt.eprintln("stmrun: standard input can be only one of SCENARIO and PROGRAM");
+        return 2;
+    }
+    let mut scenario = Std::new(open(rt, scenario));
+    let mut keeps = Std::new(open(rt, keeps));
+    let mut out = Std::new(rt.stdout());
+    let mut err = Std::new(rt.stderr());
+    explore_to(
+        rt.alloc(),
+        &mut scenario,
+        &mut keeps,
+        level,
+        budget,
+        &mut out,
+        &mut err,
+    )
+}
+
+/// Goes through the interleavings of a path's scenario.
+fn run_outcomes(rt: &HostRuntime, scenario: &str, level: Option<Level>, budget: u64) -> u8 {
+    let mut scenario = Std::new(open(rt, scenario));
+    let mut out = Std::new(rt.stdout());
+    let mut err = Std::new(rt.stderr());
+    outcomes_to(rt.alloc(), &mut scenario, level, budget, &mut out, &mut err)
+}
+
+/// Looks through the interleavings of a path's scenario, for one that breaks a rule or for what they come to.
+fn run_explore(
+    rt: &HostRuntime,
+    scenario: &str,
+    keeps: Option<&str>,
+    level: Option<Level>,
+    budget: u64,
+) -> u8 {
+    match keeps {
+        Some(keeps) => run_rule(rt, scenario, keeps, level, budget),
+        None => run_outcomes(rt, scenario, level, budget),
+    }
+}
+
 /// Runs the jobs of the scenario of a path, or of that on standard input, by so many threads. The ends of the jobs are printed too, or are not.
 fn run_threads<T: Threads + Wait + Sync>(
     rt: &HostRuntime,
@@ -112,6 +163,15 @@ fn run<T: Threads + Wait + Sync>(rt: &HostRuntime, threads: &T) -> u8 {
             ends,
         } => run_threads(rt, threads, scenario, workers, ends),
         Asked::Recipe(words) => run_recipe(rt, &words),
+        Asked::Explore {
+            scenario,
+            keeps,
+            level,
+            budget,
+        } => match read_level(rt, level) {
+            Ok(level) => run_explore(rt, scenario, keeps, level, budget),
+            Err(status) => status,
+        },
         Asked::Nothing(status) => status,
     }
 }

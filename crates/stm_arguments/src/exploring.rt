@@ -1,0 +1,179 @@
+//! The command line of `explore`.
+ghost use Rattle.std.specs.Prelude.{◌≡◌, codes, false, IfErr, IfNone, IfOk, IfSome, IsSomeAnd, None, option_map};
+ghost use Rattle.clap.specs.Words.{IsUnsignedIn, found_of, rows_of, rule_of};
+ghost use Rattle.stm_arguments.specs.Asking.{AsksAt, HasSearch, NamesNumber, LevelAt, BudgetAt, level_named};
+ghost use Rattle.stm_arguments.specs.CommandLine.{explore_app, option_rule, IsAddedAs};
+
+use crate::arguments::{Asked, fail, required, word_of};
+use clap::builder::ValueParser;
+use clap::{Arg, ArgMatches, Command};
+use std::alloc::{AllocError, Global};
+use stm_program::Level;
+
+/// So many events are taken at most, where no number is named.
+pub(crate) const USUAL_BUDGET: u64 = 5000000;
+
+const EXAMPLE: &str =
+    "SCENARIO is a scenario without steps. Its events up to the last start are run first. Then every schedule is looked
+at: each way in which the runners' steps and the events behind the last start, in their order, can be mixed, and each
+beginning of such a way, the shortest first.
+
+With --keeps, PROGRAM is a rule: a program, as a start has one, that is run alone on the state after each schedule. Where
+it comes to its last statement the schedule keeps the rule; where it aborts, or comes to a fault, the rule is broken:
+
+  [\"always\",LENGTH]        every schedule keeps it, and the longest has so many moves
+  [\"broken\",LENGTH,END]    this is the first that does not, with [\"aborted\",TEXT] or [\"faulted\",FAULT], and the next line
+                           is the scenario with its steps in it, which stmrun script takes
+  [\"open\",LENGTH]          N events were taken before that was decided; every schedule of up to so many moves keeps it
+
+Without --keeps, what whole schedules come to is printed, after which no move is left, each once: the keys with their
+values, and how each runner ended ([\"committed\",OUTPUT], [\"gaveup\",KEY], [\"aborted\",TEXT], [\"faulted\",FAULT] or
+[\"ended\",CAUSE]). If s.json holds two programs that each put a key when the other is not put,
+
+  [[\"start\",\"ReadCommitted\",1,[[\"if\",[\"eq\",[\"get\",\"b\"],\"\"],[[\"put\",\"a\",\"1\",0]],[]]]],
+   [\"start\",\"ReadCommitted\",1,[[\"if\",[\"eq\",[\"get\",\"a\"],\"\"],[[\"put\",\"b\",\"1\",0]],[]]]]]
+
+then stmrun explore s.json prints
+
+  [\"outcome\",[[\"a\",\"1\"],[\"b\",\"1\"]],[[\"committed\",[]],[\"committed\",[]]]]
+  [\"outcome\",[[\"a\",\"1\"]],[[\"committed\",[]],[\"committed\",[]]]]
+  [\"outcome\",[[\"b\",\"1\"]],[[\"committed\",[]],[\"committed\",[]]]]
+  [\"outcomes\",3]
+
+and of stmrun explore --level Serializable s.json none of the lines has both keys.
+
+Statuses: 0 always, or all outcomes were found, 1 broken, 2 bad input or usage, 3 want of memory or a failed device,
+4 open.";
+
+/// What is said of a name that is that of no level, in the manner of the other usage faults.
+const UNKNOWN_LEVEL: &str = "error: unknown level for '--level <LEVEL>'
+  [possible values: SerializableSnapshot, Serializable, RepeatableReads, ReadCommitted]
+
+Usage: stmrun explore [OPTIONS] <SCENARIO>
+
+For more information, try '--help'.";
+
+/// An option with a value that may be there.
+fn option<'a>(
+    alloc: Global,
+    name: &'a str,
+    value: &'a str,
+    parser: ValueParser<'a>,
+    help: &'a str,
+) -> Arg<'a>
+    ensures rule { rule_of result ≡ option_rule name.now parser.entry }
+    ensures local { result.global ≡ false }
+{
+    Arg::new(alloc, name)
+        .long(name)
+        .value_name(value)
+        .value_parser(parser)
+        .help(help)
+}
+
+/// The command `explore`.
+pub(crate) fn explore_command<'a>(alloc: Global) -> Result<Command<'a>, AllocError>
+    ensures { IfOk result (IsAddedAs explore_app) }
+{
+    let scenario = required(alloc, "SCENARIO", "The file of the scenario");
+    let keeps = option(
+        alloc,
+        "keeps",
+        "PROGRAM",
+        ValueParser::String,
+        "The file of a program that is to come to its last statement after every schedule",
+    );
+    let level = option(
+        alloc,
+        "level",
+        "LEVEL",
+        ValueParser::String,
+        "The level of every start, in the place of its own: SerializableSnapshot, Serializable, RepeatableReads or ReadCommitted",
+    );
+    let budget = option(
+        alloc,
+        "budget",
+        "N",
+        ValueParser::Unsigned(0, u64::MAX),
+        "How many events are taken at most, 5000000 if not said",
+    );
+    Command::new(alloc, "explore")
+        .about(
+            "Looks through every interleaving of a scenario, for one that breaks a rule or for what they come to",
+        )
+        .after_help(EXAMPLE)
+        .arg(scenario)?
+        .arg(keeps)?
+        .arg(level)?
+        .arg(budget)
+}
+
+/// The level of a name.
+fn level_named(name: &str) -> Option<Level>
+    ensures { result ≡ level_named name.now }
+{
+    if name == "SerializableSnapshot" {
+        Some(Level::SerializableSnapshot)
+    } else if name == "Serializable" {
+        Some(Level::Serializable)
+    } else if name == "RepeatableReads" {
+        Some(Level::RepeatableReads)
+    } else if name == "ReadCommitted" {
+        Some(Level::ReadCommitted)
+    } else {
+        None
+    }
+}
+
+/// The level that is named, where one is, or status 2 where the name is that of none. What is wrong was then printed, or could not be.
+pub fn read_level<R: Eprint>(rt: &R, name: Option<&str>) -> Result<Option<Level>, u8>
+    ensures level { IfOk result (LevelAt (option_map (λ n. n.now) name.entry)) }
+    ensures unknown { IfErr result (λ status. (status ≡ 2) × IsSomeAnd name.entry (λ n. level_named n.now ≡ None)) }
+{
+    match name {
+        None => Ok(None),
+        Some(name) => match level_named(name) {
+            Some(level) => Ok(Some(level)),
+            None => Err(fail(rt, UNKNOWN_LEVEL, 2)),
+        },
+    }
+}
+
+/// The number that a text spells.
+fn number_in(text: &str) -> Option<u64>
+    ensures number { IfSome result (NamesNumber text.now) }
+    ensures none { IfNone result (IsUnsignedIn 0 18446744073709551615 text.now → ⊥) }
+{
+    match text.parse::<u64>() {
+        Ok(number) => Some(number),
+        Err(_) => None,
+    }
+}
+
+/// How many events are taken at most; `None` where what is named is no number.
+fn budget_at(text: Option<&str>) -> Option<u64>
+    ensures budget { IfSome result (BudgetAt (option_map (λ t. t.now) text.entry)) }
+    ensures none { IfNone result (IfSome text.entry (λ t. IsUnsignedIn 0 18446744073709551615 t.now) → ⊥) }
+{
+    match text {
+        None => Some(USUAL_BUDGET),
+        Some(text) => number_in(text),
+    }
+}
+
+/// What a search with these arguments asks for; `None` where the scenario is missing, or the number is none.
+pub(crate) fn explore_of<'a>(found: &ArgMatches<'a>) -> Option<Asked<'a>>
+    ensures asks { IfSome result (AsksAt (codes "explore") (rows_of (found_of found.now))) }
+    ensures missing { IfNone result (HasSearch (rows_of (found_of found.now)) → ⊥) }
+{
+    let scenario = word_of(found, "SCENARIO")?;
+    let keeps = word_of(found, "keeps");
+    let level = word_of(found, "level");
+    let budget = budget_at(word_of(found, "budget"))?;
+    Some(Asked::Explore {
+        scenario,
+        keeps,
+        level,
+        budget,
+    })
+}

@@ -1,0 +1,50 @@
+-- No line of a search has a float.
+use Rattle.std.proofs.Common.{◌≡◌, ℕ, false, List, [], ◌∷◌, map, ℤ, pos, negsuc, refl}
+use Rattle.serde_json.specs.Data.{Data}
+use Rattle.serde_json.specs.Find.{is_float, of_integer}
+use Rattle.serde_json.specs.View.{items_of}
+use Rattle.serde_json.specs.Written.{has_float, items_have_float}
+use Rattle.stm_reports.specs.LineData.{value_data}
+use Rattle.stm_meaning.specs.declared.run.End.{End}
+use Rattle.stm_meaning.specs.declared.run.End.TheVariants.{Done, Aborted as ByAbort, Faulted as ByFault}
+use Rattle.stm_meaning.specs.declared.value.Value.{Value}
+use Rattle.stm_meaning.specs.declared.value.Value.TheVariants.{Text, Number}
+use Rattle.stm_schedules.specs.declared.outcome.KeyValue.{KeyValue}
+use Rattle.stm_schedules.specs.declared.outcome.Outcome.{Outcome}
+use Rattle.stm_schedules.specs.declared.outcome.RunnerEnd.{RunnerEnd}
+use Rattle.stm_schedules.specs.declared.outcome.RunnerEnd.TheVariants.{Committed, GaveUp, Aborted, Faulted, Ended}
+use Rattle.stm_exploring.specs.Lines.{end_data, broken_line, key_value_data, runner_end_data, outcome_line}
+
+each-no_float : {A : Type 0} (write : A → Data) → ((x : A) → has_float (write x) ≡ false) → (xs : List A) → items_have_float (items_of (map write xs)) ≡ false
+each-no_float write one [] = refl
+each-no_float write one (x ∷ xs) = rw (one x) (each-no_float write one xs)
+
+end_data-no_float : (end : End) → has_float (end_data end) ≡ false
+end_data-no_float Done = refl
+end_data-no_float (ByAbort text) = refl
+end_data-no_float (ByFault fault) = refl
+
+pub broken_line-no_float : (n : ℕ) (end : End) → has_float (broken_line n end) ≡ false
+broken_line-no_float n end = rw (end_data-no_float end) refl
+
+of_integer-no_float : (z : ℤ) → is_float (of_integer z) ≡ false
+of_integer-no_float (pos n) = refl
+of_integer-no_float (negsuc n) = refl
+
+value_data-no_float : (v : Value) → has_float (value_data v) ≡ false
+value_data-no_float (Text text) = refl
+value_data-no_float (Number z) = of_integer-no_float z
+
+key_value_data-no_float : (kv : KeyValue) → has_float (key_value_data kv) ≡ false
+key_value_data-no_float kv = refl
+
+runner_end_data-no_float : (end : RunnerEnd) → has_float (runner_end_data end) ≡ false
+runner_end_data-no_float (Committed output) = rw (each-no_float value_data value_data-no_float output) refl
+runner_end_data-no_float (GaveUp key) = refl
+runner_end_data-no_float (Aborted text) = refl
+runner_end_data-no_float (Faulted fault) = refl
+runner_end_data-no_float (Ended cause) = refl
+
+pub outcome_line-no_float : (o : Outcome) → has_float (outcome_line o) ≡ false
+outcome_line-no_float o =
+    rw (each-no_float key_value_data key_value_data-no_float o.state, each-no_float runner_end_data runner_end_data-no_float o.ends) refl

@@ -1,0 +1,71 @@
+-- From what was read of a source to what it has.
+use Rattle.std.proofs.Common.{◌≡◌, ℕ, ◌≤◌, ◌<◌, List, length, take, Bool, true, false, nat_lt, Option, Some, None, IfSome, refl, sym, ap}
+use Rattle.std.proofs.Common.{◌∙◌, arith, take_all, IsUtf8}
+use Rattle.std.specs.Str.{is_utf8}
+use Rattle.std.proofs.lemmas.Str.{IsUtf8-from_is_utf8, is_utf8-from_IsUtf8}
+use Rattle.serde_json.specs.Data.{Data}
+use Rattle.serde_json.specs.Read.{read}
+use Rattle.stm_json.specs.Bytes.{data_of}
+use Rattle.stm_program_json.specs.Reading.{program_of}
+use Rattle.std.proofs.lemmas.Bool.{ltb-true, ltb-false}
+use Rattle.std.proofs.lemmas.Bool.Decides.{nat_tests}
+use Rattle.std.proofs.lemmas.List.{length-take-le}
+use Rattle.stm_devices.specs.declared.transfer.TheConstants.{MOST_READ}
+use Rattle.stm_json.specs.declared.cause.Cause.TheVariants.{NotJson, TooLong}
+use Rattle.stm_json.specs.declared.limits.TheConstants.{MOST_BYTES}
+use Rattle.stm_json.specs.Outcome.{Outcome, bad, ◌>>=◌}
+use Rattle.stm_program.specs.Syntax.{ProgramTree}
+use Rattle.stm_program.specs.declared.level.Level.{Level}
+use Rattle.stm_report.proofs.ScriptLemmas.{scenario_in-front}
+use Rattle.stm_texts.specs.declared.scenario.Scenario.{Scenario}
+use Rattle.stm_exploring.specs.Asking.{asked}
+use Rattle.stm_exploring.specs.Exploring.{asked_in, program_in, program_read}
+
+-- ---- what is too long by a byte is too long however it goes on
+
+asked_in-front : (level : Option Level) (all : List ℕ) → asked_in level (take MOST_READ all) ≡ asked_in level all
+asked_in-front level all = ap (λ (o : Outcome Scenario). o >>= asked level) (scenario_in-front all)
+
+program_in-long : (bytes : List ℕ) → MOST_BYTES < length bytes → program_in bytes ≡ bad TooLong
+unfolding program_in
+program_in-long bytes long = grind (arith, nat_tests)
+
+program_by_length : (b : Bool) (all : List ℕ) → nat_lt MOST_BYTES (length all) ≡ b → program_in (take MOST_READ all) ≡ program_in all
+program_by_length true all is =
+    let long : MOST_BYTES < length all = ltb-true MOST_BYTES (length all) is in
+    let front : length (take MOST_READ all) ≡ MOST_READ = length-take-le MOST_READ all (omega arith) in
+    program_in-long (take MOST_READ all) (omega arith) ∙ sym (program_in-long all long)
+program_by_length false all is =
+    let short : length all ≤ MOST_BYTES = ltb-false MOST_BYTES (length all) is in
+    ap program_in (take_all MOST_READ all (omega arith))
+
+-- ---- what was read of the bytes was read of the source
+
+pub scenario_told : (level : Option Level) (bytes : List ℕ) (known : Option (List ℕ)) (outcome : Outcome Scenario)
+    → IfSome known (λ all. bytes ≡ take MOST_READ all) → asked_in level bytes ≡ outcome → IfSome known (λ all. asked_in level all ≡ outcome)
+scenario_told level bytes None outcome taken is = tt
+scenario_told level bytes (Some all) outcome taken is = sym (asked_in-front level all) ∙ sym (ap (asked_in level) taken) ∙ is
+
+pub program_told : (bytes : List ℕ) (known : Option (List ℕ)) (outcome : Outcome ProgramTree) → IfSome known (λ all. bytes ≡ take MOST_READ all)
+    → program_in bytes ≡ outcome → IfSome known (λ all. program_in all ≡ outcome)
+program_told bytes None outcome taken is = tt
+program_told bytes (Some all) outcome taken is =
+    sym (program_by_length (nat_lt MOST_BYTES (length all)) all refl) ∙ sym (ap program_in taken) ∙ is
+
+-- ---- bytes that are the JSON of a program, and bytes that are not JSON
+
+program_in-short : (bytes : List ℕ) → length bytes ≤ MOST_BYTES → program_in bytes ≡ program_read (data_of bytes)
+unfolding program_in
+program_in-short bytes short = grind (arith, nat_tests)
+
+-- text that is the JSON of data
+pub program_in-json : (bytes : List ℕ) (d : Data) → length bytes ≤ MOST_BYTES → IsUtf8 bytes → read bytes ≡ Some d → program_in bytes ≡ program_of d
+program_in-json bytes d short utf8 is = program_in-short bytes short ∙ rw (is_utf8-from_IsUtf8 bytes utf8, is) refl
+
+refused : (bytes : List ℕ) (utf8 : Bool) → is_utf8 bytes ≡ utf8 → (IsUtf8 bytes → read bytes ≡ None) → program_read (data_of bytes) ≡ bad NotJson
+refused bytes true is none = rw (is, none (IsUtf8-from_is_utf8 bytes is)) refl
+refused bytes false is none = rw is refl
+
+-- anything else
+pub program_in-other : (bytes : List ℕ) → length bytes ≤ MOST_BYTES → (IsUtf8 bytes → read bytes ≡ None) → program_in bytes ≡ bad NotJson
+program_in-other bytes short none = program_in-short bytes short ∙ refused bytes (is_utf8 bytes) refl none

@@ -1,0 +1,117 @@
+-- What is printed of a schedule spells the scenario with the schedule's events.
+use Rattle.std.proofs.Common.{◌≡◌, ℕ, ◌≤◌, List, [], ◌∷◌, ◌++◌, map, Bool, true, false, cond, Option, Some, None, Ok, Err, refl, subst, arith}
+use Rattle.serde_json.specs.Data.{Data, string, unsigned, Items}
+use Rattle.stm_history.specs.declared.revisions.TheConstants.{HIGHEST_NUMBER}
+use Rattle.stm_json.specs.Outcome.{Outcome, ◌>>=◌}
+use Rattle.stm_program.specs.declared.level.Level.{Level}
+use Rattle.stm_program_json.specs.Writing.{written_number}
+use Rattle.stm_scenario_json.specs.Laws.{AreSpelled}
+use Rattle.stm_scenario_json.proofs.Scenarios.{scenarios_spell}
+use Rattle.stm_schedules.specs.declared.moves.Move.{Move}
+use Rattle.stm_schedules.specs.declared.moves.Move.TheVariants.{Step, Other}
+use Rattle.stm_schedules.specs.Scenarios.{has_start, up_to_last_start, behind_last_start, at_level, with_schedule}
+use Rattle.stm_schedules.specs.Schedules.{events_along}
+use Rattle.stm_texts.specs.Grammar.{level_text, SpellsEvent, SpellsElements, SpellsScenario}
+use Rattle.stm_texts.specs.Reading.{IsOpening, scenario_in}
+use Rattle.stm_texts.specs.declared.scenario.Scenario.{Scenario}
+use Rattle.stm_texts.proofs.GrammarSound.{spelled_by}
+use Rattle.stm_txn_json.specs.Grammar.{SpellsEach}
+use Rattle.stm_world.specs.declared.event.WorldEvent.{WorldEvent}
+use Rattle.stm_world.specs.declared.event.WorldEvent.TheVariants as event
+use Rattle.stm_exploring.specs.Asking.{first_step, events_at, scenario_at, without_step, asked}
+use Rattle.stm_exploring.specs.Laws.{AreNumbered, SchedulesSpell}
+
+-- ---- what was read is spelled
+
+each_spelled : (ds : Items) (es : List WorldEvent) → SpellsEach SpellsEvent ds es → AreSpelled es
+each_spelled ds [] is = tt
+each_spelled ds (e ∷ es) (a, rest, is, s, others) = ((a, s), each_spelled rest es others)
+
+elements_spelled : (ds : Items) (o : Option ℕ) (es : List WorldEvent) → SpellsElements ds o es → IsOpening o × AreSpelled es
+elements_spelled ds None es spelled = (tt, each_spelled ds es spelled)
+elements_spelled ds (Some r) es (a, rest, is, (number, low, high), spelled) = ((low, high), each_spelled rest es spelled)
+
+read_spelled : (bytes : List ℕ) (s : Scenario) → SpellsScenario bytes s → IsOpening s.opening × AreSpelled s.events
+read_spelled bytes s (short, d, is, (ds, are, spelled, few)) = elements_spelled ds s.opening s.events spelled
+
+-- ---- at another level
+
+level_spelled : (level : Level) (e : WorldEvent) → ((d : Data) × SpellsEvent d e) → (d : Data) × SpellsEvent d (at_level level e)
+level_spelled level (event.Start program other limit) (d, (a, b, c, is, word, within_limit, of_program, fits)) =
+    (_, (string (level_text level), b, c, refl, refl, within_limit, of_program, fits))
+level_spelled level (event.Step runner) s = s
+level_spelled level (event.Txn txn) s = s
+level_spelled level (event.Grant id ttl) s = s
+level_spelled level (event.Keep id) s = s
+level_spelled level (event.Revoke id) s = s
+level_spelled level (event.Advance now) s = s
+level_spelled level (event.WatchKey key from) s = s
+level_spelled level (event.WatchRange first end from) s = s
+level_spelled level (event.Poll watcher most) s = s
+level_spelled level (event.Cancel watcher) s = s
+
+levels_spelled : (level : Level) (es : List WorldEvent) → AreSpelled es → AreSpelled (map (at_level level) es)
+levels_spelled level [] all = tt
+levels_spelled level (e ∷ es) (s, others) = (level_spelled level e s, levels_spelled level es others)
+
+events_at-spelled : (level : Option Level) (es : List WorldEvent) → AreSpelled es → AreSpelled (events_at level es)
+events_at-spelled None es all = all
+events_at-spelled (Some level) es all = levels_spelled level es all
+
+-- ---- with a schedule
+
+append_spelled : (es fs : List WorldEvent) → AreSpelled es → AreSpelled fs → AreSpelled (es ++ fs)
+append_spelled [] fs all others = others
+append_spelled (e ∷ es) fs (s, rest) others = (s, append_spelled es fs rest others)
+
+setup_of : (b : Bool) (e : WorldEvent) (es : List WorldEvent) → ((d : Data) × SpellsEvent d e) → AreSpelled (up_to_last_start es)
+    → AreSpelled (cond b (e ∷ up_to_last_start es) [])
+setup_of true e es s rest = (s, rest)
+setup_of false e es s rest = tt
+
+setup_spelled : (es : List WorldEvent) → AreSpelled es → AreSpelled (up_to_last_start es)
+setup_spelled [] all = tt
+setup_spelled (e ∷ es) (s, others) = setup_of (has_start (e ∷ es)) e es s (setup_spelled es others)
+
+others_of : (b : Bool) (e : WorldEvent) (es : List WorldEvent) → AreSpelled (e ∷ es) → AreSpelled (behind_last_start es)
+    → AreSpelled (cond b (behind_last_start es) (e ∷ es))
+others_of true e es all rest = rest
+others_of false e es all rest = all
+
+others_spelled : (es : List WorldEvent) → AreSpelled es → AreSpelled (behind_last_start es)
+others_spelled [] all = tt
+others_spelled (e ∷ es) (s, others) = others_of (has_start (e ∷ es)) e es (s, others) (others_spelled es others)
+
+step_spelled : (runner : ℕ) → runner ≤ HIGHEST_NUMBER → (d : Data) × SpellsEvent d (event.Step runner)
+step_spelled runner high = (_, (written_number runner, refl, ((unsigned runner, refl, refl), omega arith, high)))
+
+along_spelled : (ms : List Move) (others : List WorldEvent) → AreNumbered ms → AreSpelled others → AreSpelled (events_along ms others)
+along_spelled [] others numbered all = tt
+along_spelled (Step runner ∷ ms) others (high, numbered) all = (step_spelled runner high, along_spelled ms others numbered all)
+along_spelled (Other ∷ ms) [] numbered all = along_spelled ms [] numbered all
+along_spelled (Other ∷ ms) (e ∷ es) numbered (s, rest) = (s, along_spelled ms es numbered rest)
+
+schedule_spelled : (es : List WorldEvent) (ms : List Move) → AreNumbered ms → AreSpelled es → AreSpelled (with_schedule es ms)
+schedule_spelled es ms numbered all =
+    append_spelled (up_to_last_start es) (events_along ms (behind_last_start es)) (setup_spelled es all)
+    (along_spelled ms (behind_last_start es) numbered (others_spelled es all))
+
+-- ---- the law
+
+asked_of : (first : Option ℕ) (level : Option Level) (read s : Scenario) → without_step first (scenario_at level read) ≡ Ok s → scenario_at level read ≡ s
+asked_of None level read s is = cc is
+asked_of (Some before) level read s is = absurd (cc)
+
+read_as : (level : Option Level) (bytes : List ℕ) (reading : Outcome Scenario) (s : Scenario) → scenario_in bytes ≡ reading
+    → (reading >>= asked level) ≡ Ok s → IsOpening s.opening × AreSpelled s.events
+read_as level bytes (Err fault) s is asked_is = absurd (cc)
+read_as level bytes (Ok read) s is asked_is =
+    let spelled = read_spelled bytes read (spelled_by bytes (Ok read) is) in
+    subst (λ (t : Scenario). IsOpening t.opening × AreSpelled t.events) (asked_of (first_step read.events) level read s asked_is)
+    (spelled.0, events_at-spelled level read.events spelled.1)
+
+pub schedules_spell : SchedulesSpell
+schedules_spell level bytes s schedule is numbered few =
+    let spelled = read_as level bytes (scenario_in bytes) s refl is in
+    scenarios_spell (record { opening = s.opening; events = with_schedule s.events schedule }) spelled.0
+    (schedule_spelled s.events schedule numbered spelled.1) few

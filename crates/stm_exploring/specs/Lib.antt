@@ -1,0 +1,4 @@
+pub mod Asking
+pub mod Lines
+pub mod Exploring
+pub mod Laws

@@ -1,0 +1,50 @@
+//! A search about a scenario and a rule, from their sources to what is printed.
+ghost use Rattle.std.specs.Prelude.{◌≡◌, ◌≤◌, ◌+◌, false};
+ghost use Rattle.stm_devices.specs.declared.transfer.TheConstants.{MOST_READ};
+ghost use Rattle.stm_exploring.specs.Exploring.{Searches};
+
+use crate::printed::Printed;
+use crate::reading::{ExploreFault, program_of, scenario_of};
+use crate::searching::search;
+use std::alloc::Global;
+use stm_devices::Source;
+use stm_program::Level;
+
+/// Reads a scenario from its source to the end, then the program of a rule from its own, and looks after which schedules of the scenario the
+/// rule is kept: the first by length, and then by the order of their moves, after which it is not, or that there is none.
+///
+/// Each start is taken at the level that is named, where one is. At most so many events are taken as `budget` says. Neither source has failed
+/// before. It fails as `BadScenario` with the scenario's first fault, or with its first step, as `Shape`, and then the program is not read; as
+/// `BadProgram` with the program's first fault; as `OutOfMemory` where a growth was refused; and as `Device` exactly where a source has failed.
+/// At most 16777217 bytes of each are read, in at most so many reads of each.
+pub fn explore_sources<S: Source, R: Source>(
+    alloc: Global,
+    scenario: &mut S,
+    keeps: &mut R,
+    level: Option<Level>,
+    budget: u64,
+) -> Result<Printed, ExploreFault>
+    requires scenario_works { S.failed scenario.old ≡ false }
+    requires keeps_works { R.failed keeps.old ≡ false }
+    ensures searched { Searches level (record {
+      scenario = S.left scenario.old;
+      keeps = R.left keeps.old;
+      scenario_failed = S.failed scenario.new;
+      keeps_failed = R.failed keeps.new;
+    }) result }
+    ensures scenario_bounded { S.reads scenario.new ≤ S.reads scenario.old + MOST_READ }
+    ensures keeps_bounded { R.reads keeps.new ≤ R.reads keeps.old + MOST_READ }
+{
+    let scenario = match scenario_of(alloc, scenario, level) {
+        Ok(scenario) => scenario,
+        Err(fault) => return Err(fault),
+    };
+    let keeps = match program_of(alloc, keeps) {
+        Ok(program) => program,
+        Err(fault) => return Err(fault),
+    };
+    match search(alloc, &scenario, &keeps, budget) {
+        Ok(printed) => Ok(printed),
+        Err(_) => Err(ExploreFault::OutOfMemory),
+    }
+}

@@ -1,0 +1,114 @@
+//! What the whole schedules of a scenario come to, from its source to what is printed.
+ghost use Rattle.std.specs.Prelude.{◌≡◌, ◌≤◌, ◌+◌, [], false, IfOk, string_bytes};
+ghost use Rattle.stm_devices.specs.declared.transfer.TheConstants.{MOST_READ};
+ghost use Rattle.stm_explore.specs.Explored.{AreOutcomes};
+ghost use Rattle.stm_schedules.specs.Outcomes.{after_replies};
+ghost use Rattle.stm_texts.specs.Reading.{IsOpening};
+ghost use Rattle.stm_world.specs.World.{world_after, replies_to};
+ghost use Rattle.stm_exploring.specs.Asking.{place_of, ends_of};
+ghost use Rattle.stm_exploring.specs.Exploring.{gathered_text, verdict_of_outcomes, printed_outcomes, ArePrinted, Gathers};
+
+use crate::lines::count_text;
+use crate::outcome_lines::outcomes_text;
+use crate::printed::{Printed, Verdict};
+use crate::reading::{ExploreFault, scenario_of};
+use crate::setup::{run_setup, setup_and_others};
+use std::alloc::{AllocError, Global};
+use stm_devices::Source;
+use stm_explore::{Outcomes, find_outcomes};
+use stm_history::Text;
+use stm_program::Level;
+use stm_retry::World;
+use stm_texts::{Scenario, WorldEvent};
+
+/// What is printed of what whole schedules come to.
+fn gathered_text(alloc: Global, gathered: &Outcomes) -> Result<String, AllocError>
+    ensures { IfOk result (λ text. string_bytes text ≡ gathered_text gathered.now) }
+{
+    match gathered {
+        Outcomes::Found { outcomes } => outcomes_text(alloc, outcomes.as_slice()),
+        Outcomes::Open { gone_through } => count_text(alloc, "open", *gone_through),
+    }
+}
+
+/// Whether all whole schedules were gone through.
+fn verdict_of(gathered: &Outcomes) -> Verdict
+    ensures { result ≡ verdict_of_outcomes gathered.now }
+{
+    match gathered {
+        Outcomes::Found { .. } => Verdict::Kept,
+        Outcomes::Open { .. } => Verdict::Open,
+    }
+}
+
+/// What is printed of what whole schedules come to, and whether all were gone through.
+fn print(alloc: Global, gathered: &Outcomes) -> Result<Printed, AllocError>
+    ensures { IfOk result (λ p. p ≡ printed_outcomes gathered.now) }
+{
+    let text = gathered_text(alloc, gathered)?;
+    Ok(Printed {
+        verdict: verdict_of(gathered),
+        text: Text::new(text),
+    })
+}
+
+/// What whole schedules come to, once these events were run in a world.
+fn gather_from(
+    alloc: Global,
+    world: &mut World,
+    setup: &[WorldEvent],
+    others: &[WorldEvent],
+    budget: u64,
+) -> Result<Outcomes, AllocError>
+    ensures { IfOk result (AreOutcomes (record { world = world_after setup.now world.old; others = others.now })
+        (after_replies (replies_to setup.now world.old) [])) }
+{
+    let ends = run_setup(alloc, world, setup)?;
+    find_outcomes(alloc, world, others, ends.as_slice(), budget)
+}
+
+/// What the whole schedules of a scenario come to.
+fn gather_scenario(alloc: Global, scenario: &Scenario, budget: u64) -> Result<Outcomes, AllocError>
+    requires { IsOpening scenario.now.opening }
+    ensures { IfOk result (AreOutcomes (place_of scenario.now) (ends_of scenario.now)) }
+{
+    let (setup, others) = setup_and_others(scenario.events.as_slice());
+    let mut world = World::with_revision(alloc, scenario.opening.unwrap_or(1))?;
+    let gathered = gather_from(alloc, &mut world, setup, others, budget);
+    drop(world);
+    gathered
+}
+
+/// What is printed of what the whole schedules of a scenario come to.
+fn gather(alloc: Global, scenario: &Scenario, budget: u64) -> Result<Printed, AllocError>
+    requires { IsOpening scenario.now.opening }
+    ensures { IfOk result (ArePrinted scenario.now) }
+{
+    let gathered = gather_scenario(alloc, scenario, budget)?;
+    print(alloc, &gathered)
+}
+
+/// Reads a scenario from its source to the end, and looks what its whole schedules come to: the state, and how each runner ended.
+///
+/// Each start is taken at the level that is named, where one is. At most so many events are taken as `budget` says. The source has not failed
+/// before. It fails as `BadScenario` with the scenario's first fault, or with its first step, as `Shape`; as `OutOfMemory` where a growth was
+/// refused; and as `Device` exactly where the source has failed. At most 16777217 bytes are read, in at most so many reads.
+pub fn outcomes_of_source<S: Source>(
+    alloc: Global,
+    scenario: &mut S,
+    level: Option<Level>,
+    budget: u64,
+) -> Result<Printed, ExploreFault>
+    requires { S.failed scenario.old ≡ false }
+    ensures gathered { Gathers level (S.left scenario.old) (S.failed scenario.new) result }
+    ensures bounded { S.reads scenario.new ≤ S.reads scenario.old + MOST_READ }
+{
+    let scenario = match scenario_of(alloc, scenario, level) {
+        Ok(scenario) => scenario,
+        Err(fault) => return Err(fault),
+    };
+    match gather(alloc, &scenario, budget) {
+        Ok(printed) => Ok(printed),
+        Err(_) => Err(ExploreFault::OutOfMemory),
+    }
+}

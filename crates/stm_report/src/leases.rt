@@ -31,10 +31,7 @@ fn take_entry(leases: &mut BTreeMap<u64, LiveLease>, entry: &Entry) -> Result<()
 }
 
 /// The leases that are live after these entries, by id. It fails where a growth was refused.
-pub fn live_leases(
-    alloc: Global,
-    entries: &[Entry],
-) -> Result<BTreeMap<u64, LiveLease>, AllocError>
+pub fn live_leases(alloc: Global, entries: &[Entry]) -> Result<BTreeMap<u64, LiveLease>, AllocError>
     ensures { IfOk result (λ leases. (start : ℕ) → HasLeases leases (replay entries.now (opening start)).live) }
 {
     let mut leases = BTreeMap::new(alloc);

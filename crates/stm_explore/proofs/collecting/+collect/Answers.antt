@@ -1,7 +1,6 @@
-use Rattle.std.proofs.Common.{◌≡◌, ◌∙◌, List, Option, ℕ, sym, ap, subst, arith}
+use Rattle.std.proofs.Common.{◌≡◌, ◌∙◌, List, sym, ap, subst, arith}
 use Rattle.stm_world.specs.World.{World}
 use Rattle.stm_schedules.specs.declared.moves.Move.{Move}
-use Rattle.stm_schedules.specs.declared.outcome.Outcome.{Outcome}
 use Rattle.stm_schedules.specs.Places.{Place, moved}
 use Rattle.stm_schedules.specs.Outcomes.{Ends, ends_moved}
 use Rattle.stm_schedules.specs.Fewer.{quiet_runner, is_looked_at}
@@ -41,9 +40,9 @@ collect_behind-returns-clause-more t c =
 pub collect_behind-returns-clause-found : goal.collect_behind-returns-clause-found
 collect_behind-returns-clause-found t c =
     subst (λ (w : World). Gathers (outcomes_behind c.args.depth c.args.last (record { world = w; others = c.args.others.now }) c.args.ends.now c.args.chosen)
-    c.args.found.now.items c.collect_moved.new.found.items) c.in_ok-next.ensures
+    c.args.found.now.items c.collect_moved-more.new.found.items) c.in_ok-next.ensures
     (subst (λ (e : Ends). Gathers (outcomes_behind c.args.depth c.args.last (record { world = c.in_ok-next.next; others = c.args.others.now }) e c.args.chosen)
-    c.args.found.now.items c.collect_moved.new.found.items) c.in_ok-ends.ensures c.in_ok-more.ensures.found)
+    c.args.found.now.items c.collect_moved-more.new.found.items) c.in_ok-ends.ensures c.in_ok-more.ensures.found)
 
 pub collect_moved-returns-then-is_looked_at-clause-more : goal.collect_moved-returns-then-is_looked_at-clause-more
 collect_moved-returns-then-is_looked_at-clause-more t c =

@@ -1,11 +1,17 @@
-use Rattle.std.proofs.Common.{◌≡◌, ◌∙◌, List, Option, ℕ, true, sym, ap, subst, arith}
+use Rattle.std.proofs.Common.{◌∙◌, List, sym, ap, subst, arith}
 use Rattle.stm_world.specs.World.{World}
 use Rattle.stm_schedules.specs.declared.moves.Move.{Move}
 use Rattle.stm_schedules.specs.Places.{Place, moved}
 use Rattle.stm_schedules.specs.Fewer.{quiet_runner, is_looked_at}
 use Rattle.stm_explore.specs.Seen.{IsSeenBehind}
-use Rattle.stm_explore.proofs.LookLemmas.{seen_at, seen_next, looked_behind, not_looked_behind}
+use Rattle.stm_explore.proofs.LookLemmas.{seen_at, seen_none, seen_next, looked_behind, not_looked_behind}
 use Rattle.stm_explore.proofs.looking.+look.Goals as goal
+
+pub look-loop-chosen-init : goal.look-loop-chosen-init
+look-loop-chosen-init t c =
+    let p : Place = record { world = c.args.world.now; others = c.args.others.now } in
+    seen_none c.args.rule.now c.args.depth c.args.last p c.deref-chosen-items.result.now c.if-depth-eq0.false
+    (c.deref-chosen-items.ensures.value ∙ c.in_ok-left.ensures)
 
 pub look-loop-chosen-preserved : goal.look-loop-chosen-preserved
 look-loop-chosen-preserved t c =

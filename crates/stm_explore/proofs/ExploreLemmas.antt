@@ -14,7 +14,9 @@ use Rattle.stm_explore.specs.declared.exploring.Explored.{Explored}
 use Rattle.stm_explore.specs.declared.exploring.Explored.TheVariants.{Always, Broken, Open}
 use Rattle.stm_explore.specs.declared.looked.Looked.{Looked}
 use Rattle.stm_explore.specs.declared.looked.Looked.TheVariants.{Kept as KeptAt, Broken as BrokenAt}
+use Rattle.stm_schedules.specs.Fewer.{FewerAreEnough}
 use Rattle.stm_explore.specs.Seen.{IsSeen}
+use Rattle.stm_explore.proofs.FewerLooks.{seen_goes_on}
 use Rattle.stm_explore.specs.Explored.{IsExplored, MergesAreKept}
 
 -- none of up to n moves is bad: the first of up to one more is the first of exactly one more
@@ -40,27 +42,40 @@ still_open first rule n p none more = (first.none (keeps rule) n p none, more)
 
 -- ---- one look more ----
 
-pub kept_at_all : (first : FirstBadIsFirst) (all : LongestIsAll) (rule : ProgramTree) (n k : ℕ) (p : Place) → k ≡ suc n → first_bad (keeps rule) n p ≡ None →
-    goes_on (suc n) p ≡ true → IsSeen rule k p (KeptAt false) → IsExplored rule p (Always k)
-kept_at_all first all rule n k p is none more seen =
-    always first all rule k p (bad_next (keeps rule) n k p None is none seen.0) (ap (λ (j : ℕ). goes_on j p) is ∙ more) (sym seen.1)
+-- what is seen where fewer schedules are looked at is so of all
+none_bad : (fewer : FewerAreEnough) (rule : ProgramTree) (n : ℕ) (p : Place) (more : Bool) → IsSeen rule n None p (KeptAt more) →
+    (bad_at (keeps rule) n p ≡ None) × (more ≡ goes_on (suc n) p)
+none_bad fewer rule n p more seen = (sym (fewer.bad (keeps rule) n p) ∙ seen.0, seen.1 ∙ seen_goes_on fewer n p)
 
-pub kept_so_far : (rule : ProgramTree) (n k : ℕ) (p : Place) → k ≡ suc n → first_bad (keeps rule) n p ≡ None → IsSeen rule k p (KeptAt true) →
-    (first_bad (keeps rule) k p ≡ None) × (goes_on (suc k) p ≡ true)
-kept_so_far rule n k p is none seen = (bad_next (keeps rule) n k p None is none seen.0, sym seen.1)
+pub kept_at_all : (fewer : FewerAreEnough) (first : FirstBadIsFirst) (all : LongestIsAll) (rule : ProgramTree) (n k : ℕ) (p : Place) → k ≡ suc n →
+    first_bad (keeps rule) n p ≡ None → goes_on (suc n) p ≡ true → IsSeen rule k None p (KeptAt false) → IsExplored rule p (Always k)
+kept_at_all fewer first all rule n k p is none more seen =
+    let of_all = none_bad fewer rule k p false seen in
+    always first all rule k p (bad_next (keeps rule) n k p None is none of_all.0) (ap (λ (j : ℕ). goes_on j p) is ∙ more) (sym of_all.1)
 
-pub broken_at : (first : FirstBadIsFirst) (rule : ProgramTree) (n k : ℕ) (p : Place) (schedule : List Move) (end : End) → k ≡ suc n →
-    first_bad (keeps rule) n p ≡ None → IsSeen rule k p (BrokenAt schedule end) → IsExplored rule p (Broken schedule end)
-broken_at first rule n k p schedule end is none seen =
-    broken first rule k p schedule end (bad_next (keeps rule) n k p (Some schedule) is none seen.0) seen.1
+pub kept_so_far : (fewer : FewerAreEnough) (rule : ProgramTree) (n k : ℕ) (p : Place) → k ≡ suc n → first_bad (keeps rule) n p ≡ None →
+    IsSeen rule k None p (KeptAt true) → (first_bad (keeps rule) k p ≡ None) × (goes_on (suc k) p ≡ true)
+kept_so_far fewer rule n k p is none seen =
+    let of_all = none_bad fewer rule k p true seen in
+    (bad_next (keeps rule) n k p None is none of_all.0, sym of_all.1)
 
-pub kept_at_once : (first : FirstBadIsFirst) (all : LongestIsAll) (rule : ProgramTree) (p : Place) → IsSeen rule 0 p (KeptAt false) →
-    IsExplored rule p (Always 0)
-kept_at_once first all rule p seen = always first all rule 0 p seen.0 refl (sym seen.1)
+pub broken_at : (fewer : FewerAreEnough) (first : FirstBadIsFirst) (rule : ProgramTree) (n k : ℕ) (p : Place) (schedule : List Move) (end : End) → k ≡ suc n →
+    first_bad (keeps rule) n p ≡ None → IsSeen rule k None p (BrokenAt schedule end) → IsExplored rule p (Broken schedule end)
+broken_at fewer first rule n k p schedule end is none seen =
+    broken first rule k p schedule end (bad_next (keeps rule) n k p (Some schedule) is none (sym (fewer.bad (keeps rule) k p) ∙ seen.0)) seen.1
 
-pub broken_at_once : (first : FirstBadIsFirst) (rule : ProgramTree) (p : Place) (schedule : List Move) (end : End) →
-    IsSeen rule 0 p (BrokenAt schedule end) → IsExplored rule p (Broken schedule end)
-broken_at_once first rule p schedule end seen = broken first rule 0 p schedule end seen.0 seen.1
+pub kept_at_once : (fewer : FewerAreEnough) (first : FirstBadIsFirst) (all : LongestIsAll) (rule : ProgramTree) (p : Place) →
+    IsSeen rule 0 None p (KeptAt false) → IsExplored rule p (Always 0)
+kept_at_once fewer first all rule p seen =
+    let of_all = none_bad fewer rule 0 p false seen in always first all rule 0 p of_all.0 refl (sym of_all.1)
+
+pub more_at_once : (fewer : FewerAreEnough) (rule : ProgramTree) (p : Place) → IsSeen rule 0 None p (KeptAt true) →
+    (first_bad (keeps rule) 0 p ≡ None) × (goes_on 1 p ≡ true)
+more_at_once fewer rule p seen = let of_all = none_bad fewer rule 0 p true seen in (of_all.0, sym of_all.1)
+
+pub broken_at_once : (fewer : FewerAreEnough) (first : FirstBadIsFirst) (rule : ProgramTree) (p : Place) (schedule : List Move) (end : End) →
+    IsSeen rule 0 None p (BrokenAt schedule end) → IsExplored rule p (Broken schedule end)
+broken_at_once fewer first rule p schedule end seen = broken first rule 0 p schedule end (sym (fewer.bad (keeps rule) 0 p) ∙ seen.0) seen.1
 
 -- what is so of schedules is so of steps merged with what the others do
 pub merges_keep : (merges : MergesKeep) (rule : ProgramTree) (p : Place) (e : Explored) → IsExplored rule p e → MergesAreKept rule p e

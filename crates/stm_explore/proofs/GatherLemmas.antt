@@ -1,5 +1,5 @@
 -- Outcomes that are gathered one after another.
-use Rattle.std.proofs.Common.{◌≡◌, ◌≢◌, ◌∙◌, ◌↔◌, ◌⊎◌, inl, inr, IsTrue, ℕ, zero, suc, ◌+◌, ◌-◌, ◌<◌, ◌≤◌, ◌||◌, Bool, true, false, cond, List, [], ◌∷◌, ◌++◌, length, refl, sym, ap, subst, get_or, drop, arith}
+use Rattle.std.proofs.Common.{◌≡◌, ◌≢◌, ◌∙◌, ◌↔◌, ◌⊎◌, inl, inr, IsTrue, ℕ, zero, suc, ◌+◌, ◌-◌, ◌<◌, ◌≤◌, ◌||◌, Bool, true, false, cond, List, [], ◌∷◌, ◌++◌, length, Option, None, refl, sym, ap, subst, get_or, drop, arith}
 use Rattle.std.specs.Prelude.{Contains}
 use Rattle.std.specs.List.{list_any, flat_map, AllByRecursion}
 use Rattle.std.proofs.lemmas.List.{at_drop_more, at_drop_all, get_or_default}
@@ -8,8 +8,10 @@ use Rattle.stm_world.specs.World.{World}
 use Rattle.stm_schedules.specs.declared.outcome.Outcome.{Outcome}
 use Rattle.stm_schedules.specs.declared.moves.Move.{Move}
 use Rattle.stm_schedules.specs.Places.{Place, moves, moved}
-use Rattle.stm_schedules.specs.Keeping.{goes_on}
-use Rattle.stm_explore.proofs.LookLemmas.{passes, passes_here, passes_left}
+use Rattle.stm_schedules.specs.Fewer.{quiet_runner, fewer_outcomes_at, FewerAreEnough}
+use Rattle.stm_explore.specs.Seen.{looks, seen_go_on, goes_on_behind, outcomes_behind}
+use Rattle.stm_explore.proofs.FewerLooks.{fewer_outcomes}
+use Rattle.stm_explore.proofs.LookLemmas.{passes, passes_here, passes_left, go_on_deeper}
 use Rattle.stm_schedules.specs.Outcomes.{Ends, ends_moved, shown, outcome_if_whole, outcomes_at}
 use Rattle.stm_explore.specs.Gathering.{AreDistinct, Gathers}
 
@@ -120,56 +122,75 @@ pub leads_end : (left all found start : List Outcome) → left ≡ [] → LeadsT
 leads_end left all found start none so_far =
     so_far.leads found (subst (λ (l : List Outcome). Gathers l found found) (sym none) (gathers_nothing found))
 
--- what whole schedules come to that have n moves behind this one
-abbrev pub outcomes_behind : ℕ → Place → Ends → Move → List Outcome
-outcomes_behind n p ends m = outcomes_at n (moved m p) (ends_moved m p ends)
-
-pub outcomes_at_deeper : (n : ℕ) (p : Place) (ends : Ends) → n ≢ 0 → outcomes_at n p ends ≡ flat_map (outcomes_behind (n - 1) p ends) (moves p)
-outcomes_at_deeper zero p ends more = absurd (more refl)
-outcomes_at_deeper (suc n) p ends more = let e : suc n - 1 ≡ n = omega arith in rw e refl
+pub outcomes_at_deeper : (n : ℕ) (last : Option ℕ) (p : Place) (ends : Ends) → n ≢ 0 →
+    fewer_outcomes_at n last p ends ≡ flat_map (outcomes_behind (n - 1) last p ends) (moves p)
+outcomes_at_deeper zero last p ends more = absurd (more refl)
+outcomes_at_deeper (suc n) last p ends more = let e : suc n - 1 ≡ n = omega arith in rw e (fewer_outcomes n last p ends)
 
 -- what is yet to be gathered behind the moves that are left, and whether some schedule goes on behind a move so far or one that is left
-pub record CollectedSoFar (n : ℕ) (p : Place) (ends : Ends) (more : Bool) (left : List Move) (found start : List Outcome) : Type 0 where
-  pub leading : LeadsTo (flat_map (outcomes_behind (n - 1) p ends) left) (outcomes_at n p ends) found start
-  pub going : passes more (λ (m : Move). goes_on n (moved m p)) left ≡ goes_on (suc n) p
+pub record CollectedSoFar (n : ℕ) (last : Option ℕ) (p : Place) (ends : Ends) (more : Bool) (left : List Move) (found start : List Outcome) : Type 0 where
+  pub leading : LeadsTo (flat_map (outcomes_behind (n - 1) last p ends) left) (fewer_outcomes_at n last p ends) found start
+  pub going : passes more (goes_on_behind (n - 1) last p) left ≡ seen_go_on n last p
 
-pub collected_none : (n : ℕ) (p : Place) (ends : Ends) (ms : List Move) (start : List Outcome) → n ≢ 0 → ms ≡ moves p →
-    CollectedSoFar n p ends false ms start start
-collected_none n p ends ms start deep is = record {
-  leading = let e : flat_map (outcomes_behind (n - 1) p ends) ms ≡ outcomes_at n p ends
-      = ap (flat_map (outcomes_behind (n - 1) p ends)) is ∙ sym (outcomes_at_deeper n p ends deep) in
-      subst (λ (l : List Outcome). LeadsTo l (outcomes_at n p ends) start start) (sym e) (leads_all (outcomes_at n p ends) start);
-  going = ap (list_any (λ (m : Move). goes_on n (moved m p))) is;
+pub collected_none : (n : ℕ) (last : Option ℕ) (p : Place) (ends : Ends) (ms : List Move) (start : List Outcome) → n ≢ 0 → ms ≡ moves p →
+    CollectedSoFar n last p ends false ms start start
+collected_none n last p ends ms start deep is = record {
+  leading = let e : flat_map (outcomes_behind (n - 1) last p ends) ms ≡ fewer_outcomes_at n last p ends
+      = ap (flat_map (outcomes_behind (n - 1) last p ends)) is ∙ sym (outcomes_at_deeper n last p ends deep) in
+      subst (λ (l : List Outcome). LeadsTo l (fewer_outcomes_at n last p ends) start start) (sym e) (leads_all (fewer_outcomes_at n last p ends) start);
+  going = ap (list_any (goes_on_behind (n - 1) last p)) is ∙ sym (go_on_deeper n last p deep);
 }
 
-pub collected_more : (n : ℕ) (p : Place) (ends : Ends) (ms : List Move) (i : ℕ) (m : Move) (so_far more : Bool) (found next start : List Outcome) → n ≢ 0 →
-    i < length ms → m ≡ get_or ms i m → more ≡ goes_on (suc (n - 1)) (moved m p) → Gathers (outcomes_behind (n - 1) p ends m) found next →
-    CollectedSoFar n p ends so_far (drop i ms) found start → CollectedSoFar n p ends (so_far || more) (drop (i + 1) ms) next start
-collected_more n p ends ms i m so_far more found next start deep within is told gathers old =
-    let e : suc (n - 1) ≡ n = omega (arith, deep) in
-    let here : more ≡ goes_on n (moved m p) = told ∙ ap (λ (k : ℕ). goes_on k (moved m p)) e in
-    let f : Move → List Outcome = outcomes_behind (n - 1) p ends in
+pub collected_more : (n : ℕ) (last : Option ℕ) (p : Place) (ends : Ends) (ms : List Move) (i : ℕ) (m : Move) (so_far more : Bool) (found next start : List Outcome) →
+    i < length ms → m ≡ get_or ms i m → more ≡ goes_on_behind (n - 1) last p m → Gathers (outcomes_behind (n - 1) last p ends m) found next →
+    CollectedSoFar n last p ends so_far (drop i ms) found start → CollectedSoFar n last p ends (so_far || more) (drop (i + 1) ms) next start
+collected_more n last p ends ms i m so_far more found next start within is told gathers old =
+    let f : Move → List Outcome = outcomes_behind (n - 1) last p ends in
     record {
-      leading = leads_more (f m) (flat_map f (drop (i + 1) ms)) (flat_map f (drop i ms)) (outcomes_at n p ends) found next start
+      leading = leads_more (f m) (flat_map f (drop (i + 1) ms)) (flat_map f (drop i ms)) (fewer_outcomes_at n last p ends) found next start
           (flat_more f ms i m within is) gathers old.leading;
-      going = passes_here so_far more (λ (m' : Move). goes_on n (moved m' p)) ms i m within is here ∙ old.going;
+      going = passes_here so_far more (goes_on_behind (n - 1) last p) ms i m within is told ∙ old.going;
     }
 
 -- the same by what one turn of the loop has
-pub collected_next : (n : ℕ) (p : Place) (ends : Ends) (ms : List Move) (i : ℕ) (d : Move) (so_far more next_more : Bool) (found next start : List Outcome) →
-    Gathers (outcomes_behind (n - 1) p ends (get_or ms i d)) found next → more ≡ goes_on (suc (n - 1)) (moved (get_or ms i d) p) → n ≢ 0 → i < length ms →
-    next_more ≡ (so_far || more) → CollectedSoFar n p ends so_far (drop i ms) found start → CollectedSoFar n p ends next_more (drop (i + 1) ms) next start
-collected_next n p ends ms i d so_far more next_more found next start gathers told deep within is old =
-    subst (λ (b : Bool). CollectedSoFar n p ends b (drop (i + 1) ms) next start) (sym is)
-    (collected_more n p ends ms i (get_or ms i d) so_far more found next start deep within (get_or_default ms i d (get_or ms i d) within) told gathers old)
+pub collected_next : (n : ℕ) (last : Option ℕ) (p : Place) (ends : Ends) (ms : List Move) (i : ℕ) (d : Move) (so_far more next_more : Bool)
+    (found next start : List Outcome) → Gathers (outcomes_behind (n - 1) last p ends (get_or ms i d)) found next →
+    more ≡ goes_on_behind (n - 1) last p (get_or ms i d) → i < length ms → next_more ≡ (so_far || more) →
+    CollectedSoFar n last p ends so_far (drop i ms) found start → CollectedSoFar n last p ends next_more (drop (i + 1) ms) next start
+collected_next n last p ends ms i d so_far more next_more found next start gathers told within is old =
+    subst (λ (b : Bool). CollectedSoFar n last p ends b (drop (i + 1) ms) next start) (sym is)
+    (collected_more n last p ends ms i (get_or ms i d) so_far more found next start within (get_or_default ms i d (get_or ms i d) within) told gathers old)
 
-pub collected_all : (n : ℕ) (p : Place) (ends : Ends) (ms : List Move) (i : ℕ) (so_far : Bool) (found start : List Outcome) → length ms ≤ i →
-    CollectedSoFar n p ends so_far (drop i ms) found start → (so_far ≡ goes_on (suc n) p) × Gathers (outcomes_at n p ends) start found
-collected_all n p ends ms i so_far found start end old = (
-  sym (passes_left so_far (λ (m : Move). goes_on n (moved m p)) ms i end) ∙ old.going,
-  leads_end (flat_map (outcomes_behind (n - 1) p ends) (drop i ms)) (outcomes_at n p ends) found start
-      (flat_end (outcomes_behind (n - 1) p ends) ms i end) old.leading,
+pub collected_all : (n : ℕ) (last : Option ℕ) (p : Place) (ends : Ends) (ms : List Move) (i : ℕ) (so_far : Bool) (found start : List Outcome) → length ms ≤ i →
+    CollectedSoFar n last p ends so_far (drop i ms) found start → (so_far ≡ seen_go_on n last p) × Gathers (fewer_outcomes_at n last p ends) start found
+collected_all n last p ends ms i so_far found start end old = (
+  sym (passes_left so_far (goes_on_behind (n - 1) last p) ms i end) ∙ old.going,
+  leads_end (flat_map (outcomes_behind (n - 1) last p ends) (drop i ms)) (fewer_outcomes_at n last p ends) found start
+      (flat_end (outcomes_behind (n - 1) last p ends) ms i end) old.leading,
 )
+
+-- ---- behind a move ----
+
+-- a move that is looked at
+pub going_behind : (n : ℕ) (last : Option ℕ) (m : Move) (p : Place) (more : Bool) → looks last p m ≡ true →
+    more ≡ seen_go_on n (quiet_runner m p.world) (moved m p) → more ≡ goes_on_behind n last p m
+going_behind n last m p more kept going =
+    going ∙ ap (λ (b : Bool). cond b (seen_go_on n (quiet_runner m p.world) (moved m p)) false) (sym kept)
+
+pub gathers_behind : (n : ℕ) (last : Option ℕ) (m : Move) (p : Place) (ends : Ends) (old new : List Outcome) → looks last p m ≡ true →
+    Gathers (fewer_outcomes_at n (quiet_runner m p.world) (moved m p) (ends_moved m p ends)) old new → Gathers (outcomes_behind n last p ends m) old new
+gathers_behind n last m p ends old new kept gathers =
+    subst (λ (b : Bool). Gathers (cond b (fewer_outcomes_at n (quiet_runner m p.world) (moved m p) (ends_moved m p ends)) []) old new) (sym kept) gathers
+
+-- and one that is not
+pub not_going_behind : (n : ℕ) (last : Option ℕ) (m : Move) (p : Place) → looks last p m ≡ false → false ≡ goes_on_behind n last p m
+not_going_behind n last m p not = ap (λ (b : Bool). cond b (seen_go_on n (quiet_runner m p.world) (moved m p)) false) (sym not)
+
+pub nothing_behind : (n : ℕ) (last : Option ℕ) (m : Move) (p : Place) (ends : Ends) (found : List Outcome) → looks last p m ≡ false →
+    Gathers (outcomes_behind n last p ends m) found found
+nothing_behind n last m p ends found not =
+    subst (λ (b : Bool). Gathers (cond b (fewer_outcomes_at n (quiet_runner m p.world) (moved m p) (ends_moved m p ends)) []) found found) (sym not)
+    (gathers_nothing found)
 
 -- ---- the place itself ----
 
@@ -194,11 +215,32 @@ more_here (m ∷ ms) w ends found more = gathers_nothing found
 same_place : (p q : Place) → q.world ≡ p.world → q.others ≡ p.others → q ≡ p
 same_place p q world others = λ i. record { world = world i; others = others i }
 
-pub going_at : (n : ℕ) (p q : Place) (more : Bool) → q.world ≡ p.world → q.others ≡ p.others → more ≡ goes_on n q → more ≡ goes_on n p
-going_at n p q more world others going = going ∙ ap (goes_on n) (same_place p q world others)
+pub going_at : (n : ℕ) (last quiet : Option ℕ) (p q : Place) (more : Bool) → quiet ≡ last → q.world ≡ p.world → q.others ≡ p.others →
+    more ≡ seen_go_on n quiet q → more ≡ seen_go_on n last p
+going_at n last quiet p q more is world others going =
+    going ∙ ap (seen_go_on n quiet) (same_place p q world others) ∙ ap (λ (l : Option ℕ). seen_go_on n l p) is
 
-pub gathers_at : (n : ℕ) (p q : Place) (ends known : Ends) (old new : List Outcome) → q.world ≡ p.world → q.others ≡ p.others → known ≡ ends →
-    Gathers (outcomes_at n q known) old new → Gathers (outcomes_at n p ends) old new
-gathers_at n p q ends known old new world others same gathers =
-    subst (λ (place : Place). Gathers (outcomes_at n place ends) old new) (same_place p q world others)
-    (subst (λ (e : Ends). Gathers (outcomes_at n q e) old new) same gathers)
+pub gathers_at : (n : ℕ) (last quiet : Option ℕ) (p q : Place) (ends known : Ends) (old new : List Outcome) → quiet ≡ last → q.world ≡ p.world →
+    q.others ≡ p.others → known ≡ ends → Gathers (fewer_outcomes_at n quiet q known) old new → Gathers (fewer_outcomes_at n last p ends) old new
+gathers_at n last quiet p q ends known old new is world others same gathers =
+    subst (λ (l : Option ℕ). Gathers (fewer_outcomes_at n l p ends) old new) is
+    (subst (λ (place : Place). Gathers (fewer_outcomes_at n quiet place ends) old new) (same_place p q world others)
+    (subst (λ (e : Ends). Gathers (fewer_outcomes_at n quiet q e) old new) same gathers))
+
+-- ---- all schedules ----
+
+-- what was gathered where fewer schedules are gone through is what all come to
+pub gathers_all : (fewer : FewerAreEnough) (n : ℕ) (p : Place) (ends : Ends) (old new : List Outcome) → Gathers (fewer_outcomes_at n None p ends) old new →
+    Gathers (outcomes_at n p ends) old new
+gathers_all fewer n p ends old new gathers = record {
+  each = λ it. (λ c. there it ((gathers.each it).0 c), λ c. (gathers.each it).1 (back it c));
+  distinct = gathers.distinct;
+}
+  where
+    there : (it : Outcome) → Contains old it ⊎ Contains (fewer_outcomes_at n None p ends) it → Contains old it ⊎ Contains (outcomes_at n p ends) it
+    there it (inl c) = inl c
+    there it (inr c) = inr ((fewer.outcomes n p ends it).0 c)
+
+    back : (it : Outcome) → Contains old it ⊎ Contains (outcomes_at n p ends) it → Contains old it ⊎ Contains (fewer_outcomes_at n None p ends) it
+    back it (inl c) = inl c
+    back it (inr c) = inr ((fewer.outcomes n p ends it).1 c)

@@ -1,5 +1,6 @@
 pub mod KeepLemmas
 pub mod MoveLemmas
+pub mod FewerLooks
 pub mod LookLemmas
 pub mod ExploreLemmas
 pub mod SameLemmas

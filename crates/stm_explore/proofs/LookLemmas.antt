@@ -10,18 +10,21 @@ use Rattle.stm_meaning.specs.declared.run.End.{End}
 use Rattle.stm_world.specs.World.{World}
 use Rattle.stm_schedules.specs.declared.moves.Move.{Move}
 use Rattle.stm_schedules.specs.Places.{Place, moves, moved}
-use Rattle.stm_schedules.specs.Keeping.{keeps, first_of, bad_at, goes_on}
+use Rattle.stm_schedules.specs.Keeping.{keeps, first_of}
+use Rattle.stm_schedules.specs.Fewer.{quiet_runner, fewer_bad_at}
 use Rattle.stm_explore.specs.declared.looked.Looked.{Looked}
 use Rattle.stm_explore.specs.declared.looked.Looked.TheVariants.{Kept, Broken}
-use Rattle.stm_explore.specs.Seen.{IsSeen, IsSeenBehind}
+use Rattle.stm_explore.specs.Seen.{looks, seen_go_on, bad_behind, goes_on_behind, IsSeen, IsSeenBehind, in_front_of}
+use Rattle.stm_explore.proofs.FewerLooks.{fewer_bad}
 
--- the first schedule of suc n moves that begins with this one and does not keep the rule
-abbrev pub bad_behind : (World → Bool) → ℕ → Place → Move → Option (List Move)
-bad_behind keep n p m = option_map (λ (ms : List Move). m ∷ ms) (bad_at keep n (moved m p))
+pub bad_at_deeper : (keep : World → Bool) (n : ℕ) (last : Option ℕ) (p : Place) → n ≢ 0 →
+    fewer_bad_at keep n last p ≡ first_of (bad_behind keep (n - 1) last p) (moves p)
+bad_at_deeper keep zero last p more = absurd (more refl)
+bad_at_deeper keep (suc n) last p more = let e : suc n - 1 ≡ n = omega arith in rw e (fewer_bad keep n last p)
 
-pub bad_at_deeper : (keep : World → Bool) (n : ℕ) (p : Place) → n ≢ 0 → bad_at keep n p ≡ first_of (bad_behind keep (n - 1) p) (moves p)
-bad_at_deeper keep zero p more = absurd (more refl)
-bad_at_deeper keep (suc n) p more = let e : suc n - 1 ≡ n = omega arith in rw e refl
+pub go_on_deeper : (n : ℕ) (last : Option ℕ) (p : Place) → n ≢ 0 → seen_go_on n last p ≡ list_any (goes_on_behind (n - 1) last p) (moves p)
+go_on_deeper zero last p more = absurd (more refl)
+go_on_deeper (suc n) last p more = let e : suc n - 1 ≡ n = omega arith in rw e refl
 
 -- nothing is found at this one: what is found first is found behind it
 pub none_here : (f : Move → Option (List Move)) (ms : List Move) (i : ℕ) (m : Move) → i < length ms → m ≡ get_or ms i m → f m ≡ None →
@@ -67,64 +70,80 @@ passes_left so_far test ms i end = at_drop_all (passes so_far test) ms i end ∙
 -- ---- what is seen, move after move ----
 
 -- the first bad schedule of all is that of the moves that are left, and some schedule goes on behind a move so far or behind one that is left
-pub record SeenSoFar (rule : ProgramTree) (n : ℕ) (p : Place) (more : Bool) (left : List Move) : Type 0 where
-  pub bad : first_of (bad_behind (keeps rule) (n - 1) p) left ≡ bad_at (keeps rule) n p
-  pub going : passes more (λ (m : Move). goes_on n (moved m p)) left ≡ goes_on (suc n) p
+pub record SeenSoFar (rule : ProgramTree) (n : ℕ) (last : Option ℕ) (p : Place) (more : Bool) (left : List Move) : Type 0 where
+  pub bad : first_of (bad_behind (keeps rule) (n - 1) last p) left ≡ fewer_bad_at (keeps rule) n last p
+  pub going : passes more (goes_on_behind (n - 1) last p) left ≡ seen_go_on n last p
 
-pub seen_here : (rule : ProgramTree) (n : ℕ) (p : Place) (looked : Looked) → n ≡ 0 → IsSeen rule 0 p looked → IsSeen rule n p looked
-seen_here rule n p looked is seen = subst (λ (k : ℕ). IsSeen rule k p looked) (sym is) seen
+pub seen_here : (rule : ProgramTree) (n : ℕ) (last : Option ℕ) (p : Place) (looked : Looked) → n ≡ 0 → IsSeen rule 0 last p looked →
+    IsSeen rule n last p looked
+seen_here rule n last p looked is seen = subst (λ (k : ℕ). IsSeen rule k last p looked) (sym is) seen
 
-pub seen_none : (rule : ProgramTree) (n : ℕ) (p : Place) (ms : List Move) → n ≢ 0 → ms ≡ moves p → SeenSoFar rule n p false ms
-seen_none rule n p ms deep is = record {
-  bad = ap (first_of (bad_behind (keeps rule) (n - 1) p)) is ∙ sym (bad_at_deeper (keeps rule) n p deep);
-  going = ap (list_any (λ (m : Move). goes_on n (moved m p))) is;
+pub seen_none : (rule : ProgramTree) (n : ℕ) (last : Option ℕ) (p : Place) (ms : List Move) → n ≢ 0 → ms ≡ moves p → SeenSoFar rule n last p false ms
+seen_none rule n last p ms deep is = record {
+  bad = ap (first_of (bad_behind (keeps rule) (n - 1) last p)) is ∙ sym (bad_at_deeper (keeps rule) n last p deep);
+  going = ap (list_any (goes_on_behind (n - 1) last p)) is ∙ sym (go_on_deeper n last p deep);
 }
 
-pub seen_more : (rule : ProgramTree) (n : ℕ) (p : Place) (ms : List Move) (i : ℕ) (m : Move) (so_far more : Bool) → n ≢ 0 → i < length ms → m ≡ get_or ms i m →
-    IsSeenBehind rule (n - 1) m p (Kept more) → SeenSoFar rule n p so_far (drop i ms) → SeenSoFar rule n p (so_far || more) (drop (i + 1) ms)
-seen_more rule n p ms i m so_far more deep within is seen old =
-    let e : suc (n - 1) ≡ n = omega (arith, deep) in
-    let here : more ≡ goes_on n (moved m p) = seen.1 ∙ ap (λ (k : ℕ). goes_on k (moved m p)) e in
-    record {
-      bad = none_here (bad_behind (keeps rule) (n - 1) p) ms i m within is (ap (option_map (λ (rest : List Move). m ∷ rest)) seen.0) ∙ old.bad;
-      going = passes_here so_far more (λ (m' : Move). goes_on n (moved m' p)) ms i m within is here ∙ old.going;
-    }
+pub seen_more : (rule : ProgramTree) (n : ℕ) (last : Option ℕ) (p : Place) (ms : List Move) (i : ℕ) (m : Move) (so_far more : Bool) →
+    i < length ms → m ≡ get_or ms i m → IsSeenBehind rule (n - 1) last m p (Kept more) → SeenSoFar rule n last p so_far (drop i ms) →
+    SeenSoFar rule n last p (so_far || more) (drop (i + 1) ms)
+seen_more rule n last p ms i m so_far more within is seen old = record {
+  bad = none_here (bad_behind (keeps rule) (n - 1) last p) ms i m within is seen.0 ∙ old.bad;
+  going = passes_here so_far more (goes_on_behind (n - 1) last p) ms i m within is seen.1 ∙ old.going;
+}
 
 -- the same by what one turn of the loop has
-pub seen_next : (rule : ProgramTree) (n : ℕ) (p : Place) (ms : List Move) (i : ℕ) (d : Move) (so_far more next : Bool) (looked : Looked) →
-    IsSeenBehind rule (n - 1) (get_or ms i d) p looked → looked ≡ Kept more → n ≢ 0 → i < length ms → next ≡ (so_far || more) →
-    SeenSoFar rule n p so_far (drop i ms) → SeenSoFar rule n p next (drop (i + 1) ms)
-seen_next rule n p ms i d so_far more next looked seen kept deep within is old =
-    let here : IsSeenBehind rule (n - 1) (get_or ms i d) p (Kept more)
-    = subst (λ (l : Looked). IsSeenBehind rule (n - 1) (get_or ms i d) p l) kept seen in
-    subst (λ (b : Bool). SeenSoFar rule n p b (drop (i + 1) ms)) (sym is)
-    (seen_more rule n p ms i (get_or ms i d) so_far more deep within (get_or_default ms i d (get_or ms i d) within) here old)
+pub seen_next : (rule : ProgramTree) (n : ℕ) (last : Option ℕ) (p : Place) (ms : List Move) (i : ℕ) (d : Move) (so_far more next : Bool) (looked : Looked) →
+    IsSeenBehind rule (n - 1) last (get_or ms i d) p looked → looked ≡ Kept more → i < length ms → next ≡ (so_far || more) →
+    SeenSoFar rule n last p so_far (drop i ms) → SeenSoFar rule n last p next (drop (i + 1) ms)
+seen_next rule n last p ms i d so_far more next looked seen kept within is old =
+    let here : IsSeenBehind rule (n - 1) last (get_or ms i d) p (Kept more)
+    = subst (λ (l : Looked). IsSeenBehind rule (n - 1) last (get_or ms i d) p l) kept seen in
+    subst (λ (b : Bool). SeenSoFar rule n last p b (drop (i + 1) ms)) (sym is)
+    (seen_more rule n last p ms i (get_or ms i d) so_far more within (get_or_default ms i d (get_or ms i d) within) here old)
 
-pub seen_broken : (rule : ProgramTree) (n : ℕ) (p : Place) (ms : List Move) (i : ℕ) (m : Move) (so_far : Bool) (found : List Move) (end : End) →
-    i < length ms → m ≡ get_or ms i m → IsSeenBehind rule (n - 1) m p (Broken found end) → SeenSoFar rule n p so_far (drop i ms) →
-    IsSeen rule n p (Broken found end)
-seen_broken rule n p ms i m so_far found end within is seen old =
-    (sym old.bad ∙ found_here (bad_behind (keeps rule) (n - 1) p) ms i m found within is seen.0, seen.1)
+pub seen_broken : (rule : ProgramTree) (n : ℕ) (last : Option ℕ) (p : Place) (ms : List Move) (i : ℕ) (m : Move) (so_far : Bool)
+    (found : List Move) (end : End) → i < length ms → m ≡ get_or ms i m → IsSeenBehind rule (n - 1) last m p (Broken found end) →
+    SeenSoFar rule n last p so_far (drop i ms) → IsSeen rule n last p (Broken found end)
+seen_broken rule n last p ms i m so_far found end within is seen old =
+    (sym old.bad ∙ found_here (bad_behind (keeps rule) (n - 1) last p) ms i m found within is seen.0, seen.1)
 
-pub seen_all : (rule : ProgramTree) (n : ℕ) (p : Place) (ms : List Move) (i : ℕ) (so_far : Bool) → length ms ≤ i → SeenSoFar rule n p so_far (drop i ms) →
-    IsSeen rule n p (Kept so_far)
-seen_all rule n p ms i so_far end old = (
-  sym old.bad ∙ none_left (bad_behind (keeps rule) (n - 1) p) ms i end,
-  sym (passes_left so_far (λ (m : Move). goes_on n (moved m p)) ms i end) ∙ old.going,
+pub seen_all : (rule : ProgramTree) (n : ℕ) (last : Option ℕ) (p : Place) (ms : List Move) (i : ℕ) (so_far : Bool) → length ms ≤ i →
+    SeenSoFar rule n last p so_far (drop i ms) → IsSeen rule n last p (Kept so_far)
+seen_all rule n last p ms i so_far end old = (
+  sym old.bad ∙ none_left (bad_behind (keeps rule) (n - 1) last p) ms i end,
+  sym (passes_left so_far (goes_on_behind (n - 1) last p) ms i end) ∙ old.going,
 )
 
--- what was seen after a move, as it is seen before it
-pub behind_kept : (rule : ProgramTree) (n : ℕ) (m : Move) (p : Place) (more : Bool) → IsSeen rule n (moved m p) (Kept more) → IsSeenBehind rule n m p (Kept more)
-behind_kept rule n m p more seen = seen
+-- ---- a move
 
-pub behind_broken : (rule : ProgramTree) (n : ℕ) (m : Move) (p : Place) (found all : List Move) (end : End) → all ≡ m ∷ found →
-    IsSeen rule n (moved m p) (Broken found end) → IsSeenBehind rule n m p (Broken all end)
-behind_broken rule n m p found all end is seen =
-    subst (λ (ms : List Move). IsSeenBehind rule n m p (Broken ms end)) (sym is) (ap (option_map (λ (rest : List Move). m ∷ rest)) seen.0, seen.1)
+-- what is seen behind a move that is looked at
+pub looked_behind : (rule : ProgramTree) (n : ℕ) (last : Option ℕ) (m : Move) (p : Place) (looked all : Looked) → looks last p m ≡ true →
+    all ≡ in_front_of m looked → IsSeen rule n (quiet_runner m p.world) (moved m p) looked → IsSeenBehind rule n last m p all
+looked_behind rule n last m p (Kept more) all kept is seen =
+    subst (λ (l : Looked). IsSeenBehind rule n last m p l) (sym is) (
+      ap (λ (b : Bool). cond b (option_map (λ (ms : List Move). m ∷ ms) (fewer_bad_at (keeps rule) n (quiet_runner m p.world) (moved m p))) None) kept
+          ∙ ap (option_map (λ (ms : List Move). m ∷ ms)) seen.0,
+      seen.1 ∙ ap (λ (b : Bool). cond b (seen_go_on n (quiet_runner m p.world) (moved m p)) false) (sym kept),
+    )
+looked_behind rule n last m p (Broken ms end) all kept is seen =
+    subst (λ (l : Looked). IsSeenBehind rule n last m p l) (sym is) (
+      ap (λ (b : Bool). cond b (option_map (λ (ms : List Move). m ∷ ms) (fewer_bad_at (keeps rule) n (quiet_runner m p.world) (moved m p))) None) kept
+          ∙ ap (option_map (λ (ms : List Move). m ∷ ms)) seen.0,
+      seen.1,
+    )
 
--- the place that a move leads to, by its parts
-pub seen_at : (rule : ProgramTree) (n : ℕ) (p q : Place) (looked : Looked) → q.world ≡ p.world → q.others ≡ p.others → IsSeen rule n q looked →
-    IsSeen rule n p looked
-seen_at rule n p q looked world others seen =
+-- nothing is seen behind a move that is not looked at
+pub not_looked_behind : (rule : ProgramTree) (n : ℕ) (last : Option ℕ) (m : Move) (p : Place) → looks last p m ≡ false →
+    IsSeenBehind rule n last m p (Kept false)
+not_looked_behind rule n last m p not = (
+  ap (λ (b : Bool). cond b (option_map (λ (ms : List Move). m ∷ ms) (fewer_bad_at (keeps rule) n (quiet_runner m p.world) (moved m p))) None) not,
+  ap (λ (b : Bool). cond b (seen_go_on n (quiet_runner m p.world) (moved m p)) false) (sym not),
+)
+
+-- the place that a move leads to, by its parts, behind the quiet step that it was
+pub seen_at : (rule : ProgramTree) (n : ℕ) (last quiet : Option ℕ) (p q : Place) (looked : Looked) → quiet ≡ last → q.world ≡ p.world → q.others ≡ p.others →
+    IsSeen rule n quiet q looked → IsSeen rule n last p looked
+seen_at rule n last quiet p q looked is world others seen =
     let same : q ≡ p = λ i. record { world = world i; others = others i } in
-    subst (λ (place : Place). IsSeen rule n place looked) same seen
+    subst (λ (place : Place). IsSeen rule n last place looked) same (subst (λ (l : Option ℕ). IsSeen rule n l q looked) is seen)

@@ -1,20 +1,53 @@
--- What a look at the places after so many moves tells.
-use Rattle.std.specs.Prelude.{◌≡◌, ℕ, suc, List, ◌∷◌, Option, None, Some, option_map}
+-- What a look at the places after so many moves tells, where fewer schedules are looked at.
+use Rattle.std.specs.Prelude.{◌≡◌, ℕ, zero, suc, Bool, true, false, if◌then◌else◌, List, [], ◌∷◌, Option, None, Some, option_map}
+use Rattle.std.specs.List.{list_any}
 use Rattle.stm_program.specs.Syntax.{ProgramTree}
+use Rattle.stm_world.specs.World.{World}
 use Rattle.stm_schedules.specs.declared.moves.Move.{Move}
-use Rattle.stm_schedules.specs.Places.{Place, moved}
+use Rattle.stm_schedules.specs.declared.outcome.Outcome.{Outcome}
+use Rattle.stm_schedules.specs.Places.{Place, moves, moved}
 use Rattle.stm_schedules.specs.Schedules.{place_after}
-use Rattle.stm_schedules.specs.Keeping.{end_alone, keeps, bad_at, goes_on}
+use Rattle.stm_schedules.specs.Keeping.{end_alone, keeps}
+use Rattle.stm_schedules.specs.Outcomes.{Ends, ends_moved}
+use Rattle.stm_schedules.specs.Fewer.{quiet_runner, is_looked_at, fewer_bad_at, fewer_outcomes_at}
 use Rattle.stm_explore.specs.declared.looked.Looked.{Looked}
 use Rattle.stm_explore.specs.declared.looked.Looked.TheVariants.{Kept, Broken}
 
--- the first schedule of n moves that does not keep the rule, with the end behind it; where there is none, whether one goes on
-abbrev pub IsSeen : ProgramTree → ℕ → Place → Looked → Type 0
-IsSeen program n p (Kept more) = (bad_at (keeps program) n p ≡ None) × (more ≡ goes_on (suc n) p)
-IsSeen program n p (Broken ms end) = (bad_at (keeps program) n p ≡ Some ms) × (end_alone program (place_after ms p).world ≡ Some end)
+-- whether a move is looked at, behind a quiet step of this runner, if there is one
+abbrev pub looks : Option ℕ → Place → Move → Bool
+looks last p m = is_looked_at last (quiet_runner m p.world)
 
--- the same of the schedules of suc n moves that begin with this one
-abbrev pub IsSeenBehind : ProgramTree → ℕ → Move → Place → Looked → Type 0
-IsSeenBehind program n m p (Kept more) = (bad_at (keeps program) n (moved m p) ≡ None) × (more ≡ goes_on (suc n) (moved m p))
-IsSeenBehind program n m p (Broken ms end) =
-    (option_map (λ (rest : List Move). m ∷ rest) (bad_at (keeps program) n (moved m p)) ≡ Some ms) × (end_alone program (place_after ms p).world ≡ Some end)
+-- whether a move can be made at one of the places that are looked at, n moves from here
+abbrev pub seen_go_on : ℕ → Option ℕ → Place → Bool
+seen_go_on zero last p = list_any (λ m. true) (moves p)
+seen_go_on (suc n) last p =
+    list_any (λ m. if looks last p m then seen_go_on n (quiet_runner m p.world) (moved m p) else false) (moves p)
+
+-- the first schedule of n moves that is looked at and does not keep the rule, with the end behind it; where there is none, whether one goes on
+abbrev pub IsSeen : ProgramTree → ℕ → Option ℕ → Place → Looked → Type 0
+IsSeen rule n last p (Kept more) = (fewer_bad_at (keeps rule) n last p ≡ None) × (more ≡ seen_go_on n last p)
+IsSeen rule n last p (Broken ms end) =
+    (fewer_bad_at (keeps rule) n last p ≡ Some ms) × (end_alone rule (place_after ms p).world ≡ Some end)
+
+-- ---- the same behind a move, nothing where it is not looked at
+
+abbrev pub bad_behind : (World → Bool) → ℕ → Option ℕ → Place → Move → Option (List Move)
+bad_behind keep n last p m =
+    if looks last p m then option_map (λ (ms : List Move). m ∷ ms) (fewer_bad_at keep n (quiet_runner m p.world) (moved m p)) else None
+
+abbrev pub goes_on_behind : ℕ → Option ℕ → Place → Move → Bool
+goes_on_behind n last p m = if looks last p m then seen_go_on n (quiet_runner m p.world) (moved m p) else false
+
+abbrev pub outcomes_behind : ℕ → Option ℕ → Place → Ends → Move → List Outcome
+outcomes_behind n last p ends m =
+    if looks last p m then fewer_outcomes_at n (quiet_runner m p.world) (moved m p) (ends_moved m p ends) else []
+
+abbrev pub IsSeenBehind : ProgramTree → ℕ → Option ℕ → Move → Place → Looked → Type 0
+IsSeenBehind rule n last m p (Kept more) = (bad_behind (keeps rule) n last p m ≡ None) × (more ≡ goes_on_behind n last p m)
+IsSeenBehind rule n last m p (Broken ms end) =
+    (bad_behind (keeps rule) n last p m ≡ Some ms) × (end_alone rule (place_after ms p).world ≡ Some end)
+
+-- what was seen after a move, as it is told of both
+abbrev pub in_front_of : Move → Looked → Looked
+in_front_of m (Kept more) = Kept more
+in_front_of m (Broken ms end) = Broken (m ∷ ms) end

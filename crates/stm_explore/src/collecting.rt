@@ -1,17 +1,21 @@
 //! The outcomes of whole schedules of so many moves.
-ghost use Rattle.std.specs.Prelude.{◌≡◌, suc, IfOk, OnOk};
-ghost use Rattle.stm_schedules.specs.Keeping.{goes_on};
-ghost use Rattle.stm_schedules.specs.Outcomes.{outcomes_at, ends_moved};
-ghost use Rattle.stm_schedules.specs.Places.{Place, moved};
+//!
+//! Of schedules that come to the same one is gone through, as where places are looked at.
+ghost use Rattle.std.specs.Prelude.{◌≡◌, true, IfOk, OnOk};
+ghost use Rattle.std.specs.List.{list_any};
+ghost use Rattle.stm_schedules.specs.Fewer.{fewer_outcomes_at};
+ghost use Rattle.stm_schedules.specs.Outcomes.{outcome_if_whole};
+ghost use Rattle.stm_schedules.specs.Places.{moves};
 ghost use Rattle.stm_explore.specs.Gathering.{Gathers};
+ghost use Rattle.stm_explore.specs.Seen.{seen_go_on, goes_on_behind, outcomes_behind};
 
 use crate::ends::copy_of_ends;
 use crate::found::add;
-use crate::halt::Halt;
+use crate::halt::{Halt, spend};
 use crate::looked::is_either;
-use crate::moving::{can_move, left_after, moves_at};
+use crate::moving::{can_move, is_looked_at, left_after, moves_at};
 use crate::shown::outcome_of;
-use crate::telling::world_moved_told;
+use crate::telling::tell_move;
 use std::alloc::{AllocError, Global};
 use stm_retry::World;
 use stm_schedules::{Move, Outcome, RunnerEnd};
@@ -25,8 +29,8 @@ pub(crate) fn collect_here(
     ends: &[Option<RunnerEnd>],
     found: &mut Vec<Outcome>,
 ) -> Result<bool, AllocError>
-    ensures more { IfOk result (λ more. more ≡ goes_on 1 (record { world = world.now; others = others.now })) }
-    ensures found { OnOk result (Gathers (outcomes_at 0 (record { world = world.now; others = others.now }) ends.now) found.old.items found.new.items) }
+    ensures more { IfOk result (λ more. more ≡ list_any (λ m. true) (moves (record { world = world.now; others = others.now }))) }
+    ensures found { OnOk result (Gathers (outcome_if_whole (moves (record { world = world.now; others = others.now })) world.now ends.now) found.old.items found.new.items) }
 {
     if can_move(alloc, world, others)? {
         return Ok(true);
@@ -36,19 +40,21 @@ pub(crate) fn collect_here(
     Ok(false)
 }
 
-/// Adds the outcomes of whole schedules of so many moves. The answer is whether a schedule has one move more.
+/// Adds the outcomes of whole schedules of so many moves. The answer is whether a schedule has one move more. The last move was a quiet
+/// step of the runner `last`, if there is one.
 #[cycle(collect)]
 pub(crate) fn collect(
     alloc: Global,
     world: &World,
     others: &[WorldEvent],
     ends: &[Option<RunnerEnd>],
+    last: Option<u64>,
     depth: u64,
     found: &mut Vec<Outcome>,
     budget: &mut u64,
 ) -> Result<bool, Halt>
-    ensures more { IfOk result (λ more. more ≡ goes_on (suc depth) (record { world = world.now; others = others.now })) }
-    ensures found { OnOk result (Gathers (outcomes_at depth (record { world = world.now; others = others.now }) ends.now) found.old.items found.new.items) }
+    ensures more { IfOk result (λ more. more ≡ seen_go_on depth last (record { world = world.now; others = others.now })) }
+    ensures found { OnOk result (Gathers (fewer_outcomes_at depth last (record { world = world.now; others = others.now }) ends.now) found.old.items found.new.items) }
 {
     if depth == 0 {
         return Ok(collect_here(alloc, world, others, ends, found)?);
@@ -61,6 +67,7 @@ pub(crate) fn collect(
             world,
             others,
             ends,
+            last,
             *chosen,
             depth - 1,
             found,
@@ -71,34 +78,63 @@ pub(crate) fn collect(
     Ok(goes_on)
 }
 
-/// Adds the outcomes of whole schedules that have so many moves behind this one.
+/// Adds the outcomes of whole schedules that have so many moves behind this one, on a copy of the world.
 #[cycle(collect)]
 fn collect_behind(
     alloc: Global,
     world: &World,
     others: &[WorldEvent],
     ends: &[Option<RunnerEnd>],
+    last: Option<u64>,
     chosen: Move,
     depth: u64,
     found: &mut Vec<Outcome>,
     budget: &mut u64,
 ) -> Result<bool, Halt>
-    ensures more { IfOk result (λ more. more ≡ goes_on (suc depth) (moved chosen (record { world = world.now; others = others.now }))) }
-    ensures found { OnOk result (let p : Place = record { world = world.now; others = others.now } in
-        Gathers (outcomes_at depth (moved chosen p) (ends_moved chosen p ends.now)) found.old.items found.new.items) }
+    ensures more { IfOk result (λ more. more ≡ goes_on_behind depth last (record { world = world.now; others = others.now }) chosen) }
+    ensures found { OnOk result (Gathers (outcomes_behind depth last (record { world = world.now; others = others.now }) ends.now chosen) found.old.items found.new.items) }
 {
     let mut ends = copy_of_ends(alloc, ends)?;
-    let next = world_moved_told(world, others, chosen, &mut ends, budget)?;
-    let more = collect(
-        alloc,
-        &next,
-        left_after(others, chosen),
-        ends.as_slice(),
-        depth,
-        found,
-        budget,
+    let mut next = world.copy()?;
+    let more = collect_moved(
+        alloc, &mut next, others, &mut ends, last, chosen, depth, found, budget,
     );
     drop(next);
     let more = more?;
     Ok(more)
+}
+
+/// Makes a move, if one more event may be taken, and adds the outcomes of whole schedules that have so many moves behind it, unless it is
+/// one not to be looked at.
+#[cycle(collect)]
+fn collect_moved(
+    alloc: Global,
+    world: &mut World,
+    others: &[WorldEvent],
+    ends: &mut Vec<Option<RunnerEnd>>,
+    last: Option<u64>,
+    chosen: Move,
+    depth: u64,
+    found: &mut Vec<Outcome>,
+    budget: &mut u64,
+) -> Result<bool, Halt>
+    ensures more { IfOk result (λ more. more ≡ goes_on_behind depth last (record { world = world.old; others = others.now }) chosen) }
+    ensures found { OnOk result (Gathers (outcomes_behind depth last (record { world = world.old; others = others.now }) ends.old.items chosen) found.old.items found.new.items) }
+{
+    spend(budget)?;
+    let quiet = tell_move(world, others, chosen, ends)?;
+    if is_looked_at(last, quiet) {
+        let more = collect(
+            alloc,
+            world,
+            left_after(others, chosen),
+            ends.as_slice(),
+            quiet,
+            depth,
+            found,
+            budget,
+        )?;
+        return Ok(more);
+    }
+    Ok(false)
 }

@@ -51,7 +51,7 @@ fn look_deeper(
 {
     let mut left = budget;
     for kept in 0..budget {
-        match look(alloc, rule, world, others, kept + 1, &mut left) {
+        match look(alloc, rule, world, others, None, kept + 1, &mut left) {
             Ok(Looked::Kept { goes_on: true }) => {}
             Ok(Looked::Kept { goes_on: false }) => return Ok(Explored::Always {
                 longest: kept + 1,
@@ -74,7 +74,7 @@ fn explore_schedules(
 ) -> Result<Explored, AllocError>
     ensures { IfOk result (IsExplored rule.now (record { world = world.now; others = others.now })) }
 {
-    match look_here(alloc, rule, world, others)? {
+    match look_here(alloc, rule, world, others, None)? {
         Looked::Kept { goes_on: true } => look_deeper(alloc, rule, world, others, budget),
         Looked::Kept { goes_on: false } => Ok(Explored::Always { longest: 0 }),
         Looked::Broken { moves, end } => Ok(Explored::Broken { moves, end }),

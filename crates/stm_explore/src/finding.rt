@@ -51,6 +51,7 @@ fn collect_deeper(
             world,
             others,
             ends,
+            None,
             gone_through + 1,
             found,
             &mut left,

@@ -1,8 +1,6 @@
 //! What a look at places tells.
-ghost use Rattle.std.specs.Prelude.{◌≡◌, ◌||◌, ℕ, ◌∷◌, IfOk};
-ghost use Rattle.stm_program.specs.Syntax.{ProgramTree};
-ghost use Rattle.stm_schedules.specs.Places.{Place, moved};
-ghost use Rattle.stm_explore.specs.Seen.{IsSeen, IsSeenBehind};
+ghost use Rattle.std.specs.Prelude.{◌≡◌, ◌||◌, ◌∷◌, IfOk};
+ghost use Rattle.stm_explore.specs.Seen.{in_front_of};
 
 use std::alloc::AllocError;
 use stm_history::Sequence;
@@ -43,8 +41,7 @@ fn in_front(first: Move, moves: Sequence<Move>) -> Result<Sequence<Move>, AllocE
 impl Looked {
     /// What was seen after a move, as it is seen before it.
     pub(crate) fn behind(self, first: Move) -> Result<Looked, AllocError>
-        ensures { IfOk result (λ looked. (rule : ProgramTree) (n : ℕ) (p : Place) → IsSeen rule n (moved first p) self
-            → IsSeenBehind rule n first p looked) }
+        ensures { IfOk result (λ looked. looked ≡ in_front_of first self) }
     {
         match self {
             Looked::Kept { goes_on } => Ok(Looked::Kept { goes_on }),

@@ -1,14 +1,14 @@
 //! Moves from a place: which can be made, and where each leads to.
-ghost use Rattle.std.specs.Prelude.{◌≡◌, true, IfOk, OnOk};
+ghost use Rattle.std.specs.Prelude.{◌≡◌, true, not, if◌then◌else◌, Some, None, IfOk, OnOk};
 ghost use Rattle.std.specs.List.{list_any};
 ghost use Rattle.stm_world.specs.declared.event.WorldEvent.TheVariants.{Step};
 ghost use Rattle.stm_world.specs.World.{step, world_after};
 ghost use Rattle.stm_retry.specs.Tells.{ran_out};
-ghost use Rattle.stm_schedules.specs.Keeping.{goes_on};
-ghost use Rattle.stm_schedules.specs.declared.moves.Move.TheVariants.{Other};
+ghost use Rattle.stm_schedules.specs.declared.moves.Move.TheVariants.{Step as StepOf, Other};
+ghost use Rattle.stm_schedules.specs.Exchange.{is_committed};
+ghost use Rattle.stm_schedules.specs.Fewer.{quiet_runner, is_looked_at};
 ghost use Rattle.stm_schedules.specs.Places.{moves, event_of, left_after};
 
-use crate::halt::{Halt, spend};
 use std::alloc::{AllocError, Global};
 use stm_retry::World;
 use stm_schedules::Move;
@@ -49,7 +49,7 @@ pub(crate) fn can_move(
     world: &World,
     others: &[WorldEvent],
 ) -> Result<bool, AllocError>
-    ensures { IfOk result (λ more. more ≡ goes_on 1 (record { world = world.now; others = others.now })) }
+    ensures { IfOk result (λ more. more ≡ list_any (λ m. true) (moves (record { world = world.now; others = others.now }))) }
 {
     let left = moves_at(alloc, world, others)?;
     Ok(has_some(left.as_slice()))
@@ -80,56 +80,86 @@ pub(crate) fn take(
     Ok(reply)
 }
 
-/// The world after one event more.
-fn after_event(world: &World, event: &WorldEvent) -> Result<World, AllocError>
-    ensures { IfOk result (λ next. next ≡ (step event.now world.now).next) }
-{
-    let mut next = world.copy()?;
-    let _reply = take(&mut next, event)?;
-    Ok(next)
-}
-
-/// The world after a step of a runner.
-fn after_step(world: &World, runner: u64) -> Result<World, AllocError>
-    ensures { IfOk result (λ next. next ≡ (step (Step runner) world.now).next) }
+/// A step of a runner, and its reply.
+pub(crate) fn take_step(world: &mut World, runner: u64) -> Result<Result<Reply, Denied>, AllocError>
+    ensures reply { IfOk result (λ reply. reply ≡ (step (Step runner) world.old).reply) }
+    ensures next { OnOk result (world.new ≡ (step (Step runner) world.old).next) }
 {
     let event = WorldEvent::Step { runner };
-    let next = after_event(world, &event);
+    let reply = take(world, &event);
     drop(event);
-    next
+    reply
 }
 
-/// The world after the next event of the others, the same where they have none.
-fn after_other(world: &World, others: &[WorldEvent]) -> Result<World, AllocError>
-    ensures { IfOk result (λ next. next ≡ world_after (event_of Other others.now) world.now) }
+/// Whether a reply tells that a step committed.
+fn is_committed(reply: &Result<Reply, Denied>) -> bool
+    ensures { result ≡ is_committed reply.now }
+{
+    match reply {
+        Ok(Reply::Committed { .. }) => true,
+        _ => false,
+    }
+}
+
+/// The runner, if its step was quiet by this reply.
+pub(crate) fn quiet_by(runner: u64, reply: &Result<Reply, Denied>) -> Option<u64>
+    ensures { result ≡ (if not (is_committed reply.now) then Some runner else None) }
+{
+    if is_committed(reply) {
+        return None;
+    }
+    Some(runner)
+}
+
+/// Makes a step of a runner. The answer is the runner, if the step was quiet.
+fn make_step(world: &mut World, runner: u64) -> Result<Option<u64>, AllocError>
+    ensures quiet { IfOk result (λ quiet. quiet ≡ quiet_runner (StepOf runner) world.old) }
+    ensures next { OnOk result (world.new ≡ (step (Step runner) world.old).next) }
+{
+    let reply = take_step(world, runner)?;
+    Ok(quiet_by(runner, &reply))
+}
+
+/// Takes the next event of the others, if they have one.
+fn take_other(world: &mut World, others: &[WorldEvent]) -> Result<(), AllocError>
+    ensures { OnOk result (world.new ≡ world_after (event_of Other others.now) world.old) }
 {
     if others.is_empty() {
-        return world.copy();
+        return Ok(());
     }
-    after_event(world, &others[0])
+    let _reply = take(world, &others[0])?;
+    Ok(())
 }
 
-/// The world after a move.
-fn after_move(world: &World, others: &[WorldEvent], chosen: Move) -> Result<World, AllocError>
-    ensures { IfOk result (λ next. next ≡ world_after (event_of chosen others.now) world.now) }
-{
-    match chosen {
-        Move::Step { runner } => after_step(world, runner),
-        Move::Other => after_other(world, others),
-    }
-}
-
-/// The world after a move. Its event is one of those that may be taken.
-pub(crate) fn world_moved(
-    world: &World,
+/// Makes a move. The answer is the runner whose quiet step it was.
+pub(crate) fn make_move(
+    world: &mut World,
     others: &[WorldEvent],
     chosen: Move,
-    budget: &mut u64,
-) -> Result<World, Halt>
-    ensures { IfOk result (λ next. next ≡ world_after (event_of chosen others.now) world.now) }
+) -> Result<Option<u64>, AllocError>
+    ensures quiet { IfOk result (λ quiet. quiet ≡ quiet_runner chosen world.old) }
+    ensures next { OnOk result (world.new ≡ world_after (event_of chosen others.now) world.old) }
 {
-    spend(budget)?;
-    Ok(after_move(world, others, chosen)?)
+    match chosen {
+        Move::Step { runner } => make_step(world, runner),
+        Move::Other => {
+            take_other(world, others)?;
+            Ok(None)
+        }
+    }
+}
+
+/// Whether a move is looked at behind another one: not so a quiet step behind a quiet step of a runner of a higher number.
+pub(crate) fn is_looked_at(last: Option<u64>, next: Option<u64>) -> bool
+    ensures { result ≡ is_looked_at last next }
+{
+    match last {
+        None => true,
+        Some(last) => match next {
+            None => true,
+            Some(next) => last <= next,
+        },
+    }
 }
 
 /// What the others have yet to bring after a move.

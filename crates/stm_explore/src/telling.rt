@@ -1,103 +1,66 @@
-//! Moves from a place, with what they tell of the ends of runners.
+//! Moves, with what they tell of the ends of runners.
 ghost use Rattle.std.specs.Prelude.{◌≡◌, IfOk, OnOk};
 ghost use Rattle.stm_world.specs.declared.event.WorldEvent.TheVariants.{Step};
 ghost use Rattle.stm_world.specs.World.{step, world_after, replies_to};
-ghost use Rattle.stm_schedules.specs.declared.moves.Move.TheVariants.{Other};
+ghost use Rattle.stm_schedules.specs.declared.moves.Move.TheVariants.{Step as StepOf, Other};
+ghost use Rattle.stm_schedules.specs.Fewer.{quiet_runner};
 ghost use Rattle.stm_schedules.specs.Outcomes.{after_told, after_replies};
 ghost use Rattle.stm_schedules.specs.Places.{event_of};
 
 use crate::ends::note_end;
-use crate::halt::{Halt, spend};
-use crate::moving::take;
+use crate::moving::{quiet_by, take, take_step};
 use std::alloc::AllocError;
 use stm_retry::World;
 use stm_schedules::{Move, RunnerEnd};
 use stm_world::WorldEvent;
 
-/// Takes an event, and puts down what its reply tells of the ends.
-fn take_noting(
+/// Makes a step of a runner, and puts down what it tells of the ends. The answer is the runner, if the step was quiet.
+fn tell_step(
     world: &mut World,
-    event: &WorldEvent,
+    runner: u64,
+    ends: &mut Vec<Option<RunnerEnd>>,
+) -> Result<Option<u64>, AllocError>
+    ensures quiet { IfOk result (λ quiet. quiet ≡ quiet_runner (StepOf runner) world.old) }
+    ensures next { OnOk result (world.new ≡ (step (Step runner) world.old).next) }
+    ensures ends { OnOk result (ends.new.items ≡ after_told (step (Step runner) world.old).reply ends.old.items) }
+{
+    let reply = take_step(world, runner)?;
+    note_end(ends, &reply)?;
+    Ok(quiet_by(runner, &reply))
+}
+
+/// Takes the next event of the others, if they have one, and puts down what it tells of the ends.
+fn tell_other(
+    world: &mut World,
+    others: &[WorldEvent],
     ends: &mut Vec<Option<RunnerEnd>>,
 ) -> Result<(), AllocError>
-    ensures next { OnOk result (world.new ≡ (step event.now world.old).next) }
-    ensures ends { OnOk result (ends.new.items ≡ after_told (step event.now world.old).reply ends.old.items) }
+    ensures next { OnOk result (world.new ≡ world_after (event_of Other others.now) world.old) }
+    ensures ends { OnOk result (ends.new.items ≡ after_replies (replies_to (event_of Other others.now) world.old) ends.old.items) }
 {
-    let reply = take(world, event)?;
+    if others.is_empty() {
+        return Ok(());
+    }
+    let reply = take(world, &others[0])?;
     note_end(ends, &reply)
 }
 
-/// The world after one event more, and what is known of the ends then.
-fn told_event(
-    world: &World,
-    event: &WorldEvent,
-    ends: &mut Vec<Option<RunnerEnd>>,
-) -> Result<World, AllocError>
-    ensures next { IfOk result (λ next. next ≡ (step event.now world.now).next) }
-    ensures ends { OnOk result (ends.new.items ≡ after_told (step event.now world.now).reply ends.old.items) }
-{
-    let mut next = world.copy()?;
-    take_noting(&mut next, event, ends)?;
-    Ok(next)
-}
-
-/// The world after a step of a runner, and what is known of the ends then.
-fn told_step(
-    world: &World,
-    runner: u64,
-    ends: &mut Vec<Option<RunnerEnd>>,
-) -> Result<World, AllocError>
-    ensures next { IfOk result (λ next. next ≡ (step (Step runner) world.now).next) }
-    ensures ends { OnOk result (ends.new.items ≡ after_told (step (Step runner) world.now).reply ends.old.items) }
-{
-    let event = WorldEvent::Step { runner };
-    let next = told_event(world, &event, ends);
-    drop(event);
-    next
-}
-
-/// The world after the next event of the others, and what is known of the ends then: the same where they have none.
-fn told_other(
-    world: &World,
-    others: &[WorldEvent],
-    ends: &mut Vec<Option<RunnerEnd>>,
-) -> Result<World, AllocError>
-    ensures next { IfOk result (λ next. next ≡ world_after (event_of Other others.now) world.now) }
-    ensures ends { OnOk result (ends.new.items ≡ after_replies (replies_to (event_of Other others.now) world.now) ends.old.items) }
-{
-    if others.is_empty() {
-        return world.copy();
-    }
-    told_event(world, &others[0], ends)
-}
-
-/// The world after a move, and what is known of the ends then.
-fn told_move(
-    world: &World,
+/// Makes a move, and puts down what it tells of the ends. The answer is the runner whose quiet step it was.
+pub(crate) fn tell_move(
+    world: &mut World,
     others: &[WorldEvent],
     chosen: Move,
     ends: &mut Vec<Option<RunnerEnd>>,
-) -> Result<World, AllocError>
-    ensures next { IfOk result (λ next. next ≡ world_after (event_of chosen others.now) world.now) }
-    ensures ends { OnOk result (ends.new.items ≡ after_replies (replies_to (event_of chosen others.now) world.now) ends.old.items) }
+) -> Result<Option<u64>, AllocError>
+    ensures quiet { IfOk result (λ quiet. quiet ≡ quiet_runner chosen world.old) }
+    ensures next { OnOk result (world.new ≡ world_after (event_of chosen others.now) world.old) }
+    ensures ends { OnOk result (ends.new.items ≡ after_replies (replies_to (event_of chosen others.now) world.old) ends.old.items) }
 {
     match chosen {
-        Move::Step { runner } => told_step(world, runner, ends),
-        Move::Other => told_other(world, others, ends),
+        Move::Step { runner } => tell_step(world, runner, ends),
+        Move::Other => {
+            tell_other(world, others, ends)?;
+            Ok(None)
+        }
     }
-}
-
-/// The world after a move, and what is known of the ends then. The event is one of those that may be taken.
-pub(crate) fn world_moved_told(
-    world: &World,
-    others: &[WorldEvent],
-    chosen: Move,
-    ends: &mut Vec<Option<RunnerEnd>>,
-    budget: &mut u64,
-) -> Result<World, Halt>
-    ensures next { IfOk result (λ next. next ≡ world_after (event_of chosen others.now) world.now) }
-    ensures ends { OnOk result (ends.new.items ≡ after_replies (replies_to (event_of chosen others.now) world.now) ends.old.items) }
-{
-    spend(budget)?;
-    Ok(told_move(world, others, chosen, ends)?)
 }

@@ -1,31 +1,46 @@
-use Rattle.std.proofs.Common.{◌≡◌, ◌∙◌, ℕ, ◌+◌, Bool, false, ap, subst, arith}
+use Rattle.std.proofs.Common.{◌≡◌, ◌∙◌, ℕ, ◌+◌, Bool, true, false, None, ap, subst, arith}
 use Rattle.stm_schedules.specs.Places.{Place}
 use Rattle.stm_schedules.proofs.BadSchedules.{first_bad_is_first}
+use Rattle.stm_schedules.proofs.FewerLemmas.{fewer_are_enough}
 use Rattle.stm_schedules.proofs.Lengths.{longest_is_all}
 use Rattle.stm_explore.specs.declared.looked.Looked.{Looked}
 use Rattle.stm_explore.specs.declared.looked.Looked.TheVariants.{Kept, Broken}
 use Rattle.stm_explore.specs.declared.exploring.Explored.TheVariants.{Open}
 use Rattle.stm_explore.specs.Seen.{IsSeen}
 use Rattle.stm_explore.specs.Explored.{IsExplored}
-use Rattle.stm_explore.proofs.ExploreLemmas.{kept_at_all, broken_at, still_open}
+use Rattle.stm_explore.proofs.ExploreLemmas.{kept_at_all, kept_so_far, broken_at, still_open}
 use Rattle.stm_explore.proofs.exploring.look_deeper.Goals as goal
+
+pub loop-kept-preserved : goal.loop-kept-preserved
+loop-kept-preserved c =
+    let p : Place = record { world = c.args.world.now; others = c.args.others.now } in
+    let n : ℕ = c.loop-kept.kept in
+    let seen : IsSeen c.args.rule.now (n + 1) None p (Kept true) =
+    subst (λ (l : Looked). IsSeen c.args.rule.now (n + 1) None p l)
+    (c.in-Ok-Kept-true.field-0-is ∙ ap (λ (b : Bool). Kept b) c.in-Ok-Kept-true.field-0-0-is
+    ∙ ap (λ (b : Bool). Kept b) c.in-Ok-Kept-true.field-0-0-test) c.in-Ok-Kept-true.ensures in
+    let both = kept_so_far fewer_are_enough c.args.rule.now n (n + 1) p (omega arith) c.loop-kept.invariant.none seen in
+    record { none = both.0; more = both.1 }
 
 pub returns-in-Ok-Kept-false : goal.returns-in-Ok-Kept-false
 returns-in-Ok-Kept-false c =
     let p : Place = record { world = c.args.world.now; others = c.args.others.now } in
     let n : ℕ = c.loop-kept.kept in
-    let seen : IsSeen c.args.rule.now (n + 1) p (Kept false) =
-    subst (λ (l : Looked). IsSeen c.args.rule.now (n + 1) p l)
-    (c.in-Ok-Kept-false.field-0-is ∙ ap (λ (b : Bool). Kept b) c.in-Ok-Kept-false.field-0-0-is ∙ ap (λ (b : Bool). Kept b) c.in-Ok-Kept-false.field-0-0-test) c.in-Ok-Kept-false.ensures in
-    kept_at_all first_bad_is_first longest_is_all c.args.rule.now n (n + 1) p (omega arith) c.loop-kept.invariant.none c.loop-kept.invariant.more seen
+    let seen : IsSeen c.args.rule.now (n + 1) None p (Kept false) =
+    subst (λ (l : Looked). IsSeen c.args.rule.now (n + 1) None p l)
+    (c.in-Ok-Kept-false.field-0-is ∙ ap (λ (b : Bool). Kept b) c.in-Ok-Kept-false.field-0-0-is
+    ∙ ap (λ (b : Bool). Kept b) c.in-Ok-Kept-false.field-0-0-test) c.in-Ok-Kept-false.ensures in
+    kept_at_all fewer_are_enough first_bad_is_first longest_is_all c.args.rule.now n (n + 1) p (omega arith) c.loop-kept.invariant.none
+    c.loop-kept.invariant.more seen
 
 pub returns-in-Ok-Broken : goal.returns-in-Ok-Broken
 returns-in-Ok-Broken c =
     let p : Place = record { world = c.args.world.now; others = c.args.others.now } in
     let n : ℕ = c.loop-kept.kept in
-    let seen : IsSeen c.args.rule.now (n + 1) p (Broken c.in-Ok-Broken.moves c.in-Ok-Broken.end) =
-    subst (λ (l : Looked). IsSeen c.args.rule.now (n + 1) p l) c.in-Ok-Broken.field-0-is c.in-Ok-Broken.ensures in
-    broken_at first_bad_is_first c.args.rule.now n (n + 1) p c.in-Ok-Broken.moves c.in-Ok-Broken.end (omega arith) c.loop-kept.invariant.none seen
+    let seen : IsSeen c.args.rule.now (n + 1) None p (Broken c.in-Ok-Broken.moves c.in-Ok-Broken.end) =
+    subst (λ (l : Looked). IsSeen c.args.rule.now (n + 1) None p l) c.in-Ok-Broken.field-0-is c.in-Ok-Broken.ensures in
+    broken_at fewer_are_enough first_bad_is_first c.args.rule.now n (n + 1) p c.in-Ok-Broken.moves c.in-Ok-Broken.end (omega arith)
+    c.loop-kept.invariant.none seen
 
 pub returns-in-Err-Spent : goal.returns-in-Err-Spent
 returns-in-Err-Spent c =

@@ -157,7 +157,8 @@ fn command_lines(rt: HostRuntime) {
         text,
     );
     asks(&rt, alloc, &[name, script, other, joined], &[], text, text);
-    asks(&rt, alloc, &[name, script, format], &hint, usage, usage);
+    let lacking = ["--format <FORMAT>", "--help"];
+    asks(&rt, alloc, &[name, script, format], &lacking, usage, usage);
     asks(&rt, alloc, &[name, help], &whole, shown, failed);
     let version = ["stmrun 0.1.0 (rattle-kit-13f)"];
     for asked in ["--version", "-V"] {
@@ -338,10 +339,13 @@ fn command_lines_of_explore(rt: HostRuntime) {
     let missing = ["Usage: stmrun explore", "SCENARIO"];
     asks(&rt, alloc, &[name, explore], &missing, usage, usage);
     let wrong = ["--budget", "--help"];
-    for number in ["-1", "x", "", "18446744073709551616"] {
+    for number in ["x", "", "18446744073709551616"] {
         let line = [name, explore, file, budget, number.as_bytes()];
         asks(&rt, alloc, &line, &wrong, usage, usage);
     }
+    let signed = ["Usage: stmrun explore", "--help"];
+    let line = [name, explore, file, budget, "-1".as_bytes()];
+    asks(&rt, alloc, &line, &signed, usage, usage);
     let explained = ["--keeps <PROGRAM>", "[\"broken\",LENGTH,END]", "4 open"];
     asks(
         &rt,

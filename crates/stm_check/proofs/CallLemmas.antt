@@ -29,30 +29,31 @@ use Rattle.stm_reports.specs.declared.line.ReportLine.{ReportLine}
 use Rattle.stm_reports.specs.declared.line.ReportLine.TheVariants.{Refused}
 use Rattle.stm_entries.specs.declared.entry.Entry.{Entry}
 use Rattle.stm_entries.specs.declared.entry.Entry.TheVariants.{Foreign, Grant as GrantEntry, Renew, Revoke as RevokeEntry}
-use Rattle.stm_reports.specs.Told.{cause_told, txn_line, advance_line}
+use Rattle.stm_reports.specs.Told.{cause_told, txn_line}
 use Rattle.stm_world.specs.declared.event.WorldEvent.TheVariants.{Advance as AdvanceEvent}
-use Rattle.stm_world.specs.Told.{store_after_call}
+use Rattle.stm_world.specs.declared.reply.Reply.{Reply}
+use Rattle.stm_world.specs.Told.{reply_to, store_after_call, advance_reply}
 use Rattle.stm_world.specs.World.{if_taken, if_changed}
 use Rattle.stm_world.proofs.Entered.{EntriesFollow}
 use Rattle.stm_world.proofs.Calls.{txn_follows, grant_follows, keep_follows, revoke_follows, advance_follows}
 use Rattle.stm_check.specs.Point.{led_by, moment_after, txn_entries, advance_entries, expiries}
-use Rattle.stm_check.specs.StoreLines.{call_line, advance_call_line}
+use Rattle.stm_lines.specs.Lines.{reply_told, line_told}
 
 -- ---- lines
 
 -- the line of a call that was taken
-pub taken_line : {A : Type 0} (n : ℕ) (tell : A → ReportLine) (r : Result (Step A) Refusal) (answer : A) (next : Standing) →
-    r ≡ Ok record { answer = answer; next = next } → call_line n tell r ≡ tell answer
-taken_line n tell r answer next is = ap (call_line n tell) is
+pub taken_line : {A : Type 0} (n : ℕ) (tell : A → Reply) (r : Result (Step A) Refusal) (answer : A) (next : Standing) →
+    r ≡ Ok record { answer = answer; next = next } → line_told n (reply_to tell r) ≡ reply_told n (tell answer)
+taken_line {A} n tell r answer next is = ap (λ (o : Result (Step A) Refusal). line_told n (reply_to tell o)) is
 
 -- why a call was refused, where it was not for want of memory
 pub refused_for : {T : Type 0} (r : Result T Refusal) (cause : Refusal) → IsRefusalOf r cause → cause ≢ OutOfMemory → r ≡ Err cause
 refused_for (Ok done) cause is other = absurd (other is)
 refused_for (Err c) cause is other = ap Err (sym is)
 
-pub refused_line : {A : Type 0} (n : ℕ) (tell : A → ReportLine) (r : Result (Step A) Refusal) (cause : Refusal) → IsRefusalOf r cause →
-    cause ≢ OutOfMemory → call_line n tell r ≡ Refused n (cause_told cause) []
-refused_line n tell r cause is other = ap (call_line n tell) (refused_for r cause is other)
+pub refused_line : {A : Type 0} (n : ℕ) (tell : A → Reply) (r : Result (Step A) Refusal) (cause : Refusal) → IsRefusalOf r cause →
+    cause ≢ OutOfMemory → line_told n (reply_to tell r) ≡ Refused n (cause_told cause) []
+refused_line {A} n tell r cause is other = ap (λ (o : Result (Step A) Refusal). line_told n (reply_to tell o)) (refused_for r cause is other)
 
 -- a test of one line is a test of the same line
 pub tests_same : (b : Bool) (x y l : ReportLine) → x ≡ y → (IsTrue b ↔ y ≡ l) → (IsTrue b ↔ x ≡ l)
@@ -296,15 +297,15 @@ advance_led s next moment expired cause is =
 -- the line of an advance
 pub advance_line_is : (n : ℕ) (s next : Standing) (moment : ℕ) (expired : List Expired) (cause : Option Refusal) →
     advanced s moment ≡ record { expired = expired; leaves = next; cause = cause } →
-    advance_call_line n s moment ≡ advance_line n moment expired cause
-advance_line_is n s next moment expired cause is = ap (λ (a : Advance). advance_line n moment a.expired a.cause) is
+    line_told n (advance_reply moment (advanced s moment).expired (advanced s moment).cause) ≡ line_told n (advance_reply moment expired cause)
+advance_line_is n s next moment expired cause is = ap (λ (a : Advance). line_told n (advance_reply moment a.expired a.cause)) is
 
 -- an advance that was cut short
 pub cut_right : (r : Result Bool AllocError) (n : ℕ) (s next : Standing) (moment : ℕ) (expired : List Expired) (cause : Refusal) (l : ReportLine) →
     IfOk r (λ b. IsTrue b ↔ Refused n (cause_told cause) expired ≡ l) → OnOk r (cause ≢ OutOfMemory) → IsCutShort (advanced s moment) expired cause next →
-    IfOk r (λ b. IsTrue b ↔ advance_call_line n s moment ≡ l)
+    IfOk r (λ b. IsTrue b ↔ line_told n (advance_reply moment (advanced s moment).expired (advanced s moment).cause) ≡ l)
 cut_right r n s next moment expired cause l test other cut =
-    refused_right r cause (advance_call_line n s moment) (Refused n (cause_told cause) expired) l test other
+    refused_right r cause (line_told n (advance_reply moment (advanced s moment).expired (advanced s moment).cause)) (Refused n (cause_told cause) expired) l test other
     (λ known. advance_line_is n s next moment expired (Some cause) (cut_line n s next moment expired cause cut known))
 
 pub cut_next : (r : Result Bool AllocError) (n : ℕ) (s next : Standing) (moment : ℕ) (expired : List Expired) (cause : Refusal) (l : ReportLine) →

@@ -18,7 +18,7 @@ use Rattle.stm_check.proofs.CallLemmas.{refused_for}
 use Rattle.stm_history.specs.History.{History, now, HasDistinctKeys}
 use Rattle.stm_program.specs.Syntax.{ProgramTree}
 use Rattle.stm_program.specs.declared.level.Level.{Level}
-use Rattle.stm_program.specs.declared.level.Level.TheVariants.{SerializableSnapshot, Serializable, RepeatableReads, ReadCommitted}
+use Rattle.stm_program.specs.declared.level.Level.TheVariants.{ReadCommitted}
 use Rattle.stm_meaning.specs.declared.value.Value.{Value}
 use Rattle.stm_meaning.specs.declared.trace_item.TraceItem.{TraceItem}
 use Rattle.stm_meaning.specs.declared.run.End.{End}
@@ -64,44 +64,32 @@ never t = absurd (cc)
 -- at a comparing level answers that are told leave no run
 pub told_in_vain : (level : Level) (h : History) (program : ProgramTree) (a : ToldAnswer) (answers : List ToldAnswer) → is_comparing level ≡ true →
     IsFound level h program (a ∷ answers) None
-told_in_vain SerializableSnapshot h program a answers is = λ run told. let no : a ∷ answers ≡ [] = told.answers_fit in absurd (cc)
-told_in_vain Serializable h program a answers is = λ run told. let no : a ∷ answers ≡ [] = told.answers_fit in absurd (cc)
-told_in_vain RepeatableReads h program a answers is = λ run told. let no : a ∷ answers ≡ [] = told.answers_fit in absurd (cc)
 told_in_vain ReadCommitted h program a answers is = absurd (cc)
+told_in_vain _ h program a answers is = λ run told. let no : a ∷ answers ≡ [] = told.answers_fit in absurd (cc)
 
 -- the direct run, where none are told
 pub found_now : (level : Level) (h : History) (program : ProgramTree) (answered : Answered) → is_comparing level ≡ true →
     run_over (state_now h) program.statements ≡ answered → IsFound level h program [] (run_in answered)
-found_now SerializableSnapshot h program (Ended run) level is = record { is_run = is; answers_fit = refl }
-found_now SerializableSnapshot h program (Wants key trace) level is = λ run told. never_wants key trace run (sym is ∙ told.is_run)
-found_now Serializable h program (Ended run) level is = record { is_run = is; answers_fit = refl }
-found_now Serializable h program (Wants key trace) level is = λ run told. never_wants key trace run (sym is ∙ told.is_run)
-found_now RepeatableReads h program (Ended run) level is = record { is_run = is; answers_fit = refl }
-found_now RepeatableReads h program (Wants key trace) level is = λ run told. never_wants key trace run (sym is ∙ told.is_run)
 found_now ReadCommitted h program answered level is = absurd (cc)
+found_now _ h program (Ended run) level is = record { is_run = is; answers_fit = refl }
+found_now _ h program (Wants key trace) level is = λ run told. never_wants key trace run (sym is ∙ told.is_run)
 
 -- at ReadCommitted an answer that is not true leaves no run
 pub not_true : (level : Level) (h : History) (program : ProgramTree) (answers : List ToldAnswer) → is_comparing level ≡ false →
     (AreTrulyTold h answers → ⊥) → IsFound level h program answers None
-not_true SerializableSnapshot h program answers level untrue = absurd (cc)
-not_true Serializable h program answers level untrue = absurd (cc)
-not_true RepeatableReads h program answers level untrue = absurd (cc)
 not_true ReadCommitted h program answers level untrue = λ run told. untrue told.answers_fit.1
+not_true _ h program answers level untrue = absurd (cc)
 
 pub found_on : (level : Level) (h : History) (program : ProgramTree) (answers : List ToldAnswer) (run : Run) → is_comparing level ≡ false →
     AreTrulyTold h answers → run_over (look_up (reads_in h answers)) program.statements ≡ Ended run → keys_told answers ≡ run.reads →
     IsFound level h program answers (Some run)
-found_on SerializableSnapshot h program answers run level truth is keys = absurd (cc)
-found_on Serializable h program answers run level truth is keys = absurd (cc)
-found_on RepeatableReads h program answers run level truth is keys = absurd (cc)
 found_on ReadCommitted h program answers run level truth is keys = record { is_run = is; answers_fit = (keys, truth) }
+found_on _ h program answers run level truth is keys = absurd (cc)
 
 pub wants_more : (level : Level) (h : History) (program : ProgramTree) (answers : List ToldAnswer) (key : List ℕ) (trace : List TraceItem) →
     is_comparing level ≡ false → run_over (look_up (reads_in h answers)) program.statements ≡ Wants key trace → IsFound level h program answers None
-wants_more SerializableSnapshot h program answers key trace level is = absurd (cc)
-wants_more Serializable h program answers key trace level is = absurd (cc)
-wants_more RepeatableReads h program answers key trace level is = absurd (cc)
 wants_more ReadCommitted h program answers key trace level is = λ run told. never_wants key trace run (sym is ∙ told.is_run)
+wants_more _ h program answers key trace level is = absurd (cc)
 
 -- the run that came to its end, where its keys were compared
 pub on_keys : (look : Lookup) (program : ProgramTree) (answers : List ToldAnswer) (answered : Answered) (run : Run) (o : Option Run) →
@@ -115,10 +103,8 @@ on_keys look program answers answered run (Some same) is ended found =
 
 none_on : (level : Level) (h : History) (program : ProgramTree) (answers : List ToldAnswer) → is_comparing level ≡ false →
     IsRunOn (look_up (reads_in h answers)) program answers None → IsFound level h program answers None
-none_on SerializableSnapshot h program answers level none = absurd (cc)
-none_on Serializable h program answers level none = absurd (cc)
-none_on RepeatableReads h program answers level none = absurd (cc)
 none_on ReadCommitted h program answers level none = λ run told. none run told.is_run told.answers_fit.0
+none_on _ h program answers level none = absurd (cc)
 
 -- the run on the answers, which are true, is the one that is found at ReadCommitted
 pub found_by_keys : (level : Level) (h : History) (program : ProgramTree) (answers : List ToldAnswer) (o : Option Run) → is_comparing level ≡ false →
@@ -135,10 +121,8 @@ reads_true h (a ∷ answers) truth = (record { reached = truth.0.reached; shown 
 -- the answers that fit a level are true, as reads
 pub answers_true : (level : Level) (h : History) (reads : List (List ℕ)) (answers : List ToldAnswer) → AnswersFit level h reads answers →
     AnswersAreTrue level (reads_in h answers) h
-answers_true SerializableSnapshot h reads answers fit = ap (reads_in h) fit
-answers_true Serializable h reads answers fit = ap (reads_in h) fit
-answers_true RepeatableReads h reads answers fit = ap (reads_in h) fit
 answers_true ReadCommitted h reads answers fit = reads_true h answers fit.1
+answers_true _ h reads answers fit = ap (reads_in h) fit
 
 -- what a right commit wants beside its run
 pub record IsTakenAs (s : Standing) (r : Runner) (run : Run) (revision attempts : ℕ) (output : List Value) (trace : List TraceItem) : Type 0 where

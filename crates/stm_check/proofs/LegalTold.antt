@@ -15,17 +15,18 @@ use Rattle.stm_entries.specs.Legal.{AreLegal}
 use Rattle.stm_entries.proofs.Replaying.{all_legal}
 use Rattle.stm_reports.specs.declared.line.ReportLine.{ReportLine}
 use Rattle.stm_reports.specs.declared.line.ReportLine.TheVariants as line
-use Rattle.stm_reports.specs.Told.{txn_line, advance_line}
 use Rattle.stm_world.specs.declared.event.WorldEvent.{WorldEvent}
 use Rattle.stm_world.specs.declared.event.WorldEvent.TheVariants as event
-use Rattle.stm_world.specs.Told.{store_after_call}
+use Rattle.stm_world.specs.declared.reply.Reply.TheVariants as reply
+use Rattle.stm_world.specs.Told.{reply_to, store_after_call, advance_reply}
+use Rattle.stm_lines.specs.Lines.{line_told}
 use Rattle.stm_world.specs.World.{if_taken, if_changed}
 use Rattle.stm_world.proofs.Calls.{txn_follows, grant_follows, keep_follows, revoke_follows, advance_follows}
 use Rattle.stm_check.specs.declared.runner.Runner.{Runner}
 use Rattle.stm_check.specs.Runners.{running}
 use Rattle.stm_check.specs.Point.{Point, entries_told, after, commit_entries, txn_entries, grant_entries, keep_entries, revoke_entries}
 use Rattle.stm_check.specs.Point.{advance_entries, expiries}
-use Rattle.stm_check.specs.StoreLines.{call_line, final_lines}
+use Rattle.stm_check.specs.StoreLines.{final_lines}
 use Rattle.stm_check.specs.Replays.{StepReplays, Replays}
 use Rattle.stm_check.specs.Judged.{AreRightEvents}
 use Rattle.stm_check.specs.Laws.{YesIsTheReplay, IsReplayOf}
@@ -38,39 +39,21 @@ use Rattle.stm_check.proofs.Replaying.{store_is_the_replay}
 commit_legal : (s : Standing) (o : Option Runner) (l : ReportLine) → StepReplays s o l → AreLegal (commit_entries s.history l o) (without_moment s)
 commit_legal s None l right = tt
 commit_legal s (Some r) (line.Committed n id revision attempts output trace answers) right = (right.commit, tt)
-commit_legal s (Some r) (line.Started n runner) right = tt
-commit_legal s (Some r) (line.Fetched n runner key mod_rev of_rev revision) right = tt
-commit_legal s (Some r) (line.Conflict n runner key seen now) right = tt
-commit_legal s (Some r) (line.GaveUp n runner attempts key seen now) right = tt
-commit_legal s (Some r) (line.Aborted n runner text) right = tt
-commit_legal s (Some r) (line.Faulted n runner fault) right = tt
-commit_legal s (Some r) (line.Ended n runner cause) right = tt
-commit_legal s (Some r) (line.Txn n succeeded revision answers) right = tt
-commit_legal s (Some r) (line.Granted n id) right = tt
-commit_legal s (Some r) (line.Kept n id) right = tt
-commit_legal s (Some r) (line.Revoked n id revision) right = tt
-commit_legal s (Some r) (line.Advanced n now expired) right = tt
-commit_legal s (Some r) (line.Watching n id) right = tt
-commit_legal s (Some r) (line.Cancelled n id) right = tt
-commit_legal s (Some r) (line.Batch n id up_to events) right = tt
-commit_legal s (Some r) (line.Refused n cause expired) right = tt
-commit_legal s (Some r) (line.Key key state) right = tt
-commit_legal s (Some r) (line.Lease id ttl renewed) right = tt
-commit_legal s (Some r) (line.End revision entries) right = tt
+commit_legal s (Some r) _ right = tt
 
 -- ---- calls: the entries of the line that a call comes to are those of the call
 
 grant_told : (n id ttl moment : ℕ) (r : Result (Step (Unit {0})) Refusal) →
-    grant_entries id ttl moment (call_line n (λ _. line.Granted n id) r) ≡ if_taken r (GrantEntry id ttl moment)
+    grant_entries id ttl moment (line_told n (reply_to (λ _. reply.Granted id) r)) ≡ if_taken r (GrantEntry id ttl moment)
 grant_told n id ttl moment (Ok done) = refl
 grant_told n id ttl moment (Err cause) = refl
 
 keep_told : (n id moment : ℕ) (r : Result (Step (Unit {0})) Refusal) →
-    keep_entries id moment (call_line n (λ _. line.Kept n id) r) ≡ if_taken r (Renew id moment)
+    keep_entries id moment (line_told n (reply_to (λ _. reply.Kept id) r)) ≡ if_taken r (Renew id moment)
 keep_told n id moment (Ok done) = refl
 keep_told n id moment (Err cause) = refl
 
-revoke_told : (n id : ℕ) (r : Result (Step ℕ) Refusal) → revoke_entries id (call_line n (line.Revoked n id) r) ≡ if_taken r (RevokeEntry id)
+revoke_told : (n id : ℕ) (r : Result (Step ℕ) Refusal) → revoke_entries id (line_told n (reply_to (reply.Revoked id) r)) ≡ if_taken r (RevokeEntry id)
 revoke_told n id (Ok done) = refl
 revoke_told n id (Err cause) = refl
 
@@ -78,11 +61,11 @@ never_higher : (s : Standing) (txn : Txn) → if_changed s s txn ≡ []
 never_higher s txn = ap (λ (b : Bool). cond b (Foreign txn ∷ []) []) (le-ltb (now s.history) (now s.history) (omega arith))
 
 txn_told : (n : ℕ) (s : Standing) (txn : Txn) (r : Result (Step TxnAnswer) Refusal) → StepIsTransacted s r →
-    txn_entries (now s.history) txn (call_line n (txn_line n) r) ≡ if_changed s (store_after_call s r) txn
+    txn_entries (now s.history) txn (line_told n (reply_to reply.Txn r)) ≡ if_changed s (store_after_call s r) txn
 txn_told n s txn (Ok step) came = ap (λ (revision : ℕ). cond (nat_lt (now s.history) revision) (Foreign txn ∷ []) []) came.counter
 txn_told n s txn (Err cause) came = sym (never_higher s txn)
 
-advance_told : (n moment : ℕ) (expired : List Expired) (cause : Option Refusal) → advance_entries (advance_line n moment expired cause) ≡ expiries expired
+advance_told : (n moment : ℕ) (expired : List Expired) (cause : Option Refusal) → advance_entries (line_told n (advance_reply moment expired cause)) ≡ expiries expired
 advance_told n moment expired None = refl
 advance_told n moment expired (Some cause) = refl
 
@@ -108,10 +91,7 @@ line_legal n s runners (event.Advance moment) l right =
     subst (λ (x : ReportLine). AreLegal (advance_entries x) (without_moment s)) right
     (subst (λ (es : List Entry). AreLegal es (without_moment s))
     (sym (advance_told n moment (advanced s moment).expired (advanced s moment).cause)) (advance_follows s moment).legal)
-line_legal n s runners (event.WatchKey key from) l right = tt
-line_legal n s runners (event.WatchRange first end from) l right = tt
-line_legal n s runners (event.Poll watcher most) l right = tt
-line_legal n s runners (event.Cancel watcher) l right = tt
+line_legal n s runners _ l right = tt
 
 -- ---- all lines
 

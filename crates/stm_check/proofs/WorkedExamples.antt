@@ -17,7 +17,10 @@ use Rattle.stm_reports.specs.declared.line.ToldOp.TheVariants as told
 use Rattle.stm_check.specs.declared.cause.WrongCause.TheVariants.{Count, Final}
 use Rattle.stm_check.specs.Point.{Point, beginning}
 use Rattle.stm_check.specs.Fits.{fits}
-use Rattle.stm_check.specs.StoreLines.{txn_call_line, grant_line}
+use Rattle.stm_txn.specs.Standing.{transacted, granted}
+use Rattle.stm_world.specs.declared.reply.Reply.TheVariants.{Txn as TxnDone, Granted}
+use Rattle.stm_world.specs.Told.{reply_to}
+use Rattle.stm_lines.specs.Lines.{line_told}
 use Rattle.stm_check.specs.Wrong.{IsOff, IsFirstWrong, point_after}
 
 -- ---- the scenario
@@ -116,11 +119,12 @@ key_line_is_of_no_event = refl
 
 -- ---- the replay
 
-first_txn : txn_call_line 1 (beginning 1).standing (record { compares = []; success = Put (codes "x") (codes "1") 0 ∷ []; failure = [] })
+first_txn : line_told 1 (reply_to TxnDone
+    (transacted (beginning 1).standing (record { compares = []; success = Put (codes "x") (codes "1") 0 ∷ []; failure = [] })))
     ≡ line.Txn 1 true 2 (told.Put ∷ [])
 first_txn = refl
 
-bad_grant : grant_line 1 (beginning 1).standing 0 5 ≡ line.Refused 1 LeaseIdOutOfRange []
+bad_grant : line_told 1 (reply_to (λ _. Granted 0) (granted (beginning 1).standing 0 5)) ≡ line.Refused 1 LeaseIdOutOfRange []
 bad_grant = refl
 
 -- ---- the end

@@ -8,11 +8,14 @@ use Rattle.stm_program.specs.declared.level.Level.{Level}
 use Rattle.stm_meaning.specs.declared.value.Value.{Value}
 use Rattle.stm_meaning.specs.declared.trace_item.TraceItem.{TraceItem}
 use Rattle.stm_compile.specs.Levels.{is_comparing}
-use Rattle.stm_txn.specs.Standing.{Standing}
+use Rattle.stm_txn.specs.Standing.{Standing, transacted, granted, kept_alive, revoked, advanced}
 use Rattle.stm_entries.specs.Replayed.{without_moment}
 use Rattle.stm_entries.specs.Legal.{IsCommit}
 use Rattle.stm_world.specs.declared.event.WorldEvent.{WorldEvent}
 use Rattle.stm_world.specs.declared.event.WorldEvent.TheVariants.{Start, Step, Txn, Grant, Keep, Revoke, Advance}
+use Rattle.stm_world.specs.declared.reply.Reply.TheVariants.{Txn as TxnDone, Granted, Kept, Revoked}
+use Rattle.stm_world.specs.Told.{reply_to, advance_reply}
+use Rattle.stm_lines.specs.Lines.{line_told}
 use Rattle.stm_reports.specs.declared.causes.RefusalName.TheVariants.{BadLimit, NoRunner}
 use Rattle.stm_reports.specs.declared.line.ReportLine.{ReportLine}
 use Rattle.stm_reports.specs.declared.line.ReportLine.TheVariants.{Committed, Refused}
@@ -20,7 +23,6 @@ use Rattle.stm_reports.specs.declared.line.ToldAnswer.{ToldAnswer}
 use Rattle.stm_check.specs.Point.{reads_in}
 use Rattle.stm_check.specs.declared.runner.Runner.{Runner}
 use Rattle.stm_check.specs.Runners.{running}
-use Rattle.stm_check.specs.StoreLines.{txn_call_line, grant_line, keep_line, revoke_line, advance_call_line}
 
 -- ---- commits
 
@@ -69,15 +71,16 @@ StepReplays s runner (Refused n cause expired) = (runner ≡ None) × (cause ≡
 StepReplays s runner (Committed n id revision attempts output trace answers) = IsCommitOf s runner revision attempts output trace answers
 StepReplays s runner other = Unit {0}
 
--- ---- the line of an event: a call of the store has exactly the line that it comes to, and lines of watchers are not replayed,
--- refused ones neither
+-- ---- the line of an event: a call of the store has exactly the line of a world's reply to it, and lines of watchers are not
+-- replayed, refused ones neither
 
 abbrev pub Replays : ℕ → Standing → List Runner → WorldEvent → ReportLine → Type 0
 Replays n s runners (Start program level limit) l = StartReplays limit l
 Replays n s runners (Step id) l = StepReplays s (running id runners) l
-Replays n s runners (Txn txn) l = txn_call_line n s txn ≡ l
-Replays n s runners (Grant id ttl) l = grant_line n s id ttl ≡ l
-Replays n s runners (Keep id) l = keep_line n s id ≡ l
-Replays n s runners (Revoke id) l = revoke_line n s id ≡ l
-Replays n s runners (Advance moment) l = advance_call_line n s moment ≡ l
+Replays n s runners (Txn txn) l = line_told n (reply_to TxnDone (transacted s txn)) ≡ l
+Replays n s runners (Grant id ttl) l = line_told n (reply_to (λ _. Granted id) (granted s id ttl)) ≡ l
+Replays n s runners (Keep id) l = line_told n (reply_to (λ _. Kept id) (kept_alive s id)) ≡ l
+Replays n s runners (Revoke id) l = line_told n (reply_to (Revoked id) (revoked s id)) ≡ l
+Replays n s runners (Advance moment) l =
+    line_told n (advance_reply moment (advanced s moment).expired (advanced s moment).cause) ≡ l
 Replays n s runners other l = Unit {0}

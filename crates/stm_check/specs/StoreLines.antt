@@ -1,44 +1,17 @@
--- The lines that the calls of a store come to, and those of what it holds at the end.
+-- The lines of what a store holds at the end.
 --
--- etcd's API reference, "Transaction", "Lease" and "Range".
-use Rattle.std.specs.Prelude.{ℕ, List, [], ◌∷◌, ◌++◌, map, Option, Some, None, Result, Ok, Err}
+-- etcd's API reference, "Range" and "Lease".
+use Rattle.std.specs.Prelude.{ℕ, List, [], ◌∷◌, ◌++◌, map, Option, Some, None}
 use Rattle.std.specs.FinMap as finmap
 use Rattle.stm_history.specs.declared.key_state.KeyState.{KeyState}
 use Rattle.stm_history.specs.History.{History, now, key_now}
 use Rattle.stm_leases.specs.LeaseLog.{Term}
 use Rattle.stm_leases.specs.Live.{Live}
-use Rattle.stm_txn.specs.declared.refusal.Refusal.{Refusal}
-use Rattle.stm_txn.specs.declared.txn.Txn.{Txn as StoreTxn}
 use Rattle.stm_txn.specs.LeaseKeys.{keys_named}
-use Rattle.stm_txn.specs.Standing.{Standing, Step, transacted, granted, kept_alive, revoked, advanced}
+use Rattle.stm_txn.specs.Standing.{Standing}
 use Rattle.stm_reports.specs.declared.line.ReportLine.{ReportLine}
-use Rattle.stm_reports.specs.declared.line.ReportLine.TheVariants.{Granted, Kept, Revoked, Refused, Key, Lease, End}
-use Rattle.stm_reports.specs.Told.{cause_told, txn_line, advance_line}
+use Rattle.stm_reports.specs.declared.line.ReportLine.TheVariants.{Key, Lease, End}
 use Rattle.stm_check.specs.Point.{Point}
-
--- ---- calls
-
--- a call that is not refused is told, and a refused one by its cause
-abbrev pub call_line : {A : Type 0} → ℕ → (A → ReportLine) → Result (Step A) Refusal → ReportLine
-call_line n tell (Ok done) = tell done.answer
-call_line n tell (Err cause) = Refused n (cause_told cause) []
-
-abbrev pub txn_call_line : ℕ → Standing → StoreTxn → ReportLine
-txn_call_line n s txn = call_line n (txn_line n) (transacted s txn)
-
-abbrev pub grant_line : ℕ → Standing → ℕ → ℕ → ReportLine
-grant_line n s id ttl = call_line n (λ _. Granted n id) (granted s id ttl)
-
-abbrev pub keep_line : ℕ → Standing → ℕ → ReportLine
-keep_line n s id = call_line n (λ _. Kept n id) (kept_alive s id)
-
-abbrev pub revoke_line : ℕ → Standing → ℕ → ReportLine
-revoke_line n s id = call_line n (Revoked n id) (revoked s id)
-
-abbrev pub advance_call_line : ℕ → Standing → ℕ → ReportLine
-advance_call_line n s moment = advance_line n moment (advanced s moment).expired (advanced s moment).cause
-
--- ---- the end
 
 abbrev pub key_lines_of : List ℕ → Option KeyState → List ReportLine
 key_lines_of key None = []

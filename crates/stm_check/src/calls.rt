@@ -1,11 +1,14 @@
 //! Whether a line tells what a call of the store comes to. The call is made.
 ghost use Rattle.std.specs.Prelude.{◌≡◌, ◌≢◌, ◌↔◌, IsTrue, IfOk, OnOk};
 ghost use Rattle.stm_check.specs.Point.{led_by, moment_after, txn_entries, grant_entries, keep_entries, revoke_entries, advance_entries};
-ghost use Rattle.stm_check.specs.StoreLines.{txn_call_line, grant_line, keep_line, revoke_line, advance_call_line};
+ghost use Rattle.stm_lines.specs.Lines.{line_told};
 ghost use Rattle.stm_history.specs.History.{now};
 ghost use Rattle.stm_reports.specs.Told.{cause_told};
 ghost use Rattle.stm_reports.specs.declared.line.ReportLine.TheVariants.{Refused};
+ghost use Rattle.stm_txn.specs.Standing.{transacted, granted, kept_alive, revoked, advanced};
 ghost use Rattle.stm_txn.specs.declared.refusal.Refusal.TheVariants.{OutOfMemory};
+ghost use Rattle.stm_world.specs.Told.{reply_to, advance_reply};
+ghost use Rattle.stm_world.specs.declared.reply.Reply.TheVariants.{Txn as TxnDone, Granted, Kept, Revoked};
 ghost use Rattle.stm_world.specs.declared.event.WorldEvent.TheVariants.{Advance as AdvanceEvent};
 
 use std::alloc::AllocError;
@@ -37,7 +40,7 @@ pub(crate) fn replay_txn(
     txn: &Txn,
     line: &ReportLine,
 ) -> Result<bool, AllocError>
-    ensures right { IfOk result (λ b. IsTrue b ↔ txn_call_line number store.old.standing txn.now ≡ line.now) }
+    ensures right { IfOk result (λ b. IsTrue b ↔ line_told number (reply_to TxnDone (transacted store.old.standing txn.now)) ≡ line.now) }
     ensures next { IfOk result (λ b. IsTrue b → store.new.standing ≡ led_by (txn_entries (now store.old.standing.history) txn.now line.now) store.old.standing store.old.standing.moment) }
 {
     match store.txn(txn) {
@@ -54,7 +57,7 @@ pub(crate) fn replay_grant(
     ttl: u64,
     line: &ReportLine,
 ) -> Result<bool, AllocError>
-    ensures right { IfOk result (λ b. IsTrue b ↔ grant_line number store.old.standing id ttl ≡ line.now) }
+    ensures right { IfOk result (λ b. IsTrue b ↔ line_told number (reply_to (λ _. Granted id) (granted store.old.standing id ttl)) ≡ line.now) }
     ensures next { IfOk result (λ b. IsTrue b → store.new.standing ≡ led_by (grant_entries id ttl store.old.standing.moment line.now) store.old.standing store.old.standing.moment) }
 {
     match store.grant(id, ttl) {
@@ -70,7 +73,7 @@ pub(crate) fn replay_keep(
     id: u64,
     line: &ReportLine,
 ) -> Result<bool, AllocError>
-    ensures right { IfOk result (λ b. IsTrue b ↔ keep_line number store.old.standing id ≡ line.now) }
+    ensures right { IfOk result (λ b. IsTrue b ↔ line_told number (reply_to (λ _. Kept id) (kept_alive store.old.standing id)) ≡ line.now) }
     ensures next { IfOk result (λ b. IsTrue b → store.new.standing ≡ led_by (keep_entries id store.old.standing.moment line.now) store.old.standing store.old.standing.moment) }
 {
     match store.keep_alive(id) {
@@ -86,7 +89,7 @@ pub(crate) fn replay_revoke(
     id: u64,
     line: &ReportLine,
 ) -> Result<bool, AllocError>
-    ensures right { IfOk result (λ b. IsTrue b ↔ revoke_line number store.old.standing id ≡ line.now) }
+    ensures right { IfOk result (λ b. IsTrue b ↔ line_told number (reply_to (Revoked id) (revoked store.old.standing id)) ≡ line.now) }
     ensures next { IfOk result (λ b. IsTrue b → store.new.standing ≡ led_by (revoke_entries id line.now) store.old.standing store.old.standing.moment) }
 {
     match store.revoke(id) {
@@ -102,7 +105,7 @@ pub(crate) fn replay_advance(
     moment: u64,
     line: &ReportLine,
 ) -> Result<bool, AllocError>
-    ensures right { IfOk result (λ b. IsTrue b ↔ advance_call_line number store.old.standing moment ≡ line.now) }
+    ensures right { IfOk result (λ b. IsTrue b ↔ line_told number (advance_reply moment (advanced store.old.standing moment).expired (advanced store.old.standing moment).cause) ≡ line.now) }
     ensures next { IfOk result (λ b. IsTrue b → store.new.standing ≡ led_by (advance_entries line.now) store.old.standing (moment_after store.old.standing (AdvanceEvent moment))) }
 {
     match store.advance(moment) {

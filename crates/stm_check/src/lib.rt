@@ -1,7 +1,7 @@
 //! When a report is wrong: the definition that reports are checked by, and the check.
 //!
 //! `specs/Wrong.antt` says which line is the first wrong one, and why. It knows the events of the scenario, the lines,
-//! and the replay of entries; it does not know how a world makes its replies.
+//! the replay of entries, and which line the reply to a call of a store has; it knows nothing of a world's step.
 #![tactic(auto)]
 
 mod calls;

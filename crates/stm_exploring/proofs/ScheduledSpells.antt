@@ -15,7 +15,7 @@ use Rattle.stm_texts.specs.Grammar.{level_text, SpellsEvent, SpellsElements, Spe
 use Rattle.stm_texts.specs.Reading.{IsOpening, scenario_in}
 use Rattle.stm_texts.specs.declared.scenario.Scenario.{Scenario}
 use Rattle.stm_texts.proofs.GrammarSound.{spelled_by}
-use Rattle.stm_txn_json.specs.Grammar.{SpellsEach}
+use Rattle.stm_json.specs.Parts.{SpellsEach}
 use Rattle.stm_world.specs.declared.event.WorldEvent.{WorldEvent}
 use Rattle.stm_world.specs.declared.event.WorldEvent.TheVariants as event
 use Rattle.stm_exploring.specs.Asking.{first_step, events_at, scenario_at, without_step, asked}

@@ -1,23 +1,13 @@
 //! The lines of an answer.
-ghost use Rattle.std.specs.Prelude.{◌≡◌, ◌++◌, false, IfOk, OnOk, string_bytes};
+ghost use Rattle.std.specs.Prelude.{◌≡◌, ◌++◌, IfOk, OnOk, string_bytes};
 ghost use Rattle.serde_json.specs.View.{view};
-ghost use Rattle.serde_json.specs.Written.{has_float};
 ghost use Rattle.stm_reports.specs.Text.{line_text};
 ghost use Rattle.stm_exploring.specs.Lines.{count_line, end_data, broken_line};
 
 use serde_json::{Value as Json, json};
 use std::alloc::{AllocError, Global};
 use stm_meaning::End;
-
-/// Adds a line.
-pub(crate) fn push_line(alloc: Global, text: &mut String, line: &Json) -> Result<(), AllocError>
-    requires { has_float (view line.now) ≡ false }
-    ensures { OnOk result (string_bytes text.new ≡ string_bytes text.old ++ line_text (view line.now)) }
-{
-    let compact = line.to_string(alloc)?;
-    text.push_str(compact.as_str())?;
-    text.push('\n')
-}
+use stm_reports::push_line;
 
 /// The line of a word and a number.
 fn count_json(alloc: Global, word: &str, count: u64) -> Result<Json, AllocError>

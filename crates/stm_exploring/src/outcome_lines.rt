@@ -6,13 +6,14 @@ ghost use Rattle.stm_reports.specs.LineData.{value_data};
 ghost use Rattle.stm_schedules.specs.declared.outcome.RunnerEnd.TheVariants.{Committed};
 ghost use Rattle.stm_exploring.specs.Lines.{key_value_data, runner_end_data, outcome_line, outcome_text, each_once, outcomes_text};
 
-use crate::lines::{push_count, push_line};
+use crate::lines::push_count;
 use crate::lists::{Written, list_json};
 use serde_json::{Value as Json, json};
 use std::alloc::{AllocError, Global};
 use std::collections::BTreeSet;
 use stm_history::Text;
 use stm_meaning::Value;
+use stm_reports::push_line;
 use stm_schedules::{KeyValue, Outcome, RunnerEnd};
 
 impl Written for Value {

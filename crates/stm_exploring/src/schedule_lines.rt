@@ -7,10 +7,10 @@ ghost use Rattle.stm_schedules.specs.Places.{event_of, left_after};
 ghost use Rattle.stm_schedules.specs.Schedules.{events_along};
 ghost use Rattle.stm_exploring.specs.Asking.{scheduled};
 
-use crate::lines::push_line;
 use crate::setup::setup_and_others;
 use serde_json::Value as Json;
 use std::alloc::{AllocError, Global};
+use stm_reports::push_line;
 use stm_scenario_json::{event_json, opening_json};
 use stm_schedules::Move;
 use stm_texts::{Scenario, WorldEvent};

@@ -1,8 +1,7 @@
 //! What is printed of a run of jobs.
-ghost use Rattle.std.specs.Prelude.{◌≡◌, ◌++◌, false, IfOk, OnOk, string_bytes};
+ghost use Rattle.std.specs.Prelude.{◌≡◌, ◌++◌, IfOk, OnOk, string_bytes};
 ghost use Rattle.serde_json.specs.Data.{string};
 ghost use Rattle.serde_json.specs.View.{view};
-ghost use Rattle.serde_json.specs.Written.{has_float};
 ghost use Rattle.stm_reports.specs.LineData.{whole};
 ghost use Rattle.stm_meaning.specs.States.{IsAscending};
 ghost use Rattle.stm_reports.specs.Text.{line_text, lines_text};
@@ -11,6 +10,7 @@ ghost use Rattle.stm_jobs.specs.Lines.{count_line, value_line, value_lines, job_
 use serde_json::{Value as Json, json};
 use std::alloc::{AllocError, Global};
 use stm_meaning::State;
+use stm_reports::push_line;
 use stm_workers::{Gathered, JobEnd, JobRefusal};
 
 /// The line of a count.
@@ -25,16 +25,6 @@ fn value_json(alloc: Global, key: &str, value: &str) -> Result<Json, AllocError>
     ensures { IfOk result (λ v. view v ≡ value_line key.now value.now) }
 {
     json!(in alloc; ["value", key, value])
-}
-
-/// Adds a line.
-fn push_line(alloc: Global, text: &mut String, line: &Json) -> Result<(), AllocError>
-    requires { has_float (view line.now) ≡ false }
-    ensures { OnOk result (string_bytes text.new ≡ string_bytes text.old ++ line_text (view line.now)) }
-{
-    let compact = line.to_string(alloc)?;
-    text.push_str(compact.as_str())?;
-    text.push('\n')
 }
 
 /// Adds the line of a count.

@@ -1,2 +1,5 @@
 pub mod OutcomeLemmas
 pub mod ElementLemmas
+pub mod PartLemmas
+pub mod ListLemmas
+pub mod FaultLemmas

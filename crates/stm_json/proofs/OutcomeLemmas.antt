@@ -1,5 +1,5 @@
 -- What is known where reading answers a value, and what a function tells of an element.
-use Rattle.std.proofs.Common.{◌≡◌, inl, inr, ℕ, Bool, true, false, cond, Result, Ok, Err, refl}
+use Rattle.std.proofs.Common.{◌≡◌, inl, inr, ℕ, Bool, true, false, cond, Result, Ok, Err, refl, subst, IfOk}
 use Rattle.stm_json.specs.declared.cause.Cause.{Cause}
 use Rattle.stm_json.specs.declared.read_error.ReadError.{ReadError}
 use Rattle.stm_json.specs.declared.read_error.ReadError.TheVariants.{OutOfMemory, Bad}
@@ -25,3 +25,16 @@ Tells-within see index (Ok x) result reading told wrapped = rw (wrapped, told) r
 Tells-within see index (Err OutOfMemory) result reading told wrapped = rw wrapped tt
 Tells-within see index (Err (Bad f)) result reading told (inl e) = rw e tt
 Tells-within see index (Err (Bad f)) result reading told (inr e) = rw (e, told) refl
+
+-- ---- what a function tells, in other words than those of reading
+
+-- what was read is so
+pub told_means : {X A : Type 0} (see : X → A) (P : A → Type 0) (r : Result X ReadError) (reading : Outcome A) → ((x : A) → reading ≡ Ok x → P x)
+    → Tells see r reading → IfOk r (λ x. P (see x))
+told_means see P (Ok x) reading means h = means (see x) h
+told_means see P (Err e) reading means h = tt
+
+-- what is so was read
+pub told_reads : {X A : Type 0} (see : X → A) (r : Result X ReadError) (reading other : Outcome A) → reading ≡ other → Tells see r reading
+    → Tells see r other
+told_reads {X} {A} see r reading other is h = subst (λ (o : Outcome A). Tells see r o) is h

@@ -7,12 +7,14 @@
 mod cause;
 mod elements;
 mod limits;
+mod parts;
 mod place;
 mod read_error;
 
 pub use cause::Cause;
 pub use elements::{four, number_between, number_within, one, three, two, whole, worded_array};
 pub use limits::MOST_BYTES;
+pub use parts::{number_part, text, text_part};
 pub use place::{fault, within};
 pub use read_error::{BadInput, ReadError};
 pub use stm_history::Text;

@@ -15,7 +15,8 @@ use Rattle.stm_program_json.specs.Words.{condition_word}
 use Rattle.stm_program_json.specs.WordTexts.{comparison_text, connective_text, condition_text}
 use Rattle.stm_json.specs.Elements.{worded}
 use Rattle.stm_program_json.specs.Reading.{Read, comparison_of, connective_of, condition_named, condition_array, expression_at, condition_at}
-use Rattle.stm_program_json.specs.Grammar.{spelled, SpellsExpression, SpellsCondition}
+use Rattle.stm_json.specs.Parts.{spelled}
+use Rattle.stm_program_json.specs.Grammar.{SpellsExpression, SpellsCondition}
 use Rattle.stm_program.proofs.LimitLemmas.{condition_nodes-positive, condition_depth-positive}
 use Rattle.stm_program_json.proofs.WordLemmas.{condition_word-text}
 use Rattle.stm_program_json.proofs.ExpressionComplete.{one_part-reads, two_parts-reads, expression_reads}

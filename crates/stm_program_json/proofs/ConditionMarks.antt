@@ -8,7 +8,8 @@ use Rattle.stm_program.specs.Syntax.{Condition, Not}
 use Rattle.stm_program_json.specs.Words.{condition_word}
 use Rattle.stm_json.specs.Elements.{worded}
 use Rattle.stm_program_json.specs.Reading.{Read, comparison_of, connective_of, condition_named, condition_array, expression_at, condition_at}
-use Rattle.stm_program_json.specs.FirstFault.{Mark, wrong, at, first_of_marks}
+use Rattle.stm_json.specs.Faults.{at}
+use Rattle.stm_program_json.specs.FirstFault.{Mark, wrong, first_of_marks}
 use Rattle.stm_program_json.proofs.ReaderMarks.{expression_marks, condition_of_one, condition_of_two, condition_inner, condition_marks}
 use Rattle.stm_program_json.proofs.MarkLemmas.{after, wrong_is, too_deep, too_many, one_node}
 use Rattle.stm_program_json.proofs.ExpressionMarks.{one_marked, two_marked, expression_marked}

@@ -14,7 +14,8 @@ use Rattle.stm_program_json.specs.Words.{condition_word}
 use Rattle.stm_program_json.specs.WordTexts.{comparison_text, connective_text}
 use Rattle.stm_json.specs.Elements.{worded, one_of, two_of}
 use Rattle.stm_program_json.specs.Reading.{Read, comparison_of, connective_of, condition_named, condition_array, expression_at, condition_at}
-use Rattle.stm_program_json.specs.Grammar.{spelled, SpellsExpression, SpellsCondition}
+use Rattle.stm_json.specs.Parts.{spelled}
+use Rattle.stm_program_json.specs.Grammar.{SpellsExpression, SpellsCondition}
 use Rattle.stm_program_json.proofs.OutcomeLemmas.{one_part_ok, two_parts_ok}
 use Rattle.stm_program_json.proofs.WordLemmas.{condition_word-is}
 use Rattle.stm_json.proofs.ElementLemmas.{one_of-is, two_of-is}

@@ -14,7 +14,8 @@ use Rattle.stm_program.specs.Limits.{expression_depth, ExpressionInRange}
 use Rattle.stm_program_json.specs.Words.{expression_word}
 use Rattle.stm_program_json.specs.WordTexts.{unary_text, binary_text, expression_text}
 use Rattle.stm_program_json.specs.Reading.{Read, one_part, two_parts, unary_of, binary_of, expression_named, expression_body, expression_at}
-use Rattle.stm_program_json.specs.Grammar.{spelled, SpellsExpression}
+use Rattle.stm_json.specs.Parts.{spelled}
+use Rattle.stm_program_json.specs.Grammar.{SpellsExpression}
 use Rattle.stm_program.proofs.LimitLemmas.{expression_nodes-positive, expression_depth-positive}
 use Rattle.stm_program_json.proofs.WordLemmas.{expression_word-text}
 use Rattle.stm_json.proofs.ElementLemmas.{number_up_to-reads, whole_number-reads}

@@ -10,7 +10,8 @@ use Rattle.stm_program_json.specs.Words.{expression_word}
 use Rattle.stm_json.specs.Outcome.{Outcome, bad, ◌>>=◌}
 use Rattle.stm_json.specs.Elements.{whole_number, number_up_to}
 use Rattle.stm_program_json.specs.Reading.{Read, one_part, two_parts, unary_of, binary_of, expression_named, expression_body, expression_at}
-use Rattle.stm_program_json.specs.FirstFault.{Mark, wrong, at, first_of_marks}
+use Rattle.stm_json.specs.Faults.{at}
+use Rattle.stm_program_json.specs.FirstFault.{Mark, wrong, first_of_marks}
 use Rattle.stm_program_json.proofs.ReaderMarks.{expression_of_one, expression_of_two, expression_inner, expression_marks}
 use Rattle.stm_program_json.proofs.MarkLemmas.{after, after_number, wrong_is, too_deep, too_many, one_node, whole_marked, number_marked, part_then, number_then}
 use Rattle.stm_program_json.proofs.MarkLemmas.{behind}

@@ -16,7 +16,8 @@ use Rattle.stm_program_json.specs.WordTexts.{unary_text, binary_text}
 use Rattle.stm_json.specs.Outcome.{within}
 use Rattle.stm_json.specs.Elements.{worded, one_of, two_of, number_up_to, whole_number}
 use Rattle.stm_program_json.specs.Reading.{Read, literal, variable, unary_of, binary_of, expression_named, expression_array, expression_body, expression_at}
-use Rattle.stm_program_json.specs.Grammar.{spelled, SpellsExpression}
+use Rattle.stm_json.specs.Parts.{spelled}
+use Rattle.stm_program_json.specs.Grammar.{SpellsExpression}
 use Rattle.stm_json.proofs.OutcomeLemmas.{bind_ok, within_ok, guard_ok}
 use Rattle.stm_program_json.proofs.OutcomeLemmas.{one_part_ok, two_parts_ok}
 use Rattle.stm_program_json.proofs.WordLemmas.{expression_word-is}

@@ -11,7 +11,8 @@ use Rattle.stm_json.specs.declared.read_error.BadInput.{BadInput}
 use Rattle.stm_json.specs.Outcome.{Outcome, bad, ◌>>=◌, within, step}
 use Rattle.stm_json.specs.Elements.{is_64_bit, in_64_bits, in_range, whole_number, number_up_to}
 use Rattle.stm_program_json.specs.Reading.{Read}
-use Rattle.stm_program_json.specs.FirstFault.{Mark, Node, wrong, at, fault_at, first_of_marks, range_marks, number_marks, whole_marks}
+use Rattle.stm_json.specs.Faults.{at}
+use Rattle.stm_program_json.specs.FirstFault.{Mark, Node, wrong, fault_at, first_of_marks, range_marks, number_marks, whole_marks}
 use Rattle.stm_program.specs.declared.limits.TheConstants.{MAX_DEPTH}
 
 -- the reader's fault, or the first one behind

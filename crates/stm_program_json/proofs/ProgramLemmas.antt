@@ -1,18 +1,17 @@
 -- What the exact answer of reading a program says in the words of the grammar and of the first fault.
-use Rattle.std.proofs.Common.{◌≡◌, None, Result, Ok, Err, ap, subst, ◌∙◌, IfOk, MatchResult}
+use Rattle.std.proofs.Common.{◌≡◌, None, Result, Ok, Err, ap, subst, ◌∙◌, MatchResult}
 use Rattle.serde_json.specs.Data.{Data}
 use Rattle.stm_json.specs.declared.read_error.ReadError.{ReadError}
 use Rattle.stm_json.specs.declared.read_error.ReadError.TheVariants as error
 use Rattle.stm_program.specs.Syntax.{ProgramTree, of_statements}
 use Rattle.stm_program.specs.Limits.{Fits}
-use Rattle.stm_json.specs.Outcome.{Outcome}
 use Rattle.stm_json.specs.Tells.{Tells}
+use Rattle.stm_json.specs.Faults.{IsFirstFault}
 use Rattle.stm_program_json.specs.Grammar.{SpellsProgram}
 use Rattle.stm_program_json.specs.Reading.{statement_at, block_by, program_of}
-use Rattle.stm_program_json.specs.FirstFault.{first_fault, IsFirstFault}
+use Rattle.stm_program_json.specs.FirstFault.{first_fault}
 use Rattle.stm_json.proofs.OutcomeLemmas.{bind_ok}
 use Rattle.stm_program_json.proofs.StatementSound.{read_block_sound}
-use Rattle.stm_program_json.proofs.StatementComplete.{program_reads}
 use Rattle.stm_program_json.proofs.StatementMarks.{fault_of, program_fault}
 use Rattle.stm_program.specs.declared.limits.TheConstants.{MAX_DEPTH, MAX_NODES}
 
@@ -23,15 +22,7 @@ program_sound d p h =
     let is : of_statements q.0.0 ≡ p = cc q.2 in
     subst (λ (t : ProgramTree). SpellsProgram d t × Fits t) is (read_block_sound d q.0 q.1)
 
-pub spelled_by : (d : Data) (r : Result ProgramTree ReadError) → Tells (λ p. p) r (program_of d) → IfOk r (SpellsProgram d)
-spelled_by d (Ok p) h = (program_sound d p h).0
-spelled_by d (Err e) h = tt
-
-pub accepted : (d : Data) (r : Result ProgramTree ReadError) → Tells (λ p. p) r (program_of d) → (p : ProgramTree) → SpellsProgram d p → Fits p
-    → Tells (λ q. q) r (Ok p)
-accepted d r h p s f = subst (λ (o : Outcome ProgramTree). Tells (λ (q : ProgramTree). q) r o) (program_reads d p s f) h
-
-pub faulted : (d : Data) (r : Result ProgramTree ReadError) → Tells (λ p. p) r (program_of d) → MatchResult r (λ p. first_fault d ≡ None) (IsFirstFault d)
+pub faulted : (d : Data) (r : Result ProgramTree ReadError) → Tells (λ p. p) r (program_of d) → MatchResult r (λ p. first_fault d ≡ None) (IsFirstFault (first_fault d))
 faulted d (Ok p) h = program_fault d ∙ ap fault_of h
 faulted d (Err error.OutOfMemory) h = tt
 faulted d (Err (error.Bad f)) h = program_fault d ∙ ap fault_of h

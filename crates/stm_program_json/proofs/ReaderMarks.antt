@@ -12,7 +12,8 @@ use Rattle.stm_program_json.specs.declared.words.CondWord.TheVariants as conditi
 use Rattle.stm_program_json.specs.declared.words.StmtWord.{StmtWord}
 use Rattle.stm_program_json.specs.declared.words.StmtWord.TheVariants as statement
 use Rattle.stm_program_json.specs.Words.{expression_word, condition_word, statement_word}
-use Rattle.stm_program_json.specs.FirstFault.{Mark, Node, wrong, at, number_marks, whole_marks}
+use Rattle.stm_json.specs.Faults.{at}
+use Rattle.stm_program_json.specs.FirstFault.{Mark, Node, wrong, number_marks, whole_marks}
 use Rattle.stm_program.specs.declared.limits.TheConstants.{MAX_TEXT, MAX_TURNS, MAX_VARIABLE, MAX_LEASE}
 
 -- ---- expressions

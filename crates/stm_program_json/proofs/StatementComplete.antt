@@ -13,9 +13,9 @@ use Rattle.stm_program_json.specs.Words.{statement_word}
 use Rattle.stm_program_json.specs.WordTexts.{simple_text, statement_text}
 use Rattle.stm_json.specs.Elements.{worded}
 use Rattle.stm_program_json.specs.Reading.{Read, simple_of, statement_named, statement_array, statements_from, block_by}
-use Rattle.stm_program_json.specs.Reading.{expression_at, condition_at, statement_at}
-use Rattle.stm_program_json.specs.Reading.{program_of}
-use Rattle.stm_program_json.specs.Grammar.{spelled, SpellsExpression, SpellsStatement, SpellsStatements, SpellsProgram}
+use Rattle.stm_program_json.specs.Reading.{expression_at, condition_at, statement_at, program_of}
+use Rattle.stm_json.specs.Parts.{spelled}
+use Rattle.stm_program_json.specs.Grammar.{SpellsExpression, SpellsStatement, SpellsStatements, SpellsProgram}
 use Rattle.stm_program.proofs.LimitLemmas.{statement_nodes-positive, statement_depth-positive}
 use Rattle.stm_program_json.proofs.WordLemmas.{statement_word-text}
 use Rattle.stm_json.proofs.ElementLemmas.{number_up_to-reads}

@@ -11,9 +11,9 @@ use Rattle.stm_program_json.specs.Words.{statement_word}
 use Rattle.stm_json.specs.Outcome.{Outcome, ◌>>=◌}
 use Rattle.stm_json.specs.Elements.{worded, number_up_to}
 use Rattle.stm_program_json.specs.Reading.{Read, simple_of, statement_named, statement_array, statements_from, block_by}
-use Rattle.stm_program_json.specs.Reading.{expression_at, condition_at, statement_at}
-use Rattle.stm_program_json.specs.Reading.{program_of}
-use Rattle.stm_program_json.specs.FirstFault.{Mark, wrong, at, first_of_marks, number_marks, first_fault}
+use Rattle.stm_program_json.specs.Reading.{expression_at, condition_at, statement_at, program_of}
+use Rattle.stm_json.specs.Faults.{at}
+use Rattle.stm_program_json.specs.FirstFault.{Mark, wrong, first_of_marks, number_marks, first_fault}
 use Rattle.stm_program_json.proofs.ReaderMarks.{expression_marks, condition_marks, statement_of_one, statement_of_two, statement_of_three, statement_of_four}
 use Rattle.stm_program_json.proofs.ReaderMarks.{statement_inner, statement_marks, block_marks, statements_marks}
 use Rattle.stm_program_json.proofs.TableMarks.{block_is}

@@ -14,7 +14,8 @@ use Rattle.stm_json.specs.Outcome.{within}
 use Rattle.stm_json.specs.Elements.{worded, one_of, two_of, three_of, four_of, number_up_to}
 use Rattle.stm_program_json.specs.Reading.{Read, simple_of, set_of, put_of, if_of, for_of, statement_named, statement_array, statements_from, block_by}
 use Rattle.stm_program_json.specs.Reading.{expression_at, condition_at, statement_at}
-use Rattle.stm_program_json.specs.Grammar.{spelled, SpellsExpression, SpellsStatement, SpellsStatements, SpellsProgram}
+use Rattle.stm_json.specs.Parts.{spelled}
+use Rattle.stm_program_json.specs.Grammar.{SpellsExpression, SpellsStatement, SpellsStatements, SpellsProgram}
 use Rattle.stm_json.proofs.OutcomeLemmas.{bind_ok, within_ok}
 use Rattle.stm_program_json.proofs.OutcomeLemmas.{one_part_ok}
 use Rattle.stm_program_json.proofs.WordLemmas.{statement_word-is}

@@ -15,8 +15,10 @@ use Rattle.stm_program_json.specs.declared.words.Binary.TheVariants as binary
 use Rattle.stm_program_json.specs.declared.words.Comparison.TheVariants as comparison
 use Rattle.stm_program_json.specs.declared.words.Connective.TheVariants as connective
 use Rattle.stm_program_json.specs.declared.words.Simple.TheVariants as simple
-use Rattle.stm_program_json.specs.Words.{same, expression_word, condition_word, statement_word}
-use Rattle.stm_program_json.specs.FirstFault.{Mark, Node, Sort, Value, Test, Step, Block, Count, wrong, at, number_marks, parts_behind, marks_if, marks_in}
+use Rattle.stm_json.specs.Parts.{same}
+use Rattle.stm_program_json.specs.Words.{expression_word, condition_word, statement_word}
+use Rattle.stm_json.specs.Faults.{at}
+use Rattle.stm_program_json.specs.FirstFault.{Mark, Node, Sort, Value, Test, Step, Block, Count, wrong, number_marks, parts_behind, marks_if, marks_in}
 use Rattle.stm_program_json.specs.FirstFault.{marks_of_parts, marks_of_steps}
 use Rattle.stm_program_json.proofs.ReaderMarks.{expression_of_one, expression_of_two, expression_inner, condition_of_one, condition_of_two, condition_inner}
 use Rattle.stm_program_json.proofs.ReaderMarks.{statement_of_one, statement_of_two, statement_of_three, statement_of_four, statement_inner, block_marks}

@@ -13,7 +13,8 @@ use Rattle.stm_program_json.specs.declared.words.Connective.TheVariants as conne
 use Rattle.stm_program_json.specs.declared.words.StmtWord.{StmtWord}
 use Rattle.stm_program_json.specs.declared.words.StmtWord.TheVariants as statement
 use Rattle.stm_program_json.specs.declared.words.Simple.TheVariants as simple
-use Rattle.stm_program_json.specs.Words.{same, expression_word, condition_word, statement_word}
+use Rattle.stm_json.specs.Parts.{same}
+use Rattle.stm_program_json.specs.Words.{expression_word, condition_word, statement_word}
 use Rattle.stm_program_json.specs.WordTexts.{expression_text, condition_text, statement_text}
 
 -- the answer of one test, or of the tests behind it

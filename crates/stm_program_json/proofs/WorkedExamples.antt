@@ -4,7 +4,8 @@ use Rattle.std.specs.Fmt.{digits}
 use Rattle.serde_json.specs.Data.{Data, number, unsigned, string, array, no_items, item}
 use Rattle.stm_json.specs.declared.cause.Cause.TheVariants.{Shape, Range}
 use Rattle.stm_program.specs.Syntax.{ProgramTree, of_statements, Get, Text, Emit, End, Then}
-use Rattle.stm_program_json.specs.Grammar.{spelled, SpellsProgram}
+use Rattle.stm_json.specs.Parts.{spelled}
+use Rattle.stm_program_json.specs.Grammar.{SpellsProgram}
 use Rattle.stm_program_json.specs.FirstFault.{parts_behind, first_fault, fault_at}
 
 -- ["get","k"]

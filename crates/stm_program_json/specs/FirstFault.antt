@@ -1,6 +1,6 @@
 -- The first fault of data in a program's place, apart from reading: the marks of all the data in the order of reading, none
 -- left out behind a fault, and then the first of them that is a fault.
-use Rattle.std.specs.Prelude.{◌≡◌, ℕ, zero, suc, ℤ, pos, negsuc, Bool, true, false, bytes_eq, List, [], ◌∷◌, ◌++◌, length, Option, Some, None, nat_le}
+use Rattle.std.specs.Prelude.{ℕ, zero, suc, ℤ, pos, negsuc, Bool, true, false, bytes_eq, List, [], ◌∷◌, ◌++◌, length, Option, Some, None, nat_le}
 use Rattle.std.specs.Prelude.{if◌then◌else◌, option_and_then, codes}
 use Rattle.std.specs.Map.{lookup}
 use Rattle.serde_json.specs.Data.{Data, number, string, array, Items, no_items, item}
@@ -8,11 +8,9 @@ use Rattle.serde_json.specs.Find.{as_number, as_integer}
 use Rattle.stm_json.specs.declared.cause.Cause.{Cause}
 use Rattle.stm_json.specs.declared.cause.Cause.TheVariants.{Shape, Range, TooDeep, TooManyNodes, TooLong}
 use Rattle.stm_json.specs.declared.read_error.BadInput.{BadInput}
-use Rattle.stm_json.specs.declared.read_error.ReadError.{ReadError}
-use Rattle.stm_json.specs.declared.read_error.ReadError.TheVariants as error
 use Rattle.stm_program.specs.declared.limits.TheConstants.{MAX_DEPTH, MAX_NODES, MAX_TEXT, MAX_TURNS, MAX_VARIABLE, MAX_LEASE}
-use Rattle.stm_json.specs.Outcome.{step}
 use Rattle.stm_json.specs.Elements.{is_64_bit}
+use Rattle.stm_json.specs.Faults.{at}
 
 -- a node that stands at a place and so deep, or what is wrong at a place
 pub data Mark : Type 0 where
@@ -21,10 +19,6 @@ pub data Mark : Type 0 where
 
 abbrev pub wrong : List ℕ → Cause → List Mark
 wrong p cause = Wrong p cause ∷ []
-
--- the place of an element
-abbrev pub at : List ℕ → ℕ → List ℕ
-at p index = p ++ step index
 
 -- ---- numbers
 
@@ -141,8 +135,3 @@ first_of_marks (suc room) (Node k p ∷ ms) = if nat_le k MAX_DEPTH then first_o
 -- the first fault of data in a program's place, if there is one
 unfoldable pub first_fault : Data → Option BadInput
 first_fault d = first_of_marks MAX_NODES (marks_in Block 1 [] d)
-
--- the error is the first fault, or want of memory
-abbrev pub IsFirstFault : Data → ReadError → Type 0
-IsFirstFault d error.OutOfMemory = Unit {0}
-IsFirstFault d (error.Bad f) = first_fault d ≡ Some f

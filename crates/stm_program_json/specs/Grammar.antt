@@ -1,16 +1,12 @@
 -- Which data spell which program: the grammar, apart from reading.
 use Rattle.std.specs.Prelude.{◌≡◌, ℕ, pos, List, [], ◌∷◌, codes}
 use Rattle.serde_json.specs.Data.{Data, string, array, Items, no_items, item}
-use Rattle.serde_json.specs.View.{items_of}
 use Rattle.stm_json.specs.Elements.{SpellsNumber}
 use Rattle.stm_program.specs.declared.operator.Operator.{Operator}
 use Rattle.stm_program.specs.declared.operator.Operator.TheVariants.{Add, Sub, Mul, Div, Rem}
 use Rattle.stm_program.specs.Syntax.{Expression, Text, Number, Variable, Get, Rev, Arithmetic, Cat, TextOf, NumOf, Condition, Equal, Less, Not, And, Or}
 use Rattle.stm_program.specs.Syntax.{Statement, Set, Put, Del, If, For, Emit, Abort, Block, End, Then, ProgramTree}
-
--- an array of a word and the parts behind it
-abbrev pub spelled : List ℕ → List Data → Data
-spelled word parts = array (item (string word) (items_of parts))
+use Rattle.stm_json.specs.Parts.{spelled}
 
 abbrev pub operator_text : Operator → List ℕ
 operator_text Add = codes "add"

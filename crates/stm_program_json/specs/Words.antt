@@ -1,6 +1,5 @@
 -- The words that an expression, a condition and a statement begin with.
-use Rattle.std.specs.Prelude.{ℕ, List, Bool, Option, Some, None, nat_eq, if◌then◌else◌, codes}
-use Rattle.std.specs.Cmp.Lexicographic.{pointwise}
+use Rattle.std.specs.Prelude.{ℕ, List, Option, Some, None, if◌then◌else◌, codes}
 use Rattle.stm_program.specs.declared.operator.Operator.TheVariants.{Add, Sub, Mul, Div, Rem}
 use Rattle.stm_program_json.specs.declared.words.ExprWord.{ExprWord}
 use Rattle.stm_program_json.specs.declared.words.ExprWord.TheVariants as expression
@@ -13,10 +12,7 @@ use Rattle.stm_program_json.specs.declared.words.Connective.TheVariants as conne
 use Rattle.stm_program_json.specs.declared.words.StmtWord.{StmtWord}
 use Rattle.stm_program_json.specs.declared.words.StmtWord.TheVariants as statement
 use Rattle.stm_program_json.specs.declared.words.Simple.TheVariants as simple
-
--- two texts are the same
-abbrev pub same : List ℕ → List ℕ → Bool
-same = pointwise nat_eq
+use Rattle.stm_json.specs.Parts.{same}
 
 unfoldable pub expression_word : List ℕ → Option ExprWord
 expression_word w =

@@ -4,7 +4,8 @@ use Rattle.serde_json.specs.Data.{Data, number, unsigned, string, array, Items, 
 use Rattle.serde_json.specs.Find.{of_integer}
 use Rattle.stm_program.specs.Syntax.{Expression, Text, Number, Variable, Get, Rev, Arithmetic, Cat, TextOf, NumOf, Condition, Equal, Less, Not, And, Or}
 use Rattle.stm_program.specs.Syntax.{Statement, Set, Put, Del, If, For, Emit, Abort, Block, End, Then, ProgramTree}
-use Rattle.stm_program_json.specs.Grammar.{spelled, operator_text}
+use Rattle.stm_json.specs.Parts.{spelled}
+use Rattle.stm_program_json.specs.Grammar.{operator_text}
 
 abbrev pub written_number : ℕ → Data
 written_number n = number (unsigned n)

@@ -1,7 +1,8 @@
 //! Reading programs.
 ghost use Rattle.std.specs.Prelude.{◌≡◌, Ok as OkOf, None, IfOk, MatchResult};
 ghost use Rattle.serde_json.specs.View.{view};
-ghost use Rattle.stm_program_json.specs.FirstFault.{first_fault, IsFirstFault};
+ghost use Rattle.stm_program_json.specs.FirstFault.{first_fault};
+ghost use Rattle.stm_json.specs.Faults.{IsFirstFault};
 ghost use Rattle.stm_program_json.specs.Grammar.{SpellsProgram};
 ghost use Rattle.stm_program.specs.Limits.{Fits};
 ghost use Rattle.stm_json.specs.Tells.{Tells};
@@ -29,7 +30,7 @@ pub fn read_program(alloc: Global, value: &Value) -> Result<Program, ReadError>
     // A program within the limits that is spelled so is read.
     ensures accepts { (p : _) → SpellsProgram (view value.now) p → Fits p → Tells (λ q. q) result (OkOf p) }
     // Which fault it is.
-    ensures faults { MatchResult result (λ p. first_fault (view value.now) ≡ None) (IsFirstFault (view value.now)) }
+    ensures faults { MatchResult result (λ p. first_fault (view value.now) ≡ None) (IsFirstFault (first_fault (view value.now))) }
 {
     program(alloc, value)
 }

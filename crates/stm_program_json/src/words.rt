@@ -1,6 +1,7 @@
 //! The words that programs are spelled with.
 ghost use Rattle.std.specs.Prelude.{◌≡◌, codes, Some, None, if◌then◌else◌};
-ghost use Rattle.stm_program_json.specs.Words.{same, expression_word, condition_word, statement_word};
+ghost use Rattle.stm_json.specs.Parts.{same};
+ghost use Rattle.stm_program_json.specs.Words.{expression_word, condition_word, statement_word};
 
 use stm_program::Operator;
 

@@ -4,7 +4,7 @@
 use Rattle.std.proofs.Common.{◌≡◌, ℕ, zero, suc, Bool, true, false, cond, List, [], ◌∷◌, length, Option, Some, None, Ok, Err, refl, sym, ◌∙◌}
 use Rattle.std.proofs.Common.{ap, arith}
 use Rattle.std.proofs.lemmas.Bool.{le-ltb}
-use Rattle.std.specs.Prelude.{Result, nat_lt, nat_eq}
+use Rattle.std.specs.Prelude.{Result, nat_lt}
 use Rattle.std.specs.FinMap as finmap
 use Rattle.stm_history.specs.History.{now}
 use Rattle.stm_leases.specs.Live.{grant_refusal, is_live_in}
@@ -29,20 +29,18 @@ use Rattle.stm_txn.specs.Standing.{after, expired_in, expire_up_to, expire_all, 
 use Rattle.stm_entries.specs.declared.entry.Entry.{Entry}
 use Rattle.stm_entries.specs.declared.entry.Entry.TheVariants.{Foreign}
 use Rattle.stm_reports.specs.declared.line.ReportLine.{ReportLine}
-use Rattle.stm_reports.specs.declared.line.ReportLine.TheVariants as line
-use Rattle.stm_reports.specs.Told.{txn_line, advance_line}
-use Rattle.stm_world.specs.declared.event.WorldEvent.TheVariants.{Txn, Grant, Keep, Revoke, Advance as AdvanceEvent, WatchKey, WatchRange, Poll, Cancel}
+use Rattle.stm_world.specs.declared.event.WorldEvent.TheVariants.{Txn, Grant, Keep, Revoke, Advance as AdvanceEvent}
 use Rattle.stm_world.specs.declared.reply.Reply.{Reply}
-use Rattle.stm_world.specs.declared.reply.Reply.TheVariants.{Txn as TxnDone, Granted, Kept, Revoked, Watching as WatchingTold, Cancelled}
+use Rattle.stm_world.specs.declared.reply.Reply.TheVariants.{Txn as TxnDone, Granted, Kept, Revoked}
 use Rattle.stm_world.specs.declared.refusal.Denied.{Denied}
-use Rattle.stm_world.specs.Told.{reply_to, store_after_call, advance_reply, batch_reply}
+use Rattle.stm_world.specs.declared.refusal.Refusal.TheVariants.{Store}
+use Rattle.stm_world.specs.Told.{denied, reply_to, store_after_call, advance_reply}
 use Rattle.stm_world.specs.Log.{if_told, expired_told}
 use Rattle.stm_world.specs.World.{if_changed}
 use Rattle.stm_lines.specs.Lines.{line_told}
 use Rattle.stm_check.specs.declared.runner.Runner.{Runner}
 use Rattle.stm_check.specs.Fits.{can_have}
 use Rattle.stm_check.specs.Point.{led_by, moment_after, txn_entries, grant_entries, keep_entries, revoke_entries, advance_entries, expiries}
-use Rattle.stm_check.specs.StoreLines.{call_line, txn_call_line, grant_line, keep_line, revoke_line, advance_call_line}
 use Rattle.stm_check.proofs.CallLemmas.{StepIsTransacted, is_transacted, txn_led, grant_led, keep_led, revoke_led, advance_led}
 
 -- a store without its watchers
@@ -57,17 +55,18 @@ pub record CallIsRight (s next : Standing) (can : Bool) (wanted l : ReportLine) 
   pub store : led_by told (unwatched s) moment ≡ unwatched next
   pub count : length told ≡ entered
 
+-- what holds of the reply to a call, taken or refused
+pub by_reply : {A : Type 0} (P : Result Reply Denied → Type 0) (tell : A → Reply) (r : Result (Step A) StoreRefusal) → ((x : A) → P (Ok (tell x))) →
+    ((cause : StoreRefusal) → P (denied (Store cause))) → P (reply_to tell r)
+by_reply P tell (Ok done) taken refused = taken done.answer
+by_reply P tell (Err cause) taken refused = refused cause
+
 -- ---- transactions
 
 txn_same : (n : ℕ) (s : Standing) (o : Result Done StoreRefusal) →
-    call_line n (txn_line n) (step_of (unwatched s) o) ≡ line_told n (reply_to TxnDone (step_of s o))
+    line_told n (reply_to TxnDone (step_of (unwatched s) o)) ≡ line_told n (reply_to TxnDone (step_of s o))
 txn_same n s (Ok done) = refl
 txn_same n s (Err cause) = refl
-
-txn_fits : (n : ℕ) (rs : List Runner) (txn : StoreTxn) (r : Result (Step TxnAnswer) StoreRefusal) →
-    can_have rs (Txn txn) (line_told n (reply_to TxnDone r)) ≡ true
-txn_fits n rs txn (Ok step) = refl
-txn_fits n rs txn (Err cause) = refl
 
 txn_store : (n : ℕ) (s : Standing) (txn : StoreTxn) (r : Result (Step TxnAnswer) StoreRefusal) → transacted s txn ≡ r →
     led_by (txn_entries (now s.history) txn (line_told n (reply_to TxnDone r))) (unwatched s) s.moment ≡ unwatched (store_after_call s r)
@@ -82,10 +81,10 @@ txn_count n s txn (Err cause) came = ap (λ (b : Bool). length (cond b (Foreign 
 pub txn_right : (n : ℕ) (s : Standing) (rs : List Runner) (txn : StoreTxn) →
     let r = transacted s txn in
     let l : ReportLine = line_told n (reply_to TxnDone r) in
-    CallIsRight s (store_after_call s r) (can_have rs (Txn txn) l) (txn_call_line n (unwatched s) txn) l (txn_entries (now s.history) txn l) s.moment
+    CallIsRight s (store_after_call s r) (can_have rs (Txn txn) l) (line_told n (reply_to TxnDone (transacted (unwatched s) txn))) l (txn_entries (now s.history) txn l) s.moment
     (length (if_changed s (store_after_call s r) txn))
 txn_right n s rs txn = record {
-  fits = txn_fits n rs txn (transacted s txn);
+  fits = by_reply (λ x. can_have rs (Txn txn) (line_told n x) ≡ true) TxnDone (transacted s txn) (λ x. refl) (λ cause. refl);
   is_line = txn_same n s (outcome s.history (is_live_in s.live) txn);
   store = txn_store n s txn (transacted s txn) refl;
   count = txn_count n s txn (transacted s txn) (is_transacted s txn);
@@ -101,35 +100,26 @@ granted_by s id ttl o =
     ]
 
 grant_same : (n : ℕ) (s : Standing) (id ttl : ℕ) (o : Option GrantError) →
-    call_line n (λ _. line.Granted n id) (granted_by (unwatched s) id ttl o) ≡ line_told n (reply_to (λ _. Granted id) (granted_by s id ttl o))
+    line_told n (reply_to (λ _. Granted id) (granted_by (unwatched s) id ttl o)) ≡ line_told n (reply_to (λ _. Granted id) (granted_by s id ttl o))
 grant_same n s id ttl None = refl
 grant_same n s id ttl (Some cause) = refl
-
-grant_fits : (n : ℕ) (rs : List Runner) (id ttl : ℕ) (r : Result (Step (Unit {0})) StoreRefusal) →
-    can_have rs (Grant id ttl) (line_told n (reply_to (λ _. Granted id) r)) ≡ true
-grant_fits n rs id ttl (Ok step) = refl
-grant_fits n rs id ttl (Err cause) = refl
 
 grant_store : (n : ℕ) (s : Standing) (id ttl : ℕ) (r : Result (Step (Unit {0})) StoreRefusal) → granted s id ttl ≡ r →
     led_by (grant_entries id ttl s.moment (line_told n (reply_to (λ _. Granted id) r))) (unwatched s) s.moment ≡ unwatched (store_after_call s r)
 grant_store n s id ttl (Ok step) is = ap unwatched (sym (grant_led s step.next id ttl is))
 grant_store n s id ttl (Err cause) is = refl
 
-grant_count : (n id ttl moment : ℕ) (entry : Entry) (r : Result (Step (Unit {0})) StoreRefusal) →
-    length (grant_entries id ttl moment (line_told n (reply_to (λ _. Granted id) r))) ≡ length (if_told (reply_to (λ _. Granted id) r) entry)
-grant_count n id ttl moment entry (Ok step) = refl
-grant_count n id ttl moment entry (Err cause) = refl
-
 pub grant_right : (n : ℕ) (s : Standing) (rs : List Runner) (id ttl : ℕ) (entry : Entry) →
     let r = granted s id ttl in
     let l : ReportLine = line_told n (reply_to (λ _. Granted id) r) in
-    CallIsRight s (store_after_call s r) (can_have rs (Grant id ttl) l) (grant_line n (unwatched s) id ttl) l (grant_entries id ttl s.moment l) s.moment
+    CallIsRight s (store_after_call s r) (can_have rs (Grant id ttl) l) (line_told n (reply_to (λ _. Granted id) (granted (unwatched s) id ttl))) l (grant_entries id ttl s.moment l) s.moment
     (length (if_told (reply_to (λ _. Granted id) r) entry))
 grant_right n s rs id ttl entry = record {
-  fits = grant_fits n rs id ttl (granted s id ttl);
+  fits = by_reply (λ x. can_have rs (Grant id ttl) (line_told n x) ≡ true) (λ _. Granted id) (granted s id ttl) (λ x. refl) (λ cause. refl);
   is_line = grant_same n s id ttl (grant_refusal s.live id ttl);
   store = grant_store n s id ttl (granted s id ttl) refl;
-  count = grant_count n id ttl s.moment entry (granted s id ttl);
+  count = by_reply (λ x. length (grant_entries id ttl s.moment (line_told n x)) ≡ length (if_told x entry)) (λ _. Granted id) (granted s id ttl) (λ x. refl)
+      (λ cause. refl);
 }
 
 -- ---- renewals
@@ -142,35 +132,26 @@ kept_by s id o =
     ]
 
 keep_same : (n : ℕ) (s : Standing) (id : ℕ) (o : Option Term) →
-    call_line n (λ _. line.Kept n id) (kept_by (unwatched s) id o) ≡ line_told n (reply_to (λ _. Kept id) (kept_by s id o))
+    line_told n (reply_to (λ _. Kept id) (kept_by (unwatched s) id o)) ≡ line_told n (reply_to (λ _. Kept id) (kept_by s id o))
 keep_same n s id None = refl
 keep_same n s id (Some term) = refl
-
-keep_fits : (n : ℕ) (rs : List Runner) (id : ℕ) (r : Result (Step (Unit {0})) StoreRefusal) →
-    can_have rs (Keep id) (line_told n (reply_to (λ _. Kept id) r)) ≡ true
-keep_fits n rs id (Ok step) = refl
-keep_fits n rs id (Err cause) = refl
 
 keep_store : (n : ℕ) (s : Standing) (id : ℕ) (r : Result (Step (Unit {0})) StoreRefusal) → kept_alive s id ≡ r →
     led_by (keep_entries id s.moment (line_told n (reply_to (λ _. Kept id) r))) (unwatched s) s.moment ≡ unwatched (store_after_call s r)
 keep_store n s id (Ok step) is = ap unwatched (sym (keep_led s step.next id is))
 keep_store n s id (Err cause) is = refl
 
-keep_count : (n id moment : ℕ) (entry : Entry) (r : Result (Step (Unit {0})) StoreRefusal) →
-    length (keep_entries id moment (line_told n (reply_to (λ _. Kept id) r))) ≡ length (if_told (reply_to (λ _. Kept id) r) entry)
-keep_count n id moment entry (Ok step) = refl
-keep_count n id moment entry (Err cause) = refl
-
 pub keep_right : (n : ℕ) (s : Standing) (rs : List Runner) (id : ℕ) (entry : Entry) →
     let r = kept_alive s id in
     let l : ReportLine = line_told n (reply_to (λ _. Kept id) r) in
-    CallIsRight s (store_after_call s r) (can_have rs (Keep id) l) (keep_line n (unwatched s) id) l (keep_entries id s.moment l) s.moment
+    CallIsRight s (store_after_call s r) (can_have rs (Keep id) l) (line_told n (reply_to (λ _. Kept id) (kept_alive (unwatched s) id))) l (keep_entries id s.moment l) s.moment
     (length (if_told (reply_to (λ _. Kept id) r) entry))
 keep_right n s rs id entry = record {
-  fits = keep_fits n rs id (kept_alive s id);
+  fits = by_reply (λ x. can_have rs (Keep id) (line_told n x) ≡ true) (λ _. Kept id) (kept_alive s id) (λ x. refl) (λ cause. refl);
   is_line = keep_same n s id (finmap.get s.live id);
   store = keep_store n s id (kept_alive s id) refl;
-  count = keep_count n id s.moment entry (kept_alive s id);
+  count = by_reply (λ x. length (keep_entries id s.moment (line_told n x)) ≡ length (if_told x entry)) (λ _. Kept id) (kept_alive s id) (λ x. refl)
+      (λ cause. refl);
 }
 
 -- ---- revocations
@@ -179,35 +160,27 @@ abbrev revoked_by : Standing → ℕ → Bool → Bool → Result (Step ℕ) Sto
 revoked_by s id live used = cond live (with_revision (cond used (Err RevisionsUsedUp) (Ok (without_lease s id)))) (Err LeaseNotFound)
 
 revoke_same : (n : ℕ) (s : Standing) (id : ℕ) (live used : Bool) →
-    call_line n (line.Revoked n id) (revoked_by (unwatched s) id live used) ≡ line_told n (reply_to (Revoked id) (revoked_by s id live used))
+    line_told n (reply_to (Revoked id) (revoked_by (unwatched s) id live used)) ≡ line_told n (reply_to (Revoked id) (revoked_by s id live used))
 revoke_same n s id false used = refl
 revoke_same n s id true true = refl
 revoke_same n s id true false = refl
-
-revoke_fits : (n : ℕ) (rs : List Runner) (id : ℕ) (r : Result (Step ℕ) StoreRefusal) → can_have rs (Revoke id) (line_told n (reply_to (Revoked id) r)) ≡ true
-revoke_fits n rs id (Ok step) = refl
-revoke_fits n rs id (Err cause) = refl
 
 revoke_store : (n : ℕ) (s : Standing) (id : ℕ) (r : Result (Step ℕ) StoreRefusal) → revoked s id ≡ r →
     led_by (revoke_entries id (line_told n (reply_to (Revoked id) r))) (unwatched s) s.moment ≡ unwatched (store_after_call s r)
 revoke_store n s id (Ok step) is = ap unwatched (sym (revoke_led s step.next id step.answer is))
 revoke_store n s id (Err cause) is = refl
 
-revoke_count : (n id : ℕ) (entry : Entry) (r : Result (Step ℕ) StoreRefusal) →
-    length (revoke_entries id (line_told n (reply_to (Revoked id) r))) ≡ length (if_told (reply_to (Revoked id) r) entry)
-revoke_count n id entry (Ok step) = refl
-revoke_count n id entry (Err cause) = refl
-
 pub revoke_right : (n : ℕ) (s : Standing) (rs : List Runner) (id : ℕ) (entry : Entry) →
     let r = revoked s id in
     let l : ReportLine = line_told n (reply_to (Revoked id) r) in
-    CallIsRight s (store_after_call s r) (can_have rs (Revoke id) l) (revoke_line n (unwatched s) id) l (revoke_entries id l) s.moment
+    CallIsRight s (store_after_call s r) (can_have rs (Revoke id) l) (line_told n (reply_to (Revoked id) (revoked (unwatched s) id))) l (revoke_entries id l) s.moment
     (length (if_told (reply_to (Revoked id) r) entry))
 revoke_right n s rs id entry = record {
-  fits = revoke_fits n rs id (revoked s id);
+  fits = by_reply (λ x. can_have rs (Revoke id) (line_told n x) ≡ true) (Revoked id) (revoked s id) (λ x. refl) (λ cause. refl);
   is_line = revoke_same n s id (is_live_in s.live id) (is_used_up s.history (deletions_of s.history id));
   store = revoke_store n s id (revoked s id) refl;
-  count = revoke_count n id entry (revoked s id);
+  count = by_reply (λ x. length (revoke_entries id (line_told n x)) ≡ length (if_told x entry)) (Revoked id) (revoked s id) (λ x. refl)
+      (λ cause. refl);
 }
 
 -- ---- advances
@@ -261,11 +234,6 @@ advance_by s moment false = expire_same (finmap.len s.live) (at_moment s moment)
 advance_same : (s : Standing) (moment : ℕ) → advanced (unwatched s) moment ≡ blind (advanced s moment)
 advance_same s moment = advance_by s moment (nat_lt moment s.moment)
 
-advance_told : (n moment : ℕ) (expired : List Expired) (cause : Option StoreRefusal) →
-    advance_line n moment expired cause ≡ line_told n (advance_reply moment expired cause)
-advance_told n moment expired None = refl
-advance_told n moment expired (Some cause) = refl
-
 advance_fits : (n : ℕ) (rs : List Runner) (to moment : ℕ) (expired : List Expired) (cause : Option StoreRefusal) →
     can_have rs (AdvanceEvent to) (line_told n (advance_reply moment expired cause)) ≡ true
 advance_fits n rs to moment expired None = refl
@@ -283,13 +251,13 @@ expired_are_told moment expired (Some cause) = refl
 pub advance_right : (n : ℕ) (s : Standing) (rs : List Runner) (moment : ℕ) →
     let a : Advance = advanced s moment in
     let reply : Result Reply Denied = advance_reply moment a.expired a.cause in
-    CallIsRight s a.leaves (can_have rs (AdvanceEvent moment) (line_told n reply)) (advance_call_line n (unwatched s) moment) (line_told n reply)
+    CallIsRight s a.leaves (can_have rs (AdvanceEvent moment) (line_told n reply)) (line_told n (advance_reply moment (advanced (unwatched s) moment).expired (advanced (unwatched s) moment).cause)) (line_told n reply)
     (advance_entries (line_told n reply)) (moment_after s (AdvanceEvent moment)) (length (expiries (expired_told reply)))
 advance_right n s rs moment =
     let a : Advance = advanced s moment in
     record {
       fits = advance_fits n rs moment moment a.expired a.cause;
-      is_line = ap (λ (x : Advance). advance_line n moment x.expired x.cause) (advance_same s moment) ∙ advance_told n moment a.expired a.cause;
+      is_line = ap (λ (x : Advance). line_told n (advance_reply moment x.expired x.cause)) (advance_same s moment);
       store = ap (λ (es : List Entry). led_by es (unwatched s) (moment_after s (AdvanceEvent moment))) (advance_entered n moment a.expired a.cause)
           ∙ ap unwatched (sym (advance_led s a.leaves moment a.expired a.cause refl));
       count = ap (λ (es : List Entry). length es) (advance_entered n moment a.expired a.cause)
@@ -309,23 +277,3 @@ poll_stays s (Err cause) = refl
 pub cancel_stays : (s : Standing) (id : ℕ) (o : Option Watching) → unwatched s ≡ unwatched (store_after_call s (cancel_step s id o))
 cancel_stays s id None = refl
 cancel_stays s id (Some w) = refl
-
-pub watch_key_fits : (n : ℕ) (rs : List Runner) (key : List ℕ) (from : ℕ) (r : Result (Step ℕ) StoreRefusal) →
-    can_have rs (WatchKey key from) (line_told n (reply_to WatchingTold r)) ≡ true
-watch_key_fits n rs key from (Ok step) = refl
-watch_key_fits n rs key from (Err cause) = refl
-
-pub watch_range_fits : (n : ℕ) (rs : List Runner) (first end : List ℕ) (from : ℕ) (r : Result (Step ℕ) StoreRefusal) →
-    can_have rs (WatchRange first end from) (line_told n (reply_to WatchingTold r)) ≡ true
-watch_range_fits n rs first end from (Ok step) = refl
-watch_range_fits n rs first end from (Err cause) = refl
-
-pub poll_fits : (n : ℕ) (rs : List Runner) (watcher most : ℕ) (own : nat_eq watcher watcher ≡ true) (r : Result (Step Batch) StoreRefusal) →
-    can_have rs (Poll watcher most) (line_told n (reply_to (batch_reply watcher) r)) ≡ true
-poll_fits n rs watcher most own (Ok step) = own
-poll_fits n rs watcher most own (Err cause) = refl
-
-pub cancel_fits : (n : ℕ) (rs : List Runner) (watcher : ℕ) (own : nat_eq watcher watcher ≡ true) (r : Result (Step (Unit {0})) StoreRefusal) →
-    can_have rs (Cancel watcher) (line_told n (reply_to (λ _. Cancelled watcher) r)) ≡ true
-cancel_fits n rs watcher own (Ok step) = own
-cancel_fits n rs watcher own (Err cause) = refl

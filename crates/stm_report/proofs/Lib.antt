@@ -9,6 +9,5 @@ pub mod CallsTold
 pub mod CommitsTold
 pub mod LinesRight
 pub mod Checks
-pub mod Depths
 pub mod Written
 pub mod ReadBack

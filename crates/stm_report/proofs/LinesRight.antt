@@ -22,7 +22,7 @@ use Rattle.stm_world.specs.declared.event.WorldEvent.{WorldEvent}
 use Rattle.stm_world.specs.declared.event.WorldEvent.TheVariants.{Start, Step, Txn, Grant, Keep, Revoke, Advance, WatchKey, WatchRange, Poll, Cancel}
 use Rattle.stm_world.specs.declared.reply.Reply.{Reply}
 use Rattle.stm_world.specs.declared.reply.Reply.TheVariants.{Started, Fetched, Committed, Conflict, GaveUp, Aborted, Faulted, Ended}
-use Rattle.stm_world.specs.declared.reply.Reply.TheVariants.{Txn as TxnDone, Granted, Kept, Revoked, Advanced, Watching, Batch, Cancelled}
+use Rattle.stm_world.specs.declared.reply.Reply.TheVariants.{Txn as TxnDone, Granted, Kept, Revoked, Watching, Cancelled}
 use Rattle.stm_world.specs.declared.refusal.Denied.{Denied}
 use Rattle.stm_world.specs.declared.refusal.Refusal.TheVariants.{BadLimit, NoRunner}
 use Rattle.stm_world.specs.Told.{denied, reply_to, advance_reply, batch_reply}
@@ -47,7 +47,7 @@ use Rattle.stm_report.specs.Report.{event_lines}
 use Rattle.stm_report.proofs.RunsTold.{RunsAreTold, none_are_told, says_nothing, advance_says_nothing, run_with, runs_with}
 use Rattle.stm_report.proofs.RunsTold.{same_runs, Goes, goes_on, ended_runs, failed_runs, begun_runs}
 use Rattle.stm_report.proofs.CallsTold.{unwatched, txn_right, grant_right, keep_right, revoke_right, advance_right, watch_stays, poll_stays}
-use Rattle.stm_report.proofs.CallsTold.{cancel_stays, watch_key_fits, watch_range_fits, poll_fits, cancel_fits}
+use Rattle.stm_report.proofs.CallsTold.{cancel_stays, by_reply}
 use Rattle.stm_report.proofs.CommitsTold.{IsEntered, commit_right, commit_store}
 
 -- ---- a point, by the log so far
@@ -79,21 +79,7 @@ next_point start n log rs event reply g =
 numbered : (n : ℕ) (reply : Result Reply Denied) → number_of (line_told n reply) ≡ Some n
 numbered n (Err refusal) = refl
 numbered n (Ok (Started runner)) = refl
-numbered n (Ok (Fetched runner key mod_rev of_rev revision)) = refl
-numbered n (Ok (Committed runner revision attempts output trace answers)) = refl
-numbered n (Ok (Conflict runner key seen now)) = refl
-numbered n (Ok (GaveUp runner attempts key seen now)) = refl
-numbered n (Ok (Aborted runner text)) = refl
-numbered n (Ok (Faulted runner fault)) = refl
-numbered n (Ok (Ended runner cause)) = refl
-numbered n (Ok (TxnDone answer)) = refl
-numbered n (Ok (Granted id)) = refl
-numbered n (Ok (Kept id)) = refl
-numbered n (Ok (Revoked id revision)) = refl
-numbered n (Ok (Advanced moment expired)) = refl
-numbered n (Ok (Watching watcher)) = refl
-numbered n (Ok (Batch watcher upto events)) = refl
-numbered n (Ok (Cancelled watcher)) = refl
+numbered n (Ok _) = refl
 
 fits_there : (n : ℕ) (rs : List Runner) (event : WorldEvent) (reply : Result Reply Denied) → can_have rs event (line_told n reply) ≡ true →
     fits n rs event (line_told n reply) ≡ true
@@ -314,14 +300,7 @@ live_goes start n log rs id task (Ok (Ended runner cause)) told goes legal right
           (record { begins_is = refl; ends_is = ap Some right.0; fails_is = refl }) goes told;
     })
 live_goes start n log rs id task (Ok (Started runner)) told goes legal right = absurd right
-live_goes start n log rs id task (Ok (TxnDone answer)) told goes legal right = absurd right
-live_goes start n log rs id task (Ok (Granted lease)) told goes legal right = absurd right
-live_goes start n log rs id task (Ok (Kept lease)) told goes legal right = absurd right
-live_goes start n log rs id task (Ok (Revoked lease revision)) told goes legal right = absurd right
-live_goes start n log rs id task (Ok (Advanced moment expired)) told goes legal right = absurd right
-live_goes start n log rs id task (Ok (Watching watcher)) told goes legal right = absurd right
-live_goes start n log rs id task (Ok (Batch watcher upto events)) told goes legal right = absurd right
-live_goes start n log rs id task (Ok (Cancelled watcher)) told goes legal right = absurd right
+live_goes start n log rs id task (Ok _) told goes legal right = absurd right
 
 runner_goes : (start n : ℕ) (log : List Line) (rs : List Runner) (id : ℕ) (o : Option Task) (reply : Result Reply Denied) → RunsAreTold log rs →
     running id log ≡ o → AreLegal (line_entries start (record { event = Step id; reply = reply }) log) (without_moment (store start log)) →
@@ -397,7 +376,7 @@ event_goes start n log rs (WatchKey key from) reply told fresh legal right =
     let s : Standing = store start log in
     let r = watched s (Key key) from in
     subst (λ (x : Result Reply Denied). GoesOn start n log rs (WatchKey key from) x) (sym right)
-    (call_goes start n log rs (WatchKey key from) (reply_to Watching r) (watch_key_fits n rs key from r) tt
+    (call_goes start n log rs (WatchKey key from) (reply_to Watching r) (by_reply (λ x. can_have rs (WatchKey key from) (line_told n x) ≡ true) Watching r (λ x. refl) (λ cause. refl)) tt
     (watch_stays s (watch s.history (Key key) from s.watchers)) refl
     (same_runs (record { event = WatchKey key from; reply = reply_to Watching r }) log rs
     (says_nothing Watching r (λ x. record { begins_is = refl; ends_is = refl; fails_is = refl })) told))
@@ -405,7 +384,7 @@ event_goes start n log rs (WatchRange first end from) reply told fresh legal rig
     let s : Standing = store start log in
     let r = watched s (Range first end) from in
     subst (λ (x : Result Reply Denied). GoesOn start n log rs (WatchRange first end from) x) (sym right)
-    (call_goes start n log rs (WatchRange first end from) (reply_to Watching r) (watch_range_fits n rs first end from r) tt
+    (call_goes start n log rs (WatchRange first end from) (reply_to Watching r) (by_reply (λ x. can_have rs (WatchRange first end from) (line_told n x) ≡ true) Watching r (λ x. refl) (λ cause. refl)) tt
     (watch_stays s (watch s.history (Range first end) from s.watchers)) refl
     (same_runs (record { event = WatchRange first end from; reply = reply_to Watching r }) log rs
     (says_nothing Watching r (λ x. record { begins_is = refl; ends_is = refl; fails_is = refl })) told))
@@ -413,7 +392,7 @@ event_goes start n log rs (Poll watcher most) reply told fresh legal right =
     let s : Standing = store start log in
     let r = polled s watcher most in
     subst (λ (x : Result Reply Denied). GoesOn start n log rs (Poll watcher most) x) (sym right)
-    (call_goes start n log rs (Poll watcher most) (reply_to (batch_reply watcher) r) (poll_fits n rs watcher most (same_number watcher) r) tt
+    (call_goes start n log rs (Poll watcher most) (reply_to (batch_reply watcher) r) (by_reply (λ x. can_have rs (Poll watcher most) (line_told n x) ≡ true) (batch_reply watcher) r (λ x. same_number watcher) (λ cause. refl)) tt
     (poll_stays s (poll s.history watcher most s.watchers)) refl
     (same_runs (record { event = Poll watcher most; reply = reply_to (batch_reply watcher) r }) log rs
     (says_nothing (batch_reply watcher) r (λ x. record { begins_is = refl; ends_is = refl; fails_is = refl })) told))
@@ -421,7 +400,7 @@ event_goes start n log rs (Cancel watcher) reply told fresh legal right =
     let s : Standing = store start log in
     let r = cancelled s watcher in
     subst (λ (x : Result Reply Denied). GoesOn start n log rs (Cancel watcher) x) (sym right)
-    (call_goes start n log rs (Cancel watcher) (reply_to (λ _. Cancelled watcher) r) (cancel_fits n rs watcher (same_number watcher) r) tt
+    (call_goes start n log rs (Cancel watcher) (reply_to (λ _. Cancelled watcher) r) (by_reply (λ x. can_have rs (Cancel watcher) (line_told n x) ≡ true) (λ _. Cancelled watcher) r (λ x. same_number watcher) (λ cause. refl)) tt
     (cancel_stays s watcher (watcher_at watcher s.watchers)) refl
     (same_runs (record { event = Cancel watcher; reply = reply_to (λ _. Cancelled watcher) r }) log rs
     (says_nothing (λ _. Cancelled watcher) r (λ x. record { begins_is = refl; ends_is = refl; fails_is = refl })) told))

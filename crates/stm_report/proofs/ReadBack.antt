@@ -21,7 +21,7 @@ use Rattle.stm_reports.specs.LineData.{line_data}
 use Rattle.stm_reports.specs.Text.{text_of}
 use Rattle.stm_reports.proofs.ReportLaws.{report_reads}
 use Rattle.stm_report.specs.ReadBack.{IsPlain, ArePlain, AreReadable, ReportsAreReadBack}
-use Rattle.stm_report.proofs.Depths.{line_is_shallow}
+use Rattle.stm_reports.proofs.Shallow.{line_is_shallow}
 use Rattle.stm_report.proofs.Written.{written_is_read}
 
 abbrev HasNoFeed : List ℕ → Type 0

@@ -1,32 +1,20 @@
 //! Reports.
-ghost use Rattle.std.specs.Prelude.{◌≡◌, ◌++◌, false, map, IfOk, OnOk, string_bytes};
-ghost use Rattle.serde_json.specs.View.{view};
-ghost use Rattle.serde_json.specs.Written.{has_float};
+ghost use Rattle.std.specs.Prelude.{◌≡◌, ◌++◌, map, IfOk, OnOk, string_bytes};
 ghost use Rattle.stm_history.specs.History.{key_now};
 ghost use Rattle.stm_leases.specs.Live.{Live};
 ghost use Rattle.stm_entries.specs.LiveLeases.{HasLeases};
 ghost use Rattle.stm_check.specs.StoreLines.{key_lines_of, key_lines, lease_lines};
-ghost use Rattle.stm_reports.specs.Text.{line_text, text_of};
+ghost use Rattle.stm_reports.specs.Text.{text_of};
 ghost use Rattle.stm_report.specs.Report.{event_lines, IsReport};
 
 use crate::leases::live_leases;
-use serde_json::Value as Json;
 use std::alloc::{AllocError, Global};
 use std::collections::BTreeMap;
 use stm_calls::present_keys;
 use stm_entries::LiveLease;
 use stm_lines::{end_json, event_json, key_json, lease_json};
+use stm_reports::push_line;
 use stm_retry::{Denied, Reply, Store, World};
-
-/// Adds a line.
-fn push_line(alloc: Global, text: &mut String, line: &Json) -> Result<(), AllocError>
-    requires { has_float (view line.now) ≡ false }
-    ensures { OnOk result (string_bytes text.new ≡ string_bytes text.old ++ line_text (view line.now)) }
-{
-    let compact = line.to_string(alloc)?;
-    text.push_str(compact.as_str())?;
-    text.push('\n')
-}
 
 /// Adds a line for each event, numbered from 1.
 fn push_events(

@@ -1,24 +1,12 @@
 -- Arrays of a word and parts, and of a number, a word and parts: what they spell, and what their spelling says of them.
-use Rattle.std.proofs.Common.{◌≡◌, ℕ, List, [], ◌∷◌, Some, None, Ok, refl, ap}
-use Rattle.serde_json.specs.Data.{Data, null, boolean, number, string, array, object, Items, no_items, item}
+use Rattle.std.proofs.Common.{◌≡◌, ℕ, List, ◌∷◌, None, Ok, refl}
+use Rattle.serde_json.specs.Data.{Data, string, array, Items, item}
 use Rattle.serde_json.specs.Find.{as_str}
 use Rattle.serde_json.specs.View.{items_of}
-use Rattle.stm_json.specs.Elements.{first_word}
 use Rattle.stm_reports.specs.Grammar.{Spells, SpellsItems}
 use Rattle.stm_reports.specs.LineData.{list, whole, word, numbered}
 use Rattle.stm_reports.specs.Parts.{number_of}
 use Rattle.stm_reports.proofs.PartLaws.{number_reads, number_no_text}
-
-pub first_word-is : (ds : Items) (p : List ℕ × Items) → first_word ds ≡ Some p → ds ≡ item (string p.0) p.1
-first_word-is no_items p h = cc
-first_word-is (item null ds) p h = cc
-first_word-is (item (boolean b) ds) p h = cc
-first_word-is (item (number n) ds) p h = cc
-first_word-is (item (string s) ds) p h =
-    let e : (s, ds) ≡ p = cc in
-    ap (λ (q : List ℕ × Items). item (string q.0) q.1) e
-first_word-is (item (array es) ds) p h = cc
-first_word-is (item (object ms) ds) p h = cc
 
 -- ---- a word and parts
 

@@ -12,34 +12,31 @@ use Rattle.stm_json.proofs.ElementLemmas.{worded-is}
 use Rattle.stm_json.proofs.OutcomeLemmas.{bind_ok}
 use Rattle.stm_meaning.specs.declared.trace_item.TraceItem.{TraceItem}
 use Rattle.stm_meaning.specs.declared.trace_item.TraceItem.TheVariants as trace
-use Rattle.stm_meaning.specs.declared.value.Value.{Value}
 use Rattle.stm_txn.specs.declared.advance.Expired.{Expired}
-use Rattle.stm_txn_json.specs.Faults.{AnyText, NumberIn, By, first_of, faults_by, sorted_faults, worded_faults}
-use Rattle.stm_txn_json.specs.FirstFault.{any_number}
-use Rattle.stm_txn_json.specs.Grammar.{SpellsEach}
-use Rattle.stm_txn_json.specs.Words.{same}
-use Rattle.stm_txn_json.proofs.FaultLemmas.{fault_of, wrong_is, made}
-use Rattle.stm_txn_json.proofs.ListLemmas.{list_sound, each_reads}
-use Rattle.stm_txn_json.proofs.PartLemmas.{list_is}
+use Rattle.stm_json.specs.Faults.{AnyText, NumberIn, By, first_of, faults_by, sorted_faults, worded_faults, any_number}
+use Rattle.stm_json.specs.Parts.{SpellsEach, same}
+use Rattle.stm_json.proofs.FaultLemmas.{fault_of, wrong_is, made}
+use Rattle.stm_json.proofs.ListLemmas.{list_sound, each_reads}
+use Rattle.stm_json.proofs.PartLemmas.{list_is}
 use Rattle.stm_reports.specs.declared.line.ToldAnswer.{ToldAnswer}
 use Rattle.stm_reports.specs.declared.line.ToldEvent.{ToldEvent}
 use Rattle.stm_reports.specs.declared.line.ToldEvent.TheVariants as event
 use Rattle.stm_reports.specs.declared.line.ToldOp.{ToldOp}
 use Rattle.stm_reports.specs.declared.line.ToldOp.TheVariants as op
 use Rattle.stm_reports.specs.Elements.{six_of}
-use Rattle.stm_reports.specs.FirstFault.{value_faults, or_null, plain_faults, list_of as list_faults, state_sorts, trace_table, answer_sorts, op_table}
+use Rattle.stm_reports.specs.FirstFault.{or_null, plain_faults, list_of as list_faults, state_sorts, trace_table, answer_sorts, op_table}
 use Rattle.stm_reports.specs.FirstFault.{expired_sorts, watched_table}
 use Rattle.stm_reports.specs.Grammar.{Spells, SpellsItems, CountFits, AllCountsFit}
-use Rattle.stm_reports.specs.LineData.{list, whole, value_data, trace_data, text_or_null, answer_data, state_or_null, op_data}
+use Rattle.stm_reports.specs.LineData.{list, whole, trace_data, text_or_null, answer_data, state_or_null, op_data}
 use Rattle.stm_reports.specs.LineData.{expired_data, event_data}
-use Rattle.stm_reports.specs.Parts.{value_of, keyed_of, text_or_null_of}
+use Rattle.stm_reports.specs.Parts.{keyed_of, text_or_null_of}
 use Rattle.stm_reports.specs.Parts.{trace_get_of, trace_rev_of, trace_worded, trace_of, answer_with, answer_parts, answer_array, answer_of}
 use Rattle.stm_reports.specs.Parts.{op_get_of, op_put_of, op_del_of, op_worded, op_of, expired_with, expired_parts, expired_array, expired_of}
 use Rattle.stm_reports.specs.Parts.{event_put_of, event_delete_of, event_worded, event_of}
-use Rattle.stm_reports.specs.Reading.{values_of, traces_of, answers_of, ops_of, expireds_of, events_of}
+use Rattle.stm_reports.specs.Reading.{ops_of}
 use Rattle.stm_reports.proofs.ArrayLemmas.{worded_array, worded_spells, worded_shape}
-use Rattle.stm_reports.proofs.PartLaws.{count_told, count_means, count_reads, value_told, value_means, value_reads}
-use Rattle.stm_reports.proofs.PartLaws.{text_or_null-told, text_or_null-means, text_or_null-reads, list_told, list_means, list_reads}
+use Rattle.stm_reports.proofs.PartLaws.{count_told, count_means, count_reads}
+use Rattle.stm_reports.proofs.PartLaws.{text_or_null-told, text_or_null-means, text_or_null-reads, list_told}
 use Rattle.stm_reports.proofs.Rows.{Part, part, Row, nothing, ◌&◌, read_row, row_reads, plain_told, plain_means, behind_told, behind_means}
 use Rattle.stm_reports.proofs.Rows.{second, third, fourth, one_counted, two_counted, four_counted}
 use Rattle.stm_reports.proofs.StateLaws.{whole_part, text_part, state_or_null_part, keyed_items, keyed_sorts, keyed_told, keyed_means, keyed_reads}
@@ -355,52 +352,7 @@ event_reads d (event.Delete key revision) s =
     let w = worded_shape d (codes "DELETE") (string key ∷ whole revision ∷ []) s in
     ap event_of w.1 ∙ row_reads delete_row 1 delete_made delete_from delete_is w.0 (key, (revision, tt)) w.2 (tt, (tt, tt))
 
--- ---- lists
-
-pub values_told : (p : List ℕ) (d : Data) → first_of (faults_by (By (list_faults value_faults)) p d) ≡ fault_of p (values_of d)
-values_told p d = list_told value_faults value_of value_told p d
-
-pub values_means : (d : Data) (xs : List Value) → values_of d ≡ Ok xs → Spells d (list (map value_data xs))
-values_means d xs h = list_means value_of value_data value_means d xs h
-
-pub values_reads : (d : Data) (xs : List Value) → Spells d (list (map value_data xs)) → values_of d ≡ Ok xs
-values_reads d xs m = list_reads value_of value_data value_reads d xs m
-
-pub traces_told : (p : List ℕ) (d : Data) → first_of (faults_by (By (list_faults (worded_faults trace_table))) p d) ≡ fault_of p (traces_of d)
-traces_told p d = list_told (worded_faults trace_table) trace_of trace_told p d
-
-pub traces_means : (d : Data) (xs : List TraceItem) → traces_of d ≡ Ok xs → Spells d (list (map trace_data xs))
-traces_means d xs h = list_means trace_of trace_data trace_means d xs h
-
-pub traces_reads : (d : Data) (xs : List TraceItem) → Spells d (list (map trace_data xs)) → traces_of d ≡ Ok xs
-traces_reads d xs m = list_reads trace_of trace_data trace_reads d xs m
-
-pub answers_told : (p : List ℕ) (d : Data) → first_of (faults_by (By (list_faults (plain_faults answer_sorts))) p d) ≡ fault_of p (answers_of d)
-answers_told p d = list_told (plain_faults answer_sorts) answer_of answer_told p d
-
-pub answers_means : (d : Data) (xs : List ToldAnswer) → answers_of d ≡ Ok xs → Spells d (list (map answer_data xs))
-answers_means d xs h = list_means answer_of answer_data answer_means d xs h
-
-pub answers_reads : (d : Data) (xs : List ToldAnswer) → Spells d (list (map answer_data xs)) → answers_of d ≡ Ok xs
-answers_reads d xs m = list_reads answer_of answer_data answer_reads d xs m
-
-pub expireds_told : (p : List ℕ) (d : Data) → first_of (faults_by (By (list_faults (plain_faults expired_sorts))) p d) ≡ fault_of p (expireds_of d)
-expireds_told p d = list_told (plain_faults expired_sorts) expired_of expired_told p d
-
-pub expireds_means : (d : Data) (xs : List Expired) → expireds_of d ≡ Ok xs → Spells d (list (map expired_data xs))
-expireds_means d xs h = list_means expired_of expired_data expired_means d xs h
-
-pub expireds_reads : (d : Data) (xs : List Expired) → Spells d (list (map expired_data xs)) → expireds_of d ≡ Ok xs
-expireds_reads d xs m = list_reads expired_of expired_data expired_reads d xs m
-
-pub events_told : (p : List ℕ) (d : Data) → first_of (faults_by (By (list_faults (worded_faults watched_table))) p d) ≡ fault_of p (events_of d)
-events_told p d = list_told (worded_faults watched_table) event_of event_told p d
-
-pub events_means : (d : Data) (xs : List ToldEvent) → events_of d ≡ Ok xs → Spells d (list (map event_data xs))
-events_means d xs h = list_means event_of event_data event_means d xs h
-
-pub events_reads : (d : Data) (xs : List ToldEvent) → Spells d (list (map event_data xs)) → events_of d ≡ Ok xs
-events_reads d xs m = list_reads event_of event_data event_reads d xs m
+-- ---- the answers of a branch's operations, with counts that fit
 
 pub ops_told : (p : List ℕ) (d : Data) → first_of (faults_by (By (list_faults (worded_faults op_table))) p d) ≡ fault_of p (ops_of d)
 ops_told p d = list_told (worded_faults op_table) op_of op_told p d

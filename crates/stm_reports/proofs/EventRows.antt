@@ -1,6 +1,6 @@
 -- The lines of events: the parts behind each word, and what is made of them. Their faults are those that reading answers, what was read is
 -- spelled, and what is spelled is read.
-use Rattle.std.proofs.Common.{◌≡◌, ℕ, List, [], ◌∷◌, map, Bool, cond, Some, None, Ok, Err, refl, sym, subst, ap, ◌∙◌, codes}
+use Rattle.std.proofs.Common.{◌≡◌, ℕ, List, map, Bool, cond, Some, Ok, Err, refl, sym, subst, ap, ◌∙◌, codes}
 use Rattle.serde_json.specs.Data.{Data, boolean, Items}
 use Rattle.serde_json.specs.View.{items_of}
 use Rattle.stm_json.specs.declared.cause.Cause.TheVariants.{Shape}
@@ -11,10 +11,8 @@ use Rattle.stm_meaning.specs.declared.trace_item.TraceItem.{TraceItem}
 use Rattle.stm_meaning.specs.declared.value.Value.{Value}
 use Rattle.stm_meaning.specs.Faults.{fault_name}
 use Rattle.stm_txn.specs.declared.advance.Expired.{Expired}
-use Rattle.stm_txn_json.specs.Faults.{Sort, AnyText, WordOf, By, first_of, at, faults_by, worded_faults, is_count, parts_faults}
-use Rattle.stm_txn_json.specs.FirstFault.{any_number}
-use Rattle.stm_txn_json.proofs.FaultLemmas.{fault_of, part_then}
-use Rattle.stm_txn_json.proofs.TxnFaults.{number_told}
+use Rattle.stm_json.specs.Faults.{Sort, AnyText, WordOf, By, first_of, at, faults_by, worded_faults, is_count, parts_faults, any_number}
+use Rattle.stm_json.proofs.FaultLemmas.{fault_of, part_then, number_told}
 use Rattle.stm_reports.specs.declared.causes.RefusalName.{RefusalName}
 use Rattle.stm_reports.specs.declared.line.ReportLine.{ReportLine}
 use Rattle.stm_reports.specs.declared.line.ReportLine.TheVariants.{Started, Fetched, Committed, Conflict, GaveUp, Aborted, Faulted, Ended, Txn, Granted}
@@ -27,20 +25,20 @@ use Rattle.stm_reports.specs.declared.words.EventWord.TheVariants as event
 use Rattle.stm_reports.specs.FirstFault.{flag_faults, value_faults, plain_faults, list_of as list_faults, fault_names, refusal_names, trace_table}
 use Rattle.stm_reports.specs.FirstFault.{answer_sorts, op_table, expired_sorts, expired_list, watched_table, numbered_faults}
 use Rattle.stm_reports.specs.Grammar.{Spells, SpellsItems, SpellsLine, CountsFit, AllCountsFit}
-use Rattle.stm_reports.specs.LineData.{list, whole, word, numbered, value_data, trace_data, answer_data, op_data, expired_data, event_data, line_data}
+use Rattle.stm_reports.specs.LineData.{list, word, numbered, value_data, trace_data, answer_data, op_data, expired_data, event_data, line_data}
 use Rattle.stm_reports.specs.Names.{refusal_text}
-use Rattle.stm_reports.specs.Parts.{number_of, flag_of, fault_of as fault_part_of, cause_of}
-use Rattle.stm_reports.specs.Reading.{values_of, traces_of, answers_of, ops_of, expireds_of, events_of, named_of, fetched_of, committed_of, conflict_of}
+use Rattle.stm_reports.specs.Parts.{number_of, flag_of, fault_of as fault_part_of, cause_of, value_of, trace_of, answer_of, expired_of, event_of}
+use Rattle.stm_reports.specs.Reading.{ops_of, fetched_of, committed_of, conflict_of}
 use Rattle.stm_reports.specs.Reading.{gave_up_of, aborted_of, faulted_of, ended_of, txn_of, revoked_of, advanced_of, batch_of, refused_of, event_line_of}
 use Rattle.stm_reports.specs.Reading.{started_of, granted_of, kept_of, watching_of, cancelled_of}
 use Rattle.stm_reports.specs.Words.{named, event_words}
 use Rattle.stm_reports.proofs.ArrayLemmas.{numbered_array, numbered_spells}
-use Rattle.stm_reports.proofs.ElementLaws.{values_told, values_means, values_reads, traces_told, traces_means, traces_reads}
-use Rattle.stm_reports.proofs.ElementLaws.{answers_told, answers_means, answers_reads, ops_told, ops_means, ops_reads}
-use Rattle.stm_reports.proofs.ElementLaws.{expireds_told, expireds_means, expireds_reads, events_told, events_means, events_reads}
+use Rattle.stm_reports.proofs.ElementLaws.{trace_told, trace_means, trace_reads, answer_told, answer_means, answer_reads}
+use Rattle.stm_reports.proofs.ElementLaws.{expired_told, expired_means, expired_reads, event_told, event_means, event_reads}
+use Rattle.stm_reports.proofs.ElementLaws.{ops_told, ops_means, ops_reads}
 use Rattle.stm_reports.proofs.PartLaws.{number_means, flag_told, flag_means, flag_reads, fault_told, fault_means, fault_reads, cause_told}
-use Rattle.stm_reports.proofs.PartLaws.{cause_means, cause_reads}
-use Rattle.stm_reports.proofs.Rows.{Part, part, Row, nothing, ◌&◌, second, third, fourth, fifth, sixth, counted, counted_told, counted_ok}
+use Rattle.stm_reports.proofs.PartLaws.{cause_means, cause_reads, value_told, value_means, value_reads}
+use Rattle.stm_reports.proofs.Rows.{Part, part, list_part, Row, nothing, ◌&◌, second, third, fourth, fifth, sixth, counted, counted_told, counted_ok}
 use Rattle.stm_reports.proofs.Rows.{one_counted, two_counted, three_counted, four_counted, five_counted, six_counted}
 use Rattle.stm_reports.proofs.StateLaws.{whole_part, text_part}
 
@@ -56,22 +54,19 @@ abbrev cause_part : Part RefusalName
 cause_part = part cause_of (λ c. word (refusal_text c)) (WordOf refusal_names) cause_told cause_means cause_reads
 
 abbrev values_part : Part (List Value)
-values_part = part values_of (λ xs. list (map value_data xs)) (By (list_faults value_faults)) values_told values_means values_reads
+values_part = list_part value_faults value_of value_data value_told value_means value_reads
 
 abbrev traces_part : Part (List TraceItem)
-traces_part =
-    part traces_of (λ xs. list (map trace_data xs)) (By (list_faults (worded_faults trace_table))) traces_told traces_means traces_reads
+traces_part = list_part (worded_faults trace_table) trace_of trace_data trace_told trace_means trace_reads
 
 abbrev answers_part : Part (List ToldAnswer)
-answers_part =
-    part answers_of (λ xs. list (map answer_data xs)) (By (list_faults (plain_faults answer_sorts))) answers_told answers_means answers_reads
+answers_part = list_part (plain_faults answer_sorts) answer_of answer_data answer_told answer_means answer_reads
 
 abbrev expireds_part : Part (List Expired)
-expireds_part = part expireds_of (λ xs. list (map expired_data xs)) expired_list expireds_told expireds_means expireds_reads
+expireds_part = list_part (plain_faults expired_sorts) expired_of expired_data expired_told expired_means expired_reads
 
 abbrev events_part : Part (List ToldEvent)
-events_part =
-    part events_of (λ xs. list (map event_data xs)) (By (list_faults (worded_faults watched_table))) events_told events_means events_reads
+events_part = list_part (worded_faults watched_table) event_of event_data event_told event_means event_reads
 
 abbrev ops_part : Part (List ToldOp)
 ops_part = record {

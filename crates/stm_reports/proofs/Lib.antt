@@ -1,5 +1,5 @@
 pub mod SameLemmas
-pub mod NoFloats
+pub mod Shallow
 pub mod WordLaws
 pub mod PartLaws
 pub mod ArrayLemmas

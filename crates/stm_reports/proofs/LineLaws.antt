@@ -7,11 +7,11 @@ use Rattle.stm_history.specs.declared.key_state.KeyState.{KeyState}
 use Rattle.stm_json.specs.declared.cause.Cause.TheVariants.{Shape}
 use Rattle.stm_json.specs.Elements.{first_word, two_of, three_of}
 use Rattle.stm_json.specs.Outcome.{Outcome, bad}
+use Rattle.stm_json.proofs.ElementLemmas.{first_word-is}
 use Rattle.stm_json.proofs.OutcomeLemmas.{bind_ok}
-use Rattle.stm_txn_json.specs.Faults.{Sort, first_of, sorts_of, sorted_faults}
-use Rattle.stm_txn_json.specs.FirstFault.{any_number}
-use Rattle.stm_txn_json.proofs.FaultLemmas.{fault_of, wrong_is, made}
-use Rattle.stm_txn_json.proofs.PartLemmas.{text_is, list_is}
+use Rattle.stm_json.specs.Faults.{Sort, first_of, sorts_of, sorted_faults, any_number}
+use Rattle.stm_json.proofs.FaultLemmas.{fault_of, wrong_is, made}
+use Rattle.stm_json.proofs.PartLemmas.{text_is, list_is}
 use Rattle.stm_reports.specs.declared.line.ReportLine.{ReportLine}
 use Rattle.stm_reports.specs.declared.line.ReportLine.TheVariants.{Started, Fetched, Committed, Conflict, GaveUp, Aborted, Faulted, Ended, Txn, Granted}
 use Rattle.stm_reports.specs.declared.line.ReportLine.TheVariants.{Kept, Revoked, Advanced, Watching, Cancelled, Batch, Refused, Key, Lease, End}
@@ -26,7 +26,7 @@ use Rattle.stm_reports.specs.LineData.{list, whole, word, line_data}
 use Rattle.stm_reports.specs.Parts.{keyed_of}
 use Rattle.stm_reports.specs.Reading.{key_of, lease_of, end_of, standing_line_of, standing_named, event_named, event_worded, line_front, line_array, line_of}
 use Rattle.stm_reports.specs.Words.{named, event_words, standing_words}
-use Rattle.stm_reports.proofs.ArrayLemmas.{first_word-is, worded_array, worded_spells, worded_shape, numbered_array, numbered_shape}
+use Rattle.stm_reports.proofs.ArrayLemmas.{worded_array, worded_spells, worded_shape, numbered_array, numbered_shape}
 use Rattle.stm_reports.proofs.EventRows.{event_parts, event_row, event_sorts, event_made, event_text, event_named-text, event_spelled}
 use Rattle.stm_reports.proofs.EventRows.{event_line_told, event_line_means, event_line_reads}
 use Rattle.stm_reports.proofs.Rows.{Row, nothing, ◌&◌, second, third, read_row, row_reads, behind_told, behind_means, two_counted, three_counted}

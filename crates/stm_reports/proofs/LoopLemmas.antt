@@ -6,7 +6,7 @@ use Rattle.stm_json.specs.declared.read_error.ReadError.{ReadError}
 use Rattle.stm_json.specs.declared.read_error.ReadError.TheVariants as error
 use Rattle.stm_json.specs.Outcome.{Outcome, ◌>>=◌, within}
 use Rattle.stm_json.specs.Tells.{TellsFault}
-use Rattle.stm_txn_json.proofs.ListLemmas.{with_front, regroup}
+use Rattle.stm_json.proofs.ListLemmas.{with_front, regroup}
 use Rattle.stm_reports.specs.declared.line.ReportLine.{ReportLine}
 use Rattle.stm_reports.specs.Bytes.{parts_of, first_cut}
 use Rattle.stm_reports.specs.Reading.{line_in, rest_of, lines_from}

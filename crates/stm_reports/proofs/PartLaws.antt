@@ -14,20 +14,19 @@ use Rattle.stm_meaning.specs.declared.fault.Fault.{Fault}
 use Rattle.stm_meaning.specs.Faults.{fault_name}
 use Rattle.stm_meaning.specs.declared.value.Value.{Value}
 use Rattle.stm_meaning.specs.declared.value.Value.TheVariants.{Text, Number}
-use Rattle.stm_txn_json.specs.Faults.{Faults, first_of, wrong, at, AnyText, WordOf, NumberIn, By, faults_by}
-use Rattle.stm_txn_json.specs.Grammar.{SpellsEach}
-use Rattle.stm_txn_json.specs.Reading.{text_of, each_from, list_of}
-use Rattle.stm_txn_json.proofs.FaultLemmas.{fault_of, wrong_is, part_then, made, text_faulted, number_up_faulted}
-use Rattle.stm_txn_json.proofs.ListLemmas.{list_sound, each_reads}
-use Rattle.stm_txn_json.proofs.PartLemmas.{text_is, on_text-is, text_of-is}
+use Rattle.stm_json.specs.Faults.{Faults, first_of, wrong, at, AnyText, WordOf, NumberIn, By, faults_by}
+use Rattle.stm_json.specs.Parts.{SpellsEach, text_of, each_from, list_of}
+use Rattle.stm_json.proofs.FaultLemmas.{fault_of, wrong_is, part_then, made, text_faulted, number_up_faulted}
+use Rattle.stm_json.proofs.ListLemmas.{list_sound, each_reads}
+use Rattle.stm_json.proofs.PartLemmas.{text_is, on_text-is, text_of-is}
 use Rattle.stm_reports.specs.declared.causes.RefusalName.{RefusalName}
 use Rattle.stm_reports.specs.FirstFault.{flag_faults, value_faults, or_null, each_of, list_of as list_faults, fault_names, refusal_names}
 use Rattle.stm_reports.specs.Grammar.{Spells, SpellsItems}
 use Rattle.stm_reports.specs.LineData.{list, whole, word, value_data, text_or_null}
 use Rattle.stm_reports.specs.Names.{refusal_text}
 use Rattle.stm_reports.specs.Parts.{if_there, number_of, flag_of, fault_of as fault_part_of, cause_of, value_from, value_of, text_or_null_of}
-use Rattle.stm_reports.specs.Words.{named, fault_words, refusal_named}
-use Rattle.stm_reports.proofs.WordLaws.{name_told, refusal_told, fault_named-is, fault_named-text, refusal_named-is, refusal_named-text}
+use Rattle.stm_reports.specs.Words.{named, fault_words, refusal_words}
+use Rattle.stm_reports.proofs.WordLaws.{name_told, fault_named-is, fault_named-text, refusal_named-is, refusal_named-text}
 
 -- ---- numbers
 
@@ -78,10 +77,7 @@ pub flag_means : (d : Data) (b : Bool) → flag_of d ≡ Ok b → Spells d (bool
 unfolding flag_of
 flag_means (boolean c) b h = ap boolean cc
 flag_means null b h = cc
-flag_means (number n) b h = cc
-flag_means (string s) b h = cc
-flag_means (array ds) b h = cc
-flag_means (object ms) b h = cc
+flag_means _ b h = cc
 
 pub flag_reads : (d : Data) (b : Bool) → Spells d (boolean b) → flag_of d ≡ Ok b
 unfolding flag_of
@@ -107,13 +103,13 @@ fault_reads d f is = ap fault_part_of is ∙ ap (λ (o : Option Fault). if_there
 
 pub cause_told : (p : List ℕ) (d : Data) → first_of (faults_by (WordOf refusal_names) p d) ≡ fault_of p (cause_of d)
 unfolding cause_of
-cause_told p d = refusal_told p (as_str d)
+cause_told p d = name_told p refusal_words (as_str d)
 
 pub cause_means : (d : Data) (c : RefusalName) → cause_of d ≡ Ok c → Spells d (word (refusal_text c))
 unfolding cause_of
 cause_means d c h =
-    let t = on_text-is (λ (w : List ℕ). if_there (refusal_named w)) d c h in
-    t.1 ∙ ap string (refusal_named-is t.0 c (there_is (refusal_named t.0) c t.2))
+    let t = on_text-is (λ (w : List ℕ). if_there (named refusal_words w)) d c h in
+    t.1 ∙ ap string (refusal_named-is t.0 c (there_is (named refusal_words t.0) c t.2))
 
 pub cause_reads : (d : Data) (c : RefusalName) → Spells d (word (refusal_text c)) → cause_of d ≡ Ok c
 unfolding cause_of
@@ -170,10 +166,7 @@ value_told p (string s) = refl
 value_told p (number (unsigned m)) = unsigned_tested p (ltb m (2 ^ 63)) m refl
 value_told p (number (negative z)) = value_tested p (is_64_bit z) z
 value_told p (number (float x)) = wrong_is {A = Value} p Shape (bad Shape) refl
-value_told p null = wrong_is {A = Value} p Shape (bad Shape) refl
-value_told p (boolean b) = wrong_is {A = Value} p Shape (bad Shape) refl
-value_told p (array ds) = wrong_is {A = Value} p Shape (bad Shape) refl
-value_told p (object ms) = wrong_is {A = Value} p Shape (bad Shape) refl
+value_told p _ = wrong_is {A = Value} p Shape (bad Shape) refl
 
 -- ---- null for what is absent
 
@@ -228,10 +221,7 @@ pub list_told : {A : Type 0} (faults : List ℕ → Data → Faults) (read : Dat
     → (p : List ℕ) (d : Data) → first_of (faults_by (By (list_faults faults)) p d) ≡ fault_of p (list_of read (as_array d))
 list_told faults read told p (array ds) = each_told faults read told p 0 ds
 list_told {A} faults read told p null = wrong_is {A = List A} p Shape (bad Shape) refl
-list_told {A} faults read told p (boolean b) = wrong_is {A = List A} p Shape (bad Shape) refl
-list_told {A} faults read told p (number n) = wrong_is {A = List A} p Shape (bad Shape) refl
-list_told {A} faults read told p (string s) = wrong_is {A = List A} p Shape (bad Shape) refl
-list_told {A} faults read told p (object ms) = wrong_is {A = List A} p Shape (bad Shape) refl
+list_told {A} faults read told p _ = wrong_is {A = List A} p Shape (bad Shape) refl
 
 pub items_spelled : {A : Type 0} (spell : A → Data) (ds : Items) (xs : List A) → SpellsEach (λ (e : Data) (x : A). Spells e (spell x)) ds xs
     → SpellsItems ds (items_of (map spell xs))

@@ -1,22 +1,19 @@
 -- Reports: the first fault is that which reading answers, what was read is spelled, and what is spelled is read.
-use Rattle.std.proofs.Common.{◌≡◌, ℕ, suc, ◌≤◌, List, [], ◌∷◌, ◌++◌, length, Bool, true, false, cond, ltb, Option, Some, None, Result, Ok, Err, refl, sym}
-use Rattle.std.proofs.Common.{ap, subst, ◌∙◌, arith, IfOk, MatchResult}
+use Rattle.std.proofs.Common.{◌≡◌, ℕ, suc, ◌≤◌, List, [], ◌∷◌, ◌++◌, length, Bool, true, false, cond, ltb, Option, Some, None, Ok, refl, sym}
+use Rattle.std.proofs.Common.{ap, subst, ◌∙◌, arith}
 use Rattle.std.proofs.lemmas.Bool.Decides.{nat_tests}
 use Rattle.serde_json.specs.Data.{Data}
 use Rattle.stm_json.specs.declared.cause.Cause.TheVariants.{NotJson, Shape, TooLong}
-use Rattle.stm_json.specs.declared.read_error.ReadError.{ReadError}
-use Rattle.stm_json.specs.declared.read_error.ReadError.TheVariants as error
-use Rattle.stm_json.specs.Outcome.{Outcome, bad, ◌>>=◌, within, step}
-use Rattle.stm_json.specs.Tells.{Tells}
+use Rattle.stm_json.specs.Outcome.{bad, ◌>>=◌, within, step}
 use Rattle.stm_json.proofs.OutcomeLemmas.{bind_ok, within_ok}
-use Rattle.stm_txn_json.specs.Faults.{first_of, wrong}
-use Rattle.stm_txn_json.proofs.FaultLemmas.{fault_of, wrong_is, part_then, made}
+use Rattle.stm_json.specs.Faults.{first_of, wrong}
+use Rattle.stm_json.proofs.FaultLemmas.{fault_of, wrong_is, part_then, made}
 use Rattle.stm_reports.specs.declared.line.ReportLine.{ReportLine}
 use Rattle.stm_json.specs.declared.limits.TheConstants.{MOST_BYTES}
 use Rattle.stm_reports.specs.declared.report.Report.{Report}
 use Rattle.stm_json.specs.Bytes.{data_of}
 use Rattle.stm_reports.specs.Bytes.{parts_of}
-use Rattle.stm_reports.specs.FirstFault.{json_faults, rest_faults, lines_faults, first_fault, IsFirstFault}
+use Rattle.stm_reports.specs.FirstFault.{json_faults, rest_faults, lines_faults, first_fault}
 use Rattle.stm_reports.specs.Grammar.{SpellsLine, SpellsParts, SpellsReport}
 use Rattle.stm_reports.specs.Reading.{line_read, line_in, rest_of, lines_from, report_with, report_in}
 use Rattle.stm_reports.proofs.CutLemmas.{parts_start}
@@ -54,12 +51,6 @@ length_tested parts false = made [] (lines_from 0 parts) report_with (lines_faul
 pub first_fault-is : (bytes : List ℕ) → first_fault bytes ≡ fault_of [] (report_in bytes)
 unfolding first_fault report_in
 first_fault-is bytes = length_tested (parts_of bytes) (ltb MOST_BYTES (length bytes))
-
-pub faulted : (bytes : List ℕ) (r : Result Report ReadError) → Tells (λ x. x) r (report_in bytes)
-    → MatchResult r (λ x. first_fault bytes ≡ None) (IsFirstFault bytes)
-faulted bytes (Ok r) h = first_fault-is bytes ∙ ap (fault_of []) h
-faulted bytes (Err error.OutOfMemory) h = tt
-faulted bytes (Err (error.Bad f)) h = first_fault-is bytes ∙ ap (fault_of []) h
 
 -- ---- what was read is spelled
 
@@ -101,13 +92,9 @@ tested bytes r false t h =
     let short : length bytes ≤ MOST_BYTES = grind (arith, nat_tests) in
     subst (λ (x : Report). SpellsReport bytes x) is (short, parts_mean (parts_of bytes) q.0 (parts_start bytes) q.1)
 
-report_means : (bytes : List ℕ) (r : Report) → report_in bytes ≡ Ok r → SpellsReport bytes r
+pub report_means : (bytes : List ℕ) (r : Report) → report_in bytes ≡ Ok r → SpellsReport bytes r
 unfolding report_in
 report_means bytes r h = tested bytes r (ltb MOST_BYTES (length bytes)) refl h
-
-pub spelled_by : (bytes : List ℕ) (r : Result Report ReadError) → Tells (λ x. x) r (report_in bytes) → IfOk r (SpellsReport bytes)
-spelled_by bytes (Ok r) h = report_means bytes r h
-spelled_by bytes (Err e) h = tt
 
 -- ---- what is spelled is read
 
@@ -134,7 +121,3 @@ pub report_reads : (bytes : List ℕ) (r : Report) → SpellsReport bytes r → 
 report_reads bytes r (short, parts) =
     let e = lines_read 0 (parts_of bytes) r.lines parts in
     short_report bytes short ∙ rw e refl
-
-pub accepted : (bytes : List ℕ) (r : Result Report ReadError) → Tells (λ x. x) r (report_in bytes) → (s : Report) → SpellsReport bytes s
-    → Tells (λ x. x) r (Ok s)
-accepted bytes r h s spelled = subst (λ (o : Outcome Report). Tells (λ (x : Report). x) r o) (report_reads bytes s spelled) h

@@ -1,19 +1,22 @@
 -- Rows of parts, one behind the other. That their faults are those that reading answers, that what was read is spelled, and that what is
 -- spelled is read, is proved once, whatever the parts are.
-use Rattle.std.proofs.Common.{◌≡◌, ℕ, suc, List, [], ◌∷◌, Bool, true, false, cond, Option, Some, None, Ok, refl, sym, ap, subst, ◌∙◌}
+use Rattle.std.proofs.Common.{◌≡◌, ℕ, suc, List, [], ◌∷◌, Bool, true, false, cond, Option, Some, None, Ok, option_map, refl, sym, ap, subst, ◌∙◌, map}
 use Rattle.serde_json.specs.Data.{Data, array, Items, no_items, item}
+use Rattle.serde_json.specs.Find.{as_array}
 use Rattle.serde_json.specs.View.{items_of}
 use Rattle.stm_json.specs.declared.cause.Cause.TheVariants.{Shape}
 use Rattle.stm_json.specs.Elements.{one_of, two_of, three_of, four_of}
 use Rattle.stm_json.specs.Outcome.{Outcome, bad, ◌>>=◌, within}
 use Rattle.stm_json.proofs.OutcomeLemmas.{bind_ok, within_ok}
-use Rattle.stm_txn_json.specs.Faults.{Faults, Sort, first_of, wrong, at, faults_by, is_count, parts_faults, sorted_faults}
-use Rattle.stm_txn_json.proofs.FaultLemmas.{fault_of, wrong_is, part_then}
+use Rattle.stm_json.specs.Parts.{list_of}
+use Rattle.stm_json.specs.Faults.{Faults, Sort, By, first_of, wrong, at, faults_by, is_count, parts_faults, sorted_faults}
+use Rattle.stm_json.proofs.FaultLemmas.{fault_of, wrong_is, part_then}
 use Rattle.stm_reports.specs.Elements.{five_of, six_of}
-use Rattle.stm_reports.specs.FirstFault.{plain_faults}
+use Rattle.stm_reports.specs.FirstFault.{plain_faults, list_of as list_faults}
 use Rattle.stm_reports.specs.Grammar.{Spells, SpellsItems}
 use Rattle.stm_reports.specs.LineData.{list, word}
 use Rattle.stm_reports.proofs.ArrayLemmas.{worded_array, worded_spells}
+use Rattle.stm_reports.proofs.PartLaws.{list_told, list_means, list_reads}
 
 -- What may stand as an element of an array: what is read of it, what spells it, and its sort in a table of first faults.
 pub record Part (A : Type 0) : Type 1 where
@@ -38,6 +41,14 @@ part read spell sort told means reads = record {
   means = λ d x h. (means d x h, tt);
   reads = λ d x s fits. reads d x s;
 }
+
+-- a list of what is read and spelled so
+abbrev pub list_part : {A : Type 0} (faults : List ℕ → Data → Faults) (read : Data → Outcome A) (spell : A → Data)
+    → ((p : List ℕ) (d : Data) → first_of (faults p d) ≡ fault_of p (read d)) → ((d : Data) (x : A) → read d ≡ Ok x → Spells d (spell x))
+    → ((d : Data) (x : A) → Spells d (spell x) → read d ≡ Ok x) → Part (List A)
+list_part faults read spell told means reads =
+    part (λ d. list_of read (as_array d)) (λ xs. list (map spell xs)) (By (list_faults faults)) (λ p d. list_told faults read told p d)
+    (λ d xs h. list_means read spell means d xs h) (λ d xs s. list_reads read spell reads d xs s)
 
 -- Parts one behind the other, whose values are an X, and what is made of them. Reading begins at an index of the array.
 pub record Row (X : Type 0) : Type 1 where
@@ -195,58 +206,43 @@ module _ {X Y : Type 0} (R : Row X) (make : X → Y) (f : Items → Outcome Y) w
 
 -- ---- reading by the elements, where there are so many, is such reading
 
-module _ {Y : Type 0} (body : Items → Outcome Y) where
-  pub one_counted : (s : Sort) (f : Option Data → Outcome Y) → f None ≡ bad Shape → ((a : Data) → f (Some a) ≡ body (items_of (a ∷ [])))
-      → (ds : Items) → f (one_of ds) ≡ counted (s ∷ []) body ds
-  one_counted s f none some no_items = none
-  one_counted s f none some (item a no_items) = some a
-  one_counted s f none some (item a (item b ds)) = none
+pub one_counted : {Y : Type 0} (body : Items → Outcome Y) (s : Sort) (f : Option Data → Outcome Y) → f None ≡ bad Shape
+    → ((a : Data) → f (Some a) ≡ body (items_of (a ∷ []))) → (ds : Items) → f (one_of ds) ≡ counted (s ∷ []) body ds
+one_counted body s f none some no_items = none
+one_counted body s f none some (item a no_items) = some a
+one_counted body s f none some (item a (item b ds)) = none
 
-  pub two_counted : (s t : Sort) (f : Option (Data × Data) → Outcome Y) → f None ≡ bad Shape
-      → ((a b : Data) → f (Some (a, b)) ≡ body (items_of (a ∷ b ∷ []))) → (ds : Items) → f (two_of ds) ≡ counted (s ∷ t ∷ []) body ds
-  two_counted s t f none some no_items = none
-  two_counted s t f none some (item a no_items) = none
-  two_counted s t f none some (item a (item b no_items)) = some a b
-  two_counted s t f none some (item a (item b (item c ds))) = none
+pub two_counted : {Y : Type 0} (body : Items → Outcome Y) (s t : Sort) (f : Option (Data × Data) → Outcome Y) → f None ≡ bad Shape
+    → ((a b : Data) → f (Some (a, b)) ≡ body (items_of (a ∷ b ∷ []))) → (ds : Items) → f (two_of ds) ≡ counted (s ∷ t ∷ []) body ds
+two_counted body s t f none some no_items = none
+two_counted body s t f none some (item a ds) =
+    one_counted (λ es. body (item a es)) t (λ o. f (option_map (λ b. (a, b)) o)) none (λ b. some a b) ds
 
-  pub three_counted : (s t u : Sort) (f : Option (Data × Data × Data) → Outcome Y) → f None ≡ bad Shape
-      → ((a b c : Data) → f (Some (a, b, c)) ≡ body (items_of (a ∷ b ∷ c ∷ [])))
-      → (ds : Items) → f (three_of ds) ≡ counted (s ∷ t ∷ u ∷ []) body ds
-  three_counted s t u f none some no_items = none
-  three_counted s t u f none some (item a no_items) = none
-  three_counted s t u f none some (item a (item b no_items)) = none
-  three_counted s t u f none some (item a (item b (item c no_items))) = some a b c
-  three_counted s t u f none some (item a (item b (item c (item d ds)))) = none
+pub three_counted : {Y : Type 0} (body : Items → Outcome Y) (s t u : Sort) (f : Option (Data × Data × Data) → Outcome Y) → f None ≡ bad Shape
+    → ((a b c : Data) → f (Some (a, b, c)) ≡ body (items_of (a ∷ b ∷ c ∷ [])))
+    → (ds : Items) → f (three_of ds) ≡ counted (s ∷ t ∷ u ∷ []) body ds
+three_counted body s t u f none some no_items = none
+three_counted body s t u f none some (item a ds) =
+    two_counted (λ es. body (item a es)) t u (λ o. f (option_map (λ p. (a, p.0, p.1)) o)) none (λ b c. some a b c) ds
 
-  pub four_counted : (s t u v : Sort) (f : Option (Data × Data × Data × Data) → Outcome Y) → f None ≡ bad Shape
-      → ((a b c d : Data) → f (Some (a, b, c, d)) ≡ body (items_of (a ∷ b ∷ c ∷ d ∷ [])))
-      → (ds : Items) → f (four_of ds) ≡ counted (s ∷ t ∷ u ∷ v ∷ []) body ds
-  four_counted s t u v f none some no_items = none
-  four_counted s t u v f none some (item a no_items) = none
-  four_counted s t u v f none some (item a (item b no_items)) = none
-  four_counted s t u v f none some (item a (item b (item c no_items))) = none
-  four_counted s t u v f none some (item a (item b (item c (item d no_items)))) = some a b c d
-  four_counted s t u v f none some (item a (item b (item c (item d (item e ds))))) = none
+pub four_counted : {Y : Type 0} (body : Items → Outcome Y) (s t u v : Sort) (f : Option (Data × Data × Data × Data) → Outcome Y)
+    → f None ≡ bad Shape → ((a b c d : Data) → f (Some (a, b, c, d)) ≡ body (items_of (a ∷ b ∷ c ∷ d ∷ [])))
+    → (ds : Items) → f (four_of ds) ≡ counted (s ∷ t ∷ u ∷ v ∷ []) body ds
+four_counted body s t u v f none some no_items = none
+four_counted body s t u v f none some (item a ds) =
+    three_counted (λ es. body (item a es)) t u v (λ o. f (option_map (λ p. (a, p.0, p.1, p.2)) o)) none (λ b c d. some a b c d) ds
 
-  pub five_counted : (s t u v w : Sort) (f : Option (Data × Data × Data × Data × Data) → Outcome Y) → f None ≡ bad Shape
-      → ((a b c d e : Data) → f (Some (a, b, c, d, e)) ≡ body (items_of (a ∷ b ∷ c ∷ d ∷ e ∷ [])))
-      → (ds : Items) → f (five_of ds) ≡ counted (s ∷ t ∷ u ∷ v ∷ w ∷ []) body ds
-  five_counted s t u v w f none some no_items = none
-  five_counted s t u v w f none some (item a no_items) = none
-  five_counted s t u v w f none some (item a (item b no_items)) = none
-  five_counted s t u v w f none some (item a (item b (item c no_items))) = none
-  five_counted s t u v w f none some (item a (item b (item c (item d no_items)))) = none
-  five_counted s t u v w f none some (item a (item b (item c (item d (item e no_items))))) = some a b c d e
-  five_counted s t u v w f none some (item a (item b (item c (item d (item e (item g ds)))))) = none
+pub five_counted : {Y : Type 0} (body : Items → Outcome Y) (s t u v w : Sort) (f : Option (Data × Data × Data × Data × Data) → Outcome Y)
+    → f None ≡ bad Shape → ((a b c d e : Data) → f (Some (a, b, c, d, e)) ≡ body (items_of (a ∷ b ∷ c ∷ d ∷ e ∷ [])))
+    → (ds : Items) → f (five_of ds) ≡ counted (s ∷ t ∷ u ∷ v ∷ w ∷ []) body ds
+five_counted body s t u v w f none some no_items = none
+five_counted body s t u v w f none some (item a ds) =
+    four_counted (λ es. body (item a es)) t u v w (λ o. f (option_map (λ p. (a, p.0, p.1, p.2, p.3)) o)) none (λ b c d e. some a b c d e) ds
 
-  pub six_counted : (s t u v w x : Sort) (f : Option (Data × Data × Data × Data × Data × Data) → Outcome Y) → f None ≡ bad Shape
-      → ((a b c d e g : Data) → f (Some (a, b, c, d, e, g)) ≡ body (items_of (a ∷ b ∷ c ∷ d ∷ e ∷ g ∷ [])))
-      → (ds : Items) → f (six_of ds) ≡ counted (s ∷ t ∷ u ∷ v ∷ w ∷ x ∷ []) body ds
-  six_counted s t u v w x f none some no_items = none
-  six_counted s t u v w x f none some (item a no_items) = none
-  six_counted s t u v w x f none some (item a (item b no_items)) = none
-  six_counted s t u v w x f none some (item a (item b (item c no_items))) = none
-  six_counted s t u v w x f none some (item a (item b (item c (item d no_items)))) = none
-  six_counted s t u v w x f none some (item a (item b (item c (item d (item e no_items))))) = none
-  six_counted s t u v w x f none some (item a (item b (item c (item d (item e (item g no_items)))))) = some a b c d e g
-  six_counted s t u v w x f none some (item a (item b (item c (item d (item e (item g (item h ds))))))) = none
+pub six_counted : {Y : Type 0} (body : Items → Outcome Y) (s t u v w x : Sort) (f : Option (Data × Data × Data × Data × Data × Data) → Outcome Y)
+    → f None ≡ bad Shape → ((a b c d e g : Data) → f (Some (a, b, c, d, e, g)) ≡ body (items_of (a ∷ b ∷ c ∷ d ∷ e ∷ g ∷ [])))
+    → (ds : Items) → f (six_of ds) ≡ counted (s ∷ t ∷ u ∷ v ∷ w ∷ x ∷ []) body ds
+six_counted body s t u v w x f none some no_items = none
+six_counted body s t u v w x f none some (item a ds) =
+    five_counted (λ es. body (item a es)) t u v w x (λ o. f (option_map (λ p. (a, p.0, p.1, p.2, p.3, p.4)) o)) none
+    (λ b c d e g. some a b c d e g) ds

@@ -7,12 +7,10 @@ use Rattle.stm_history.specs.declared.key_state.KeyState.{KeyState}
 use Rattle.stm_json.specs.declared.cause.Cause.TheVariants.{Shape}
 use Rattle.stm_json.specs.Outcome.{bad, ◌>>=◌}
 use Rattle.stm_json.proofs.OutcomeLemmas.{bind_ok}
-use Rattle.stm_txn_json.specs.Faults.{Sort, AnyText, By, first_of, sorted_faults}
-use Rattle.stm_txn_json.specs.FirstFault.{any_number}
-use Rattle.stm_txn_json.specs.Reading.{text_of}
-use Rattle.stm_txn_json.proofs.FaultLemmas.{fault_of, wrong_is, made, text_faulted}
-use Rattle.stm_txn_json.proofs.PartLemmas.{list_is, text_of-is, text_reads}
-use Rattle.stm_txn_json.proofs.TxnFaults.{number_told}
+use Rattle.stm_json.specs.Faults.{Sort, AnyText, By, first_of, sorted_faults, any_number}
+use Rattle.stm_json.specs.Parts.{text_of}
+use Rattle.stm_json.proofs.FaultLemmas.{fault_of, wrong_is, made, text_faulted, number_told}
+use Rattle.stm_json.proofs.PartLemmas.{list_is, text_of-is, text_reads}
 use Rattle.stm_reports.specs.Elements.{five_of, six_of}
 use Rattle.stm_reports.specs.FirstFault.{or_null, plain_faults, state_sorts}
 use Rattle.stm_reports.specs.Grammar.{Spells, SpellsItems}

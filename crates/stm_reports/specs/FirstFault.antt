@@ -1,20 +1,18 @@
 -- The first fault of bytes in a report's place, apart from reading: a table says what stands behind each word, the faults of all
 -- lines are listed in the order of reading, none left out behind another, and then the first is taken.
-use Rattle.std.specs.Prelude.{◌≡◌, ℕ, suc, ℤ, List, [], ◌∷◌, ◌++◌, length, Option, Some, None, if◌then◌else◌, nat_lt, codes, option_and_then}
+use Rattle.std.specs.Prelude.{ℕ, suc, ℤ, List, [], ◌∷◌, ◌++◌, length, map, Option, Some, None, if◌then◌else◌, nat_lt, codes, option_and_then}
 use Rattle.serde_json.specs.Data.{Data, null, boolean, string, array, Items, no_items, item}
 use Rattle.serde_json.specs.Find.{as_number, as_integer}
 use Rattle.stm_json.specs.declared.cause.Cause.TheVariants.{NotJson, Shape, Range, TooLong}
 use Rattle.stm_json.specs.declared.read_error.BadInput.{BadInput}
-use Rattle.stm_json.specs.declared.read_error.ReadError.{ReadError}
-use Rattle.stm_json.specs.declared.read_error.ReadError.TheVariants as error
 use Rattle.stm_json.specs.Elements.{is_64_bit}
 use Rattle.stm_json.specs.Outcome.{step}
-use Rattle.stm_txn_json.specs.Faults.{Faults, first_of, wrong, at, Sort, AnyText, WordOf, NumberIn, By, faults_by}
-use Rattle.stm_txn_json.specs.Faults.{Table, sorts_of, is_count, parts_faults, sorted_faults, worded_faults}
-use Rattle.stm_txn_json.specs.FirstFault.{any_number}
+use Rattle.stm_json.specs.Faults.{Faults, first_of, wrong, at, Sort, AnyText, WordOf, NumberIn, By, faults_by}
+use Rattle.stm_json.specs.Faults.{Table, sorts_of, is_count, parts_faults, sorted_faults, worded_faults, any_number}
 use Rattle.stm_json.specs.declared.limits.TheConstants.{MOST_BYTES}
 use Rattle.stm_json.specs.Bytes.{data_of}
 use Rattle.stm_reports.specs.Bytes.{parts_of}
+use Rattle.stm_reports.specs.Words.{fault_words, refusal_words}
 
 -- ---- parts
 
@@ -53,15 +51,10 @@ list_of faults p _ = wrong p Shape
 -- ---- names
 
 abbrev pub fault_names : List (List ℕ)
-fault_names =
-    codes "Kind" ∷ codes "Overflow" ∷ codes "ZeroDivisor" ∷ codes "NotANumber" ∷ codes "LoopTooLong" ∷ codes "TurnLimit" ∷ codes "TextTooLong"
-    ∷ codes "EmptyKey" ∷ []
+fault_names = map (λ row. row.0) fault_words
 
 abbrev pub refusal_names : List (List ℕ)
-refusal_names =
-    fault_names ++ codes "OutOfMemory" ∷ codes "BadProgram" ∷ codes "FutureRevision" ∷ codes "Compacted" ∷ codes "RevisionsUsedUp" ∷ codes "LeaseExists"
-    ∷ codes "TtlOutOfRange" ∷ codes "LeaseIdOutOfRange" ∷ codes "LeaseNotFound" ∷ codes "NoWatcher" ∷ codes "TooManyOps" ∷ codes "DuplicateKey"
-    ∷ codes "TimeGoesBack" ∷ codes "BadLimit" ∷ codes "NoRunner" ∷ codes "Behind" ∷ codes "Unvouched" ∷ []
+refusal_names = map (λ row. row.0) refusal_words
 
 -- ---- what stands in lists
 
@@ -160,8 +153,3 @@ faults_in bytes = (if nat_lt MOST_BYTES (length bytes) then wrong [] TooLong els
 -- the first fault of bytes in a report's place, if there is one
 unfoldable pub first_fault : List ℕ → Option BadInput
 first_fault bytes = first_of (faults_in bytes)
-
--- the error is the first fault, or want of memory
-abbrev pub IsFirstFault : List ℕ → ReadError → Type 0
-IsFirstFault bytes error.OutOfMemory = Unit {0}
-IsFirstFault bytes (error.Bad f) = first_fault bytes ≡ Some f

@@ -1,13 +1,20 @@
 -- The names of refusals, as a report spells them.
 use Rattle.std.specs.Prelude.{ℕ, List, codes}
-use Rattle.stm_meaning.specs.Faults.{fault_name}
 use Rattle.stm_reports.specs.declared.causes.RefusalName.{RefusalName}
-use Rattle.stm_reports.specs.declared.causes.RefusalName.TheVariants.{Fault, OutOfMemory, BadProgram, FutureRevision, Compacted, RevisionsUsedUp}
+use Rattle.stm_reports.specs.declared.causes.RefusalName.TheVariants.{Kind, Overflow, ZeroDivisor, NotANumber, LoopTooLong, TurnLimit, TextTooLong, EmptyKey}
+use Rattle.stm_reports.specs.declared.causes.RefusalName.TheVariants.{OutOfMemory, BadProgram, FutureRevision, Compacted, RevisionsUsedUp}
 use Rattle.stm_reports.specs.declared.causes.RefusalName.TheVariants.{LeaseExists, TtlOutOfRange, LeaseIdOutOfRange, LeaseNotFound, NoWatcher, TooManyOps}
 use Rattle.stm_reports.specs.declared.causes.RefusalName.TheVariants.{DuplicateKey, TimeGoesBack, BadLimit, NoRunner, Behind, Unvouched}
 
 abbrev pub refusal_text : RefusalName → List ℕ
-refusal_text (Fault fault) = fault_name fault
+refusal_text Kind = codes "Kind"
+refusal_text Overflow = codes "Overflow"
+refusal_text ZeroDivisor = codes "ZeroDivisor"
+refusal_text NotANumber = codes "NotANumber"
+refusal_text LoopTooLong = codes "LoopTooLong"
+refusal_text TurnLimit = codes "TurnLimit"
+refusal_text TextTooLong = codes "TextTooLong"
+refusal_text EmptyKey = codes "EmptyKey"
 refusal_text OutOfMemory = codes "OutOfMemory"
 refusal_text BadProgram = codes "BadProgram"
 refusal_text FutureRevision = codes "FutureRevision"

@@ -13,8 +13,7 @@ use Rattle.stm_meaning.specs.declared.value.Value.TheVariants.{Text, Number}
 use Rattle.stm_meaning.specs.declared.trace_item.TraceItem.{TraceItem}
 use Rattle.stm_meaning.specs.declared.trace_item.TraceItem.TheVariants as trace
 use Rattle.stm_txn.specs.declared.advance.Expired.{Expired}
-use Rattle.stm_txn_json.specs.Reading.{on_text, text_of}
-use Rattle.stm_txn_json.specs.Words.{same}
+use Rattle.stm_json.specs.Parts.{on_text, text_of, same}
 use Rattle.stm_reports.specs.declared.causes.RefusalName.{RefusalName}
 use Rattle.stm_reports.specs.declared.line.ToldAnswer.{ToldAnswer}
 use Rattle.stm_reports.specs.declared.line.ToldEvent.{ToldEvent}
@@ -22,7 +21,7 @@ use Rattle.stm_reports.specs.declared.line.ToldEvent.TheVariants as event
 use Rattle.stm_reports.specs.declared.line.ToldOp.{ToldOp}
 use Rattle.stm_reports.specs.declared.line.ToldOp.TheVariants as op
 use Rattle.stm_reports.specs.Elements.{five_of, six_of}
-use Rattle.stm_reports.specs.Words.{named, fault_words, refusal_named}
+use Rattle.stm_reports.specs.Words.{named, fault_words, refusal_words}
 
 -- what stands there, or Shape
 abbrev pub if_there : {A : Type 0} → Option A → Outcome A
@@ -40,7 +39,7 @@ unfoldable pub fault_of : Data → Outcome Fault
 fault_of d = on_text (λ w. if_there (named fault_words w)) (as_str d)
 
 unfoldable pub cause_of : Data → Outcome RefusalName
-cause_of d = on_text (λ w. if_there (refusal_named w)) (as_str d)
+cause_of d = on_text (λ w. if_there (named refusal_words w)) (as_str d)
 
 -- a text, or else a whole number of 64 bits with a sign
 abbrev pub value_from : Data → Option (List ℕ) → Outcome Value

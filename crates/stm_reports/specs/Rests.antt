@@ -2,7 +2,7 @@
 use Rattle.std.specs.Prelude.{ℕ, Ok}
 use Rattle.serde_json.specs.Data.{Data}
 use Rattle.stm_json.specs.Outcome.{Outcome, ◌>>=◌, within}
-use Rattle.stm_txn_json.specs.Reading.{text_of}
+use Rattle.stm_json.specs.Parts.{text_of}
 use Rattle.stm_reports.specs.declared.line.ReportLine.{ReportLine}
 use Rattle.stm_reports.specs.declared.line.ReportLine.TheVariants.{Fetched, Conflict, GaveUp}
 use Rattle.stm_reports.specs.Parts.{number_of}

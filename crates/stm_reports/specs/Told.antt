@@ -1,9 +1,7 @@
--- The lines that the calls of a store come to.
+-- The line of a transaction, and the names of refusals.
 --
--- etcd's API reference, "Transaction" and "Lease".
-use Rattle.std.specs.Prelude.{ℕ, List, map, Option, Some, None}
-use Rattle.stm_meaning.specs.declared.fault.Fault.TheVariants as fault
-use Rattle.stm_txn.specs.declared.advance.Expired.{Expired}
+-- etcd's API reference, "Transaction".
+use Rattle.std.specs.Prelude.{ℕ, map}
 use Rattle.stm_txn.specs.declared.answer.OpAnswer.{OpAnswer}
 use Rattle.stm_txn.specs.declared.answer.OpAnswer.TheVariants as answer
 use Rattle.stm_txn.specs.declared.answer.TxnAnswer.{TxnAnswer}
@@ -12,13 +10,13 @@ use Rattle.stm_txn.specs.declared.refusal.Refusal.TheVariants as refusal
 use Rattle.stm_reports.specs.declared.causes.RefusalName.{RefusalName}
 use Rattle.stm_reports.specs.declared.causes.RefusalName.TheVariants as cause
 use Rattle.stm_reports.specs.declared.line.ReportLine.{ReportLine}
-use Rattle.stm_reports.specs.declared.line.ReportLine.TheVariants.{Txn, Advanced, Refused}
+use Rattle.stm_reports.specs.declared.line.ReportLine.TheVariants.{Txn}
 use Rattle.stm_reports.specs.declared.line.ToldOp.{ToldOp}
 use Rattle.stm_reports.specs.declared.line.ToldOp.TheVariants as op
 
 abbrev pub cause_told : Refusal → RefusalName
 cause_told refusal.OutOfMemory = cause.OutOfMemory
-cause_told refusal.EmptyKey = cause.Fault fault.EmptyKey
+cause_told refusal.EmptyKey = cause.EmptyKey
 cause_told refusal.FutureRevision = cause.FutureRevision
 cause_told refusal.Compacted = cause.Compacted
 cause_told refusal.RevisionsUsedUp = cause.RevisionsUsedUp
@@ -39,8 +37,3 @@ op_told (answer.Del count) = op.Del count
 -- the line of a transaction that was taken
 abbrev pub txn_line : ℕ → TxnAnswer → ReportLine
 txn_line n a = Txn n a.succeeded a.revision (map op_told a.answers)
-
--- the line of an advance, which may have been cut short
-abbrev pub advance_line : ℕ → ℕ → List Expired → Option Refusal → ReportLine
-advance_line n moment expired None = Advanced n moment expired
-advance_line n moment expired (Some cause) = Refused n (cause_told cause) expired

@@ -2,7 +2,7 @@
 use Rattle.std.specs.Prelude.{ℕ, List, [], ◌∷◌, Option, Some, None, if◌then◌else◌, codes}
 use Rattle.stm_meaning.specs.declared.fault.Fault.{Fault}
 use Rattle.stm_meaning.specs.declared.fault.Fault.TheVariants.{Kind, Overflow, ZeroDivisor, NotANumber, LoopTooLong, TurnLimit, TextTooLong, EmptyKey}
-use Rattle.stm_txn_json.specs.Words.{same}
+use Rattle.stm_json.specs.Parts.{same}
 use Rattle.stm_reports.specs.declared.causes.RefusalName.{RefusalName}
 use Rattle.stm_reports.specs.declared.causes.RefusalName.TheVariants as cause
 use Rattle.stm_reports.specs.declared.words.EventWord.{EventWord}
@@ -52,10 +52,18 @@ fault_words =
     ∷ (codes "EmptyKey", EmptyKey)
     ∷ []
 
--- the refusals that are no faults of programs
-abbrev pub other_words : List (List ℕ × RefusalName)
-other_words =
-    (codes "OutOfMemory", cause.OutOfMemory)
+-- a program's faults, and the other refusals
+abbrev pub refusal_words : List (List ℕ × RefusalName)
+refusal_words =
+    (codes "Kind", cause.Kind)
+    ∷ (codes "Overflow", cause.Overflow)
+    ∷ (codes "ZeroDivisor", cause.ZeroDivisor)
+    ∷ (codes "NotANumber", cause.NotANumber)
+    ∷ (codes "LoopTooLong", cause.LoopTooLong)
+    ∷ (codes "TurnLimit", cause.TurnLimit)
+    ∷ (codes "TextTooLong", cause.TextTooLong)
+    ∷ (codes "EmptyKey", cause.EmptyKey)
+    ∷ (codes "OutOfMemory", cause.OutOfMemory)
     ∷ (codes "BadProgram", cause.BadProgram)
     ∷ (codes "FutureRevision", cause.FutureRevision)
     ∷ (codes "Compacted", cause.Compacted)
@@ -73,10 +81,3 @@ other_words =
     ∷ (codes "Behind", cause.Behind)
     ∷ (codes "Unvouched", cause.Unvouched)
     ∷ []
-
-abbrev pub refusal_from : Option Fault → List ℕ → Option RefusalName
-refusal_from (Some fault) w = Some (cause.Fault fault)
-refusal_from None w = named other_words w
-
-unfoldable pub refusal_named : List ℕ → Option RefusalName
-refusal_named w = refusal_from (named fault_words w) w

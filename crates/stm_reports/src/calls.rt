@@ -6,7 +6,6 @@ ghost use Rattle.stm_reports.specs.Told.{cause_told, txn_line};
 use crate::causes::RefusalName;
 use crate::line::ReportLine;
 use crate::same::{are_ops, are_same_expired};
-use stm_meaning::Fault;
 use stm_txn::{Expired, Refusal, TxnAnswer};
 
 /// The name under which a line tells a refusal of the store.
@@ -15,7 +14,7 @@ pub fn told_cause(cause: Refusal) -> RefusalName
 {
     match cause {
         Refusal::OutOfMemory => RefusalName::OutOfMemory,
-        Refusal::EmptyKey => RefusalName::Fault(Fault::EmptyKey),
+        Refusal::EmptyKey => RefusalName::EmptyKey,
         Refusal::FutureRevision => RefusalName::FutureRevision,
         Refusal::Compacted => RefusalName::Compacted,
         Refusal::RevisionsUsedUp => RefusalName::RevisionsUsedUp,

@@ -2,13 +2,25 @@
 ghost use Rattle.std.specs.Prelude.{◌≡◌};
 ghost use Rattle.stm_reports.specs.Names.{refusal_text};
 
-use stm_meaning::Fault;
-
-/// The name of a refusal, as a report spells it.
+/// The name of a refusal, as a report spells it. The first eight are the faults that end a program, too.
 #[derive(Clone, Copy, Debug, PartialEq, Eq)]
 pub enum RefusalName {
-    /// One of the faults that end a program; a call may be refused for an empty key as well.
-    Fault(Fault),
+    /// A text where a number is wanted, or the reverse, or mixed kinds compared.
+    Kind,
+    /// A result is out of 64 bits with a sign.
+    Overflow,
+    /// A division or a rest by 0.
+    ZeroDivisor,
+    /// A text was taken for a number and is none.
+    NotANumber,
+    /// A count is above the limit of its loop.
+    LoopTooLong,
+    /// A run has too many turns.
+    TurnLimit,
+    /// A joined text is too long.
+    TextTooLong,
+    /// An empty key, of a program or of a call.
+    EmptyKey,
     /// A growth was refused.
     OutOfMemory,
     /// A text is not in its grammar.
@@ -51,7 +63,14 @@ impl RefusalName {
         ensures { result.now ≡ refusal_text self }
     {
         match self {
-            RefusalName::Fault(fault) => fault.name(),
+            RefusalName::Kind => "Kind",
+            RefusalName::Overflow => "Overflow",
+            RefusalName::ZeroDivisor => "ZeroDivisor",
+            RefusalName::NotANumber => "NotANumber",
+            RefusalName::LoopTooLong => "LoopTooLong",
+            RefusalName::TurnLimit => "TurnLimit",
+            RefusalName::TextTooLong => "TextTooLong",
+            RefusalName::EmptyKey => "EmptyKey",
             RefusalName::OutOfMemory => "OutOfMemory",
             RefusalName::BadProgram => "BadProgram",
             RefusalName::FutureRevision => "FutureRevision",

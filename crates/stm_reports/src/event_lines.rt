@@ -14,8 +14,7 @@ use crate::parts::{fault_part, flag_part, list_part, refusal_part};
 use crate::words::EventWord;
 use serde_json::Value as Json;
 use std::alloc::Global;
-use stm_json::{Cause, ReadError, fault, four, one, three, two};
-use stm_txn_json::{number_part, text_part};
+use stm_json::{Cause, ReadError, fault, four, number_part, one, text_part, three, two};
 
 /// The number of an event, and the one number behind the word.
 fn named(alloc: Global, number: &Json, elements: &[Json]) -> Result<(u64, u64), ReadError>

@@ -15,6 +15,7 @@ mod reading;
 mod report;
 mod same;
 mod standing;
+mod text;
 mod words;
 
 pub use calls::{is_advanced, is_granted, is_kept, is_refused, is_revoked, is_txn, told_cause};
@@ -28,3 +29,4 @@ pub use stm_history::{KeyState, Sequence, Text};
 pub use stm_json::{BadInput, Cause, MOST_BYTES, ReadError};
 pub use stm_meaning::{Fault, TraceItem, Value};
 pub use stm_txn::Expired;
+pub use text::push_line;

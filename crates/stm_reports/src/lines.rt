@@ -13,8 +13,7 @@ use crate::parts::keyed;
 use crate::words::{StandingWord, event_word, standing_word};
 use serde_json::Value as Json;
 use std::alloc::Global;
-use stm_json::{Cause, ReadError, fault, three, two};
-use stm_txn_json::number_part;
+use stm_json::{Cause, ReadError, fault, number_part, three, two};
 
 fn key(alloc: Global, elements: &[Json]) -> Result<ReportLine, ReadError>
     ensures { Tells (λ l. l) result (key_of (six_of (items_view elements.now))) }

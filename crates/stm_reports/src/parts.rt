@@ -6,7 +6,7 @@ ghost use Rattle.serde_json.specs.View.{view, items_view};
 ghost use Rattle.stm_json.specs.Elements.{one_of, two_of, three_of, four_of};
 ghost use Rattle.stm_json.specs.Outcome.{Outcome, within as within_list};
 ghost use Rattle.stm_json.specs.Tells.{Tells};
-ghost use Rattle.stm_txn_json.specs.Reading.{text_of, each_from, list_of};
+ghost use Rattle.stm_json.specs.Parts.{text_of, each_from, list_of};
 ghost use Rattle.stm_reports.specs.Elements.{five_of, six_of};
 ghost use Rattle.stm_reports.specs.Parts.{flag_of, fault_of, cause_of, value_of, state_parts, state_of, keyed_of, text_or_null_of, state_or_null_of};
 ghost use Rattle.stm_reports.specs.Parts.{trace_get_of, trace_rev_of, trace_of, answer_parts, answer_of, op_get_of, op_del_of, op_put_of, op_of};
@@ -20,25 +20,11 @@ use serde_json::Value as Json;
 use std::alloc::Global;
 use stm_history::{KeyState, Sequence, Text};
 use stm_json::{
-    Cause, ReadError, fault, four, number_within, one, three, two, whole, within, worded_array,
+    Cause, ReadError, fault, four, number_part, number_within, one, text, text_part, two, whole,
+    within, worded_array,
 };
 use stm_meaning::{Fault, TraceItem, Value};
 use stm_txn::Expired;
-use stm_txn_json::{number_part, text_part};
-
-/// A text, of any length.
-#[tactic(auto, unfolding(stm_txn_json::specs::Reading::text_of))]
-fn text(alloc: Global, value: &Json) -> Result<Text, ReadError>
-    ensures { Tells (λ t. t) result (text_of (view value.now)) }
-{
-    match value.as_str() {
-        Some(text) => {
-            let text = Text::copy_of(alloc, text)?;
-            Ok(text)
-        }
-        None => Err(fault(alloc, Cause::Shape)),
-    }
-}
 
 #[tactic(auto, unfolding(crate::specs::Parts::flag_of))]
 fn flag(alloc: Global, value: &Json) -> Result<bool, ReadError>

@@ -3,7 +3,8 @@ ghost use Rattle.std.specs.Prelude.{◌≡◌, ◌≤◌, List, [], length, Ok a
 ghost use Rattle.stm_json.specs.Outcome.{within as within_list};
 ghost use Rattle.stm_json.specs.Tells.{Tells};
 ghost use Rattle.stm_reports.specs.Bytes.{is_line_feed as is_line_feed_byte, line_length as line_length_of, first_cut, parts_of};
-ghost use Rattle.stm_reports.specs.FirstFault.{first_fault, IsFirstFault};
+ghost use Rattle.stm_reports.specs.FirstFault.{first_fault};
+ghost use Rattle.stm_json.specs.Faults.{IsFirstFault};
 ghost use Rattle.stm_reports.specs.Grammar.{SpellsReport};
 ghost use Rattle.stm_reports.specs.Reading.{line_in, rest_of, lines_from, report_in};
 
@@ -119,7 +120,7 @@ pub fn read_report(alloc: Global, bytes: &[u8]) -> Result<Report, ReadError>
     // A report that is spelled so is read.
     ensures accepts { (r : _) → SpellsReport bytes.now r → Tells (λ x. x) result (OkOf r) }
     // Which fault it is.
-    ensures faults { MatchResult result (λ r. first_fault bytes.now ≡ None) (IsFirstFault bytes.now) }
+    ensures faults { MatchResult result (λ r. first_fault bytes.now ≡ None) (IsFirstFault (first_fault bytes.now)) }
 {
     report_of_bytes(alloc, bytes)
 }

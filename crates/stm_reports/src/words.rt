@@ -1,6 +1,6 @@
 //! The words that lines are told apart by, and the names of faults and refusals.
 ghost use Rattle.std.specs.Prelude.{◌≡◌, map};
-ghost use Rattle.stm_reports.specs.Words.{named, event_words, standing_words, fault_words, other_words, refusal_named};
+ghost use Rattle.stm_reports.specs.Words.{named, event_words, standing_words, fault_words, refusal_words};
 
 use crate::causes::RefusalName;
 use stm_meaning::Fault;
@@ -132,8 +132,16 @@ pub(crate) fn fault_named(word: &str) -> Option<Fault>
     found(&FAULT_NAMES, word)
 }
 
-/// The names of the refusals that are no faults.
-static OTHER_NAMES: [(&str, RefusalName); 17] = [
+/// The names of refusals.
+static REFUSAL_NAMES: [(&str, RefusalName); 25] = [
+    ("Kind", RefusalName::Kind),
+    ("Overflow", RefusalName::Overflow),
+    ("ZeroDivisor", RefusalName::ZeroDivisor),
+    ("NotANumber", RefusalName::NotANumber),
+    ("LoopTooLong", RefusalName::LoopTooLong),
+    ("TurnLimit", RefusalName::TurnLimit),
+    ("TextTooLong", RefusalName::TextTooLong),
+    ("EmptyKey", RefusalName::EmptyKey),
     ("OutOfMemory", RefusalName::OutOfMemory),
     ("BadProgram", RefusalName::BadProgram),
     ("FutureRevision", RefusalName::FutureRevision),
@@ -153,20 +161,9 @@ static OTHER_NAMES: [(&str, RefusalName); 17] = [
     ("Unvouched", RefusalName::Unvouched),
 ];
 
-/// The refusal of a name that is no fault's, if there is one.
-fn other_refusal(word: &str) -> Option<RefusalName>
-    ensures { result ≡ named other_words word.now }
-{
-    found(&OTHER_NAMES, word)
-}
-
 /// The refusal of a name, if there is one.
-#[tactic(auto, unfolding(crate::specs::Words::refusal_named))]
 pub(crate) fn refusal_name(word: &str) -> Option<RefusalName>
-    ensures { result ≡ refusal_named word.now }
+    ensures { result ≡ named refusal_words word.now }
 {
-    match fault_named(word) {
-        Some(fault) => Some(RefusalName::Fault(fault)),
-        None => other_refusal(word),
-    }
+    found(&REFUSAL_NAMES, word)
 }

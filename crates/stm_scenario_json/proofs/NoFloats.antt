@@ -65,10 +65,7 @@ each-no_float write one (x ∷ xs) = rw (one x) (each-no_float write one xs)
 
 side-no_float : (t : Target) → has_float (written_side t) ≡ false
 side-no_float (target.Version n) = refl
-side-no_float (target.Create n) = refl
-side-no_float (target.Mod n) = refl
-side-no_float (target.Lease n) = refl
-side-no_float (target.Value s) = refl
+side-no_float _ = refl
 
 compare-no_float : (c : Compare) → has_float (written_compare c) ≡ false
 compare-no_float c = rw (side-no_float c.target) refl
@@ -93,13 +90,7 @@ event-no_float (event.Start program level limit) = rw (program-no_float program)
 event-no_float (event.Step runner) = refl
 event-no_float (event.Txn t) = txn-no_float t
 event-no_float (event.Grant id ttl) = refl
-event-no_float (event.Keep id) = refl
-event-no_float (event.Revoke id) = refl
-event-no_float (event.Advance now) = refl
-event-no_float (event.WatchKey key from) = refl
-event-no_float (event.WatchRange first end from) = refl
-event-no_float (event.Poll watcher most) = refl
-event-no_float (event.Cancel watcher) = refl
+event-no_float _ = refl
 
 -- ---- scenarios
 

@@ -5,7 +5,7 @@ use Rattle.serde_json.specs.View.{items_of}
 use Rattle.stm_program_json.specs.Writing.{written_number}
 use Rattle.stm_texts.specs.Grammar.{SpellsEvent, SpellsElements}
 use Rattle.stm_texts.specs.Reading.{IsOpening}
-use Rattle.stm_txn_json.specs.Grammar.{SpellsEach}
+use Rattle.stm_json.specs.Parts.{SpellsEach}
 use Rattle.stm_world.specs.declared.event.WorldEvent.{WorldEvent}
 use Rattle.stm_scenario_json.specs.Laws.{AreSpelled, WrittenScenariosSpell}
 use Rattle.stm_scenario_json.specs.Writing.{written_event, opening_elements}

@@ -12,7 +12,8 @@ use Rattle.stm_txn.specs.declared.txn.Op.TheVariants.{Get, Put, Del}
 use Rattle.stm_txn.specs.declared.txn.Target.{Target}
 use Rattle.stm_txn.specs.declared.txn.Target.TheVariants.{Version, Create, Mod, Lease, Value}
 use Rattle.stm_txn.specs.declared.txn.Txn.{Txn}
-use Rattle.stm_txn_json.specs.Grammar.{spelled, SpellsNumberIn, SpellsEach, SpellsTarget, SpellsCompare, SpellsOperation, SpellsTxn}
+use Rattle.stm_json.specs.Parts.{spelled, SpellsNumberIn, SpellsEach}
+use Rattle.stm_txn_json.specs.Grammar.{SpellsTarget, SpellsCompare, SpellsOperation, SpellsTxn}
 use Rattle.stm_world.specs.declared.event.WorldEvent.{WorldEvent}
 use Rattle.stm_world.specs.declared.event.WorldEvent.TheVariants.{Start, Step, Txn as TxnEvent, Grant, Keep, Revoke, Advance, WatchKey, WatchRange, Poll}
 use Rattle.stm_world.specs.declared.event.WorldEvent.TheVariants.{Cancel}

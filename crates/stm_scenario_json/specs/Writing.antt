@@ -11,7 +11,8 @@ use Rattle.stm_txn.specs.declared.txn.Op.TheVariants.{Get, Put, Del}
 use Rattle.stm_txn.specs.declared.txn.Target.{Target}
 use Rattle.stm_txn.specs.declared.txn.Target.TheVariants.{Version, Create, Mod, Lease, Value}
 use Rattle.stm_txn.specs.declared.txn.Txn.{Txn}
-use Rattle.stm_txn_json.specs.Grammar.{spelled, order_text}
+use Rattle.stm_json.specs.Parts.{spelled}
+use Rattle.stm_txn_json.specs.Grammar.{order_text}
 use Rattle.stm_world.specs.declared.event.WorldEvent.{WorldEvent}
 use Rattle.stm_world.specs.declared.event.WorldEvent.TheVariants.{Start, Step, Txn as TxnEvent, Grant, Keep, Revoke, Advance, WatchKey, WatchRange, Poll}
 use Rattle.stm_world.specs.declared.event.WorldEvent.TheVariants.{Cancel}

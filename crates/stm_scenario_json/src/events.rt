@@ -4,7 +4,7 @@ ghost use Rattle.serde_json.specs.View.{view};
 ghost use Rattle.serde_json.specs.Written.{has_float};
 ghost use Rattle.stm_program_json.specs.Writing.{written_number};
 ghost use Rattle.stm_texts.specs.Grammar.{level_text, SpellsEvent};
-ghost use Rattle.stm_txn_json.specs.Grammar.{spelled};
+ghost use Rattle.stm_json.specs.Parts.{spelled};
 ghost use Rattle.stm_world.specs.declared.event.WorldEvent.TheVariants.{Start, Grant, WatchKey, WatchRange, Poll};
 ghost use Rattle.stm_scenario_json.specs.Writing.{written_event, written_opening};
 

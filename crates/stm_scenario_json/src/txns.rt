@@ -2,7 +2,8 @@
 ghost use Rattle.std.specs.Prelude.{◌≡◌, [], ◌∷◌, codes, IfOk};
 ghost use Rattle.serde_json.specs.View.{view};
 ghost use Rattle.stm_txn.specs.declared.txn.Op.TheVariants.{Get, Put};
-ghost use Rattle.stm_txn_json.specs.Grammar.{spelled, order_text};
+ghost use Rattle.stm_json.specs.Parts.{spelled};
+ghost use Rattle.stm_txn_json.specs.Grammar.{order_text};
 ghost use Rattle.stm_scenario_json.specs.Writing.{target_text, written_side, written_compare, written_operation, written_txn};
 
 use crate::lists::{Written, list_json};

@@ -1,18 +1,16 @@
 -- A scenario that bytes spell is read.
-use Rattle.std.proofs.Common.{◌≡◌, ℕ, suc, ◌+◌, ◌<◌, ◌≤◌, List, [], ◌∷◌, length, lt-ltb, Option, Some, None, Result, Ok, refl, codes}
-use Rattle.std.proofs.Common.{ap, subst, ◌∙◌, arith}
+use Rattle.std.proofs.Common.{◌≡◌, ℕ, suc, ◌+◌, ◌<◌, ◌≤◌, List, [], ◌∷◌, length, lt-ltb, Option, Some, None, Ok, refl, codes}
+use Rattle.std.proofs.Common.{ap, ◌∙◌, arith}
 use Rattle.serde_json.specs.Data.{Data, string, Items, item}
-use Rattle.stm_json.specs.declared.read_error.ReadError.{ReadError}
-use Rattle.stm_json.specs.Outcome.{Outcome, ◌>>=◌}
-use Rattle.stm_json.specs.Tells.{Tells}
+use Rattle.stm_json.specs.Outcome.{◌>>=◌}
 use Rattle.stm_json.specs.Elements.{worded, number_up_to}
 use Rattle.stm_program.specs.declared.level.Level.{Level}
-use Rattle.stm_program.specs.declared.level.Level.TheVariants.{SerializableSnapshot, Serializable, RepeatableReads, ReadCommitted}
+use Rattle.stm_program.specs.declared.level.Level.TheVariants.{SerializableSnapshot}
 use Rattle.stm_program_json.proofs.StatementComplete.{program_reads}
-use Rattle.stm_txn_json.specs.Grammar.{spelled, SpellsEach}
-use Rattle.stm_txn_json.specs.Reading.{text_of, txn_of}
+use Rattle.stm_json.specs.Parts.{spelled, SpellsEach, text_of}
+use Rattle.stm_txn_json.specs.Reading.{txn_of}
 use Rattle.stm_txn_json.proofs.GrammarComplete.{txn_reads}
-use Rattle.stm_txn_json.proofs.PartLemmas.{text_reads, number_reads, up_to_reads}
+use Rattle.stm_json.proofs.PartLemmas.{text_reads, number_reads, up_to_reads}
 use Rattle.stm_world.specs.declared.event.WorldEvent.{WorldEvent}
 use Rattle.stm_world.specs.declared.event.WorldEvent.TheVariants.{Start, Step, Txn, Grant, Keep, Revoke, Advance, WatchKey, WatchRange, Poll, Cancel}
 use Rattle.stm_texts.specs.declared.scenario.Scenario.{Scenario}
@@ -28,9 +26,7 @@ use Rattle.stm_texts.proofs.ScenarioLemmas.{scenario_in-short}
 level_reads : (l : Level) → level_of (string (level_text l)) ≡ Ok l
 unfolding level_of level_named
 level_reads SerializableSnapshot = refl
-level_reads Serializable = refl
-level_reads RepeatableReads = refl
-level_reads ReadCommitted = refl
+level_reads _ = refl
 
 -- ---- events
 
@@ -124,9 +120,5 @@ data_read : (d : Data) (s : Scenario) → SpellsData d s → scenario_of d ≡ O
 unfolding scenario_of
 data_read d s (ds, is, spelled, few) = rw is (elements_read ds s.opening s.events spelled few)
 
-scenario_reads : (bytes : List ℕ) (s : Scenario) → SpellsScenario bytes s → scenario_in bytes ≡ Ok s
+pub scenario_reads : (bytes : List ℕ) (s : Scenario) → SpellsScenario bytes s → scenario_in bytes ≡ Ok s
 scenario_reads bytes s (short, d, is, spelled) = scenario_in-short bytes short ∙ ap scenario_read is ∙ data_read d s spelled
-
-pub accepted : (bytes : List ℕ) (r : Result Scenario ReadError) → Tells (λ s. s) r (scenario_in bytes) → (s : Scenario) → SpellsScenario bytes s
-    → Tells (λ s. s) r (Ok s)
-accepted bytes r h s spelled = subst (λ (o : Outcome Scenario). Tells (λ (x : Scenario). x) r o) (scenario_reads bytes s spelled) h

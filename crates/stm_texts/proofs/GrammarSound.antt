@@ -1,15 +1,13 @@
 -- What is read of a scenario is spelled by the bytes.
 use Rattle.std.proofs.Common.{◌≡◌, ℕ, suc, ◌+◌, ◌<◌, ◌≤◌, List, [], ◌∷◌, length, Bool, true, false, cond, ltb, ltb-true, Option}
-use Rattle.std.proofs.Common.{Some, None, Result, Ok, Err, refl, ap, subst, ◌∙◌, arith, codes, IfOk}
+use Rattle.std.proofs.Common.{Some, None, Ok, refl, ap, subst, ◌∙◌, arith, codes}
 use Rattle.std.proofs.lemmas.Bool.Decides.{nat_tests}
 use Rattle.std.proofs.lemmas.Slice.Eq.{bytes_eq-Decides}
 use Rattle.serde_json.specs.Data.{Data, string, array, Items, no_items, item}
 use Rattle.serde_json.specs.Find.{as_array}
 use Rattle.serde_json.specs.View.{items_of}
 use Rattle.stm_json.specs.declared.cause.Cause.TheVariants.{TooMany, TooLong}
-use Rattle.stm_json.specs.declared.read_error.ReadError.{ReadError}
 use Rattle.stm_json.specs.Outcome.{bad, ◌>>=◌, within}
-use Rattle.stm_json.specs.Tells.{Tells}
 use Rattle.stm_json.specs.Elements.{worded, one_of, two_of, three_of, number_up_to}
 use Rattle.stm_json.proofs.OutcomeLemmas.{bind_ok, within_ok}
 use Rattle.stm_json.proofs.ElementLemmas.{worded-is, one_of-is, two_of-is, three_of-is}
@@ -17,11 +15,10 @@ use Rattle.stm_program.specs.declared.level.Level.{Level}
 use Rattle.stm_program.specs.declared.level.Level.TheVariants.{SerializableSnapshot, Serializable, RepeatableReads, ReadCommitted}
 use Rattle.stm_program_json.specs.Reading.{program_of}
 use Rattle.stm_program_json.proofs.ProgramLemmas.{program_sound}
-use Rattle.stm_txn_json.specs.Grammar.{spelled, SpellsNumberIn, SpellsEach}
+use Rattle.stm_json.specs.Parts.{spelled, SpellsNumberIn, SpellsEach, same}
 use Rattle.stm_txn_json.specs.Reading.{txn_of}
-use Rattle.stm_txn_json.specs.Words.{same}
 use Rattle.stm_txn_json.proofs.GrammarSound.{txn_sound}
-use Rattle.stm_txn_json.proofs.PartLemmas.{on_text-is, list_is, number_is, up_to_is, word_and}
+use Rattle.stm_json.proofs.PartLemmas.{on_text-is, list_is, number_is, up_to_is, word_and}
 use Rattle.stm_txn_json.proofs.WordLemmas.{chosen, no_word}
 use Rattle.stm_world.specs.declared.event.WorldEvent.{WorldEvent}
 use Rattle.stm_world.specs.declared.event.WorldEvent.TheVariants.{Start, Step, Txn, Grant, Keep, Revoke, Advance}
@@ -232,10 +229,6 @@ tested : (bytes : List ℕ) (s : Scenario) (b : Bool) → ltb MOST_BYTES (length
 tested bytes s true t h = cc
 tested bytes s false t h = read_sound bytes s (data_of bytes) (grind (arith, nat_tests)) refl h
 
-scenario_sound : (bytes : List ℕ) (s : Scenario) → scenario_in bytes ≡ Ok s → SpellsScenario bytes s
+pub scenario_sound : (bytes : List ℕ) (s : Scenario) → scenario_in bytes ≡ Ok s → SpellsScenario bytes s
 unfolding scenario_in
 scenario_sound bytes s h = tested bytes s (ltb MOST_BYTES (length bytes)) refl h
-
-pub spelled_by : (bytes : List ℕ) (r : Result Scenario ReadError) → Tells (λ s. s) r (scenario_in bytes) → IfOk r (SpellsScenario bytes)
-spelled_by bytes (Ok s) h = scenario_sound bytes s h
-spelled_by bytes (Err e) h = tt

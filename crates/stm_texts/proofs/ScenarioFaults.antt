@@ -1,27 +1,23 @@
 -- The first fault of a scenario is the fault that reading it answers.
-use Rattle.std.proofs.Common.{◌≡◌, ℕ, suc, ◌+◌, arith, List, [], ◌∷◌, ◌++◌, length, Bool, true, false, cond, ltb, Option, Some, None, Result, Ok}
-use Rattle.std.proofs.Common.{Err, refl, ap, subst, ◌∙◌, codes}
-use Rattle.std.specs.Prelude.{MatchResult}
+use Rattle.std.proofs.Common.{◌≡◌, ℕ, suc, ◌+◌, arith, List, [], ◌∷◌, ◌++◌, length, Bool, true, false, cond, ltb, Option, Some, None, Ok}
+use Rattle.std.proofs.Common.{Err, refl, subst, ◌∙◌, codes}
 use Rattle.serde_json.specs.Data.{Data, string, array, Items, no_items, item}
 use Rattle.serde_json.specs.Find.{as_str}
 use Rattle.stm_json.specs.declared.cause.Cause.TheVariants.{Shape, TooMany, TooLong, NotJson}
 use Rattle.stm_json.specs.declared.read_error.BadInput.{BadInput}
-use Rattle.stm_json.specs.declared.read_error.ReadError.{ReadError}
-use Rattle.stm_json.specs.declared.read_error.ReadError.TheVariants as error
 use Rattle.stm_json.specs.Outcome.{Outcome, bad, ◌>>=◌, step}
-use Rattle.stm_json.specs.Tells.{Tells}
 use Rattle.stm_json.specs.Elements.{worded, one_of, two_of, three_of, number_up_to, number_in}
 use Rattle.stm_program.specs.declared.level.Level.{Level}
 use Rattle.stm_program.specs.declared.level.Level.TheVariants.{SerializableSnapshot, Serializable, RepeatableReads, ReadCommitted}
 use Rattle.stm_program_json.specs.Reading.{program_of}
 use Rattle.stm_program_json.specs.FirstFault.{first_fault as program_fault}
 use Rattle.stm_program_json.proofs.StatementMarks.{program_fault as program_fault-is, fault_of as fault_of_program}
-use Rattle.stm_txn_json.specs.Faults.{Sort, WordOf, NumberIn, By, first_of, wrong, at, word_faults, faults_by, sorted_faults, worded_faults}
-use Rattle.stm_txn_json.specs.FirstFault.{any_number, txn_sorts}
-use Rattle.stm_txn_json.specs.Reading.{on_text, txn_of}
-use Rattle.stm_txn_json.specs.Words.{same}
-use Rattle.stm_txn_json.proofs.FaultLemmas.{fault_of, wrong_is, part_then, inside_of, made, number_faulted, number_up_faulted}
-use Rattle.stm_txn_json.proofs.TxnFaults.{number_told, txn_faulted}
+use Rattle.stm_json.specs.Faults.{Sort, WordOf, NumberIn, By, first_of, wrong, at, word_faults, faults_by, sorted_faults, worded_faults, any_number}
+use Rattle.stm_txn_json.specs.FirstFault.{txn_sorts}
+use Rattle.stm_json.specs.Parts.{on_text, same}
+use Rattle.stm_txn_json.specs.Reading.{txn_of}
+use Rattle.stm_json.proofs.FaultLemmas.{fault_of, wrong_is, part_then, inside_of, made, number_faulted, number_up_faulted, number_told}
+use Rattle.stm_txn_json.proofs.TxnFaults.{txn_faulted}
 use Rattle.stm_world.specs.declared.event.WorldEvent.{WorldEvent}
 use Rattle.stm_world.specs.declared.event.WorldEvent.TheVariants.{Start, Step, Txn, Grant, Keep, Revoke, Advance}
 use Rattle.stm_texts.specs.declared.scenario.Scenario.{Scenario}
@@ -33,7 +29,7 @@ use Rattle.stm_texts.specs.Reading.{level_named, level_of, start_of, grant_of, n
 use Rattle.stm_texts.specs.Reading.{watcher_event, event_of, event_after, events_from, begins}
 use Rattle.stm_texts.specs.Reading.{opening_of, scenario_after, scenario_of, scenario_read, scenario_in}
 use Rattle.stm_texts.specs.FirstFault.{level_words, placed, program_faults, event_table, event_faults, events_faults, elements_faults, data_faults}
-use Rattle.stm_texts.specs.FirstFault.{first_fault, IsFirstFault}
+use Rattle.stm_texts.specs.FirstFault.{first_fault}
 use Rattle.stm_texts.proofs.WatcherFaults.{watcher_rows, watcher_faulted}
 
 -- ---- parts
@@ -210,9 +206,3 @@ length_tested o false = read_faulted o
 pub first_fault-is : (bytes : List ℕ) → first_fault bytes ≡ fault_of [] (scenario_in bytes)
 unfolding first_fault scenario_in
 first_fault-is bytes = length_tested (data_of bytes) (ltb MOST_BYTES (length bytes))
-
-pub faulted : (bytes : List ℕ) (r : Result Scenario ReadError) → Tells (λ s. s) r (scenario_in bytes)
-    → MatchResult r (λ s. first_fault bytes ≡ None) (IsFirstFault bytes)
-faulted bytes (Ok s) h = first_fault-is bytes ∙ ap (fault_of []) h
-faulted bytes (Err error.OutOfMemory) h = tt
-faulted bytes (Err (error.Bad f)) h = first_fault-is bytes ∙ ap (fault_of []) h

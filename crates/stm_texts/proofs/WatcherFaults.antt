@@ -5,12 +5,9 @@ use Rattle.stm_history.specs.declared.revisions.TheConstants.{HIGHEST_NUMBER}
 use Rattle.stm_json.specs.declared.cause.Cause.TheVariants.{Shape}
 use Rattle.stm_json.specs.Outcome.{bad}
 use Rattle.stm_json.specs.Elements.{one_of, two_of, three_of, number_up_to}
-use Rattle.stm_txn_json.specs.Faults.{Sort, AnyText, first_of, at, faults_by, sorted_faults}
-use Rattle.stm_txn_json.specs.FirstFault.{any_number}
-use Rattle.stm_txn_json.specs.Reading.{text_of}
-use Rattle.stm_txn_json.specs.Words.{same}
-use Rattle.stm_txn_json.proofs.FaultLemmas.{fault_of, wrong_is, part_then, text_faulted}
-use Rattle.stm_txn_json.proofs.TxnFaults.{number_told}
+use Rattle.stm_json.specs.Faults.{Sort, AnyText, first_of, at, faults_by, sorted_faults, any_number}
+use Rattle.stm_json.specs.Parts.{text_of, same}
+use Rattle.stm_json.proofs.FaultLemmas.{fault_of, wrong_is, part_then, text_faulted, number_told}
 use Rattle.stm_world.specs.declared.event.WorldEvent.{WorldEvent}
 use Rattle.stm_world.specs.declared.event.WorldEvent.TheVariants.{WatchKey, WatchRange, Poll, Cancel}
 use Rattle.stm_texts.specs.Reading.{watch_key_of, watch_range_of, poll_of, cancel_of, watcher_event}

@@ -8,10 +8,8 @@ use Rattle.stm_json.specs.Outcome.{bad, within}
 use Rattle.stm_json.specs.Elements.{worded, one_of, two_of, three_of, number_up_to}
 use Rattle.stm_json.proofs.OutcomeLemmas.{bind_ok, within_ok}
 use Rattle.stm_json.proofs.ElementLemmas.{one_of-is, two_of-is, three_of-is}
-use Rattle.stm_txn_json.specs.Grammar.{spelled}
-use Rattle.stm_txn_json.specs.Reading.{text_of}
-use Rattle.stm_txn_json.specs.Words.{same}
-use Rattle.stm_txn_json.proofs.PartLemmas.{text_of-is, up_to_is, word_and}
+use Rattle.stm_json.specs.Parts.{spelled, text_of, same}
+use Rattle.stm_json.proofs.PartLemmas.{text_of-is, up_to_is, word_and}
 use Rattle.stm_world.specs.declared.event.WorldEvent.{WorldEvent}
 use Rattle.stm_world.specs.declared.event.WorldEvent.TheVariants.{WatchKey, WatchRange, Poll, Cancel}
 use Rattle.stm_texts.specs.Grammar.{SpellsEvent}

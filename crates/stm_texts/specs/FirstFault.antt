@@ -1,16 +1,14 @@
 -- The first fault of bytes in a scenario's place, apart from reading: the faults of all the data in the order of reading, none
 -- left out behind another, and then the first of them.
-use Rattle.std.specs.Prelude.{◌≡◌, ℕ, suc, ◌+◌, List, [], ◌∷◌, ◌++◌, length, Bool, false, Option, Some, None, if◌then◌else◌, nat_lt, codes}
+use Rattle.std.specs.Prelude.{ℕ, suc, ◌+◌, List, [], ◌∷◌, ◌++◌, length, Bool, false, Option, Some, None, if◌then◌else◌, nat_lt, codes}
 use Rattle.serde_json.specs.Data.{Data, string, array, Items, no_items, item}
 use Rattle.stm_json.specs.declared.cause.Cause.TheVariants.{NotJson, Shape, TooLong, TooMany}
 use Rattle.stm_json.specs.declared.read_error.BadInput.{BadInput}
-use Rattle.stm_json.specs.declared.read_error.ReadError.{ReadError}
-use Rattle.stm_json.specs.declared.read_error.ReadError.TheVariants as error
 use Rattle.stm_json.specs.Outcome.{step}
 use Rattle.stm_program_json.specs.FirstFault.{first_fault as program_fault}
-use Rattle.stm_txn_json.specs.Faults.{Faults, first_of, wrong, AnyText, WordOf, NumberIn, By, Table, worded_faults}
-use Rattle.stm_txn_json.specs.FirstFault.{any_number, txn_row}
-use Rattle.stm_txn_json.specs.Words.{same}
+use Rattle.stm_json.specs.Faults.{Faults, first_of, wrong, AnyText, WordOf, NumberIn, By, Table, worded_faults, any_number}
+use Rattle.stm_txn_json.specs.FirstFault.{txn_row}
+use Rattle.stm_json.specs.Parts.{same}
 use Rattle.stm_history.specs.declared.revisions.TheConstants.{HIGHEST_REVISION}
 use Rattle.stm_texts.specs.declared.events.TheConstants.{HIGHEST_LIMIT, MOST_EVENTS}
 use Rattle.stm_json.specs.declared.limits.TheConstants.{MOST_BYTES}
@@ -83,8 +81,3 @@ faults_in bytes = (if nat_lt MOST_BYTES (length bytes) then wrong [] TooLong els
 -- the first fault of bytes in a scenario's place, if there is one
 unfoldable pub first_fault : List ℕ → Option BadInput
 first_fault bytes = first_of (faults_in bytes)
-
--- the error is the first fault, or want of memory
-abbrev pub IsFirstFault : List ℕ → ReadError → Type 0
-IsFirstFault bytes error.OutOfMemory = Unit {0}
-IsFirstFault bytes (error.Bad f) = first_fault bytes ≡ Some f

@@ -5,7 +5,8 @@ use Rattle.stm_program.specs.Limits.{Fits}
 use Rattle.stm_program.specs.declared.level.Level.{Level}
 use Rattle.stm_program.specs.declared.level.Level.TheVariants.{SerializableSnapshot, Serializable, RepeatableReads, ReadCommitted}
 use Rattle.stm_program_json.specs.Grammar.{SpellsProgram}
-use Rattle.stm_txn_json.specs.Grammar.{spelled, SpellsNumberIn, SpellsEach, SpellsTxn}
+use Rattle.stm_json.specs.Parts.{spelled, SpellsNumberIn, SpellsEach}
+use Rattle.stm_txn_json.specs.Grammar.{SpellsTxn}
 use Rattle.stm_world.specs.declared.event.WorldEvent.{WorldEvent}
 use Rattle.stm_world.specs.declared.event.WorldEvent.TheVariants.{Start, Step, Txn, Grant, Keep, Revoke, Advance, WatchKey, WatchRange, Poll, Cancel}
 use Rattle.stm_texts.specs.declared.scenario.Scenario.{Scenario}

@@ -3,7 +3,8 @@ ghost use Rattle.std.specs.Prelude.{◌≡◌, ◌≤◌, Ok as OkOf, None, opti
 ghost use Rattle.serde_json.specs.View.{view, items_view};
 ghost use Rattle.stm_json.specs.Elements.{worded, one_of};
 ghost use Rattle.stm_json.specs.Tells.{Tells};
-ghost use Rattle.stm_texts.specs.FirstFault.{first_fault, IsFirstFault};
+ghost use Rattle.stm_texts.specs.FirstFault.{first_fault};
+ghost use Rattle.stm_json.specs.Faults.{IsFirstFault};
 ghost use Rattle.stm_texts.specs.Grammar.{SpellsScenario};
 ghost use Rattle.stm_texts.specs.Reading.{begins, opening_of, scenario_of, scenario_in, IsOpening};
 
@@ -107,7 +108,7 @@ pub fn read_scenario(alloc: Global, bytes: &[u8]) -> Result<Scenario, ReadError>
     // A scenario that is spelled so is read.
     ensures accepts { (s : _) → SpellsScenario bytes.now s → Tells (λ t. t) result (OkOf s) }
     // Which fault it is.
-    ensures faults { MatchResult result (λ s. first_fault bytes.now ≡ None) (IsFirstFault bytes.now) }
+    ensures faults { MatchResult result (λ s. first_fault bytes.now ≡ None) (IsFirstFault (first_fault bytes.now)) }
     ensures opening { IfOk result (λ s. IsOpening s.opening) }
 {
     scenario_of_bytes(alloc, bytes)

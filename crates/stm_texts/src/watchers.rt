@@ -6,8 +6,7 @@ ghost use Rattle.stm_texts.specs.Reading.{watch_key_of, watch_range_of, poll_of,
 
 use serde_json::Value;
 use std::alloc::Global;
-use stm_json::{Cause, ReadError, fault, one, three, two};
-use stm_txn_json::{number_part, text_part};
+use stm_json::{Cause, ReadError, fault, number_part, one, text_part, three, two};
 use stm_world::WorldEvent;
 
 fn watch_key(alloc: Global, elements: &[Value]) -> Result<WorldEvent, ReadError>

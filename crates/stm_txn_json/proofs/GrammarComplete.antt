@@ -12,10 +12,12 @@ use Rattle.stm_txn_json.specs.declared.words.TargetWord.{TargetWord}
 use Rattle.stm_txn_json.specs.declared.words.TargetWord.TheVariants as word
 use Rattle.stm_txn_json.specs.Words.{target_named}
 use Rattle.stm_txn_json.specs.Grammar.{SpellsTarget, SpellsCompare, SpellsOperation, SpellsTxn}
-use Rattle.stm_txn_json.specs.Reading.{text_of, target_of, compare_of, operation_of, compares_of, operations_of, txn_of}
+use Rattle.stm_json.specs.Parts.{text_of}
+use Rattle.stm_txn_json.specs.Reading.{target_of, compare_of, operation_of, compares_of, operations_of, txn_of}
 use Rattle.stm_txn_json.proofs.WordLemmas.{target_named-text}
-use Rattle.stm_txn_json.proofs.PartLemmas.{text_reads, order_reads, up_to_reads}
-use Rattle.stm_txn_json.proofs.ListLemmas.{each_reads}
+use Rattle.stm_json.proofs.PartLemmas.{text_reads, up_to_reads}
+use Rattle.stm_txn_json.proofs.PartLemmas.{order_reads}
+use Rattle.stm_json.proofs.ListLemmas.{each_reads}
 
 -- ---- compares
 

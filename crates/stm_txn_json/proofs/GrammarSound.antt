@@ -17,13 +17,15 @@ use Rattle.stm_txn.specs.declared.txn.Target.TheVariants.{Version, Create, Mod, 
 use Rattle.stm_txn.specs.declared.txn.Txn.{Txn}
 use Rattle.stm_txn_json.specs.declared.words.TargetWord.{TargetWord}
 use Rattle.stm_txn_json.specs.declared.words.TargetWord.TheVariants as word
-use Rattle.stm_txn_json.specs.Words.{same, target_named}
-use Rattle.stm_txn_json.specs.Grammar.{spelled, SpellsEach, order_text, SpellsTarget, SpellsCompare, SpellsOperation, SpellsTxn}
-use Rattle.stm_txn_json.specs.Reading.{text_of, order_of, target_of, compare_parts, compare_worded, compare_of, get_of, put_of, del_of, operation_worded}
+use Rattle.stm_json.specs.Parts.{same, spelled, SpellsEach, text_of}
+use Rattle.stm_txn_json.specs.Words.{target_named}
+use Rattle.stm_txn_json.specs.Grammar.{order_text, SpellsTarget, SpellsCompare, SpellsOperation, SpellsTxn}
+use Rattle.stm_txn_json.specs.Reading.{order_of, target_of, compare_parts, compare_worded, compare_of, get_of, put_of, del_of, operation_worded}
 use Rattle.stm_txn_json.specs.Reading.{operation_of, compares_of, operations_of, txn_parts, txn_worded, txn_of}
 use Rattle.stm_txn_json.proofs.WordLemmas.{target_text, target_named-is}
-use Rattle.stm_txn_json.proofs.PartLemmas.{text_of-is, order_of-is, up_to_is, word_and}
-use Rattle.stm_txn_json.proofs.ListLemmas.{list_sound}
+use Rattle.stm_json.proofs.PartLemmas.{text_of-is, up_to_is, word_and}
+use Rattle.stm_txn_json.proofs.PartLemmas.{order_of-is}
+use Rattle.stm_json.proofs.ListLemmas.{list_sound}
 
 -- ---- compares
 

@@ -1,5 +1,5 @@
 -- The first fault of a transaction is the fault that reading it answers.
-use Rattle.std.proofs.Common.{◌≡◌, ℕ, List, [], ◌∷◌, Bool, true, false, cond, Option, Some, None, Ok, refl, codes, arith}
+use Rattle.std.proofs.Common.{◌≡◌, ℕ, List, [], ◌∷◌, Bool, true, false, cond, Option, Some, None, Ok, refl, codes}
 use Rattle.serde_json.specs.Data.{Data, string, array, Items, no_items, item}
 use Rattle.serde_json.specs.Find.{as_str}
 use Rattle.stm_history.specs.declared.revisions.TheConstants.{HIGHEST_NUMBER}
@@ -15,12 +15,14 @@ use Rattle.stm_txn.specs.declared.txn.Target.TheVariants.{Version, Create, Mod, 
 use Rattle.stm_txn.specs.declared.txn.Txn.{Txn}
 use Rattle.stm_txn_json.specs.declared.words.TargetWord.{TargetWord}
 use Rattle.stm_txn_json.specs.declared.words.TargetWord.TheVariants as word
-use Rattle.stm_txn_json.specs.Words.{same, order_named, target_named}
-use Rattle.stm_txn_json.specs.Reading.{on_text, text_of, order_of, target_of, compare_parts, compare_of, get_of, put_of, del_of, operation_of}
+use Rattle.stm_json.specs.Parts.{same, on_text, text_of}
+use Rattle.stm_txn_json.specs.Words.{order_named, target_named}
+use Rattle.stm_txn_json.specs.Reading.{order_of, target_of, compare_parts, compare_of, get_of, put_of, del_of, operation_of}
 use Rattle.stm_txn_json.specs.Reading.{compares_of, operations_of, txn_parts, txn_of}
-use Rattle.stm_txn_json.specs.Faults.{Sort, AnyText, WordOf, wrong, at, word_faults, faults_by, sorted_faults, worded_faults, list_faults, first_of}
-use Rattle.stm_txn_json.specs.FirstFault.{order_words, any_number, compare_table, operation_table, txn_sorts, txn_faults, first_fault}
-use Rattle.stm_txn_json.proofs.FaultLemmas.{fault_of, wrong_is, part_then, made, text_faulted, number_up_faulted, list_faulted}
+use Rattle.stm_json.specs.Faults.{Sort, AnyText, WordOf, wrong, at, word_faults, faults_by, sorted_faults, worded_faults, list_faults, first_of}
+use Rattle.stm_json.specs.Faults.{any_number}
+use Rattle.stm_txn_json.specs.FirstFault.{order_words, compare_table, operation_table, txn_sorts, txn_faults, first_fault}
+use Rattle.stm_json.proofs.FaultLemmas.{fault_of, wrong_is, part_then, made, text_faulted, list_faulted, number_told}
 
 -- ---- compares
 
@@ -41,9 +43,6 @@ order_told p None = wrong_is {A = Order} p Shape (bad Shape) refl
 order_faulted : (p : List ℕ) (d : Data) → first_of (faults_by (WordOf order_words) p d) ≡ fault_of p (order_of d)
 unfolding order_of
 order_faulted p d = order_told p (as_str d)
-
-pub number_told : (p : List ℕ) (d : Data) → first_of (faults_by any_number p d) ≡ fault_of p (number_up_to HIGHEST_NUMBER d)
-number_told p d = number_up_faulted p HIGHEST_NUMBER d (omega arith)
 
 -- the sort of the compare's side
 abbrev side_sort : TargetWord → Sort

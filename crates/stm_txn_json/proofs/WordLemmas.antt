@@ -8,7 +8,8 @@ use Rattle.stm_txn.specs.declared.txn.Order.TheVariants.{Equal, NotEqual, Greate
 use Rattle.stm_txn_json.specs.declared.words.TargetWord.{TargetWord}
 use Rattle.stm_txn_json.specs.declared.words.TargetWord.TheVariants as word
 use Rattle.stm_txn_json.specs.Grammar.{order_text}
-use Rattle.stm_txn_json.specs.Words.{same, order_named, target_named}
+use Rattle.stm_json.specs.Parts.{same}
+use Rattle.stm_txn_json.specs.Words.{order_named, target_named}
 
 abbrev pub target_text : TargetWord → List ℕ
 target_text word.Version = codes "version"
@@ -44,9 +45,7 @@ order_named-is w x h =
 pub order_named-text : (x : Order) → order_named (order_text x) ≡ Ok x
 unfolding order_named
 order_named-text Equal = refl
-order_named-text NotEqual = refl
-order_named-text Greater = refl
-order_named-text Less = refl
+order_named-text _ = refl
 
 pub target_named-is : (w : List ℕ) (x : TargetWord) → target_named w ≡ Ok x → w ≡ target_text x
 unfolding target_named
@@ -61,7 +60,4 @@ target_named-is w x h =
 pub target_named-text : (x : TargetWord) → target_named (target_text x) ≡ Ok x
 unfolding target_named
 target_named-text word.Version = refl
-target_named-text word.Create = refl
-target_named-text word.Mod = refl
-target_named-text word.Lease = refl
-target_named-text word.Value = refl
+target_named-text _ = refl

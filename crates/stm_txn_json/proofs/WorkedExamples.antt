@@ -8,9 +8,10 @@ use Rattle.stm_txn.specs.declared.txn.Op.TheVariants.{Get, Put}
 use Rattle.stm_txn.specs.declared.txn.Order.TheVariants.{Equal}
 use Rattle.stm_txn.specs.declared.txn.Target.TheVariants.{Mod}
 use Rattle.stm_txn.specs.declared.txn.Txn.{Txn}
-use Rattle.stm_txn_json.specs.Grammar.{spelled, SpellsTxn}
+use Rattle.stm_json.specs.Parts.{spelled}
+use Rattle.stm_txn_json.specs.Grammar.{SpellsTxn}
 use Rattle.stm_txn_json.specs.FirstFault.{first_fault}
-use Rattle.stm_txn_json.proofs.FaultLemmas.{fault_at}
+use Rattle.stm_json.proofs.FaultLemmas.{fault_at}
 
 abbrev small : ℕ → Data
 small n = number (unsigned n)

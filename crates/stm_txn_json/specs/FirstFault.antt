@@ -1,17 +1,11 @@
 -- The first fault of data in a transaction's place, apart from reading: all faults by the table of words, and then the first.
-use Rattle.std.specs.Prelude.{◌≡◌, ℕ, List, [], ◌∷◌, Option, Some, codes}
+use Rattle.std.specs.Prelude.{ℕ, List, [], ◌∷◌, Option, codes}
 use Rattle.serde_json.specs.Data.{Data}
-use Rattle.stm_history.specs.declared.revisions.TheConstants.{HIGHEST_NUMBER}
 use Rattle.stm_json.specs.declared.read_error.BadInput.{BadInput}
-use Rattle.stm_json.specs.declared.read_error.ReadError.{ReadError}
-use Rattle.stm_json.specs.declared.read_error.ReadError.TheVariants as error
-use Rattle.stm_txn_json.specs.Faults.{Faults, first_of, Sort, AnyText, WordOf, NumberIn, By, Table, worded_faults, list_faults}
+use Rattle.stm_json.specs.Faults.{Faults, first_of, Sort, AnyText, WordOf, By, Table, worded_faults, list_faults, any_number}
 
 abbrev pub order_words : List (List ℕ)
 order_words = codes "=" ∷ codes "!=" ∷ codes ">" ∷ codes "<" ∷ []
-
-abbrev pub any_number : Sort
-any_number = NumberIn 0 HIGHEST_NUMBER
 
 -- the words of compares, each with the key, the order and the compare's side behind it
 abbrev pub compare_table : Table
@@ -44,8 +38,3 @@ txn_faults = worded_faults (txn_row ∷ [])
 -- the first fault of data in a transaction's place, if there is one
 unfoldable pub first_fault : Data → Option BadInput
 first_fault d = first_of (txn_faults [] d)
-
--- the error is the first fault, or want of memory
-abbrev pub IsFirstFault : Data → ReadError → Type 0
-IsFirstFault d error.OutOfMemory = Unit {0}
-IsFirstFault d (error.Bad f) = first_fault d ≡ Some f

@@ -1,9 +1,7 @@
 -- Which data spell which transaction: the grammar, apart from reading.
-use Rattle.std.specs.Prelude.{◌≡◌, ℕ, ◌≤◌, pos, List, [], ◌∷◌, codes}
-use Rattle.serde_json.specs.Data.{Data, string, array, Items, no_items, item}
-use Rattle.serde_json.specs.View.{items_of}
+use Rattle.std.specs.Prelude.{◌≡◌, ℕ, List, [], ◌∷◌, codes}
+use Rattle.serde_json.specs.Data.{Data, string, array, Items}
 use Rattle.stm_history.specs.declared.revisions.TheConstants.{HIGHEST_NUMBER}
-use Rattle.stm_json.specs.Elements.{SpellsNumber}
 use Rattle.stm_txn.specs.declared.txn.Compare.{Compare}
 use Rattle.stm_txn.specs.declared.txn.Op.{Op}
 use Rattle.stm_txn.specs.declared.txn.Op.TheVariants.{Get, Put, Del}
@@ -12,19 +10,7 @@ use Rattle.stm_txn.specs.declared.txn.Order.TheVariants.{Equal, NotEqual, Greate
 use Rattle.stm_txn.specs.declared.txn.Target.{Target}
 use Rattle.stm_txn.specs.declared.txn.Target.TheVariants.{Version, Create, Mod, Lease, Value}
 use Rattle.stm_txn.specs.declared.txn.Txn.{Txn}
-
--- an array of a word and the parts behind it
-abbrev pub spelled : List ℕ → List Data → Data
-spelled word parts = array (item (string word) (items_of parts))
-
--- a whole number from a least to a most
-abbrev pub SpellsNumberIn : ℕ → ℕ → Data → ℕ → Type 0
-SpellsNumberIn least most d n = SpellsNumber d (pos n) × (least ≤ n) × (n ≤ most)
-
--- the elements of a list, one after the other
-abbrev pub SpellsEach : {A : Type 0} → (Data → A → Type 0) → Items → List A → Type 0
-SpellsEach spells ds [] = ds ≡ no_items
-SpellsEach spells ds (x ∷ xs) = (a : Data) × (rest : Items) × (ds ≡ item a rest) × spells a x × SpellsEach spells rest xs
+use Rattle.stm_json.specs.Parts.{SpellsEach, SpellsNumberIn, spelled}
 
 abbrev pub order_text : Order → List ℕ
 order_text Equal = codes "="

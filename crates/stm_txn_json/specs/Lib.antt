@@ -1,7 +1,6 @@
 pub mod Words
 pub mod Reading
 pub mod Grammar
-pub mod Faults
 pub mod FirstFault
 pub use Rattle.stm_json.specs.Outcome
 pub use Rattle.stm_json.specs.Tells

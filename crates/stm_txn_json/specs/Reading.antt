@@ -1,7 +1,7 @@
 -- Reading a transaction: what data spell, or the first fault. A value is looked at before its elements, and these from the
 -- first to the last.
-use Rattle.std.specs.Prelude.{ℕ, suc, List, [], ◌∷◌, Option, Some, None, Ok, if◌then◌else◌, codes}
-use Rattle.serde_json.specs.Data.{Data, Items, no_items, item}
+use Rattle.std.specs.Prelude.{ℕ, List, Option, Some, None, Ok, if◌then◌else◌, codes}
+use Rattle.serde_json.specs.Data.{Data, Items}
 use Rattle.serde_json.specs.Find.{as_str, as_array}
 use Rattle.stm_history.specs.declared.revisions.TheConstants.{HIGHEST_NUMBER}
 use Rattle.stm_json.specs.declared.cause.Cause.TheVariants.{Shape}
@@ -16,18 +16,10 @@ use Rattle.stm_txn.specs.declared.txn.Target.TheVariants.{Version, Create, Mod, 
 use Rattle.stm_txn.specs.declared.txn.Txn.{Txn}
 use Rattle.stm_txn_json.specs.declared.words.TargetWord.{TargetWord}
 use Rattle.stm_txn_json.specs.declared.words.TargetWord.TheVariants as word
-use Rattle.stm_txn_json.specs.Words.{same, order_named, target_named}
+use Rattle.stm_json.specs.Parts.{same, list_of, on_text, text_of}
+use Rattle.stm_txn_json.specs.Words.{order_named, target_named}
 
 -- ---- parts
-
--- what is read of a text
-abbrev pub on_text : {A : Type 0} → (List ℕ → Outcome A) → Option (List ℕ) → Outcome A
-on_text read None = bad Shape
-on_text read (Some s) = read s
-
--- a text, of any length
-unfoldable pub text_of : Data → Outcome (List ℕ)
-text_of d = on_text (λ s. Ok s) (as_str d)
 
 unfoldable pub order_of : Data → Outcome Order
 order_of d = on_text order_named (as_str d)
@@ -83,15 +75,6 @@ unfoldable pub operation_of : Data → Outcome Op
 operation_of d = operation_worded (worded d)
 
 -- ---- lists
-
--- the elements of a list, from an index on
-unfoldable pub each_from : {A : Type 0} → (Data → Outcome A) → ℕ → Items → Outcome (List A)
-each_from read index no_items = Ok []
-each_from read index (item d ds) = within index (read d) >>= λ x. each_from read (suc index) ds >>= λ xs. Ok (x ∷ xs)
-
-abbrev pub list_of : {A : Type 0} → (Data → Outcome A) → Option Items → Outcome (List A)
-list_of read None = bad Shape
-list_of read (Some ds) = each_from read 0 ds
 
 unfoldable pub compares_of : Data → Outcome (List Compare)
 compares_of d = list_of compare_of (as_array d)

@@ -1,16 +1,12 @@
 -- The words that a compare begins with, and those of its order.
-use Rattle.std.specs.Prelude.{ℕ, List, Bool, Ok, nat_eq, if◌then◌else◌, codes}
-use Rattle.std.specs.Cmp.Lexicographic.{pointwise}
+use Rattle.std.specs.Prelude.{ℕ, List, Ok, if◌then◌else◌, codes}
 use Rattle.stm_json.specs.declared.cause.Cause.TheVariants.{Shape}
 use Rattle.stm_json.specs.Outcome.{Outcome, bad}
 use Rattle.stm_txn.specs.declared.txn.Order.{Order}
 use Rattle.stm_txn.specs.declared.txn.Order.TheVariants.{Equal, NotEqual, Greater, Less}
 use Rattle.stm_txn_json.specs.declared.words.TargetWord.{TargetWord}
 use Rattle.stm_txn_json.specs.declared.words.TargetWord.TheVariants.{Version, Create, Mod, Lease, Value}
-
--- two texts are the same
-abbrev pub same : List ℕ → List ℕ → Bool
-same = pointwise nat_eq
+use Rattle.stm_json.specs.Parts.{same}
 
 unfoldable pub order_named : List ℕ → Outcome Order
 order_named w =

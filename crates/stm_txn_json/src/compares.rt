@@ -3,14 +3,16 @@ ghost use Rattle.serde_json.specs.View.{view, items_view};
 ghost use Rattle.stm_json.specs.Elements.{three_of};
 ghost use Rattle.stm_json.specs.Outcome.{within as within_list};
 ghost use Rattle.stm_json.specs.Tells.{Tells};
-ghost use Rattle.stm_txn_json.specs.Reading.{order_of, target_of, compare_parts as compare_parts_of, compare_of, each_from, compares_of};
+ghost use Rattle.stm_json.specs.Parts.{each_from};
+ghost use Rattle.stm_txn_json.specs.Reading.{order_of, target_of, compare_parts as compare_parts_of, compare_of, compares_of};
 
-use crate::parts::{text, text_part};
 use crate::words::{TargetWord, order_word, target_word};
 use serde_json::Value;
 use std::alloc::Global;
 use stm_history::HIGHEST_NUMBER;
-use stm_json::{Cause, ReadError, fault, number_within, three, within, worded_array};
+use stm_json::{
+    Cause, ReadError, fault, number_within, text, text_part, three, within, worded_array,
+};
 use stm_txn::{Compare, Order, ShortList, Target};
 
 #[tactic(auto, unfolding(crate::specs::Reading::order_of))]

@@ -3,12 +3,14 @@ ghost use Rattle.serde_json.specs.View.{view, items_view};
 ghost use Rattle.stm_json.specs.Elements.{one_of, two_of, three_of};
 ghost use Rattle.stm_json.specs.Outcome.{within as within_list};
 ghost use Rattle.stm_json.specs.Tells.{Tells};
-ghost use Rattle.stm_txn_json.specs.Reading.{get_of, put_of, del_of, operation_of, each_from, operations_of};
+ghost use Rattle.stm_json.specs.Parts.{each_from};
+ghost use Rattle.stm_txn_json.specs.Reading.{get_of, put_of, del_of, operation_of, operations_of};
 
-use crate::parts::{number_part, text_part};
 use serde_json::Value;
 use std::alloc::Global;
-use stm_json::{Cause, ReadError, fault, one, three, two, within, worded_array};
+use stm_json::{
+    Cause, ReadError, fault, number_part, one, text_part, three, two, within, worded_array,
+};
 use stm_txn::{Op, ShortList};
 
 fn get(alloc: Global, elements: &[Value]) -> Result<Op, ReadError>

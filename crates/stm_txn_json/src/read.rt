@@ -3,7 +3,8 @@ ghost use Rattle.std.specs.Prelude.{◌≡◌, Ok as OkOf, None, IfOk, MatchResu
 ghost use Rattle.serde_json.specs.View.{view, items_view};
 ghost use Rattle.stm_json.specs.Elements.{three_of};
 ghost use Rattle.stm_json.specs.Tells.{Tells};
-ghost use Rattle.stm_txn_json.specs.FirstFault.{first_fault, IsFirstFault};
+ghost use Rattle.stm_txn_json.specs.FirstFault.{first_fault};
+ghost use Rattle.stm_json.specs.Faults.{IsFirstFault};
 ghost use Rattle.stm_txn_json.specs.Grammar.{SpellsTxn};
 ghost use Rattle.stm_txn_json.specs.Reading.{txn_parts as txn_parts_of, txn_of};
 
@@ -65,7 +66,7 @@ pub fn read_txn(alloc: Global, value: &Value) -> Result<Txn, ReadError>
     // A transaction that is spelled so is read.
     ensures accepts { (t : _) → SpellsTxn (view value.now) t → Tells (λ x. x) result (OkOf t) }
     // Which fault it is.
-    ensures faults { MatchResult result (λ t. first_fault (view value.now) ≡ None) (IsFirstFault (view value.now)) }
+    ensures faults { MatchResult result (λ t. first_fault (view value.now) ≡ None) (IsFirstFault (first_fault (view value.now))) }
 {
     txn(alloc, value)
 }

@@ -1,7 +1,7 @@
 //! Arrays of a word and its parts.
 ghost use Rattle.std.specs.Prelude.{◌≡◌, [], ◌∷◌, IfOk};
 ghost use Rattle.serde_json.specs.View.{view};
-ghost use Rattle.stm_program_json.specs.Grammar.{spelled};
+ghost use Rattle.stm_json.specs.Parts.{spelled};
 
 use serde_json::{Value, json};
 use std::alloc::{AllocError, Global};

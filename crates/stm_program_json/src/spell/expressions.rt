@@ -1,7 +1,8 @@
 //! Writing expressions and conditions.
 ghost use Rattle.std.specs.Prelude.{◌≡◌, [], ◌∷◌, codes, IfOk};
 ghost use Rattle.serde_json.specs.View.{view};
-ghost use Rattle.stm_program_json.specs.Grammar.{operator_text, spelled};
+ghost use Rattle.stm_json.specs.Parts.{spelled};
+ghost use Rattle.stm_program_json.specs.Grammar.{operator_text};
 ghost use Rattle.stm_program_json.specs.Writing.{written_expression, written_condition};
 
 use crate::spell::arrays::{one_part, two_parts};

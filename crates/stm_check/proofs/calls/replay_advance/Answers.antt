@@ -4,7 +4,8 @@ use Rattle.stm_txn.specs.Standing.{Standing, IsCutShort, advanced}
 use Rattle.stm_reports.specs.declared.line.ReportLine.TheVariants.{Advanced}
 use Rattle.stm_world.specs.declared.event.WorldEvent.TheVariants.{Advance as AdvanceEvent}
 use Rattle.stm_check.specs.Point.{led_by, moment_after, expiries, advance_entries}
-use Rattle.stm_check.specs.StoreLines.{advance_call_line}
+use Rattle.stm_world.specs.Told.{advance_reply}
+use Rattle.stm_lines.specs.Lines.{line_told}
 use Rattle.stm_check.proofs.CallLemmas.{tests_same, cut_right, cut_next, led_where, advance_led, advance_line_is}
 use Rattle.stm_check.proofs.calls.replay_advance.Goals as goal
 
@@ -14,7 +15,7 @@ returns-in-Ok-clause-right c =
     let next : Standing = c.advance.new.self.standing in
     let n = c.args.number in
     let expired = c.in-Ok.expired.items in
-    tests_same c.is_advanced.result (advance_call_line n s c.args.moment) (Advanced n c.args.moment c.as_slice.result.now) c.args.line.now
+    tests_same c.is_advanced.result (line_told n (advance_reply c.args.moment (advanced s c.args.moment).expired (advanced s c.args.moment).cause)) (Advanced n c.args.moment c.as_slice.result.now) c.args.line.now
     (advance_line_is n s next c.args.moment expired None c.in-Ok.ensures.ok
     ∙ ap (λ (es : List Expired). Advanced n c.args.moment es) (sym c.as_slice.ensures.value)) c.is_advanced.ensures
 

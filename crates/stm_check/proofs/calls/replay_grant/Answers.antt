@@ -5,7 +5,9 @@ use Rattle.stm_txn.specs.Store.{StoreView}
 use Rattle.stm_reports.specs.Told.{cause_told}
 use Rattle.stm_reports.specs.declared.line.ReportLine.TheVariants.{Refused, Granted}
 use Rattle.stm_check.specs.Point.{grant_entries}
-use Rattle.stm_check.specs.StoreLines.{grant_line}
+use Rattle.stm_world.specs.Told.{reply_to}
+use Rattle.stm_lines.specs.Lines.{line_told}
+use Rattle.stm_world.specs.declared.reply.Reply.TheVariants as reply
 use Rattle.stm_check.proofs.CallLemmas.{taken_line, refused_line, tests_same, refused_right, refused_next, led_where, grant_led}
 use Rattle.stm_check.proofs.calls.replay_grant.Goals as goal
 
@@ -15,8 +17,8 @@ returns-in-Ok-clause-right c =
     let next : Standing = c.grant.new.self.standing in
     let n = c.args.number in
     let l = c.args.line.now in
-    tests_same c.is_granted.result (grant_line n s c.args.id c.args.ttl) (Granted n c.args.id) l
-    (taken_line n (λ _. Granted n c.args.id) (granted s c.args.id c.args.ttl) tt next c.in-Ok.ensures.step) c.is_granted.ensures
+    tests_same c.is_granted.result (line_told n (reply_to (λ _. reply.Granted c.args.id) (granted s c.args.id c.args.ttl))) (Granted n c.args.id) l
+    (taken_line n (λ _. reply.Granted c.args.id) (granted s c.args.id c.args.ttl) tt next c.in-Ok.ensures.step) c.is_granted.ensures
 
 pub returns-in-Ok-clause-next : goal.returns-in-Ok-clause-next
 returns-in-Ok-clause-next c =
@@ -33,9 +35,9 @@ returns-in-Err-clause-right c =
     let next : Standing = c.grant.new.self.standing in
     let n = c.args.number in
     let l = c.args.line.now in
-    refused_right c.tells_refusal.result c.in-Err.cause (grant_line n s c.args.id c.args.ttl) (Refused n (cause_told c.in-Err.cause) []) l
+    refused_right c.tells_refusal.result c.in-Err.cause (line_told n (reply_to (λ _. reply.Granted c.args.id) (granted s c.args.id c.args.ttl))) (Refused n (cause_told c.in-Err.cause) []) l
     c.tells_refusal.ensures.told c.tells_refusal.ensures.memory
-    (λ other. refused_line n (λ _. Granted n c.args.id) (granted s c.args.id c.args.ttl) c.in-Err.cause c.in-Err.ensures.step other)
+    (λ other. refused_line n (λ _. reply.Granted c.args.id) (granted s c.args.id c.args.ttl) c.in-Err.cause c.in-Err.ensures.step other)
 
 pub returns-in-Err-clause-next : goal.returns-in-Err-clause-next
 returns-in-Err-clause-next c =

@@ -6,7 +6,9 @@ use Rattle.stm_txn.specs.Store.{StoreView}
 use Rattle.stm_reports.specs.Told.{cause_told, txn_line}
 use Rattle.stm_reports.specs.declared.line.ReportLine.TheVariants.{Refused}
 use Rattle.stm_check.specs.Point.{txn_entries}
-use Rattle.stm_check.specs.StoreLines.{txn_call_line}
+use Rattle.stm_world.specs.Told.{reply_to}
+use Rattle.stm_lines.specs.Lines.{line_told}
+use Rattle.stm_world.specs.declared.reply.Reply.TheVariants.{Txn as TxnDone}
 use Rattle.stm_check.proofs.CallLemmas.{taken_line, refused_line, tests_same, refused_right, refused_next, led_where, txn_led}
 use Rattle.stm_check.proofs.calls.replay_txn.Goals as goal
 
@@ -16,8 +18,8 @@ returns-in-Ok-clause-right c =
     let next : Standing = c.txn.new.self.standing in
     let n = c.args.number in
     let l = c.args.line.now in
-    tests_same c.is_txn.result (txn_call_line n s c.args.txn.now) (txn_line n c.in-Ok.answer) l
-    (taken_line n (txn_line n) (transacted s c.args.txn.now) c.in-Ok.answer next c.in-Ok.ensures.step) c.is_txn.ensures
+    tests_same c.is_txn.result (line_told n (reply_to TxnDone (transacted s c.args.txn.now))) (txn_line n c.in-Ok.answer) l
+    (taken_line n TxnDone (transacted s c.args.txn.now) c.in-Ok.answer next c.in-Ok.ensures.step) c.is_txn.ensures
 
 pub returns-in-Ok-clause-next : goal.returns-in-Ok-clause-next
 returns-in-Ok-clause-next c =
@@ -34,9 +36,9 @@ returns-in-Err-clause-right c =
     let next : Standing = c.txn.new.self.standing in
     let n = c.args.number in
     let l = c.args.line.now in
-    refused_right c.tells_refusal.result c.in-Err.cause (txn_call_line n s c.args.txn.now) (Refused n (cause_told c.in-Err.cause) []) l
+    refused_right c.tells_refusal.result c.in-Err.cause (line_told n (reply_to TxnDone (transacted s c.args.txn.now))) (Refused n (cause_told c.in-Err.cause) []) l
     c.tells_refusal.ensures.told c.tells_refusal.ensures.memory
-    (λ other. refused_line n (txn_line n) (transacted s c.args.txn.now) c.in-Err.cause c.in-Err.ensures.step other)
+    (λ other. refused_line n TxnDone (transacted s c.args.txn.now) c.in-Err.cause c.in-Err.ensures.step other)
 
 pub returns-in-Err-clause-next : goal.returns-in-Err-clause-next
 returns-in-Err-clause-next c =

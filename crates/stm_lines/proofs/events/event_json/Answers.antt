@@ -1,7 +1,7 @@
 use Rattle.std.proofs.Common.{Ok, Err, ap, ◌∙◌}
 use Rattle.std.proofs.lemmas.Result.{IfOk-weaker}
 use Rattle.serde_json.specs.Written.{has_float}
-use Rattle.stm_reports.proofs.NoFloats.{line_data-no_float}
+use Rattle.stm_reports.proofs.Shallow.{line_data-no_float}
 use Rattle.stm_lines.specs.Lines.{line_told}
 use Rattle.stm_lines.proofs.events.event_json.Goals as goal
 

@@ -2,8 +2,8 @@ use Rattle.std.proofs.Common.{◌≡◌, [], drop, arith}
 use Rattle.std.proofs.lemmas.List.{drop_all}
 use Rattle.std.proofs.lemmas.Result.{err_from_is_err_and}
 use Rattle.serde_json.specs.View.{items_view}
-use Rattle.stm_txn_json.specs.Reading.{each_from}
-use Rattle.stm_txn_json.proofs.ListLemmas.{goes_on, ends, is_done}
+use Rattle.stm_json.specs.Parts.{each_from}
+use Rattle.stm_json.proofs.ListLemmas.{goes_on, ends, is_done}
 use Rattle.stm_reports.proofs.parts.each_element.Goals as goal
 
 pub returns-in_err-element : goal.returns-in_err-element

@@ -1,7 +1,7 @@
 use Rattle.std.proofs.Common.{◌≡◌, drop}
 use Rattle.serde_json.specs.View.{items_view}
-use Rattle.stm_txn_json.specs.Reading.{each_from}
-use Rattle.stm_txn_json.proofs.ListLemmas.{with_front}
+use Rattle.stm_json.specs.Parts.{each_from}
+use Rattle.stm_json.proofs.ListLemmas.{with_front}
 use Rattle.stm_reports.proofs.parts.each_element.Given as goal
 
 -- those so far, and then what is read of the rest

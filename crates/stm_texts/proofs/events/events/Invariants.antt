@@ -1,7 +1,7 @@
 use Rattle.std.proofs.Common.{◌≡◌, drop}
 use Rattle.serde_json.specs.View.{items_view}
 use Rattle.stm_texts.specs.Reading.{events_from}
-use Rattle.stm_txn_json.proofs.ListLemmas.{with_front}
+use Rattle.stm_json.proofs.ListLemmas.{with_front}
 use Rattle.stm_texts.proofs.events.events.Given as goal
 
 -- the events so far, and then what is read of the rest

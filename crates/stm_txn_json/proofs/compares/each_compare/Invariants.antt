@@ -1,7 +1,8 @@
 use Rattle.std.proofs.Common.{◌≡◌, drop}
 use Rattle.serde_json.specs.View.{items_view}
-use Rattle.stm_txn_json.specs.Reading.{each_from, compare_of}
-use Rattle.stm_txn_json.proofs.ListLemmas.{with_front}
+use Rattle.stm_json.specs.Parts.{each_from}
+use Rattle.stm_txn_json.specs.Reading.{compare_of}
+use Rattle.stm_json.proofs.ListLemmas.{with_front}
 use Rattle.stm_txn_json.proofs.compares.each_compare.Given as goal
 
 -- those so far, and then what is read of the rest

@@ -1,14 +1,17 @@
 -- The faults of arrays of a word and parts, apart from reading: a table says which sorts of parts stand behind each word, and
 -- all faults are listed in the order of reading, none left out behind another.
-use Rattle.std.specs.Prelude.{ℕ, suc, ℤ, pos, negsuc, List, [], ◌∷◌, ◌++◌, Bool, true, false, Option, Some, None, if◌then◌else◌, ◌&&◌, nat_le}
+use Rattle.std.specs.Prelude.{◌≡◌, ℕ, suc, ℤ, pos, negsuc, List, [], ◌∷◌, ◌++◌, Bool, true, false, Option, Some, None, if◌then◌else◌, ◌&&◌, nat_le}
 use Rattle.std.specs.Prelude.{option_and_then}
 use Rattle.serde_json.specs.Data.{Data, string, array, Items, no_items, item}
 use Rattle.serde_json.specs.Find.{as_str, as_number, as_integer}
 use Rattle.stm_json.specs.declared.cause.Cause.{Cause}
 use Rattle.stm_json.specs.declared.cause.Cause.TheVariants.{Shape, Range}
 use Rattle.stm_json.specs.declared.read_error.BadInput.{BadInput}
+use Rattle.stm_json.specs.declared.read_error.ReadError.{ReadError}
+use Rattle.stm_json.specs.declared.read_error.ReadError.TheVariants.{OutOfMemory, Bad}
+use Rattle.stm_history.specs.declared.revisions.TheConstants.{HIGHEST_NUMBER}
 use Rattle.stm_json.specs.Outcome.{step}
-use Rattle.stm_txn_json.specs.Words.{same}
+use Rattle.stm_json.specs.Parts.{same}
 
 abbrev pub Faults : Type 0
 Faults = List BadInput
@@ -16,6 +19,11 @@ Faults = List BadInput
 abbrev pub first_of : Faults → Option BadInput
 first_of [] = None
 first_of (f ∷ fs) = Some f
+
+-- the error is the first fault, or want of memory
+abbrev pub IsFirstFault : Option BadInput → ReadError → Type 0
+IsFirstFault first OutOfMemory = Unit {0}
+IsFirstFault first (Bad f) = first ≡ Some f
 
 abbrev pub wrong : List ℕ → Cause → Faults
 wrong p cause = record { place = p; cause = cause } ∷ []
@@ -98,3 +106,7 @@ each_faults table p index (item d ds) = worded_faults table (at p index) d ++ ea
 abbrev pub list_faults : Table → List ℕ → Data → Faults
 list_faults table p (array ds) = each_faults table p 0 ds
 list_faults table p _ = wrong p Shape
+
+-- a number from 0 on
+abbrev pub any_number : Sort
+any_number = NumberIn 0 HIGHEST_NUMBER

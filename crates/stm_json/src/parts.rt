@@ -1,18 +1,21 @@
-//! Reading the parts of compares and operations.
+//! Reading texts and numbers, and elements of arrays that are one.
 ghost use Rattle.serde_json.specs.View.{view};
 ghost use Rattle.stm_json.specs.Elements.{number_up_to};
 ghost use Rattle.stm_json.specs.Outcome.{within as within_list};
 ghost use Rattle.stm_json.specs.Tells.{Tells};
-ghost use Rattle.stm_txn_json.specs.Reading.{text_of};
+ghost use Rattle.stm_json.specs.Parts.{text_of};
 
+use crate::cause::Cause;
+use crate::elements::number_within;
+use crate::place::{fault, within};
+use crate::read_error::ReadError;
 use serde_json::Value;
 use std::alloc::Global;
 use stm_history::{HIGHEST_NUMBER, Text};
-use stm_json::{Cause, ReadError, fault, number_within, within};
 
-/// A text, of any length.
-#[tactic(auto, unfolding(crate::specs::Reading::text_of))]
-pub(crate) fn text(alloc: Global, value: &Value) -> Result<Text, ReadError>
+/// A text, of any length. Anything else is `Shape`. `OutOfMemory` comes where a growth was refused.
+#[tactic(auto, unfolding(crate::specs::Parts::text_of))]
+pub fn text(alloc: Global, value: &Value) -> Result<Text, ReadError>
     ensures { Tells (λ t. t) result (text_of (view value.now)) }
 {
     match value.as_str() {

@@ -1,17 +1,21 @@
 -- The first of some faults beside the fault that reading answers at the same place.
-use Rattle.std.proofs.Common.{◌≡◌, ℕ, suc, ◌^◌, ◌<◌, ℤ, pos, negsuc, List, [], ◌∷◌, ◌++◌, Bool, true, false, cond, Option, Some, None, Ok, Err, refl}
-use Rattle.std.proofs.Common.{sym, ap, ◌∙◌, append_assoc, arith, leb, ltb, leb-true, lt-ltb, le-leb, option_and_then, ◌&&◌}
+use Rattle.std.proofs.Common.{◌≡◌, ℕ, suc, ◌^◌, ◌<◌, ℤ, pos, negsuc, List, [], ◌∷◌, ◌++◌, Bool, true, false, cond, Option, Some, None, Result, Ok, Err, refl}
+use Rattle.std.proofs.Common.{MatchResult, sym, ap, ◌∙◌, append_assoc, arith, leb, ltb, leb-true, lt-ltb, le-leb, option_and_then, ◌&&◌}
 use Rattle.std.proofs.lemmas.List.{append-nil}
-use Rattle.serde_json.specs.Data.{unsigned, negative, float, Data, null, boolean, number, string, array, object, Items, no_items, item}
+use Rattle.serde_json.specs.Data.{unsigned, negative, float, Data, null, number, array, Items, no_items, item}
 use Rattle.serde_json.specs.Find.{as_str, as_array, as_number, as_integer}
+use Rattle.stm_history.specs.declared.revisions.TheConstants.{HIGHEST_NUMBER}
 use Rattle.stm_json.specs.declared.cause.Cause.{Cause}
 use Rattle.stm_json.specs.declared.cause.Cause.TheVariants.{Shape, Range}
 use Rattle.stm_json.specs.declared.read_error.BadInput.{BadInput}
+use Rattle.stm_json.specs.declared.read_error.ReadError.{ReadError}
+use Rattle.stm_json.specs.declared.read_error.ReadError.TheVariants as error
 use Rattle.stm_json.specs.Outcome.{Outcome, bad, ◌>>=◌, within, step}
 use Rattle.stm_json.specs.Elements.{whole_number, in_64_bits, in_range, from_least, number_up_to, number_in}
-use Rattle.stm_txn_json.specs.Faults.{Faults, first_of, wrong, at, Table, AnyText, text_faults, number_faults, faults_by, worded_faults}
-use Rattle.stm_txn_json.specs.Faults.{each_faults, list_faults}
-use Rattle.stm_txn_json.specs.Reading.{on_text, text_of, each_from, list_of}
+use Rattle.stm_json.specs.Tells.{Tells}
+use Rattle.stm_json.specs.Faults.{Faults, first_of, IsFirstFault, wrong, at, Table, AnyText, any_number, text_faults, number_faults, faults_by, worded_faults}
+use Rattle.stm_json.specs.Faults.{each_faults, list_faults}
+use Rattle.stm_json.specs.Parts.{on_text, text_of, each_from, list_of}
 
 abbrev pub fault_at : List ℕ → Cause → Option BadInput
 fault_at p cause = Some (record { place = p; cause = cause })
@@ -23,6 +27,13 @@ fault_of p (Err f) = fault_at (p ++ f.place) f.cause
 
 pub wrong_is : {A : Type 0} (p : List ℕ) (cause : Cause) (reading : Outcome A) → reading ≡ bad cause → first_of (wrong p cause) ≡ fault_of p reading
 wrong_is p cause reading e = rw e (ap (λ (q : List ℕ). fault_at q cause) (sym (append-nil p)))
+
+-- a function tells the first fault, where that is the one which reading answers
+pub told_faults : {X A : Type 0} (see : X → A) (first : Option BadInput) (r : Result X ReadError) (reading : Outcome A) → first ≡ fault_of [] reading
+    → Tells see r reading → MatchResult r (λ x. first ≡ None) (IsFirstFault first)
+told_faults see first (Ok x) reading is h = is ∙ ap (fault_of []) h
+told_faults see first (Err error.OutOfMemory) reading is h = tt
+told_faults see first (Err (error.Bad f)) reading is h = is ∙ ap (fault_of []) h
 
 -- ---- one part after the other
 
@@ -95,11 +106,7 @@ number_faulted p least most (number (unsigned m)) small =
 number_faulted p least most (number (negative (pos m))) small = nonnegative p least most m (cond (ltb m (2 ^ 63)) (Ok (pos m)) (bad Range)) small refl
 number_faulted p least most (number (negative (negsuc m))) small = below_zero p least most m (ltb m (2 ^ 63))
 number_faulted p least most (number (float x)) small = wrong_is {A = ℕ} p Shape (bad Shape) refl
-number_faulted p least most null small = wrong_is {A = ℕ} p Shape (bad Shape) refl
-number_faulted p least most (boolean b) small = wrong_is {A = ℕ} p Shape (bad Shape) refl
-number_faulted p least most (string s) small = wrong_is {A = ℕ} p Shape (bad Shape) refl
-number_faulted p least most (array ds) small = wrong_is {A = ℕ} p Shape (bad Shape) refl
-number_faulted p least most (object ms) small = wrong_is {A = ℕ} p Shape (bad Shape) refl
+number_faulted p least most _ small = wrong_is {A = ℕ} p Shape (bad Shape) refl
 
 from_zero : (reading : Outcome ℕ) → (reading >>= from_least 0) ≡ reading
 from_zero (Ok n) =
@@ -112,6 +119,9 @@ pub number_up_faulted : (p : List ℕ) (most : ℕ) (d : Data) → most < 2 ^ 63
     → first_of (number_faults p 0 most (option_and_then as_integer (as_number d))) ≡ fault_of p (number_up_to most d)
 unfolding number_in
 number_up_faulted p most d small = number_faulted p 0 most d small ∙ ap (λ (reading : Outcome ℕ). fault_of p reading) (from_zero (number_up_to most d))
+
+pub number_told : (p : List ℕ) (d : Data) → first_of (faults_by any_number p d) ≡ fault_of p (number_up_to HIGHEST_NUMBER d)
+number_told p d = number_up_faulted p HIGHEST_NUMBER d (omega arith)
 
 -- ---- lists
 
@@ -130,7 +140,4 @@ pub list_faulted : {A : Type 0} (table : Table) (read : Data → Outcome A)
     → (p : List ℕ) (d : Data) → first_of (list_faults table p d) ≡ fault_of p (list_of read (as_array d))
 list_faulted table read told p (array ds) = each_faulted table read told p 0 ds
 list_faulted {A} table read told p null = wrong_is {A = List A} p Shape (bad Shape) refl
-list_faulted {A} table read told p (boolean b) = wrong_is {A = List A} p Shape (bad Shape) refl
-list_faulted {A} table read told p (number n) = wrong_is {A = List A} p Shape (bad Shape) refl
-list_faulted {A} table read told p (string s) = wrong_is {A = List A} p Shape (bad Shape) refl
-list_faulted {A} table read told p (object ms) = wrong_is {A = List A} p Shape (bad Shape) refl
+list_faulted {A} table read told p _ = wrong_is {A = List A} p Shape (bad Shape) refl

@@ -12,9 +12,8 @@ use Rattle.stm_json.specs.declared.read_error.ReadError.TheVariants as error
 use Rattle.stm_json.specs.Outcome.{Outcome, ◌>>=◌, within}
 use Rattle.stm_json.specs.Tells.{TellsFault}
 use Rattle.stm_json.proofs.OutcomeLemmas.{bind_ok, within_ok}
-use Rattle.stm_txn_json.specs.Grammar.{SpellsEach}
-use Rattle.stm_txn_json.specs.Reading.{each_from, list_of}
-use Rattle.stm_txn_json.proofs.PartLemmas.{list_is}
+use Rattle.stm_json.specs.Parts.{SpellsEach, each_from, list_of}
+use Rattle.stm_json.proofs.PartLemmas.{list_is}
 
 -- ---- as a loop does
 

@@ -161,6 +161,18 @@ collected_next n last p ends ms i d so_far more next_more found next start gathe
     subst (λ (b : Bool). CollectedSoFar n last p ends b (drop (i + 1) ms) next start) (sym is)
     (collected_more n last p ends ms i (get_or ms i d) so_far more found next start within (get_or_default ms i d (get_or ms i d) within) told gathers old)
 
+-- the same where the world and the ends came to be what they were at first
+pub collected_next_here : (n : ℕ) (last : Option ℕ) (p : Place) (w : World) (ends known : Ends) (ms : List Move) (i : ℕ) (d : Move) (so_far more next_more : Bool)
+    (found next start : List Outcome) → w ≡ p.world → known ≡ ends →
+    Gathers (outcomes_behind (n - 1) last (record { world = w; others = p.others }) known (get_or ms i d)) found next →
+    more ≡ goes_on_behind (n - 1) last (record { world = w; others = p.others }) (get_or ms i d) → i < length ms → next_more ≡ (so_far || more) →
+    CollectedSoFar n last p ends so_far (drop i ms) found start → CollectedSoFar n last p ends next_more (drop (i + 1) ms) next start
+collected_next_here n last p w ends known ms i d so_far more next_more found next start same alike gathers told =
+    collected_next n last p ends ms i d so_far more next_more found next start
+    (subst (λ (v : World). Gathers (outcomes_behind (n - 1) last (record { world = v; others = p.others }) ends (get_or ms i d)) found next) same
+    (subst (λ (e : Ends). Gathers (outcomes_behind (n - 1) last (record { world = w; others = p.others }) e (get_or ms i d)) found next) alike gathers))
+    (told ∙ ap (λ (v : World). goes_on_behind (n - 1) last (record { world = v; others = p.others }) (get_or ms i d)) same)
+
 pub collected_all : (n : ℕ) (last : Option ℕ) (p : Place) (ends : Ends) (ms : List Move) (i : ℕ) (so_far : Bool) (found start : List Outcome) → length ms ≤ i →
     CollectedSoFar n last p ends so_far (drop i ms) found start → (so_far ≡ seen_go_on n last p) × Gathers (fewer_outcomes_at n last p ends) start found
 collected_all n last p ends ms i so_far found start end old = (

@@ -7,3 +7,4 @@ pub mod SameLemmas
 pub mod GatherLemmas
 pub mod OutcomeLemmas
 pub mod ShownLemmas
+pub mod KeptLemmas

@@ -115,6 +115,24 @@ seen_all rule n last p ms i so_far end old = (
   sym (passes_left so_far (goes_on_behind (n - 1) last p) ms i end) ∙ old.going,
 )
 
+-- the same where the world came to be what it was at first
+pub seen_next_here : (rule : ProgramTree) (n : ℕ) (last : Option ℕ) (p : Place) (w : World) (ms : List Move) (i : ℕ) (d : Move) (so_far more next : Bool)
+    (looked : Looked) → w ≡ p.world → IsSeenBehind rule (n - 1) last (get_or ms i d) (record { world = w; others = p.others }) looked → looked ≡ Kept more →
+    i < length ms → next ≡ (so_far || more) → SeenSoFar rule n last p so_far (drop i ms) → SeenSoFar rule n last p next (drop (i + 1) ms)
+seen_next_here rule n last p w ms i d so_far more next looked same seen =
+    seen_next rule n last p ms i d so_far more next looked
+    (subst (λ (v : World). IsSeenBehind rule (n - 1) last (get_or ms i d) (record { world = v; others = p.others }) looked) same seen)
+
+pub seen_broken_here : (rule : ProgramTree) (n : ℕ) (last : Option ℕ) (p : Place) (w : World) (ms : List Move) (i : ℕ) (d : Move) (so_far : Bool) (looked : Looked)
+    (found : List Move) (end : End) → w ≡ p.world → IsSeenBehind rule (n - 1) last (get_or ms i d) (record { world = w; others = p.others }) looked →
+    looked ≡ Broken found end → i < length ms → SeenSoFar rule n last p so_far (drop i ms) → IsSeen rule n last p (Broken found end)
+seen_broken_here rule n last p w ms i d so_far looked found end same seen is within old =
+    let m : Move = get_or ms i d in
+    let here : IsSeenBehind rule (n - 1) last m p looked
+    = subst (λ (v : World). IsSeenBehind rule (n - 1) last m (record { world = v; others = p.others }) looked) same seen in
+    seen_broken rule n last p ms i m so_far found end within (get_or_default ms i d m within)
+    (subst (λ (l : Looked). IsSeenBehind rule (n - 1) last m p l) is here) old
+
 -- ---- a move
 
 -- what is seen behind a move that is looked at

@@ -51,3 +51,16 @@ IsSeenBehind rule n last m p (Broken ms end) =
 abbrev pub in_front_of : Move → Looked → Looked
 in_front_of m (Kept more) = Kept more
 in_front_of m (Broken ms end) = Broken (m ∷ ms) end
+
+-- ---- what is known before a look
+
+-- What was looked at before keeps the rule: the places behind one move less; and the place before a quiet step, which changes nothing of the state.
+abbrev pub KeptBefore : ProgramTree → ℕ → Option ℕ → Place → Type 0
+KeptBefore rule zero None p = Unit {0}
+KeptBefore rule zero (Some runner) p = keeps rule p.world ≡ true
+KeptBefore rule (suc n) last p = fewer_bad_at (keeps rule) n last p ≡ None
+
+-- the same behind a move, if it is looked at, and of the place before it
+abbrev pub KeptBehind : ProgramTree → ℕ → Option ℕ → Place → Move → Type 0
+KeptBehind rule zero last p m = keeps rule p.world ≡ true
+KeptBehind rule (suc n) last p m = bad_behind (keeps rule) n last p m ≡ None

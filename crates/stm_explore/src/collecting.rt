@@ -1,7 +1,7 @@
 //! The outcomes of whole schedules of so many moves.
 //!
 //! Of schedules that come to the same one is gone through, as where places are looked at.
-ghost use Rattle.std.specs.Prelude.{◌≡◌, true, IfOk, OnOk};
+ghost use Rattle.std.specs.Prelude.{◌≡◌, ◌<◌, true, None, IfOk, OnOk};
 ghost use Rattle.std.specs.List.{list_any};
 ghost use Rattle.stm_schedules.specs.Fewer.{fewer_outcomes_at};
 ghost use Rattle.stm_schedules.specs.Outcomes.{outcome_if_whole};
@@ -41,27 +41,30 @@ pub(crate) fn collect_here(
 }
 
 /// Adds the outcomes of whole schedules of so many moves. The answer is whether a schedule has one move more. The last move was a quiet
-/// step of the runner `last`, if there is one.
+/// step of the runner `last`, if there is one. World and ends are used up: where they are left is not told.
 #[cycle(collect)]
-pub(crate) fn collect(
+fn collect(
     alloc: Global,
-    world: &World,
+    world: &mut World,
     others: &[WorldEvent],
-    ends: &[Option<RunnerEnd>],
+    ends: &mut Vec<Option<RunnerEnd>>,
     last: Option<u64>,
     depth: u64,
     found: &mut Vec<Outcome>,
     budget: &mut u64,
 ) -> Result<bool, Halt>
-    ensures more { IfOk result (λ more. more ≡ seen_go_on depth last (record { world = world.now; others = others.now })) }
-    ensures found { OnOk result (Gathers (fewer_outcomes_at depth last (record { world = world.now; others = others.now }) ends.now) found.old.items found.new.items) }
+    ensures more { IfOk result (λ more. more ≡ seen_go_on depth last (record { world = world.old; others = others.now })) }
+    ensures found { OnOk result (Gathers (fewer_outcomes_at depth last (record { world = world.old; others = others.now }) ends.old.items) found.old.items found.new.items) }
 {
     if depth == 0 {
-        return Ok(collect_here(alloc, world, others, ends, found)?);
+        return Ok(collect_here(alloc, world, others, ends.as_slice(), found)?);
     }
-    let left = moves_at(alloc, world, others)?;
+    let all = moves_at(alloc, world, others)?;
+    let choices = all.as_slice();
+    let mut left = choices.len();
     let mut goes_on = false;
-    for chosen in &left {
+    for chosen in choices {
+        left -= 1;
         let more = collect_behind(
             alloc,
             world,
@@ -69,6 +72,7 @@ pub(crate) fn collect(
             ends,
             last,
             *chosen,
+            left,
             depth - 1,
             found,
             budget,
@@ -78,9 +82,50 @@ pub(crate) fn collect(
     Ok(goes_on)
 }
 
-/// Adds the outcomes of whole schedules that have so many moves behind this one, on a copy of the world.
+/// Adds the outcomes of whole schedules that have so many moves behind this one, if one more event may be taken. It is made on copies of the
+/// world and of the ends, while other moves are left to be gone through from there, and else in these themselves.
 #[cycle(collect)]
 fn collect_behind(
+    alloc: Global,
+    world: &mut World,
+    others: &[WorldEvent],
+    ends: &mut Vec<Option<RunnerEnd>>,
+    last: Option<u64>,
+    chosen: Move,
+    left: usize,
+    depth: u64,
+    found: &mut Vec<Outcome>,
+    budget: &mut u64,
+) -> Result<bool, Halt>
+    ensures more { IfOk result (λ more. more ≡ goes_on_behind depth last (record { world = world.old; others = others.now }) chosen) }
+    ensures found { OnOk result (Gathers (outcomes_behind depth last (record { world = world.old; others = others.now }) ends.old.items chosen) found.old.items found.new.items) }
+    ensures same_world { 0 < left → world.new ≡ world.old }
+    ensures same_ends { 0 < left → ends.new.items ≡ ends.old.items }
+{
+    spend(budget)?;
+    if left == 0 {
+        let more = collect_moved(
+            alloc, world, others, ends, last, chosen, depth, found, budget,
+        )?;
+        return Ok(more);
+    }
+    let more = collect_aside(
+        alloc,
+        world,
+        others,
+        ends.as_slice(),
+        last,
+        chosen,
+        depth,
+        found,
+        budget,
+    )?;
+    Ok(more)
+}
+
+/// Adds the outcomes of whole schedules that have so many moves behind this one, on copies of the world and of the ends.
+#[cycle(collect)]
+fn collect_aside(
     alloc: Global,
     world: &World,
     others: &[WorldEvent],
@@ -104,8 +149,7 @@ fn collect_behind(
     Ok(more)
 }
 
-/// Makes a move, if one more event may be taken, and adds the outcomes of whole schedules that have so many moves behind it, unless it is
-/// one not to be looked at.
+/// Makes a move, and adds the outcomes of whole schedules that have so many moves behind it, unless it is one not to be looked at.
 #[cycle(collect)]
 fn collect_moved(
     alloc: Global,
@@ -121,14 +165,13 @@ fn collect_moved(
     ensures more { IfOk result (λ more. more ≡ goes_on_behind depth last (record { world = world.old; others = others.now }) chosen) }
     ensures found { OnOk result (Gathers (outcomes_behind depth last (record { world = world.old; others = others.now }) ends.old.items chosen) found.old.items found.new.items) }
 {
-    spend(budget)?;
     let quiet = tell_move(world, others, chosen, ends)?;
     if is_looked_at(last, quiet) {
         let more = collect(
             alloc,
             world,
             left_after(others, chosen),
-            ends.as_slice(),
+            ends,
             quiet,
             depth,
             found,
@@ -137,4 +180,27 @@ fn collect_moved(
         return Ok(more);
     }
     Ok(false)
+}
+
+/// Adds the outcomes of whole schedules of so many moves from a world. The answer is whether a schedule has one move more.
+pub(crate) fn collect_from(
+    alloc: Global,
+    world: &World,
+    others: &[WorldEvent],
+    ends: &[Option<RunnerEnd>],
+    depth: u64,
+    found: &mut Vec<Outcome>,
+    budget: &mut u64,
+) -> Result<bool, Halt>
+    ensures more { IfOk result (λ more. more ≡ seen_go_on depth None (record { world = world.now; others = others.now })) }
+    ensures found { OnOk result (Gathers (fewer_outcomes_at depth None (record { world = world.now; others = others.now }) ends.now) found.old.items found.new.items) }
+{
+    let mut ends = copy_of_ends(alloc, ends)?;
+    let mut next = world.copy()?;
+    let more = collect(
+        alloc, &mut next, others, &mut ends, None, depth, found, budget,
+    );
+    drop(next);
+    let more = more?;
+    Ok(more)
 }

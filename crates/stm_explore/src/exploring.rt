@@ -6,7 +6,7 @@ ghost use Rattle.stm_explore.specs.Seen.{IsSeen};
 
 use crate::halt::Halt;
 use crate::looked::Looked;
-use crate::looking::{look, look_here};
+use crate::looking::{look_from, look_here};
 use std::alloc::{AllocError, Global};
 use stm_history::Sequence;
 use stm_meaning::End;
@@ -51,7 +51,7 @@ fn look_deeper(
 {
     let mut left = budget;
     for kept in 0..budget {
-        match look(alloc, rule, world, others, None, kept + 1, &mut left) {
+        match look_from(alloc, rule, world, others, kept + 1, &mut left) {
             Ok(Looked::Kept { goes_on: true }) => {}
             Ok(Looked::Kept { goes_on: false }) => return Ok(Explored::Always {
                 longest: kept + 1,

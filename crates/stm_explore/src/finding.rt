@@ -5,7 +5,7 @@ ghost use Rattle.stm_schedules.specs.Outcomes.{outcomes_at};
 ghost use Rattle.stm_explore.specs.Explored.{IsCollected, AreOutcomes};
 ghost use Rattle.stm_explore.specs.Gathering.{Gathers};
 
-use crate::collecting::{collect, collect_here};
+use crate::collecting::{collect_from, collect_here};
 use crate::halt::Halt;
 use std::alloc::{AllocError, Global};
 use stm_history::Sequence;
@@ -46,12 +46,11 @@ fn collect_deeper(
 {
     let mut left = budget;
     for gone_through in 0..budget {
-        match collect(
+        match collect_from(
             alloc,
             world,
             others,
             ends,
-            None,
             gone_through + 1,
             found,
             &mut left,

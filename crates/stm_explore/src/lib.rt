@@ -1,8 +1,9 @@
-//! A search through every interleaving: whether a rule is kept after each schedule of a world's runners and of what others do, and
+//! A search that judges every interleaving: whether a rule is kept after each schedule of a world's runners and of what others do, and
 //! what whole schedules come to.
 //!
-//! Schedules are looked at by their length, those of one length in the order of their moves. On the way to a place the world after
-//! each move is kept, so that schedules that begin alike share the moves of that beginning.
+//! Of schedules that differ by exchanges of steps which enter nothing one is looked at, the first, and what is told is so of all. They are
+//! looked at by their length, those of one length in the order of their moves. On the way to a place the world after each move is kept,
+//! so that schedules that begin alike share the moves of that beginning.
 #![tactic(auto)]
 
 mod collecting;

@@ -2,8 +2,10 @@
 //!
 //! Quiet steps of different runners that stand side by side come to the same place in either order. So a quiet step is not looked at
 //! right behind a quiet step of a runner of a higher number: what stands the other way round was looked at before.
-ghost use Rattle.std.specs.Prelude.{◌≡◌, IfOk};
-ghost use Rattle.stm_explore.specs.Seen.{IsSeen, IsSeenBehind};
+//!
+//! The state behind a quiet step is the one before it, where the rule was found kept: its program is not run there once more.
+ghost use Rattle.std.specs.Prelude.{◌≡◌, ◌<◌, None, IfOk};
+ghost use Rattle.stm_explore.specs.Seen.{IsSeen, IsSeenBehind, KeptBefore, KeptBehind};
 
 use crate::halt::{Halt, spend};
 use crate::keeping::end_alone;
@@ -17,7 +19,7 @@ use stm_retry::World;
 use stm_schedules::Move;
 use stm_world::WorldEvent;
 
-/// A look at the place itself.
+/// A look at the place itself. The rule's program is run there, unless the last move was a quiet step.
 pub(crate) fn look_here(
     alloc: Global,
     rule: &Program,
@@ -25,8 +27,13 @@ pub(crate) fn look_here(
     others: &[WorldEvent],
     last: Option<u64>,
 ) -> Result<Looked, AllocError>
+    requires { KeptBefore rule.now 0 last (record { world = world.now; others = others.now }) }
     ensures { IfOk result (IsSeen rule.now 0 last (record { world = world.now; others = others.now })) }
 {
+    if last.is_some() {
+        let goes_on = can_move(alloc, world, others)?;
+        return Ok(Looked::Kept { goes_on });
+    }
     match end_alone(alloc, rule, world)? {
         End::Done => {
             let goes_on = can_move(alloc, world, others)?;
@@ -40,26 +47,40 @@ pub(crate) fn look_here(
 }
 
 /// Looks at all places after so many moves, in the order of the schedules to them, up to the first where the rule is not kept. The last
-/// move was a quiet step of the runner `last`, if there is one.
+/// move was a quiet step of the runner `last`, if there is one. The world is used up: where it is left is not told.
 #[cycle(look)]
-pub(crate) fn look(
+fn look(
     alloc: Global,
     rule: &Program,
-    world: &World,
+    world: &mut World,
     others: &[WorldEvent],
     last: Option<u64>,
     depth: u64,
     budget: &mut u64,
 ) -> Result<Looked, Halt>
-    ensures { IfOk result (IsSeen rule.now depth last (record { world = world.now; others = others.now })) }
+    requires { KeptBefore rule.now depth last (record { world = world.old; others = others.now }) }
+    ensures { IfOk result (IsSeen rule.now depth last (record { world = world.old; others = others.now })) }
 {
     if depth == 0 {
         return Ok(look_here(alloc, rule, world, others, last)?);
     }
-    let left = moves_at(alloc, world, others)?;
+    let all = moves_at(alloc, world, others)?;
+    let choices = all.as_slice();
+    let mut left = choices.len();
     let mut goes_on = false;
-    for chosen in &left {
-        match look_behind(alloc, rule, world, others, last, *chosen, depth - 1, budget)? {
+    for chosen in choices {
+        left -= 1;
+        match look_behind(
+            alloc,
+            rule,
+            world,
+            others,
+            last,
+            *chosen,
+            left,
+            depth - 1,
+            budget,
+        )? {
             Looked::Kept { goes_on: more } => goes_on = is_either(goes_on, more),
             Looked::Broken { moves, end } => return Ok(Looked::Broken { moves, end }),
         }
@@ -67,9 +88,36 @@ pub(crate) fn look(
     Ok(Looked::Kept { goes_on })
 }
 
-/// Looks at all places so many moves behind a move, on a copy of the world.
+/// Looks at all places so many moves behind a move, if one more event may be taken. The move is made on a copy of the world, while other
+/// moves are left to be looked at from there, and else in the world itself.
 #[cycle(look)]
 fn look_behind(
+    alloc: Global,
+    rule: &Program,
+    world: &mut World,
+    others: &[WorldEvent],
+    last: Option<u64>,
+    chosen: Move,
+    left: usize,
+    depth: u64,
+    budget: &mut u64,
+) -> Result<Looked, Halt>
+    requires { KeptBehind rule.now depth last (record { world = world.old; others = others.now }) chosen }
+    ensures seen { IfOk result (IsSeenBehind rule.now depth last chosen (record { world = world.old; others = others.now })) }
+    ensures same { 0 < left → world.new ≡ world.old }
+{
+    spend(budget)?;
+    if left == 0 {
+        let looked = look_moved(alloc, rule, world, others, last, chosen, depth, budget)?;
+        return Ok(looked);
+    }
+    let looked = look_aside(alloc, rule, world, others, last, chosen, depth, budget)?;
+    Ok(looked)
+}
+
+/// Looks at all places so many moves behind a move, on a copy of the world.
+#[cycle(look)]
+fn look_aside(
     alloc: Global,
     rule: &Program,
     world: &World,
@@ -79,6 +127,7 @@ fn look_behind(
     depth: u64,
     budget: &mut u64,
 ) -> Result<Looked, Halt>
+    requires { KeptBehind rule.now depth last (record { world = world.now; others = others.now }) chosen }
     ensures { IfOk result (IsSeenBehind rule.now depth last chosen (record { world = world.now; others = others.now })) }
 {
     let mut next = world.copy()?;
@@ -88,7 +137,7 @@ fn look_behind(
     Ok(looked)
 }
 
-/// Makes a move, if one more event may be taken, and looks at all places so many moves behind it, unless it is one not to be looked at.
+/// Makes a move, and looks at all places so many moves behind it, unless it is one not to be looked at.
 #[cycle(look)]
 fn look_moved(
     alloc: Global,
@@ -100,9 +149,9 @@ fn look_moved(
     depth: u64,
     budget: &mut u64,
 ) -> Result<Looked, Halt>
+    requires { KeptBehind rule.now depth last (record { world = world.old; others = others.now }) chosen }
     ensures { IfOk result (IsSeenBehind rule.now depth last chosen (record { world = world.old; others = others.now })) }
 {
-    spend(budget)?;
     let quiet = make_move(world, others, chosen)?;
     if is_looked_at(last, quiet) {
         let looked = look(
@@ -118,4 +167,24 @@ fn look_moved(
         return Ok(seen);
     }
     Ok(Looked::Kept { goes_on: false })
+}
+
+/// Looks at all places after so many moves from a world, in the order of the schedules to them, up to the first where the rule is not
+/// kept.
+pub(crate) fn look_from(
+    alloc: Global,
+    rule: &Program,
+    world: &World,
+    others: &[WorldEvent],
+    depth: u64,
+    budget: &mut u64,
+) -> Result<Looked, Halt>
+    requires { KeptBefore rule.now depth None (record { world = world.now; others = others.now }) }
+    ensures { IfOk result (IsSeen rule.now depth None (record { world = world.now; others = others.now })) }
+{
+    let mut next = world.copy()?;
+    let looked = look(alloc, rule, &mut next, others, None, depth, budget);
+    drop(next);
+    let looked = looked?;
+    Ok(looked)
 }

@@ -10,6 +10,7 @@ pub mod laws;
 mod machine;
 mod runner;
 mod runner_steps;
+mod shared_runner;
 mod slots;
 mod store_calls;
 mod told;

@@ -22,6 +22,7 @@ ghost use Rattle.stm_retry.specs.RunnerTells.{workplace, Leaves, TellsEnd, IsRea
 use crate::entries::entry_of;
 use crate::machine::{Machine, denied};
 use crate::runner::Runner;
+use crate::shared_runner::SharedRunner;
 use crate::slots::{Slot, put_slot, take_runner};
 use crate::told::Told;
 use std::alloc::{AllocError, Global};
@@ -229,7 +230,7 @@ fn commit(
 
 /// Makes one step of a runner: its program is evaluated on what it has read, and then it makes at most one
 /// transaction.
-fn step_live(
+pub(crate) fn step_live(
     alloc: Global,
     store: &mut Store,
     entries: &mut Vec<Entry>,
@@ -256,7 +257,7 @@ fn step_live(
 }
 
 /// What stands at a runner's place after its step.
-fn slot_after(told: &Result<Told, AllocError>, runner: Runner) -> Slot
+fn slot_after(told: &Result<Told, AllocError>, runner: SharedRunner) -> Slot
     ensures { result ≡ slot_left told.now runner.runner }
 {
     if matches!(told, Ok(Told::Ends(_))) {
@@ -304,7 +305,8 @@ impl Machine {
         ensures err { OnErr result (self.new ≡ self.old) }
     {
         let runner = Runner::new(alloc, program, level, limit);
-        self.runners.push(Slot::live(runner))?;
+        let shared = SharedRunner::new(alloc, runner)?;
+        self.runners.push(Slot::live(shared))?;
         Ok(self.runners.len() as u64)
     }
 
@@ -342,7 +344,7 @@ impl Machine {
         let Some(mut runner) = take_runner(&mut self.runners, id) else {
             return Ok(Err(denied(alloc, Refusal::NoRunner)));
         };
-        let told = step_live(alloc, &mut self.store, &mut self.entries, id, &mut runner);
+        let told = runner.step(alloc, &mut self.store, &mut self.entries, id);
         let slot = slot_after(&told, runner);
         put_slot(&mut self.runners, id, slot);
         reply_of(told)

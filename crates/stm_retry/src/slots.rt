@@ -3,7 +3,7 @@ ghost use Rattle.std.specs.Prelude.{◌≡◌, ◌-◌, ◌<◌, ◌≤◌, ◌^
 ghost use Rattle.stm_world.specs.World.{live_in, runner_at, with_slot, Over as Left, Live as Stands};
 ghost use Rattle.stm_retry.specs.RunnerView.{RunnerView, slot_of};
 
-use crate::runner::Runner;
+use crate::shared_runner::SharedRunner;
 use std::alloc::AllocError;
 use std::marker::Model;
 use std::mem;
@@ -11,7 +11,7 @@ use std::mem;
 /// The place of a runner. It is kept when the run has ended, and then no runner stands there.
 #[derive(Debug, Drop)]
 pub(crate) struct Slot {
-    runner: Option<Runner>,
+    runner: Option<SharedRunner>,
 }
 
 impl Model for Slot {
@@ -36,7 +36,7 @@ impl Slot {
     }
 
     /// The place of a run that goes on.
-    pub(crate) fn live(runner: Runner) -> Slot
+    pub(crate) fn live(runner: SharedRunner) -> Slot
         ensures { result ≡ Stands runner.runner }
     {
         Slot {
@@ -52,7 +52,7 @@ impl Slot {
     }
 
     /// Takes the runner away, if one stands here.
-    fn take(&mut self) -> Option<Runner>
+    fn take(&mut self) -> Option<SharedRunner>
         ensures taken { slot_of result ≡ self.old }
         ensures left { self.new ≡ Left }
     {
@@ -68,7 +68,7 @@ impl Slot {
 }
 
 /// Takes what stands at the place of this number, which there is.
-fn take_at(slots: &mut Vec<Slot>, id: u64) -> Option<Runner>
+fn take_at(slots: &mut Vec<Slot>, id: u64) -> Option<SharedRunner>
     requires { (0 < id) × (id ≤ vec_len slots.old) }
     ensures was { slice_get slots.old.items (id - 1) ≡ Some (slot_of result) }
     ensures left { slots.new.items ≡ with_slot id Left slots.old.items }
@@ -77,7 +77,7 @@ fn take_at(slots: &mut Vec<Slot>, id: u64) -> Option<Runner>
 }
 
 /// Takes the runner with this number from its place, if there is one that has not ended.
-pub(crate) fn take_runner(slots: &mut Vec<Slot>, id: u64) -> Option<Runner>
+pub(crate) fn take_runner(slots: &mut Vec<Slot>, id: u64) -> Option<SharedRunner>
     ensures found { option_map (λ (v : RunnerView). v.runner) result ≡ runner_at id slots.old.items }
     ensures there { OnSome result ((0 < id) × (id ≤ vec_len slots.old)) }
     ensures taken { OnSome result (slots.new.items ≡ with_slot id Left slots.old.items) }
@@ -97,7 +97,7 @@ pub(crate) fn put_slot(slots: &mut Vec<Slot>, id: u64, slot: Slot)
     slots[(id - 1) as usize].put(slot);
 }
 
-/// The copy has the same runner, or none.
+/// The copy has the same runner, or none. It takes no memory.
 impl Clone for Slot {
     ghost is_clone = { λ slot copy. copy ≡ slot };
 

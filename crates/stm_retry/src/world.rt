@@ -265,8 +265,9 @@ impl World {
 impl World {
     /// A world of its own that is equal to this one: what is done to one of them changes nothing of the other.
     ///
-    /// No event is taken again. It takes a step for each revision, lease, watcher, runner and entry; the inner blocks of
-    /// programs and the texts of keys are shared. Want of memory is its only refusal.
+    /// No event is taken again. It takes a step for each revision, lease, watcher, runner and entry; runners, the inner blocks of
+    /// programs and the texts of keys are shared, a runner until one of the worlds makes a step of it. Want of memory is its only
+    /// refusal.
     pub fn copy(&self) -> Result<World, AllocError>
         ensures { IfOk result (λ copy. copy ≡ self.now) }
     {

@@ -1,17 +1,27 @@
-use Rattle.std.proofs.Common.{◌+◌, ◌*◌, drop}
+use Rattle.std.proofs.Common.{◌≡◌, ◌+◌, ◌*◌, ◌<◌, length, drop}
+use Rattle.stm_schedules.specs.Places.{Place}
 use Rattle.stm_explore.proofs.GatherLemmas.{CollectedSoFar}
 use Rattle.stm_explore.proofs.collecting.+collect.Given as goal
 
 abbrev pub decreases-collect : goal.decreases-collect
-decreases-collect l = 3 * l.depth
+decreases-collect l = 4 * l.depth
 
 abbrev pub decreases-collect_behind : goal.decreases-collect_behind
-decreases-collect_behind l = 3 * l.depth + 2
+decreases-collect_behind l = 4 * l.depth + 3
+
+abbrev pub decreases-collect_aside : goal.decreases-collect_aside
+decreases-collect_aside l = 4 * l.depth + 2
 
 abbrev pub decreases-collect_moved : goal.decreases-collect_moved
-decreases-collect_moved l = 3 * l.depth + 1
+decreases-collect_moved l = 4 * l.depth + 1
 
+-- what was gathered so far; and world and ends are as they were, while moves are left
 abbrev pub invariant-collect-loop-chosen : goal.invariant-collect-loop-chosen
 invariant-collect-loop-chosen l =
-    CollectedSoFar l.depth l.last (record { world = l.world; others = l.others }) l.ends l.goes_on (drop l.chosen-index l.chosen-items) l.found.items
-    l.fn.found.items
+    let p : Place = record { world = l.fn.world; others = l.others } in
+    record {
+      collected : CollectedSoFar l.depth l.last p l.fn.ends.items l.goes_on (drop l.chosen-index l.choices) l.found.items l.fn.found.items;
+      counted : l.left + l.chosen-index ≡ length l.choices;
+      world : l.chosen-index < length l.choices → l.world ≡ l.fn.world;
+      ends : l.chosen-index < length l.choices → l.ends.items ≡ l.fn.ends.items;
+    }

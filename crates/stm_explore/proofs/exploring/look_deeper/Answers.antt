@@ -9,7 +9,13 @@ use Rattle.stm_explore.specs.declared.exploring.Explored.TheVariants.{Open}
 use Rattle.stm_explore.specs.Seen.{IsSeen}
 use Rattle.stm_explore.specs.Explored.{IsExplored}
 use Rattle.stm_explore.proofs.ExploreLemmas.{kept_at_all, kept_so_far, broken_at, still_open}
+use Rattle.stm_explore.proofs.KeptLemmas.{kept_up_to}
 use Rattle.stm_explore.proofs.exploring.look_deeper.Goals as goal
+
+pub look_from-requires : goal.look_from-requires
+look_from-requires c =
+    kept_up_to fewer_are_enough c.args.rule.now c.loop-kept.kept (c.loop-kept.kept + 1) (record { world = c.args.world.now; others = c.args.others.now })
+    (omega arith) c.loop-kept.invariant.none
 
 pub loop-kept-preserved : goal.loop-kept-preserved
 loop-kept-preserved c =

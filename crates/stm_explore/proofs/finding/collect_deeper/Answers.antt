@@ -13,9 +13,9 @@ pub returns-in-Ok-false : goal.returns-in-Ok-false
 returns-in-Ok-false c =
     let p : Place = record { world = c.args.world.now; others = c.args.others.now } in
     let n : ℕ = c.loop-gone_through.gone_through in
-    all_found outcomes_are_those longest_is_all n (n + 1) p c.args.ends.now c.loop-gone_through.found.items c.collect.new.found.items (omega arith)
+    all_found outcomes_are_those longest_is_all n (n + 1) p c.args.ends.now c.loop-gone_through.found.items c.collect_from.new.found.items (omega arith)
     c.loop-gone_through.invariant.found c.loop-gone_through.invariant.more
-    (gathers_all fewer_are_enough (n + 1) p c.args.ends.now c.loop-gone_through.found.items c.collect.new.found.items c.in-Ok-false.ensures.found)
+    (gathers_all fewer_are_enough (n + 1) p c.args.ends.now c.loop-gone_through.found.items c.collect_from.new.found.items c.in-Ok-false.ensures.found)
     (sym (seen_goes_on fewer_are_enough (n + 1) p) ∙ sym c.in-Ok-false.ensures.more ∙ c.in-Ok-false.field-0-test)
 
 pub loop-gone_through-preserved : goal.loop-gone_through-preserved
@@ -23,9 +23,9 @@ loop-gone_through-preserved c =
     let p : Place = record { world = c.args.world.now; others = c.args.others.now } in
     let n : ℕ = c.loop-gone_through.gone_through in
     record {
-      found = found_next n (n + 1) p c.args.ends.now [] c.loop-gone_through.found.items c.collect.new.found.items (omega arith)
+      found = found_next n (n + 1) p c.args.ends.now [] c.loop-gone_through.found.items c.collect_from.new.found.items (omega arith)
           c.loop-gone_through.invariant.found
-          (gathers_all fewer_are_enough (n + 1) p c.args.ends.now c.loop-gone_through.found.items c.collect.new.found.items c.in-Ok-true.ensures.found);
+          (gathers_all fewer_are_enough (n + 1) p c.args.ends.now c.loop-gone_through.found.items c.collect_from.new.found.items c.in-Ok-true.ensures.found);
       more = sym (seen_goes_on fewer_are_enough (n + 1) p) ∙ sym c.in-Ok-true.ensures.more ∙ c.in-Ok-true.field-0-test;
     }
 

@@ -1,29 +1,80 @@
-use Rattle.std.proofs.Common.{◌∙◌, List, sym, ap, subst, arith}
+use Rattle.std.proofs.Common.{◌≡◌, ◌∙◌, List, sym, ap, subst, refl, arith}
 use Rattle.stm_world.specs.World.{World}
 use Rattle.stm_schedules.specs.declared.moves.Move.{Move}
 use Rattle.stm_schedules.specs.Places.{Place, moved}
 use Rattle.stm_schedules.specs.Fewer.{quiet_runner, is_looked_at}
-use Rattle.stm_explore.specs.Seen.{IsSeenBehind}
-use Rattle.stm_explore.proofs.LookLemmas.{seen_at, seen_none, seen_next, looked_behind, not_looked_behind}
+use Rattle.stm_explore.specs.Seen.{IsSeenBehind, KeptBehind}
+use Rattle.stm_explore.proofs.KeptLemmas.{kept_at, kept_at_each_here, kept_at_end}
+use Rattle.stm_explore.proofs.LookLemmas.{seen_at, seen_none, seen_next_here, seen_broken_here, seen_all, looked_behind, not_looked_behind}
 use Rattle.stm_explore.proofs.looking.+look.Goals as goal
+
+pub look-look_here-requires : goal.look-look_here-requires
+look-look_here-requires t c =
+    kept_at_end c.args.rule.now c.args.depth c.args.last (record { world = c.args.world.now; others = c.args.others.now }) c.if-depth-eq0.true c.requires
 
 pub look-loop-chosen-init : goal.look-loop-chosen-init
 look-loop-chosen-init t c =
     let p : Place = record { world = c.args.world.now; others = c.args.others.now } in
-    seen_none c.args.rule.now c.args.depth c.args.last p c.deref-chosen-items.result.now c.if-depth-eq0.false
-    (c.deref-chosen-items.ensures.value ∙ c.in_ok-left.ensures)
+    record {
+      seen = seen_none c.args.rule.now c.args.depth c.args.last p c.as_slice-choices.result.now c.if-depth-eq0.false
+          (c.as_slice-choices.ensures.value ∙ c.in_ok-all.ensures);
+      counted = omega arith;
+      world = λ within. refl;
+    }
+
+pub look-look_behind-requires : goal.look-look_behind-requires
+look-look_behind-requires t c =
+    let p : Place = record { world = c.args.world.now; others = c.args.others.now } in (
+      omega (arith, c.decreases, c.if-depth-eq0.false),
+      kept_at_each_here c.args.rule.now c.args.depth c.args.last p c.loop-chosen.world c.as_slice-choices.result.now c.loop-chosen.chosen-index _
+          (c.loop-chosen.invariant.world (omega arith)) c.if-depth-eq0.false (c.as_slice-choices.ensures.value ∙ c.in_ok-all.ensures) (omega arith) c.requires,
+    )
 
 pub look-loop-chosen-preserved : goal.look-loop-chosen-preserved
 look-loop-chosen-preserved t c =
     let p : Place = record { world = c.args.world.now; others = c.args.others.now } in
-    let ms : List Move = c.deref-chosen-items.result.now in
-    seen_next c.args.rule.now c.args.depth c.args.last p ms c.loop-chosen.chosen-index _ c.loop-chosen.goes_on c.in-Kept.more c.is_either-goes_on.result
-    c.in_ok-more.field-0 c.in_ok-more.ensures c.in-Kept.is (omega arith) c.is_either-goes_on.ensures c.loop-chosen.invariant
+    let ms : List Move = c.as_slice-choices.result.now in
+    let same : c.loop-chosen.world ≡ c.args.world.now = c.loop-chosen.invariant.world (omega arith) in
+    record {
+      seen = seen_next_here c.args.rule.now c.args.depth c.args.last p c.loop-chosen.world ms c.loop-chosen.chosen-index _ c.loop-chosen.goes_on
+          c.in-Kept.more c.is_either-goes_on.result c.in_ok-more.field-0 same c.in_ok-more.ensures.seen c.in-Kept.is (omega arith)
+          c.is_either-goes_on.ensures c.loop-chosen.invariant.seen;
+      counted = omega arith;
+      world = λ within. c.in_ok-more.ensures.same (omega arith) ∙ same;
+    }
 
-pub look_behind-returns : goal.look_behind-returns
-look_behind-returns t c =
+pub look-returns-in-Broken : goal.look-returns-in-Broken
+look-returns-in-Broken t c =
+    let p : Place = record { world = c.args.world.now; others = c.args.others.now } in
+    seen_broken_here c.args.rule.now c.args.depth c.args.last p c.loop-chosen.world c.as_slice-choices.result.now c.loop-chosen.chosen-index _
+    c.loop-chosen.goes_on c.in_ok-more.field-0 c.in-Broken.moves c.in-Broken.end (c.loop-chosen.invariant.world (omega arith)) c.in_ok-more.ensures.seen
+    c.in-Broken.is (omega arith) c.loop-chosen.invariant.seen
+
+pub look-returns : goal.look-returns
+look-returns t c =
+    seen_all c.args.rule.now c.args.depth c.args.last (record { world = c.args.world.now; others = c.args.others.now }) c.as_slice-choices.result.now
+    c.loop-chosen.chosen-index c.loop-chosen.goes_on (omega arith) c.loop-chosen.invariant.seen
+
+pub look_aside-look_moved-looked-requires : goal.look_aside-look_moved-looked-requires
+look_aside-look_moved-looked-requires t c = (
+  omega (arith, c.decreases),
+  subst (λ (w : World). KeptBehind c.args.rule.now c.args.depth c.args.last (record { world = w; others = c.args.others.now }) c.args.chosen)
+      (sym c.in_ok-next.ensures) c.requires,
+)
+
+pub look_aside-returns : goal.look_aside-returns
+look_aside-returns t c =
     subst (λ (w : World). IsSeenBehind c.args.rule.now c.args.depth c.args.last c.args.chosen (record { world = w; others = c.args.others.now }) c.in_ok-looked.looked)
     c.in_ok-next.ensures c.in_ok-looked.ensures
+
+pub look_moved-look-requires : goal.look_moved-look-requires
+look_moved-look-requires t c =
+    let p : Place = record { world = c.args.world.now; others = c.args.others.now } in (
+      omega (arith, c.decreases),
+      kept_at c.args.rule.now c.args.depth c.args.last c.in_ok-quiet.quiet c.args.chosen p _
+          (ap (is_looked_at c.args.last) (sym c.in_ok-quiet.ensures.quiet) ∙ sym c.is_looked_at.ensures ∙ c.if-is_looked_at.true) c.in_ok-quiet.ensures.quiet
+          c.in_ok-quiet.ensures.next c.left_after.ensures c.requires,
+    )
 
 pub look_moved-returns-then-is_looked_at : goal.look_moved-returns-then-is_looked_at
 look_moved-returns-then-is_looked_at t c =

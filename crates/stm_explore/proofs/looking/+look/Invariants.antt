@@ -1,16 +1,26 @@
-use Rattle.std.proofs.Common.{◌+◌, ◌*◌, drop}
+use Rattle.std.proofs.Common.{◌≡◌, ◌+◌, ◌*◌, ◌<◌, length, drop}
+use Rattle.stm_schedules.specs.Places.{Place}
 use Rattle.stm_explore.proofs.LookLemmas.{SeenSoFar}
 use Rattle.stm_explore.proofs.looking.+look.Given as goal
 
 abbrev pub decreases-look : goal.decreases-look
-decreases-look l = 3 * l.depth
+decreases-look l = 4 * l.depth
 
 abbrev pub decreases-look_behind : goal.decreases-look_behind
-decreases-look_behind l = 3 * l.depth + 2
+decreases-look_behind l = 4 * l.depth + 3
+
+abbrev pub decreases-look_aside : goal.decreases-look_aside
+decreases-look_aside l = 4 * l.depth + 2
 
 abbrev pub decreases-look_moved : goal.decreases-look_moved
-decreases-look_moved l = 3 * l.depth + 1
+decreases-look_moved l = 4 * l.depth + 1
 
+-- what was seen so far; and the world is as it was, while moves are left
 abbrev pub invariant-look-loop-chosen : goal.invariant-look-loop-chosen
 invariant-look-loop-chosen l =
-    SeenSoFar l.rule l.depth l.last (record { world = l.world; others = l.others }) l.goes_on (drop l.chosen-index l.chosen-items)
+    let p : Place = record { world = l.fn.world; others = l.others } in
+    record {
+      seen : SeenSoFar l.rule l.depth l.last p l.goes_on (drop l.chosen-index l.choices);
+      counted : l.left + l.chosen-index ≡ length l.choices;
+      world : l.chosen-index < length l.choices → l.world ≡ l.fn.world;
+    }

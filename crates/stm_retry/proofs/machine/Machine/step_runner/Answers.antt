@@ -20,17 +20,17 @@ returns c =
       entries = c.self.inside.entries.items;
     } in
     let r : Runner = c.in-Some.runner.runner in
-    let q : Runner = c.step_live-told.new.runner.runner in
-    let after : Standing = c.step_live-told.new.store.standing in
-    let entries : List Entry = c.step_live-told.new.entries.items in
+    let q : Runner = c.step-told.new.self.runner in
+    let after : Standing = c.step-told.new.store.standing in
+    let entries : List Entry = c.step-told.new.entries.items in
     let slots : List Slot = c.put_slot.new.slots.items in
-    let told : Result Told AllocError = c.step_live-told.result in
+    let told : Result Told AllocError = c.step-told.result in
     let new : World = record { standing = after; runners = slots; entries = entries } in
     let found : runner_at id w.runners ≡ Some r = sym c.in-Some.ensures.found in
     let put : slots ≡ with_slot id (slot_left told q) (with_slot id Over w.runners) =
     c.put_slot.ensures
     ∙ ap (λ (s : Slot). with_slot id s c.take_runner.new.slots.items) c.slot_after-slot.ensures
     ∙ ap (λ (l : List Slot). with_slot id (slot_left told q) l) c.in-Some.ensures.taken in
-    let tells = outcome_tells id w r q after entries slots told (runner_at id w.runners) found found c.step_live-told.ensures put in
+    let tells = outcome_tells id w r q after entries slots told (runner_at id w.runners) found found c.step-told.ensures put in
     subst (λ (v : World). Tells c.reply_of.result v new (step_runner id (runner_at id v.runners) v)) c.self.view_is
     (subst (λ (o : Result (Result Reply Denied) AllocError). Tells o w new (step_runner id (runner_at id w.runners) w)) (sym c.reply_of.ensures) tells)

@@ -1,0 +1,72 @@
+//! Runners that several worlds share.
+ghost use Rattle.std.specs.Prelude.{◌≡◌, IfOk};
+ghost use Rattle.stm_compile.specs.Answers.{AreTrue};
+ghost use Rattle.stm_world.specs.World.{step_live};
+ghost use Rattle.stm_retry.specs.RunnerTells.{workplace, Leaves};
+
+use crate::runner::Runner;
+use crate::runner_steps::step_live;
+use crate::told::Told;
+use std::alloc::{AllocError, Global};
+use std::marker::Model;
+use std::sync::Arc;
+use stm_txn::Store;
+use stm_world::Entry;
+
+/// A runner that stands once for a world and its copies, until one of them makes a step of it.
+///
+/// Contracts see the runner.
+#[derive(Debug, Drop)]
+pub(crate) struct SharedRunner {
+    runner: Arc<Runner>,
+}
+
+impl Model for SharedRunner {
+    ghost use Rattle.std.specs.Coded.{codes};
+    ghost use Rattle.stm_program.specs.Coding.{coded_program};
+    ghost use Rattle.stm_retry.specs.RunnerView.{RunnerView};
+
+    ghost Value = { RunnerView };
+
+    ghost coded = { Prim.hlevel (codes, coded_program) };
+
+    ghost view = { λ s. s.runner.value };
+}
+
+impl SharedRunner {
+    /// A runner that can be shared.
+    pub(crate) fn new(alloc: Global, runner: Runner) -> Result<SharedRunner, AllocError>
+        ensures { IfOk result (λ s. s ≡ runner) }
+    {
+        let runner = Arc::new(alloc, runner)?;
+        Ok(SharedRunner { runner })
+    }
+
+    /// Makes one step of the runner. A runner with other owners is copied first, and they keep it as it was.
+    pub(crate) fn step(
+        &mut self,
+        alloc: Global,
+        store: &mut Store,
+        entries: &mut Vec<Entry>,
+        id: u64,
+    ) -> Result<Told, AllocError>
+        requires { AreTrue store.old.standing.history self.old.runner.known.reads }
+        ensures { Leaves id result (workplace store.old.standing entries.old.items self.old.runner)
+            (workplace store.new.standing entries.new.items self.new.runner) (step_live id self.old.runner) }
+    {
+        match Arc::make_mut(&mut self.runner) {
+            Ok(runner) => step_live(alloc, store, entries, id, runner),
+            Err(error) => Err(error),
+        }
+    }
+}
+
+/// One more owner of the same runner. It takes no memory.
+impl Clone for SharedRunner {
+    ghost is_clone = { λ s copy. copy ≡ s };
+
+    fn clone(&self) -> Result<SharedRunner, AllocError> {
+        let runner = self.runner.clone()?;
+        Ok(SharedRunner { runner })
+    }
+}

@@ -1,21 +1,10 @@
 //! Hostile schedules, each at the four levels: what is committed, and what fails and why. What is expected comes from the rules of the levels, and never
 //! from a run.
 
+use crate::scripts::reports;
 use std::alloc::{AllocError, Global};
 use std::process::Abort;
 use std::test::Fail;
-use stm_commands::{Std, script_to};
-
-/// A scenario that is run has this report.
-fn reports(rt: &impl Abort, alloc: Global, scenario: &str, report: &str) {
-    let mut input = Std::new(scenario.as_bytes());
-    let mut out = Std::new(Vec::new(alloc));
-    let mut err = Std::new(Vec::new(alloc));
-    let status = script_to(alloc, &mut input, &mut out, &mut err);
-    assert_eq!(rt; status, 0, "{scenario}");
-    assert!(rt; out.device.as_slice() == report.as_bytes(), "{scenario}");
-    assert!(rt; err.device.is_empty(), "{scenario}");
-}
 
 /// A scenario whose programs all run at one level, of its text before the first place of the level's name and of that after each such place.
 fn scenario_at(
@@ -42,7 +31,7 @@ fn reports_at(
 ) -> Result<(), Fail> {
     for (level, report) in expected {
         let scenario = scenario_at(alloc, front, rest, level)?;
-        reports(rt, alloc, scenario.as_str(), report);
+        reports(rt, alloc, level, scenario.as_str(), report);
     }
     Ok(())
 }

@@ -1,11 +1,12 @@
 //! Reports that are checked over memory: each line that is wrong is named with its cause, and the reports of the table are right. A report
 //! that is checked as a whole is right line by line.
 
+use crate::commands::{check, is_left};
+use crate::devices::NONE;
 use crate::scenarios::REPORTS;
 use std::alloc::Global;
 use std::process::Abort;
 use std::test::Fail;
-use stm_commands::{Std, check_to, check_whole_to};
 
 /// A check over memory has this status, and writes this to the two sinks.
 pub fn checks(
@@ -17,14 +18,15 @@ pub fn checks(
     says: &str,
     complains: &str,
 ) {
-    let mut first = Std::new(scenario.as_bytes());
-    let mut second = Std::new(report.as_bytes());
-    let mut out = Std::new(Vec::new(alloc));
-    let mut err = Std::new(Vec::new(alloc));
-    let ended = check_to(alloc, &mut first, &mut second, &mut out, &mut err);
-    assert_eq!(rt; ended, status, "{report}");
-    assert!(rt; out.device.as_slice() == says.as_bytes(), "{report}");
-    assert!(rt; err.device.as_slice() == complains.as_bytes(), "{report}");
+    let left = check(alloc, scenario, report, false, NONE);
+    is_left(
+        rt,
+        &left,
+        report,
+        status,
+        says.as_bytes(),
+        complains.as_bytes(),
+    );
 }
 
 /// Two programs that each put one key where the sum of both is above 1.
@@ -130,14 +132,15 @@ fn checks_whole(
     says: &str,
     complains: &str,
 ) {
-    let mut first = Std::new(scenario.as_bytes());
-    let mut second = Std::new(report.as_bytes());
-    let mut out = Std::new(Vec::new(alloc));
-    let mut err = Std::new(Vec::new(alloc));
-    let ended = check_whole_to(alloc, &mut first, &mut second, &mut out, &mut err);
-    assert_eq!(rt; ended, status, "{report}");
-    assert!(rt; out.device.as_slice() == says.as_bytes(), "{report}");
-    assert!(rt; err.device.as_slice() == complains.as_bytes(), "{report}");
+    let left = check(alloc, scenario, report, true, NONE);
+    is_left(
+        rt,
+        &left,
+        report,
+        status,
+        says.as_bytes(),
+        complains.as_bytes(),
+    );
 }
 
 /// Texts in the place of a line of the skew's report, each with what a check of the whole report comes to.

@@ -1,10 +1,11 @@
 //! The command `recipe`, run over memory. What is expected comes from the description of the recipes and of the command, and never from a run.
 
-use crate::scripts::{Left, run};
+use crate::commands::{Left, is_left, output, recipe, script};
+use crate::devices::NONE;
 use std::alloc::{AllocError, Global};
 use std::process::Abort;
 use std::test::Fail;
-use stm_commands::{RecipeWords, Std, recipe_to};
+use stm_commands::RecipeWords;
 
 /// A name and up to three arguments.
 type Words<'a> = (&'a str, Option<&'a str>, Option<&'a str>, Option<&'a str>);
@@ -22,22 +23,13 @@ fn words_of(words: Words<'_>) -> RecipeWords<'_> {
 /// What the command leaves.
 fn left_by(alloc: Global, words: Words<'_>) -> Left {
     let words = words_of(words);
-    let mut out = Std::new(Vec::new(alloc));
-    let mut err = Std::new(Vec::new(alloc));
-    let status = recipe_to(alloc, &words, &mut out, &mut err);
-    Left {
-        status,
-        out: out.device,
-        err: err.device,
-    }
+    recipe(alloc, &words, NONE)
 }
 
 /// The line that words print has this text.
 fn prints(rt: &impl Abort, alloc: Global, words: Words<'_>, line: &str) {
     let left = left_by(alloc, words);
-    assert_eq!(rt; left.status, 0, "{line}");
-    assert!(rt; left.out.as_slice() == line.as_bytes(), "{line}");
-    assert!(rt; left.err.is_empty(), "{line}");
+    is_left(rt, &left, line, 0, line.as_bytes(), b"".as_slice());
 }
 
 const TRANSFER: &str = concat!(
@@ -163,9 +155,7 @@ fn is_refused(
 ) -> Result<(), AllocError> {
     let left = left_by(alloc, words);
     let said = format!(in alloc; "error: {allowed}{END}")?;
-    assert_eq!(rt; left.status, 2, "{allowed}");
-    assert!(rt; left.out.is_empty(), "{allowed}");
-    assert!(rt; left.err.as_slice() == said.as_bytes(), "{allowed}");
+    is_left(rt, &left, allowed, 2, b"".as_slice(), said.as_bytes());
     Ok(())
 }
 
@@ -349,16 +339,15 @@ fn a_printed_recipe_is_run(rt: HostRuntime) -> Result<(), Fail> {
     let mut scenario = Vec::new(alloc);
     scenario.extend_from_slice("[[\"start\",\"Serializable\",1,".as_bytes())?;
     let left = left_by(alloc, ("deposit", Some("a"), Some("30"), None));
-    scenario.extend_from_slice(left.out.as_slice())?;
+    scenario.extend_from_slice(output(&left))?;
     scenario.extend_from_slice("],[\"step\",1],[\"step\",1]]".as_bytes())?;
-    let ran = run(alloc, scenario.as_slice());
+    let ran = script(alloc, scenario.as_slice(), false, NONE);
     let report = "[1,\"started\",1]
 [2,\"fetched\",1,\"a\",0,1,1]
 [3,\"committed\",1,2,1,[],[[\"get\",\"a\",\"\"]],[]]
 [\"key\",\"a\",\"30\",2,2,1,0]
 [\"end\",2,1]
 ";
-    assert_eq!(rt; ran.status, 0);
-    assert!(rt; ran.out.as_slice() == report.as_bytes());
+    is_left(&rt, &ran, "a recipe", 0, report.as_bytes(), b"".as_slice());
     Ok(())
 }

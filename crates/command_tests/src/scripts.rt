@@ -1,46 +1,22 @@
 //! Scenarios that are run over memory: those of the table have their reports, and bad texts are refused.
 
+use crate::commands::{is_left, script};
+use crate::devices::NONE;
 use crate::scenarios::REPORTS;
-use std::alloc::Global;
+use std::alloc::{AllocError, Global};
 use std::process::Abort;
 use std::test::Fail;
-use stm_commands::{Std, script_to};
-
-/// What a run of the command left.
-#[derive(Drop)]
-pub struct Left {
-    pub status: u8,
-    pub out: Vec<u8>,
-    pub err: Vec<u8>,
-}
-
-/// Runs a scenario.
-pub fn run(alloc: Global, scenario: &[u8]) -> Left {
-    let mut input = Std::new(scenario);
-    let mut out = Std::new(Vec::new(alloc));
-    let mut err = Std::new(Vec::new(alloc));
-    let status = script_to(alloc, &mut input, &mut out, &mut err);
-    Left {
-        status,
-        out: out.device,
-        err: err.device,
-    }
-}
 
 /// A scenario that is run has this report.
 pub fn reports(rt: &impl Abort, alloc: Global, name: &str, scenario: &str, report: &str) {
-    let left = run(alloc, scenario.as_bytes());
-    assert_eq!(rt; left.status, 0, "{name}");
-    assert!(rt; left.out.as_slice() == report.as_bytes(), "{name}");
-    assert!(rt; left.err.is_empty(), "{name}");
+    let left = script(alloc, scenario.as_bytes(), false, NONE);
+    is_left(rt, &left, name, 0, report.as_bytes(), b"".as_slice());
 }
 
 /// A text is refused, and this is said of its first fault.
 pub fn refuses(rt: &impl Abort, alloc: Global, text: &[u8], said: &str) {
-    let left = run(alloc, text);
-    assert_eq!(rt; left.status, 2, "{said}");
-    assert!(rt; left.out.is_empty(), "{said}");
-    assert!(rt; left.err.as_slice() == said.as_bytes(), "{said}");
+    let left = script(alloc, text, false, NONE);
+    is_left(rt, &left, said, 2, b"".as_slice(), said.as_bytes());
 }
 
 /// Bad texts, each with what is said of its first fault.
@@ -104,23 +80,31 @@ fn bad_texts(rt: HostRuntime) {
     }
 }
 
-#[test]
-fn texts_at_the_limits(rt: HostRuntime) -> Result<(), Fail> {
-    let alloc = rt.alloc();
+/// More steps than a scenario may have events, and behind them what is none.
+fn many_steps(alloc: Global) -> Result<String, AllocError> {
     let mut events = String::from_str(alloc, "[")?;
     for _ in 0..100000 {
         events.push_str("[\"step\",1],")?;
     }
     events.push_str("[]]")?;
-    let said = "stmrun: bad scenario at /100000: TooMany\n";
-    refuses(&rt, alloc, events.as_str().as_bytes(), said);
+    Ok(events)
+}
 
+#[test]
+fn as_many_events_as_there_may_be(rt: HostRuntime) -> Result<(), Fail> {
+    let events = many_steps(rt.alloc())?;
+    let said = "stmrun: bad scenario at /100000: TooMany\n";
+    refuses(&rt, rt.alloc(), events.as_str().as_bytes(), said);
+    Ok(())
+}
+
+#[test]
+fn as_many_bytes_as_there_may_be(rt: HostRuntime) -> Result<(), Fail> {
+    let alloc = rt.alloc();
     let spaces = vec![in alloc; b' '; 16777217]?;
-    let long = run(alloc, spaces.as_slice());
-    assert_eq!(rt; long.status, 2);
-    assert!(rt; long.err.as_slice() == b"stmrun: bad scenario at : TooLong\n".as_slice());
-    let short = run(alloc, &spaces[1..]);
-    assert_eq!(rt; short.status, 2);
-    assert!(rt; short.err.as_slice() == b"stmrun: bad scenario at : NotJson\n".as_slice());
+    let too_long = "stmrun: bad scenario at : TooLong\n";
+    refuses(&rt, alloc, spaces.as_slice(), too_long);
+    let not_json = "stmrun: bad scenario at : NotJson\n";
+    refuses(&rt, alloc, &spaces[1..], not_json);
     Ok(())
 }

@@ -1,6 +1,8 @@
 //! Texts that are no scenarios. What is expected comes from the formats, and never from a run.
 
-use crate::scripts::{refuses, run};
+use crate::commands::script;
+use crate::devices::NONE;
+use crate::scripts::refuses;
 use std::alloc::Global;
 use std::test::Fail;
 
@@ -17,7 +19,7 @@ fn fronts_of_a_scenario(rt: HostRuntime) {
     for end in 0..bytes.len() {
         refuses(&rt, rt.alloc(), &bytes[..end], NOT_JSON);
     }
-    let left = run(rt.alloc(), bytes);
+    let left = script(rt.alloc(), bytes, false, NONE);
     assert_eq!(rt; left.status, 0);
 }
 

@@ -1,7 +1,9 @@
-//! Worked examples of programs, of their meaning, and of the worlds that run them, by the public calls of their crates.
+//! Worked examples of stores, of programs and their meaning, of recipes, of halls, and of the worlds that run programs, by the public calls
+//! of their crates.
 //!
-//! This crate has no code but tests: one module for each crate that is tested, named for it. They stand here, and not
-//! beside what they test, since a crate with tests is proved twice.
+//! This crate has no code but tests: one module for each crate that is tested, named for it, and the players that run their rows. They
+//! stand here, and not beside what they test, since a crate with tests is proved twice, and in one crate, since each crate proves anew how
+//! each type that it uses is dropped.
 #![tactic(auto)]
 
 #[cfg(test)]
@@ -9,12 +11,16 @@ mod attempts;
 #[cfg(test)]
 mod commits;
 #[cfg(test)]
+mod halls;
+#[cfg(test)]
 mod meaning;
+#[cfg(test)]
+mod player;
 #[cfg(test)]
 mod program;
 #[cfg(test)]
-mod programs;
+mod recipes;
 #[cfg(test)]
-mod told;
+mod stores;
 #[cfg(test)]
 mod worlds;

@@ -1,7 +1,0 @@
-//! Hostile schedules, as scenarios with their whole reports.
-//!
-//! This crate has no code but tests. They stand here, and not beside what they test, since a crate with tests is proved twice.
-#![tactic(auto)]
-
-#[cfg(test)]
-mod schedules;

@@ -1,0 +1,8 @@
+//! Worked examples of halls.
+
+mod attempts;
+mod expiries;
+mod making;
+mod player;
+mod shown;
+mod verdicts;

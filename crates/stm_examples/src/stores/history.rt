@@ -1,0 +1,145 @@
+//! A worked example of the plain list, with ample memory. What is expected comes from the rules of a history,
+//! and never from a run.
+use crate::stores::shown::tell_state;
+use std::alloc::{AllocError, Global};
+use std::test::Fail;
+use stm_history::{Change, HIGHEST_REVISION, Revision, Revisions, Sequence, Text};
+
+/// A put of "a" with a value, or with "-" its deletion.
+fn change_of(alloc: Global, value: &str) -> Result<Change, AllocError> {
+    let key = Text::copy_of(alloc, "a")?;
+    if value == "-" {
+        return Ok(Change::Del { key });
+    }
+    let value = Text::copy_of(alloc, value)?;
+    Ok(Change::Put {
+        key,
+        value,
+        lease: 0,
+    })
+}
+
+/// Adds a revision of one change.
+fn add_change(alloc: Global, history: &mut Revisions, value: &str) -> Result<(), AllocError> {
+    if history.now() < HIGHEST_REVISION {
+        let change = change_of(alloc, value)?;
+        let changes = vec![in alloc; change]?;
+        let _number = history.add(Revision::of(changes))?;
+    }
+    Ok(())
+}
+
+/// What "a" is at these revisions.
+fn tell_key(told: &mut String, history: &Revisions, revisions: &[u64]) -> Result<(), AllocError> {
+    for revision in revisions {
+        let state = history.key_at("a", *revision)?;
+        tell_state(told, state.as_ref(), "-")?;
+        told.push_str(" ")?;
+    }
+    Ok(())
+}
+
+/// The number of changes of the last revision.
+fn last_changes(history: &Revisions) -> usize {
+    match history.as_slice().last() {
+        None => 0,
+        Some(revision) => revision.changes().len(),
+    }
+}
+
+/// What a history tells of itself: opening, counter, the number of its revisions, the number of changes of the last one, and what
+/// "a" is now and whether it is there.
+fn tell_history(told: &mut String, history: &Revisions) -> Result<(), AllocError> {
+    write!(
+        told,
+        "{} {} {} {} ",
+        history.opening(),
+        history.now(),
+        history.as_slice().len(),
+        last_changes(history)
+    )?;
+    let state = history.key_now("a")?;
+    tell_state(told, state.as_ref(), "-")?;
+    write!(told, " {}", history.is_present("a"))
+}
+
+/// Adds a revision of its own for each change of "a", and tells what the history then is, and what "a" is at these revisions.
+fn play(
+    alloc: Global,
+    told: &mut String,
+    history: &mut Revisions,
+    values: &[&str],
+    revisions: &[u64],
+) -> Result<(), AllocError> {
+    for value in values {
+        add_change(alloc, history, value)?;
+    }
+    tell_history(told, history)?;
+    told.push_str(": ")?;
+    tell_key(told, history, revisions)
+}
+
+/// The same with a history that opens at 41.
+fn told_of(alloc: Global, values: &[&str], revisions: &[u64]) -> Result<String, AllocError> {
+    let mut told = String::new(alloc);
+    let mut history = Revisions::new(alloc, 41);
+    let done = play(alloc, &mut told, &mut history, values, revisions);
+    drop(history);
+    done?;
+    Ok(told)
+}
+
+/// Changes of "a" in a history that opens at 41, and the revisions at which "a" is looked at.
+const EXAMPLES: [(&[&str], &[u64], &str); 2] = [
+    // A key is put twice, deleted and put.
+    (
+        &["x", "y", "-", "z"],
+        &[41, 42, 43, 44, 45, 46],
+        "41 45 4 1 z/45/45/1/0 true: - x/42/42/1/0 y/42/43/2/0 - z/45/45/1/0 z/45/45/1/0 ",
+    ),
+    // A history tells what it is now.
+    (&["x", "y"], &[], "41 43 2 1 y/42/43/2/0 true: "),
+];
+
+#[test]
+fn a_history_tells_what_a_key_was(rt: HostRuntime) -> Result<(), Fail> {
+    for (values, revisions, expected) in EXAMPLES {
+        let told = told_of(rt.alloc(), values, revisions)?;
+        assert_eq!(rt; told.as_str(), expected);
+    }
+    Ok(())
+}
+
+/// The elements of a copy of a list of two texts, of which one was made of a string.
+fn copied(alloc: Global, text: &str) -> Result<Vec<Text>, AllocError> {
+    let mut list = Sequence::new(alloc);
+    list.push(Text::from(String::from_str(alloc, text)?))?;
+    list.push(Text::copy_of(alloc, text)?)?;
+    Ok(list.clone()?.into_vec())
+}
+
+/// The number of texts, and each of them.
+fn tell_texts(told: &mut String, texts: &[Text]) -> Result<(), AllocError> {
+    write!(told, "{}", texts.len())?;
+    for text in texts {
+        write!(told, " {}", text.as_str())?;
+    }
+    Ok(())
+}
+
+/// The same of the elements of a copy of such a list.
+fn told_copied(alloc: Global, text: &str) -> Result<String, AllocError> {
+    let mut told = String::new(alloc);
+    let texts = copied(alloc, text)?;
+    let done = tell_texts(&mut told, texts.as_slice());
+    drop(texts);
+    done?;
+    Ok(told)
+}
+
+#[test]
+fn a_list_gives_its_texts_and_these_their_strings_back(rt: HostRuntime) -> Result<(), Fail> {
+    let told = told_copied(rt.alloc(), "é")?;
+    assert_eq!(rt; told.as_str(), "2 é é");
+    Ok(())
+}

@@ -1,4 +1,5 @@
 pub mod Checking
+pub mod Explaining
 pub mod Exploring
 pub mod Recipes
 pub mod Statuses

@@ -11,7 +11,7 @@ use stm_check::{CheckFault, Checked, WrongCause, check_sources};
 use stm_report::{DeviceFault, Sink, Source};
 
 /// The status of an answer.
-fn status_of(checked: Checked) -> u8
+pub(crate) fn status_of(checked: Checked) -> u8
     ensures { result ≡ answer_status checked }
 {
     match checked {
@@ -52,7 +52,7 @@ fn print<W: Sink>(alloc: Global, out: &mut W, checked: Checked) -> Result<(), Ch
 }
 
 /// Checks the report, writes the line of the answer, and gives its status.
-fn answer<S: Source, R: Source, W: Sink>(
+pub(crate) fn answer<S: Source, R: Source, W: Sink>(
     alloc: Global,
     scenario: &mut S,
     report: &mut R,
@@ -81,7 +81,7 @@ fn answer<S: Source, R: Source, W: Sink>(
 }
 
 /// Writes what is said of a fault. Where the sink fails, a front of it was written.
-fn write_message<E: Sink>(err: &mut E, fault: &CheckFault) -> Result<(), DeviceFault>
+pub(crate) fn write_message<E: Sink>(err: &mut E, fault: &CheckFault) -> Result<(), DeviceFault>
     requires { E.failed err.old ≡ false }
     ensures { HasWritten (E.held err.old) (E.held err.new) (E.failed err.new) result (fault_message fault.now) }
 {
@@ -94,7 +94,7 @@ fn write_message<E: Sink>(err: &mut E, fault: &CheckFault) -> Result<(), DeviceF
 }
 
 /// The status of a fault.
-fn status(fault: &CheckFault) -> u8
+pub(crate) fn status(fault: &CheckFault) -> u8
     ensures { result ≡ fault_status fault.now }
 {
     match fault {

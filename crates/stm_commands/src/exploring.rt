@@ -10,7 +10,7 @@ use stm_exploring::{ExploreFault, Level, Printed, Verdict, explore_sources, outc
 use stm_report::{DeviceFault, Sink, Source};
 
 /// The status of what a search came to.
-fn status_of(verdict: Verdict) -> u8
+pub(crate) fn status_of(verdict: Verdict) -> u8
     ensures { result ≡ verdict_status verdict }
 {
     match verdict {
@@ -21,7 +21,7 @@ fn status_of(verdict: Verdict) -> u8
 }
 
 /// Writes what a search prints, where it came to an answer.
-fn write<W: Sink>(
+pub(crate) fn write<W: Sink>(
     out: &mut W,
     searched: Result<Printed, ExploreFault>,
 ) -> Result<Verdict, ExploreFault>
@@ -39,7 +39,7 @@ fn write<W: Sink>(
 }
 
 /// Writes what is said of a fault. Where the sink fails, a front of it was written.
-fn write_message<E: Sink>(err: &mut E, fault: &ExploreFault) -> Result<(), DeviceFault>
+pub(crate) fn write_message<E: Sink>(err: &mut E, fault: &ExploreFault) -> Result<(), DeviceFault>
     requires { E.failed err.old ≡ false }
     ensures { HasWritten (E.held err.old) (E.held err.new) (E.failed err.new) result (fault_message fault.now) }
 {
@@ -52,7 +52,7 @@ fn write_message<E: Sink>(err: &mut E, fault: &ExploreFault) -> Result<(), Devic
 }
 
 /// The status of a fault.
-fn status(fault: &ExploreFault) -> u8
+pub(crate) fn status(fault: &ExploreFault) -> u8
     ensures { result ≡ fault_status fault.now }
 {
     match fault {

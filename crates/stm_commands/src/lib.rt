@@ -2,6 +2,7 @@
 #![tactic(auto)]
 
 mod checking;
+mod explaining;
 mod exploring;
 mod formats;
 mod messages;
@@ -10,11 +11,16 @@ mod scripting;
 mod whole_checking;
 
 pub use checking::check_to;
+pub use explaining::{
+    check_explained_to, check_whole_explained_to, explore_explained_to, outcomes_explained_to,
+    script_explained_to,
+};
 pub use exploring::{explore_to, outcomes_to};
 pub use formats::{NO_FORMAT, no_format_to, script_as_to};
 pub use messages::{write_bad, write_text};
 pub use recipes::{USAGE, recipe_to};
 pub use scripting::script_to;
+pub use stm_explain::{Input, Kept};
 pub use stm_exploring::Level;
 pub use stm_formats::Format;
 pub use stm_recipe_lines::RecipeWords;

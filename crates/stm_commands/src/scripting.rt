@@ -9,7 +9,7 @@ use std::alloc::Global;
 use stm_report::{DeviceFault, ScriptFault, Sink, Source, script};
 
 /// The status of a fault.
-fn status(fault: &ScriptFault) -> u8
+pub(crate) fn status(fault: &ScriptFault) -> u8
     ensures { result ≡ status_of fault.now }
 {
     match fault {
@@ -19,7 +19,7 @@ fn status(fault: &ScriptFault) -> u8
 }
 
 /// Writes what is said of a fault. Where the sink fails, a front of it was written.
-fn write_message<E: Sink>(err: &mut E, fault: &ScriptFault) -> Result<(), DeviceFault>
+pub(crate) fn write_message<E: Sink>(err: &mut E, fault: &ScriptFault) -> Result<(), DeviceFault>
     requires { E.failed err.old ≡ false }
     ensures { HasWritten (E.held err.old) (E.held err.new) (E.failed err.new) result (message_of fault.now) }
 {

@@ -43,7 +43,7 @@ fn print<W: Sink>(alloc: Global, out: &mut W, checked: &WholeChecked) -> Result<
 }
 
 /// Compares the report, and writes the line of the answer.
-fn answer<S: Source, R: Source, W: Sink>(
+pub(crate) fn answer<S: Source, R: Source, W: Sink>(
     alloc: Global,
     scenario: &mut S,
     report: &mut R,
@@ -102,7 +102,7 @@ fn say_expected<E: Sink>(err: &mut E, expected: &[u8]) -> u8
 }
 
 /// Says which line is expected where one is not alike, and gives the status. Takes no memory.
-fn say<E: Sink>(err: &mut E, checked: &WholeChecked) -> u8
+pub(crate) fn say<E: Sink>(err: &mut E, checked: &WholeChecked) -> u8
     requires { E.failed err.old ≡ false }
     ensures { SaysOfAnswer (E.held err.old) (E.held err.new) (E.failed err.new) checked.now result }
 {

@@ -1,0 +1,313 @@
+//! The commands that explain a bad input behind what they say of it.
+ghost use Rattle.std.specs.Prelude.{◌≡◌, ◌≤◌, ◌+◌, ◌++◌, false, string_bytes};
+ghost use Rattle.stm_devices.specs.declared.transfer.TheConstants.{MOST_READ};
+ghost use Rattle.stm_devices.specs.Transfers.{HasWritten};
+ghost use Rattle.stm_commands.specs.Statuses.{message_of};
+ghost use Rattle.stm_commands.specs.Checking.{fault_message as check_message};
+ghost use Rattle.stm_commands.specs.Exploring.{fault_message as explore_message, Writes};
+ghost use Rattle.stm_commands.specs.Explaining.{IsExplained, ScriptSays, CheckSays, ExploreSays, ScriptEnds, CheckEnds, WholeCheckEnds, ExploreFinishes, Explores, GoesThrough};
+
+use crate::checking::{answer, status as check_status, status_of, write_message as write_check};
+use crate::exploring::{
+    status as explore_status, status_of as verdict_status, write, write_message as write_explore,
+};
+use crate::messages::write_text;
+use crate::scripting::{status as script_status, write_message as write_script};
+use crate::whole_checking::{answer as whole_answer, say};
+use std::alloc::Global;
+use stm_check::CheckFault;
+use stm_explain::{Input, Kept};
+use stm_exploring::{ExploreFault, Level, Printed, explore_sources, outcomes_of_source};
+use stm_formats::{Format, script_as};
+use stm_report::{DeviceFault, ScriptFault, Sink, Source};
+
+// ---- explanations
+
+/// The explanation of what is wrong with a scenario; none of another fault.
+fn script_explanation<S>(alloc: Global, input: &Kept<'_, S>, fault: &ScriptFault) -> String
+    ensures { IsExplained (string_bytes result) }
+{
+    match fault {
+        ScriptFault::Bad(bad) => input.explanation(alloc, Input::Scenario, bad),
+        ScriptFault::OutOfMemory | ScriptFault::Read | ScriptFault::Write => String::new(alloc),
+    }
+}
+
+/// The explanation of what is wrong with a scenario or a report; none of another fault.
+fn check_explanation<S, R>(
+    alloc: Global,
+    scenario: &Kept<'_, S>,
+    report: &Kept<'_, R>,
+    fault: &CheckFault,
+) -> String
+    ensures { IsExplained (string_bytes result) }
+{
+    match fault {
+        CheckFault::BadScenario(bad) => scenario.explanation(alloc, Input::Scenario, bad),
+        CheckFault::BadReport(bad) => report.explanation(alloc, Input::Report, bad),
+        CheckFault::OutOfMemory | CheckFault::Device => String::new(alloc),
+    }
+}
+
+/// The explanation of what is wrong with a scenario or with the program of a rule; none of another fault.
+fn rule_explanation<S, R>(
+    alloc: Global,
+    scenario: &Kept<'_, S>,
+    keeps: &Kept<'_, R>,
+    fault: &ExploreFault,
+) -> String
+    ensures { IsExplained (string_bytes result) }
+{
+    match fault {
+        ExploreFault::BadScenario(bad) => scenario.explanation(alloc, Input::Search, bad),
+        ExploreFault::BadProgram(bad) => keeps.explanation(alloc, Input::Program, bad),
+        ExploreFault::OutOfMemory | ExploreFault::Device => String::new(alloc),
+    }
+}
+
+/// The explanation of what is wrong with a scenario that is searched without a rule; none of another fault.
+fn search_explanation<S>(alloc: Global, scenario: &Kept<'_, S>, fault: &ExploreFault) -> String
+    ensures { IsExplained (string_bytes result) }
+{
+    match fault {
+        ExploreFault::BadScenario(bad) => scenario.explanation(alloc, Input::Search, bad),
+        _ => String::new(alloc),
+    }
+}
+
+// ---- what is said
+
+/// Writes what is said of a fault of a script, and more behind it. Where the sink fails, a front of that was written.
+fn write_script_with<E: Sink>(
+    err: &mut E,
+    fault: &ScriptFault,
+    more: &str,
+) -> Result<(), DeviceFault>
+    requires { E.failed err.old ≡ false }
+    ensures { HasWritten (E.held err.old) (E.held err.new) (E.failed err.new) result (message_of fault.now ++ more.now) }
+{
+    write_script(err, fault)?;
+    write_text(err, more)?;
+    Ok(())
+}
+
+/// Writes what is said of a fault of a check, and more behind it. Where the sink fails, a front of that was written.
+fn write_check_with<E: Sink>(err: &mut E, fault: &CheckFault, more: &str) -> Result<(), DeviceFault>
+    requires { E.failed err.old ≡ false }
+    ensures { HasWritten (E.held err.old) (E.held err.new) (E.failed err.new) result (check_message fault.now ++ more.now) }
+{
+    write_check(err, fault)?;
+    write_text(err, more)?;
+    Ok(())
+}
+
+/// Writes what is said of a fault of a search, and more behind it. Where the sink fails, a front of that was written.
+fn write_explore_with<E: Sink>(
+    err: &mut E,
+    fault: &ExploreFault,
+    more: &str,
+) -> Result<(), DeviceFault>
+    requires { E.failed err.old ≡ false }
+    ensures { HasWritten (E.held err.old) (E.held err.new) (E.failed err.new) result (explore_message fault.now ++ more.now) }
+{
+    write_explore(err, fault)?;
+    write_text(err, more)?;
+    Ok(())
+}
+
+/// Says what went wrong with a script and its explanation, and gives the status.
+fn tell_script<E: Sink>(err: &mut E, fault: &ScriptFault, more: &str) -> u8
+    requires works { E.failed err.old ≡ false }
+    requires explains { IsExplained more.now }
+    ensures { ScriptSays (E.held err.old) (E.held err.new) (E.failed err.new) fault.now result }
+{
+    let _ = write_script_with(err, fault, more);
+    script_status(fault)
+}
+
+/// Says what went wrong with a check and its explanation, and gives the status.
+fn tell_check<E: Sink>(err: &mut E, fault: &CheckFault, more: &str) -> u8
+    requires works { E.failed err.old ≡ false }
+    requires explains { IsExplained more.now }
+    ensures { CheckSays (E.held err.old) (E.held err.new) (E.failed err.new) fault.now result }
+{
+    let _ = write_check_with(err, fault, more);
+    check_status(fault)
+}
+
+/// Says what went wrong with a search and its explanation, and gives the status.
+fn tell_explore<E: Sink>(err: &mut E, fault: &ExploreFault, more: &str) -> u8
+    requires works { E.failed err.old ≡ false }
+    requires explains { IsExplained more.now }
+    ensures { ExploreSays (E.held err.old) (E.held err.new) (E.failed err.new) fault.now result }
+{
+    let _ = write_explore_with(err, fault, more);
+    explore_status(fault)
+}
+
+// ---- the commands
+
+/// Does what `script_as_to` does, with that status and that output. Behind what is said of a bad scenario stands its explanation, as a line
+/// `NAME:LINE:COLUMN: WORDS`, or nothing where a growth was refused for it.
+pub fn script_explained_to<S: Source, W: Sink, E: Sink>(
+    alloc: Global,
+    format: Format,
+    input: &mut Kept<'_, S>,
+    out: &mut W,
+    err: &mut E,
+) -> u8
+    requires input_works { S.failed input.old.source ≡ false }
+    requires out_works { W.failed out.old ≡ false }
+    requires err_works { E.failed err.old ≡ false }
+    ensures ends { ScriptEnds format (record {
+      input = S.left input.old.source;
+      before = W.held out.old;
+      after = W.held out.new;
+      source_failed = S.failed input.new.source;
+      sink_failed = W.failed out.new;
+    }) (E.held err.old) (E.held err.new) (E.failed err.new) result }
+    ensures bounded { S.reads input.new.source ≤ S.reads input.old.source + MOST_READ }
+{
+    match script_as(alloc, format, input, out) {
+        Ok(()) => 0,
+        Err(fault) => {
+            let more = script_explanation(alloc, input, &fault);
+            tell_script(err, &fault, more.as_str())
+        }
+    }
+}
+
+/// Does what `check_to` does, with that status and that output. Behind what is said of a bad input stands its explanation, as a line
+/// `NAME:LINE:COLUMN: WORDS`, or nothing where a growth was refused for it.
+pub fn check_explained_to<S: Source, R: Source, W: Sink, E: Sink>(
+    alloc: Global,
+    scenario: &mut Kept<'_, S>,
+    report: &mut Kept<'_, R>,
+    out: &mut W,
+    err: &mut E,
+) -> u8
+    requires scenario_works { S.failed scenario.old.source ≡ false }
+    requires report_works { R.failed report.old.source ≡ false }
+    requires out_works { W.failed out.old ≡ false }
+    requires err_works { E.failed err.old ≡ false }
+    ensures ends { CheckEnds (record {
+      sources = record {
+        scenario = S.left scenario.old.source;
+        report = R.left report.old.source;
+        scenario_failed = S.failed scenario.new.source;
+        report_failed = R.failed report.new.source;
+      };
+      before = W.held out.old;
+      after = W.held out.new;
+      sink_failed = W.failed out.new;
+    }) (E.held err.old) (E.held err.new) (E.failed err.new) result }
+    ensures scenario_bounded { S.reads scenario.new.source ≤ S.reads scenario.old.source + MOST_READ }
+    ensures report_bounded { R.reads report.new.source ≤ R.reads report.old.source + MOST_READ }
+{
+    match answer(alloc, scenario, report, out) {
+        Ok(checked) => status_of(checked),
+        Err(fault) => {
+            let more = check_explanation(alloc, scenario, report, &fault);
+            tell_check(err, &fault, more.as_str())
+        }
+    }
+}
+
+/// Does what `check_whole_to` does, with that status and that output. Behind what is said of a bad input stands its explanation, as a line
+/// `NAME:LINE:COLUMN: WORDS`, or nothing where a growth was refused for it.
+pub fn check_whole_explained_to<S: Source, R: Source, W: Sink, E: Sink>(
+    alloc: Global,
+    scenario: &mut Kept<'_, S>,
+    report: &mut Kept<'_, R>,
+    out: &mut W,
+    err: &mut E,
+) -> u8
+    requires scenario_works { S.failed scenario.old.source ≡ false }
+    requires report_works { R.failed report.old.source ≡ false }
+    requires out_works { W.failed out.old ≡ false }
+    requires err_works { E.failed err.old ≡ false }
+    ensures ends { WholeCheckEnds (record {
+      sources = record {
+        scenario = S.left scenario.old.source;
+        report = R.left report.old.source;
+        scenario_failed = S.failed scenario.new.source;
+        report_failed = R.failed report.new.source;
+      };
+      before = W.held out.old;
+      after = W.held out.new;
+      sink_failed = W.failed out.new;
+    }) (E.held err.old) (E.held err.new) (E.failed err.new) result }
+    ensures scenario_bounded { S.reads scenario.new.source ≤ S.reads scenario.old.source + MOST_READ }
+    ensures report_bounded { R.reads report.new.source ≤ R.reads report.old.source + MOST_READ }
+{
+    match whole_answer(alloc, scenario, report, out) {
+        Ok(checked) => say(err, &checked),
+        Err(fault) => {
+            let more = check_explanation(alloc, scenario, report, &fault);
+            tell_check(err, &fault, more.as_str())
+        }
+    }
+}
+
+/// Does what `explore_to` does, with that status and that output. Behind what is said of a bad input stands its explanation, as a line
+/// `NAME:LINE:COLUMN: WORDS`, or nothing where a growth was refused for it.
+pub fn explore_explained_to<S: Source, R: Source, W: Sink, E: Sink>(
+    alloc: Global,
+    scenario: &mut Kept<'_, S>,
+    keeps: &mut Kept<'_, R>,
+    level: Option<Level>,
+    budget: u64,
+    out: &mut W,
+    err: &mut E,
+) -> u8
+    requires scenario_works { S.failed scenario.old.source ≡ false }
+    requires keeps_works { R.failed keeps.old.source ≡ false }
+    requires out_works { W.failed out.old ≡ false }
+    requires err_works { E.failed err.old ≡ false }
+    ensures ends { Explores level (record {
+      scenario = S.left scenario.old.source;
+      keeps = R.left keeps.old.source;
+      scenario_failed = S.failed scenario.new.source;
+      keeps_failed = R.failed keeps.new.source;
+    }) (record { before = W.held out.old; after = W.held out.new; failed = W.failed out.new })
+        (record { before = E.held err.old; after = E.held err.new; failed = E.failed err.new }) result }
+    ensures scenario_bounded { S.reads scenario.new.source ≤ S.reads scenario.old.source + MOST_READ }
+    ensures keeps_bounded { R.reads keeps.new.source ≤ R.reads keeps.old.source + MOST_READ }
+{
+    let searched = explore_sources(alloc, scenario, keeps, level, budget);
+    match write(out, searched) {
+        Ok(verdict) => verdict_status(verdict),
+        Err(fault) => {
+            let more = rule_explanation(alloc, scenario, keeps, &fault);
+            tell_explore(err, &fault, more.as_str())
+        }
+    }
+}
+
+/// Does what `outcomes_to` does, with that status and that output. Behind what is said of a bad scenario stands its explanation, as a line
+/// `NAME:LINE:COLUMN: WORDS`, or nothing where a growth was refused for it.
+pub fn outcomes_explained_to<S: Source, W: Sink, E: Sink>(
+    alloc: Global,
+    scenario: &mut Kept<'_, S>,
+    level: Option<Level>,
+    budget: u64,
+    out: &mut W,
+    err: &mut E,
+) -> u8
+    requires scenario_works { S.failed scenario.old.source ≡ false }
+    requires out_works { W.failed out.old ≡ false }
+    requires err_works { E.failed err.old ≡ false }
+    ensures ends { GoesThrough level (S.left scenario.old.source) (S.failed scenario.new.source)
+        (record { before = W.held out.old; after = W.held out.new; failed = W.failed out.new })
+        (record { before = E.held err.old; after = E.held err.new; failed = E.failed err.new }) result }
+    ensures bounded { S.reads scenario.new.source ≤ S.reads scenario.old.source + MOST_READ }
+{
+    let gathered = outcomes_of_source(alloc, scenario, level, budget);
+    match write(out, gathered) {
+        Ok(verdict) => verdict_status(verdict),
+        Err(fault) => {
+            let more = search_explanation(alloc, scenario, &fault);
+            tell_explore(err, &fault, more.as_str())
+        }
+    }
+}

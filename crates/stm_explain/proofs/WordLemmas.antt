@@ -1,0 +1,111 @@
+-- The tables of words have the words that the readers know.
+use Rattle.std.proofs.Common.{◌≡◌, ◌||◌, ℕ, List, [], Bool, true, false, cond, Option, Some, None, Result, Ok, Err, is_some, is_ok, refl, true≢false, codes}
+use Rattle.serde_json.specs.Data.{Data, Items}
+use Rattle.stm_json.specs.Outcome.{Outcome, bad}
+use Rattle.stm_json.specs.declared.cause.Cause.TheVariants.{Shape}
+use Rattle.stm_program_json.specs.Words.{statement_word, expression_word, condition_word}
+use Rattle.stm_txn_json.specs.Words.{same, order_named, target_named}
+use Rattle.stm_txn_json.specs.Reading.{operation_worded}
+use Rattle.stm_texts.specs.Reading.{level_named, event_worded, watcher_event}
+use Rattle.stm_explain.specs.Words.{TablesAreTheReaders, OthersAreRefused, is_among, level_words, order_words, event_words, statement_words}
+use Rattle.stm_explain.specs.Words.{expression_words, condition_words, compare_words, operation_words}
+
+-- a choice by one word more
+some : {A : Type 0} (b : Bool) (x : A) (o : Option A) (among : Bool) → is_some o ≡ among → is_some (cond b (Some x) o) ≡ (b || among)
+some true x o among rest = refl
+some false x o among rest = rest
+
+ok : {A E : Type 0} (b : Bool) (x : A) (o : Result A E) (among : Bool) → is_ok o ≡ among → is_ok (cond b (Ok x) o) ≡ (b || among)
+ok true x o among rest = refl
+ok false x o among rest = rest
+
+other : {A : Type 0} (b among : Bool) (x o e : A) → (among ≡ false → o ≡ e) → (b || among) ≡ false → cond b x o ≡ e
+other true among x o e rest none = absurd (true≢false none)
+other false among x o e rest none = rest none
+
+statements : (word : List ℕ) → is_some (statement_word word) ≡ is_among word statement_words
+unfolding statement_word
+statements word =
+    some (same word (codes "set")) _ _ _
+    (some (same word (codes "put")) _ _ _
+    (some (same word (codes "if")) _ _ _
+    (some (same word (codes "for")) _ _ _
+    (some (same word (codes "del")) _ _ _
+    (some (same word (codes "emit")) _ _ _
+    (some (same word (codes "abort")) _ None false refl))))))
+
+expressions : (word : List ℕ) → is_some (expression_word word) ≡ is_among word expression_words
+unfolding expression_word
+expressions word =
+    some (same word (codes "var")) _ _ _
+    (some (same word (codes "get")) _ _ _
+    (some (same word (codes "rev")) _ _ _
+    (some (same word (codes "text_of")) _ _ _
+    (some (same word (codes "num_of")) _ _ _
+    (some (same word (codes "cat")) _ _ _
+    (some (same word (codes "add")) _ _ _
+    (some (same word (codes "sub")) _ _ _
+    (some (same word (codes "mul")) _ _ _
+    (some (same word (codes "div")) _ _ _
+    (some (same word (codes "rem")) _ None false refl))))))))))
+
+conditions : (word : List ℕ) → is_some (condition_word word) ≡ is_among word condition_words
+unfolding condition_word
+conditions word =
+    some (same word (codes "eq")) _ _ _
+    (some (same word (codes "less")) _ _ _
+    (some (same word (codes "not")) _ _ _
+    (some (same word (codes "and")) _ _ _
+    (some (same word (codes "or")) _ None false refl))))
+
+levels : (word : List ℕ) → is_ok (level_named word) ≡ is_among word level_words
+unfolding level_named
+levels word =
+    ok (same word (codes "SerializableSnapshot")) _ _ _
+    (ok (same word (codes "Serializable")) _ _ _
+    (ok (same word (codes "RepeatableReads")) _ _ _
+    (ok (same word (codes "ReadCommitted")) _ (bad Shape) false refl)))
+
+orders : (word : List ℕ) → is_ok (order_named word) ≡ is_among word order_words
+unfolding order_named
+orders word =
+    ok (same word (codes "=")) _ _ _
+    (ok (same word (codes "!=")) _ _ _
+    (ok (same word (codes ">")) _ _ _
+    (ok (same word (codes "<")) _ (bad Shape) false refl)))
+
+compares : (word : List ℕ) → is_ok (target_named word) ≡ is_among word compare_words
+unfolding target_named
+compares word =
+    ok (same word (codes "version")) _ _ _
+    (ok (same word (codes "create")) _ _ _
+    (ok (same word (codes "mod")) _ _ _
+    (ok (same word (codes "lease")) _ _ _
+    (ok (same word (codes "value")) _ (bad Shape) false refl))))
+
+pub tables : TablesAreTheReaders
+tables = (statements, expressions, conditions, levels, orders, compares)
+
+events : (d : Data) (word : List ℕ) (ds : Items) → is_among word event_words ≡ false → event_worded d (Some (word, ds)) ≡ bad Shape
+unfolding watcher_event
+events d word ds =
+    other (same word (codes "start")) _ _ _ _
+    (other (same word (codes "step")) _ _ _ _
+    (other (same word (codes "txn")) _ _ _ _
+    (other (same word (codes "grant")) _ _ _ _
+    (other (same word (codes "keep")) _ _ _ _
+    (other (same word (codes "revoke")) _ _ _ _
+    (other (same word (codes "advance")) _ _ _ _
+    (other (same word (codes "watch_key")) _ _ _ _
+    (other (same word (codes "watch_range")) _ _ _ _
+    (other (same word (codes "poll")) _ _ _ _
+    (other (same word (codes "cancel")) _ _ _ _ (λ none. refl)))))))))))
+
+operations : (word : List ℕ) (ds : Items) → is_among word operation_words ≡ false → operation_worded (Some (word, ds)) ≡ bad Shape
+operations word ds =
+    other (same word (codes "get")) _ _ _ _
+    (other (same word (codes "put")) _ _ _ _
+    (other (same word (codes "del")) _ _ _ _ (λ none. refl)))
+
+pub others : OthersAreRefused
+others = (events, operations)

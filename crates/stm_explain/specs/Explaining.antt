@@ -1,0 +1,17 @@
+-- Explanations of faults.
+use Rattle.std.specs.Prelude.{◌≡◌, ◌⊎◌, ℕ, ◌≤◌, List, [], ◌++◌, length, take, codes, decimal}
+use Rattle.stm_explain.specs.Positions.{place_behind}
+
+-- a line of explanation: the name of the file, the line and the column, and what is said
+abbrev pub explanation : List ℕ → ℕ → ℕ → List ℕ → List ℕ
+explanation name line column words = name ++ codes ":" ++ decimal line ++ codes ":" ++ decimal column ++ codes ": " ++ words ++ codes "\n"
+
+-- it is one, whose line and column are those of an offset in the text
+abbrev pub IsExplanation : List ℕ → List ℕ → List ℕ → Type 0
+IsExplanation name text said =
+    (offset : ℕ) × (offset ≤ length text) × (words : List ℕ)
+    × (said ≡ explanation name (place_behind (take offset text)).0 (place_behind (take offset text)).1 words)
+
+-- it is one, or nothing is said
+abbrev pub ExplainsOrNothing : List ℕ → List ℕ → List ℕ → Type 0
+ExplainsOrNothing name text said = (said ≡ []) ⊎ IsExplanation name text said

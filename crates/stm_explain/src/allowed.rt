@@ -1,0 +1,150 @@
+//! What is allowed in a place.
+
+use crate::forms::{
+    BEGINNINGS, COMPARES, CONDITIONS, EVENTS, EXPRESSIONS, LEVELS, LINES, OPERATIONS, ORDERS, Part,
+    Parts, STATEMENTS,
+};
+use std::alloc::{AllocError, Global};
+use strsim::levenshtein;
+
+/// A word of more bytes than this is near to none.
+const MOST_NEAR: usize = 60;
+
+/// What stands behind a word, where it is one of these.
+fn behind(forms: &[(&str, Parts)], word: &str) -> Option<Parts> {
+    for form in forms {
+        if form.0 == word {
+            return Some(form.1);
+        }
+    }
+    None
+}
+
+/// What stands behind a word in such a place, where the word is allowed there.
+pub(crate) fn parts_behind(part: Part, word: &str) -> Option<Parts> {
+    match part {
+        Part::Event => behind(&EVENTS, word),
+        Part::Beginning => behind(&BEGINNINGS, word),
+        Part::Level => behind(&LEVELS, word),
+        Part::Statement => behind(&STATEMENTS, word),
+        Part::Expression => behind(&EXPRESSIONS, word),
+        Part::Condition => behind(&CONDITIONS, word),
+        Part::Compare => behind(&COMPARES, word),
+        Part::Operation => behind(&OPERATIONS, word),
+        Part::Order => behind(&ORDERS, word),
+        Part::Line => behind(&LINES, word),
+        _ => None,
+    }
+}
+
+/// The word of these that is nearest to one, by edits of characters: an empty one, where each is further than half of the word.
+fn nearest<'a>(
+    alloc: Global,
+    forms: &[(&'a str, Parts)],
+    word: &str,
+) -> Result<&'a str, AllocError> {
+    let mut found = "";
+    if word.len() > MOST_NEAR {
+        return Ok(found);
+    }
+    let mut least = word.len() / 2 + 1;
+    for form in forms {
+        let distance = levenshtein(alloc, word, form.0)?;
+        if distance < least {
+            least = distance;
+            found = form.0;
+        }
+    }
+    Ok(found)
+}
+
+/// Adds a word in quotes.
+fn push_quoted(text: &mut String, word: &str) -> Result<(), AllocError> {
+    text.push('"')?;
+    text.push_str(word)?;
+    text.push('"')
+}
+
+/// Adds these words, with commas between them.
+fn push_words(text: &mut String, forms: &[(&str, Parts)]) -> Result<(), AllocError> {
+    for (index, form) in forms.iter().enumerate() {
+        if index > 0 {
+            text.push_str(", ")?;
+        }
+        push_quoted(text, form.0)?;
+    }
+    Ok(())
+}
+
+/// The words of a table, and that of them which is nearest to one that is not among them.
+fn listed(alloc: Global, forms: &[(&str, Parts)], word: &str) -> Result<String, AllocError> {
+    let mut text = String::from_str(alloc, "one of ")?;
+    push_words(&mut text, forms)?;
+    let near = nearest(alloc, forms, word)?;
+    if !near.is_empty() {
+        text.push_str("; the nearest is ")?;
+        push_quoted(&mut text, near)?;
+    }
+    Ok(text)
+}
+
+/// The words that are allowed in such a place, and which of them is nearest to one that is not.
+pub(crate) fn words_allowed(alloc: Global, part: Part, word: &str) -> Result<String, AllocError> {
+    match part {
+        Part::Event => listed(alloc, &EVENTS, word),
+        Part::Beginning => listed(alloc, &BEGINNINGS, word),
+        Part::Level => listed(alloc, &LEVELS, word),
+        Part::Statement => listed(alloc, &STATEMENTS, word),
+        Part::Expression => listed(alloc, &EXPRESSIONS, word),
+        Part::Condition => listed(alloc, &CONDITIONS, word),
+        Part::Compare => listed(alloc, &COMPARES, word),
+        Part::Operation => listed(alloc, &OPERATIONS, word),
+        Part::Order => listed(alloc, &ORDERS, word),
+        Part::Line => listed(alloc, &LINES, word),
+        _ => Ok(String::new(alloc)),
+    }
+}
+
+/// What a word is called that begins such a place.
+pub(crate) fn noun(part: Part) -> &'static str {
+    match part {
+        Part::Event | Part::Beginning => "event",
+        Part::Level => "level",
+        Part::Statement => "statement",
+        Part::Condition => "condition",
+        Part::Compare => "compare",
+        Part::Operation => "operation",
+        Part::Order => "order",
+        Part::Line => "line",
+        _ => "expression",
+    }
+}
+
+/// What is allowed in such a place.
+pub(crate) fn described(part: Part) -> &'static str {
+    match part {
+        Part::Scenario => "an array of events",
+        Part::Event => "an event, which is an array that begins with a word,",
+        Part::Beginning => "[\"begin\",REVISION]",
+        Part::Opening => "a whole number from 1 to 9223372036854775806",
+        Part::Level => "a level",
+        Part::Limit => "a whole number from 0 to 4294967295",
+        Part::JobLimit => "a whole number from 1 to 4294967295",
+        Part::Program => "an array of statements",
+        Part::Statement => "a statement, which is an array that begins with a word,",
+        Part::Expression =>
+            "an expression, which is a text, a whole number of 64 bits or an array that begins with a word,",
+        Part::Condition => "a condition, which is an array that begins with a word,",
+        Part::Variable => "a variable, which is a whole number from 0 to 15,",
+        Part::Turns => "a whole number from 0 to 1000",
+        Part::Compares => "an array of compares",
+        Part::Compare => "a compare, which is an array that begins with a word,",
+        Part::Operations => "an array of operations",
+        Part::Operation => "an operation, which is an array that begins with a word,",
+        Part::Order => "an order",
+        Part::Text => "a text",
+        Part::Number => "a whole number from 0 to 9223372036854775807",
+        Part::Line => "a line of a report, which is an array with a word in it,",
+        Part::OfLine => "something else",
+    }
+}

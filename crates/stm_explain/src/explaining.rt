@@ -1,0 +1,316 @@
+//! The explanation of a fault.
+ghost use Rattle.std.specs.Prelude.{◌≡◌, ◌≤◌, length, IfOk, string_bytes};
+ghost use Rattle.stm_explain.specs.Explaining.{IsExplanation, explanation};
+
+use crate::allowed::{described, noun, parts_behind, words_allowed};
+use crate::forms::{Input, Part};
+use crate::offsets::{line_length, line_start, offset_of};
+use crate::position::position_of;
+use crate::syntax::told_of_text;
+use crate::values::shown;
+use crate::walking::{Found, steps_of, walk};
+use serde_json::Value;
+use std::alloc::{AllocError, Global};
+use stm_json::{BadInput, Cause, worded_array};
+
+/// What is told of a fault.
+#[derive(Drop)]
+pub(crate) struct Told {
+    /// Where in the text it stands.
+    pub(crate) offset: usize,
+    /// What was found and what is allowed.
+    pub(crate) words: String,
+}
+
+impl Told {
+    /// These words, of a fault at an offset.
+    pub(crate) fn new(alloc: Global, offset: usize, words: &str) -> Result<Told, AllocError>
+        ensures { IfOk result (λ told. told.offset ≡ offset) }
+    {
+        let words = String::from_str(alloc, words)?;
+        Ok(Told { offset, words })
+    }
+}
+
+/// What is wanted in the place of the whole input.
+fn whole_of(input: Input) -> Part {
+    match input {
+        Input::Scenario | Input::Jobs | Input::Search => Part::Scenario,
+        Input::Program => Part::Program,
+        Input::Report => Part::Line,
+    }
+}
+
+/// What is wanted in such a place of this input.
+fn wanted(input: Input, part: Part) -> Part {
+    match (input, part) {
+        (Input::Jobs, Part::Limit) => Part::JobLimit,
+        _ => part,
+    }
+}
+
+/// Where a word has no place that is allowed elsewhere.
+fn nowhere(input: Input) -> &'static str {
+    match input {
+        Input::Jobs => "in a scenario of jobs, which has starts and what changes the store",
+        Input::Search => "in a scenario that is searched, whose steps are what is searched for",
+        _ => "here",
+    }
+}
+
+/// What is said of a value that does not fit.
+fn unfit(alloc: Global, found: Found<'_>) -> Result<String, AllocError> {
+    let value = shown(alloc, found.value)?;
+    let wanted = described(found.part);
+    format!(in alloc; "found {value}, where {wanted} is wanted")
+}
+
+/// What is said of an unknown word.
+fn unknown(alloc: Global, part: Part, word: &str, value: &Value) -> Result<String, AllocError> {
+    let noun = noun(part);
+    let word_shown = shown(alloc, value)?;
+    let allowed = words_allowed(alloc, part, word)?;
+    format!(in alloc; "unknown {noun} {word_shown}: {allowed}")
+}
+
+/// What is said of an array whose word is known and wants so many elements behind it.
+fn miscounted(
+    alloc: Global,
+    input: Input,
+    word: &str,
+    wants: usize,
+    has: usize,
+) -> Result<String, AllocError> {
+    if wants == has {
+        let nowhere = nowhere(input);
+        return format!(in alloc; "\"{word}\" has no place {nowhere}");
+    }
+    format!(in alloc; "elements behind \"{word}\": {has} found, {wants} wanted")
+}
+
+/// What is said of an array that begins with a word.
+fn misworded(
+    alloc: Global,
+    input: Input,
+    found: Found<'_>,
+    word: &str,
+    elements: &[Value],
+) -> Result<String, AllocError> {
+    match parts_behind(found.part, word) {
+        Some(parts) => miscounted(alloc, input, word, parts.count(), elements.len()),
+        None => match found.value.get(0) {
+            Some(first) => unknown(alloc, found.part, word, first),
+            None => unfit(alloc, found),
+        },
+    }
+}
+
+/// What is said of a value of the wrong shape.
+fn misshaped(alloc: Global, input: Input, found: Found<'_>) -> Result<String, AllocError> {
+    match found.part {
+        Part::Event
+        | Part::Beginning
+        | Part::Statement
+        | Part::Expression
+        | Part::Condition
+        | Part::Compare
+        | Part::Operation => match worded_array(found.value) {
+            Some((word, elements)) => misworded(alloc, input, found, word, elements),
+            None => unfit(alloc, found),
+        },
+        Part::Level | Part::Order => match found.value.as_str() {
+            Some(word) => unknown(alloc, found.part, word, found.value),
+            None => unfit(alloc, found),
+        },
+        Part::Line => misshaped_line(alloc, found),
+        _ => unfit(alloc, found),
+    }
+}
+
+/// The word of a line of a report, its first element or the one behind a number.
+fn word_of_line(line: &Value) -> Option<&Value> {
+    let first = line.get(0)?;
+    if first.is_number() {
+        line.get(1)
+    } else {
+        Some(first)
+    }
+}
+
+/// What is said of a line of the wrong shape.
+fn misshaped_line(alloc: Global, found: Found<'_>) -> Result<String, AllocError> {
+    let Some(first) = word_of_line(found.value) else {
+        return unfit(alloc, found);
+    };
+    let Some(word) = first.as_str() else {
+        return unfit(alloc, found);
+    };
+    match parts_behind(Part::Line, word) {
+        Some(_) => unfit_line(alloc, found, word),
+        None => unknown(alloc, Part::Line, word, first),
+    }
+}
+
+/// What is said of a line with a known word, whose elements are too many or too few, or that has no number where one is due.
+fn unfit_line(alloc: Global, found: Found<'_>, word: &str) -> Result<String, AllocError> {
+    let value = shown(alloc, found.value)?;
+    format!(in alloc; "found {value}, which has not the elements of a line \"{word}\"")
+}
+
+/// What is said of a value at which reading stopped.
+fn words_of(
+    alloc: Global,
+    input: Input,
+    found: Found<'_>,
+    cause: Cause,
+) -> Result<String, AllocError> {
+    match cause {
+        Cause::Shape => misshaped(alloc, input, found),
+        Cause::TooDeep => String::from_str(alloc, "a program nests at most 32 deep"),
+        Cause::TooManyNodes => String::from_str(alloc, "a program has at most 4096 nodes"),
+        Cause::TooLong => String::from_str(alloc, "a text of a program has at most 65536 bytes"),
+        Cause::TooMany => String::from_str(alloc, "a scenario has at most 100000 events"),
+        Cause::Range | Cause::NotJson => unfit(alloc, found),
+    }
+}
+
+/// What is told of a fault of a text that is JSON.
+fn told_of_value(
+    alloc: Global,
+    input: Input,
+    text: &str,
+    value: &Value,
+    steps: &[usize],
+    cause: Cause,
+) -> Result<Told, AllocError>
+    ensures { IfOk result (λ told. told.offset ≤ length text.now) }
+{
+    let offset = offset_of(alloc, text, steps)?;
+    match walk(whole_of(input), value, steps) {
+        Some(Found { part, value }) => {
+            let part = wanted(input, part);
+            let words = words_of(alloc, input, Found { part, value }, cause)?;
+            Ok(Told { offset, words })
+        }
+        None => Told::new(alloc, offset, "what stands here is not wanted"),
+    }
+}
+
+/// What is told of a fault of a text; of one that is no JSON, that.
+fn told_in(
+    alloc: Global,
+    input: Input,
+    text: &[u8],
+    steps: &[usize],
+    cause: Cause,
+) -> Result<Told, AllocError>
+    ensures { IfOk result (λ told. told.offset ≤ length text.now) }
+{
+    let Ok(readable) = std::str::from_utf8(text) else {
+        return told_of_text(alloc, text);
+    };
+    match Value::from_str(alloc, readable) {
+        Ok(value) => told_of_value(alloc, input, readable, &value, steps, cause),
+        Err(_) => told_of_text(alloc, text),
+    }
+}
+
+/// The same of a fault in a line of a text, at so many bytes from the text's front.
+fn told_in_line(
+    alloc: Global,
+    text: &[u8],
+    line: usize,
+    steps: &[usize],
+    cause: Cause,
+) -> Result<Told, AllocError>
+    ensures { IfOk result (λ told. told.offset ≤ length text.now) }
+{
+    let start = line_start(text, line);
+    let (_, rest) = text.split_at(start);
+    let end = line_length(rest);
+    if end == rest.len() {
+        return Told::new(alloc, start, "the last line is not ended by a line feed");
+    }
+    let told = told_in(alloc, Input::Report, &rest[..end], steps, cause)?;
+    Ok(Told {
+        offset: start + told.offset,
+        words: told.words,
+    })
+}
+
+/// What is told of a fault of an input.
+fn told_of(
+    alloc: Global,
+    input: Input,
+    text: &[u8],
+    steps: &[usize],
+    cause: Cause,
+) -> Result<Told, AllocError>
+    ensures { IfOk result (λ told. told.offset ≤ length text.now) }
+{
+    let Some((first, rest)) = steps.split_first() else {
+        return told_of_whole(alloc, input, text, cause);
+    };
+    match input {
+        Input::Report => told_in_line(alloc, text, *first, rest, cause),
+        _ => told_in(alloc, input, text, steps, cause),
+    }
+}
+
+/// What is told of a fault of the whole input.
+fn told_of_whole(alloc: Global, input: Input, text: &[u8], cause: Cause) -> Result<Told, AllocError>
+    ensures { IfOk result (λ told. told.offset ≤ length text.now) }
+{
+    match cause {
+        Cause::TooLong => Told::new(alloc, text.len(), "an input has at most 16777216 bytes"),
+        _ => told_in(alloc, input, text, &[], cause),
+    }
+}
+
+/// The explanation of a fault that a reader found in a text of this kind, as one line: `NAME:LINE:COLUMN: WORDS` and a line feed.
+///
+/// The name is that of the text's file, line and column are those of an offset in the text. The words say what was found there and what is
+/// allowed, or why the text is no JSON. It fails where a growth was refused.
+pub fn explain(
+    alloc: Global,
+    input: Input,
+    name: &str,
+    text: &[u8],
+    bad: &BadInput,
+) -> Result<String, AllocError>
+    ensures { IfOk result (λ line. IsExplanation name.now text.now (string_bytes line)) }
+{
+    let steps = steps_of(alloc, bad.place.as_str())?;
+    let told = told_of(alloc, input, text, steps.as_slice(), bad.cause)?;
+    let at = position_of(text, told.offset);
+    line_of(alloc, name, at.line, at.column, told.words.as_str())
+}
+
+/// The explanation of what stands in a text of JSON at the place that these indices lead to, as one line: `NAME:LINE:COLUMN: WORDS` and a line
+/// feed. It fails where a growth was refused.
+pub fn explained_at(
+    alloc: Global,
+    name: &str,
+    text: &str,
+    steps: &[usize],
+    words: &str,
+) -> Result<String, AllocError>
+    ensures { IfOk result (λ line. IsExplanation name.now text.now (string_bytes line)) }
+{
+    let offset = offset_of(alloc, text, steps)?;
+    let at = position_of(text.as_bytes(), offset);
+    line_of(alloc, name, at.line, at.column, words)
+}
+
+/// A line of explanation.
+fn line_of(
+    alloc: Global,
+    name: &str,
+    line: usize,
+    column: usize,
+    words: &str,
+) -> Result<String, AllocError>
+    ensures { IfOk result (λ text. string_bytes text ≡ explanation name.now line column words.now) }
+{
+    format!(in alloc; "{name}:{line}:{column}: {words}\n")
+}

@@ -1,0 +1,72 @@
+//! Sources of which is kept what was read.
+ghost use Rattle.std.specs.Prelude.{◌≡◌, string_bytes};
+ghost use Rattle.stm_explain.specs.Explaining.{ExplainsOrNothing};
+
+use crate::explaining::explain;
+use crate::forms::Input;
+use std::alloc::Global;
+use stm_devices::{DeviceFault, Source};
+use stm_json::BadInput;
+
+/// A source with the name of its file, which keeps what was read of it. It reads as the source itself does.
+#[derive(Drop)]
+pub struct Kept<'a, S> {
+    /// The name, as people know it.
+    pub name: &'a str,
+    /// The source.
+    pub source: S,
+    /// What was read, in order.
+    pub bytes: Vec<u8>,
+    /// Whether bytes are missing there, since a growth was refused.
+    pub is_cut: bool,
+}
+
+impl<'a, S> Kept<'a, S> {
+    /// A source of which nothing was read.
+    pub fn new(alloc: Global, name: &'a str, source: S) -> Kept<'a, S>
+        ensures { result.source ≡ source }
+    {
+        Kept {
+            name,
+            source,
+            bytes: Vec::new(alloc),
+            is_cut: false,
+        }
+    }
+
+    /// The explanation of a fault that a reader found in what was read, as a line; nothing where a growth was refused, now or before.
+    pub fn explanation(&self, alloc: Global, input: Input, bad: &BadInput) -> String
+        ensures { ExplainsOrNothing self.now.name.now self.now.bytes.items (string_bytes result) }
+    {
+        if self.is_cut {
+            return String::new(alloc);
+        }
+        match explain(alloc, input, self.name, self.bytes.as_slice(), bad) {
+            Ok(line) => line,
+            Err(_) => String::new(alloc),
+        }
+    }
+
+    /// Keeps bytes that were read, unless some are missing already.
+    fn keep(&mut self, bytes: &[u8])
+        ensures { self.new.source ≡ self.old.source }
+    {
+        if !self.is_cut && self.bytes.extend_from_slice(bytes).is_err() {
+            self.is_cut = true;
+        }
+    }
+}
+
+impl<'a, S: Source> Source for Kept<'a, S> {
+    ghost left = { λ k. S.left k.source };
+
+    ghost failed = { λ k. S.failed k.source };
+
+    ghost reads = { λ k. S.reads k.source };
+
+    fn read(&mut self, buffer: &mut [u8]) -> Result<usize, DeviceFault> {
+        let count = self.source.read(buffer)?;
+        self.keep(&buffer[..count]);
+        Ok(count)
+    }
+}

@@ -1,0 +1,26 @@
+//! What is said, beside its place and cause, of a fault of an input: where in the file it stands, what was found there, and what is allowed.
+//!
+//! Nothing here decides anything: a reader has refused the input, and its answer stands. An explanation is text for people.
+#![tactic(auto)]
+
+mod allowed;
+mod explaining;
+mod forms;
+mod kept;
+mod laws;
+mod offsets;
+mod position;
+mod syntax;
+mod values;
+mod walking;
+
+pub use explaining::{explain, explained_at};
+pub use forms::{
+    COMPARES, CONDITIONS, EVENTS, EXPRESSIONS, Input, LEVELS, LINES, OPERATIONS, ORDERS, Part,
+    STATEMENTS,
+};
+pub use kept::Kept;
+pub use laws::words_are_those_of_readers;
+pub use position::{Position, position_of};
+pub use values::shown;
+pub use walking::part_of;

@@ -1,0 +1,51 @@
+//! Lines and columns.
+ghost use Rattle.std.specs.Prelude.{◌≡◌, ◌≤◌, ◌+◌, ◌^◌, length, take};
+ghost use Rattle.stm_explain.specs.Positions.{next as next_place, place_behind};
+
+/// Where a byte of a file stands.
+#[derive(Clone, Copy, Debug, PartialEq, Eq)]
+pub struct Position {
+    /// Its line, counted from 1.
+    pub line: usize,
+    /// Its column, counted from 1: so many bytes stand before it in its line, and 1.
+    pub column: usize,
+}
+
+/// The line and the column behind a byte, by those of the byte.
+fn next(line: usize, column: usize, byte: u8) -> (usize, usize)
+    requires small { line + column ≤ 2 ^ 63 + 1 }
+    requires counted { 1 ≤ column }
+    ensures place { result ≡ next_place (line, column) byte }
+    ensures bounded { result.0 + result.1 ≤ line + column + 1 }
+    ensures counted { 1 ≤ result.1 }
+{
+    if byte == b'\n' {
+        (line + 1, 1)
+    } else {
+        (line, column + 1)
+    }
+}
+
+/// The position behind these bytes.
+fn position_behind(bytes: &[u8]) -> Position
+    ensures { (result.line, result.column) ≡ place_behind bytes.now }
+{
+    let mut line = 1;
+    let mut column = 1;
+    for byte in bytes {
+        let (next_line, next_column) = next(line, column, *byte);
+        line = next_line;
+        column = next_column;
+    }
+    Position { line, column }
+}
+
+/// The position of the byte at an offset of a text, or of the text's end.
+///
+/// The line is the number of line feeds before it and 1, the column the number of bytes behind the last of them and 1.
+pub fn position_of(text: &[u8], offset: usize) -> Position
+    requires { offset ≤ length text.now }
+    ensures { (result.line, result.column) ≡ place_behind (take offset text.now) }
+{
+    position_behind(&text[..offset])
+}

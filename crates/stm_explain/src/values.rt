@@ -1,0 +1,20 @@
+//! Values as they are shown.
+
+use serde_json::Value;
+use std::alloc::{AllocError, Global};
+
+/// So many bytes of a value's text are shown at most.
+const MOST_SHOWN: usize = 60;
+
+/// A value in its shortest spelling; of one that is long, the front.
+pub fn shown(alloc: Global, value: &Value) -> Result<String, AllocError> {
+    let text = value.to_string(alloc)?;
+    if text.len() <= MOST_SHOWN {
+        return Ok(text);
+    }
+    let whole = text.as_str();
+    match whole.get(..whole.floor_char_boundary(MOST_SHOWN)) {
+        Some(front) => format!(in alloc; "{front}.."),
+        None => String::from_str(alloc, ".."),
+    }
+}

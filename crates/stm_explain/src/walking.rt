@@ -1,0 +1,78 @@
+//! From the place of a fault to the value there, and to what is wanted in its stead.
+
+use crate::allowed::parts_behind;
+use crate::forms::Part;
+use serde_json::Value;
+use std::alloc::{AllocError, Global};
+use stm_json::worded_array;
+
+/// A value of an input, and what is wanted in its place.
+#[derive(Clone, Copy)]
+pub(crate) struct Found<'a> {
+    /// What is wanted.
+    pub(crate) part: Part,
+    /// The value.
+    pub(crate) value: &'a Value,
+}
+
+/// The indices that a place leads by, each in the array that the ones before it lead to.
+pub(crate) fn steps_of(alloc: Global, place: &str) -> Result<Vec<usize>, AllocError> {
+    let mut steps = Vec::new(alloc);
+    for part in place.split('/') {
+        if let Ok(index) = part.parse::<usize>() {
+            steps.push(index)?;
+        }
+    }
+    Ok(steps)
+}
+
+/// Whether a value is an array that begins with the word `begin`.
+fn begins(value: &Value) -> bool {
+    match worded_array(value) {
+        Some((word, _)) => word == "begin",
+        None => false,
+    }
+}
+
+/// What is wanted at an index of an array that begins with a word; `None` where the word is not allowed, or has nothing there.
+pub fn part_of(part: Part, array: &Value, index: usize) -> Option<Part> {
+    let (word, _) = worded_array(array)?;
+    parts_behind(part, word)?.at(index)
+}
+
+/// What is wanted at an index of a scenario, whose element there is this.
+fn event_part(index: usize, element: &Value) -> Part {
+    if index == 0 && begins(element) {
+        Part::Beginning
+    } else {
+        Part::Event
+    }
+}
+
+/// What is wanted at an index of an array, whose element there is this.
+fn part_within(part: Part, array: &Value, index: usize, element: &Value) -> Option<Part> {
+    match part {
+        Part::Scenario => Some(event_part(index, element)),
+        Part::Program => Some(Part::Statement),
+        Part::Compares => Some(Part::Compare),
+        Part::Operations => Some(Part::Operation),
+        Part::Line | Part::OfLine => Some(Part::OfLine),
+        _ => part_of(part, array, index),
+    }
+}
+
+/// The element of an array that was found, and what is wanted there; `None` where it has none there.
+fn element<'a>(found: Found<'a>, index: usize) -> Option<Found<'a>> {
+    let value = found.value.get(index)?;
+    let part = part_within(found.part, found.value, index, value)?;
+    Some(Found { part, value })
+}
+
+/// The value that some steps lead to, and what is wanted in its place; `None` where they lead to none.
+pub(crate) fn walk<'a>(part: Part, value: &'a Value, steps: &[usize]) -> Option<Found<'a>> {
+    let mut found = Found { part, value };
+    for index in steps {
+        found = element(found, *index)?;
+    }
+    Some(found)
+}

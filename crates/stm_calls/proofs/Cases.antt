@@ -3,7 +3,6 @@ use Rattle.std.proofs.Common.{◌≡◌, ℕ, List, map, Option, Some, None, Ok,
 use Rattle.std.specs.Prelude.{Result, slice_get}
 use Rattle.stm_history.specs.declared.key_state.ReadAnswer.{ReadAnswer}
 use Rattle.stm_history.specs.History.{now}
-use Rattle.stm_leases.specs.Live.{is_live_in}
 use Rattle.stm_program.specs.declared.level.Level.{Level}
 use Rattle.stm_program.specs.declared.write.Write.{Write}
 use Rattle.stm_program.specs.Writes.{latest_writes}
@@ -11,7 +10,7 @@ use Rattle.stm_meaning.specs.declared.run.Run.{Run}
 use Rattle.stm_txn.specs.declared.answer.FailedCompare.{FailedCompare}
 use Rattle.stm_txn.specs.declared.refusal.Refusal.{Refusal}
 use Rattle.stm_txn.specs.Outcome.{Done}
-use Rattle.stm_txn.specs.Standing.{Standing, Step, with_history}
+use Rattle.stm_txn.specs.Standing.{Standing, Step, with_history, terms_of}
 use Rattle.stm_compile.specs.Answers.{answer_now}
 use Rattle.stm_compile.specs.CommitTxn.{reread_keys}
 use Rattle.stm_compile.specs.Committed.{committed}
@@ -55,10 +54,10 @@ committed_as s after level reads writes revision (Err cause) told = absurd (cc)
 
 pub has_committed : (s after : Standing) (level : Level) (reads : List ReadAnswer) (run : Run) (revision : ℕ) →
     sent s level reads run ≡ Ok record { answer = Committed revision; next = after } →
-    HasCommitted s after (committed s.history (is_live_in s.live) level reads run) revision
+    HasCommitted s after (committed (terms_of s) level reads run) revision
 unfolding step_to
 has_committed s after level reads run revision told =
-    committed_as s after level reads (latest_writes run.writes) revision (committed s.history (is_live_in s.live) level reads run) told
+    committed_as s after level reads (latest_writes run.writes) revision (committed (terms_of s) level reads run) told
 
 -- ---- it is told as failed
 
@@ -119,10 +118,10 @@ failed_as s after level reads writes key seen now_modified answers (Err cause) t
 
 pub has_failed : (s after : Standing) (level : Level) (reads : List ReadAnswer) (run : Run) (key : List ℕ) (seen now_modified : ℕ)
     (answers : List ReadAnswer) → sent s level reads run ≡ Ok record { answer = Failed key seen now_modified answers; next = after } →
-    HasFailed s after level reads (latest_writes run.writes) (committed s.history (is_live_in s.live) level reads run) key seen now_modified answers
+    HasFailed s after level reads (latest_writes run.writes) (committed (terms_of s) level reads run) key seen now_modified answers
 unfolding step_to
 has_failed s after level reads run key seen now_modified answers told =
-    failed_as s after level reads (latest_writes run.writes) key seen now_modified answers (committed s.history (is_live_in s.live) level reads run) told
+    failed_as s after level reads (latest_writes run.writes) key seen now_modified answers (committed (terms_of s) level reads run) told
 
 -- ---- it is refused
 
@@ -132,6 +131,6 @@ refused_as s level reads writes cause (Ok done) told = absurd (cc)
 refused_as s level reads writes cause (Err first) told = let same : first ≡ cause = cc in ap (λ (r : Refusal). Err r) same
 
 pub is_refused : (s : Standing) (level : Level) (reads : List ReadAnswer) (run : Run) (cause : Refusal) → sent s level reads run ≡ Err cause →
-    committed s.history (is_live_in s.live) level reads run ≡ Err cause
+    committed (terms_of s) level reads run ≡ Err cause
 is_refused s level reads run cause told =
-    refused_as s level reads (latest_writes run.writes) cause (committed s.history (is_live_in s.live) level reads run) told
+    refused_as s level reads (latest_writes run.writes) cause (committed (terms_of s) level reads run) told

@@ -6,7 +6,6 @@ use Rattle.std.specs.List.{list_any}
 use Rattle.stm_history.specs.declared.change.Change.{Change}
 use Rattle.stm_history.specs.declared.key_state.ReadAnswer.{ReadAnswer}
 use Rattle.stm_history.specs.History.{History, now}
-use Rattle.stm_leases.specs.Live.{is_live_in}
 use Rattle.stm_program.specs.declared.level.Level.{Level}
 use Rattle.stm_program.specs.declared.write.Write.{Write}
 use Rattle.stm_program.specs.Writes.{latest_writes}
@@ -21,7 +20,8 @@ use Rattle.stm_txn.specs.declared.refusal.Refusal.{Refusal}
 use Rattle.stm_txn.specs.declared.refusal.Refusal.TheVariants.{OutOfMemory, TooManyOps, LeaseNotFound, RevisionsUsedUp}
 use Rattle.stm_txn.specs.Outcome.{Done, is_used_up}
 use Rattle.stm_txn.specs.Commits.{applied, effective, is_on_dead_lease, turned_down}
-use Rattle.stm_txn.specs.Standing.{Standing, Step, IsRefusalOf, with_history, step_of, transacted}
+use Rattle.stm_txn.specs.Standing.{Standing, Step, IsRefusalOf, with_history, step_of, transacted, terms_of}
+use Rattle.stm_txn.specs.Terms.{Terms}
 use Rattle.stm_compile.specs.Answers.{look_up, answer_now}
 use Rattle.stm_compile.specs.Now.{as_change}
 use Rattle.stm_compile.specs.CommitTxn.{reread_keys, commit_of}
@@ -49,11 +49,11 @@ writes_are_latest ready run kept ended = kept.writes ∙ ap (λ (r : Run). lates
 pub comes_to : (s : Standing) (ready : ReadyRun) (run : Run) (txn : Txn) → IsRunOnItsAnswers ready →
     All (λ (a : ReadAnswer). 0 < length a.key) ready.answers → run_on ready.program ready.answers ≡ Ended run →
     txn ≡ commit_of ready.level ready.answers ready.writes →
-    transacted s txn ≡ step_of s (committed s.history (is_live_in s.live) ready.level ready.answers run)
+    transacted s txn ≡ step_of s (committed (terms_of s) ready.level ready.answers run)
 comes_to s ready run txn kept named ended is =
     ap (transacted s) (is ∙ ap (commit_of ready.level ready.answers) (writes_are_latest ready run kept ended))
     ∙ ap (step_of s)
-    (commit_comes_to s.history (is_live_in s.live) ready.level ready.answers run named
+    (commit_comes_to (terms_of s) ready.level ready.answers run named
     (keys_are_not_empty (look_up ready.answers) ready.program.statements run ended).2)
 
 -- ---- a commit that was not refused
@@ -84,25 +84,26 @@ made_is true used made done is = absurd (cc)
 made_is false true made done is = absurd (cc)
 made_is false false made done is = cc
 
-applies_writes : (h : History) (is_live : ℕ → Bool) (level : Level) (reads : List ReadAnswer) (changes : List Change) (done : Done) →
-    applied h is_live changes ≡ Ok done → IsJudged h level reads done
-applies_writes h is_live level reads changes done is =
-    let same = made_is (list_any (is_on_dead_lease is_live) changes) (is_used_up h (effective h changes)) _ done is in
+applies_writes : (terms : Terms) (level : Level) (reads : List ReadAnswer) (changes : List Change) (done : Done) →
+    applied terms changes ≡ Ok done → IsJudged terms.history level reads done
+applies_writes terms level reads changes done is =
+    let h : History = terms.history in
+    let same = made_is (list_any (is_on_dead_lease terms.is_live) changes) (is_used_up h (effective h changes)) _ done is in
     applies (sym (ap (λ (d : Done). d.answer.failed) same)) (subst (λ (d : Done). d.answer.revision ≡ now d.history) same refl)
 
-judged_by : (h : History) (is_live : ℕ → Bool) (level : Level) (reads : List ReadAnswer) (run : Run) (done : Done) (many : Bool) (o : Option FailedCompare) →
-    cond many (Err TooManyOps) (judged h is_live level reads run o) ≡ Ok done → IsJudged h level reads done
-judged_by h is_live level reads run done true o is = absurd (cc)
-judged_by h is_live level reads run done false None is =
-    applies_writes h is_live level reads (map as_change (latest_writes run.writes)) done is
-judged_by h is_live level reads run done false (Some failed) is =
-    let same : turned_down h failed (reread_keys level reads) ≡ done = cc in turns_down failed same
+judged_by : (terms : Terms) (level : Level) (reads : List ReadAnswer) (run : Run) (done : Done) (many : Bool) (o : Option FailedCompare) →
+    cond many (Err TooManyOps) (judged terms level reads run o) ≡ Ok done → IsJudged terms.history level reads done
+judged_by terms level reads run done true o is = absurd (cc)
+judged_by terms level reads run done false None is =
+    applies_writes terms level reads (map as_change (latest_writes run.writes)) done is
+judged_by terms level reads run done false (Some failed) is =
+    let same : turned_down terms.history failed (reread_keys level reads) ≡ done = cc in turns_down failed same
 
-is_judged : (h : History) (is_live : ℕ → Bool) (level : Level) (reads : List ReadAnswer) (run : Run) (done : Done) →
-    committed h is_live level reads run ≡ Ok done → IsJudged h level reads done
-is_judged h is_live level reads run done is =
-    judged_by h is_live level reads run done (sends_too_many level reads (latest_writes run.writes))
-    (conflict_now h level reads (latest_writes run.writes)) is
+is_judged : (terms : Terms) (level : Level) (reads : List ReadAnswer) (run : Run) (done : Done) →
+    committed terms level reads run ≡ Ok done → IsJudged terms.history level reads done
+is_judged terms level reads run done is =
+    judged_by terms level reads run done (sends_too_many terms.limit level reads (latest_writes run.writes))
+    (conflict_now terms.history level reads (latest_writes run.writes)) is
 
 -- ---- as it is told
 
@@ -117,13 +118,13 @@ told_revision h level reads done (turns_down failed same) is =
 
 -- no compare failed
 pub tells_committed : (s after : Standing) (level : Level) (reads : List ReadAnswer) (run : Run) (answer : TxnAnswer) →
-    step_of s (committed s.history (is_live_in s.live) level reads run) ≡ Ok record { answer = answer; next = after } → answer.failed ≡ None →
+    step_of s (committed (terms_of s) level reads run) ≡ Ok record { answer = answer; next = after } → answer.failed ≡ None →
     sent s level reads run ≡ Ok record { answer = Committed answer.revision; next = after }
 unfolding told_as
 tells_committed s after level reads run answer step none =
-    let t = is_taken s after answer (committed s.history (is_live_in s.live) level reads run) step in
+    let t = is_taken s after answer (committed (terms_of s) level reads run) step in
     let failed : t.done.answer.failed ≡ None = ap (λ (a : TxnAnswer). a.failed) t.answered ∙ none in
-    let judged : IsJudged s.history level reads t.done = is_judged s.history (is_live_in s.live) level reads run t.done t.taken in
+    let judged : IsJudged s.history level reads t.done = is_judged (terms_of s) level reads run t.done t.taken in
     let revision : now t.done.history ≡ answer.revision =
     told_revision s.history level reads t.done judged failed ∙ ap (λ (a : TxnAnswer). a.revision) t.answered in
     ap (sent_as s level reads (latest_writes run.writes)) t.taken
@@ -152,22 +153,22 @@ down_by s after level reads answer failed done (turns_down first same) answered 
 }
 
 pub is_turned_down : (s after : Standing) (level : Level) (reads : List ReadAnswer) (run : Run) (answer : TxnAnswer) (failed : FailedCompare) →
-    step_of s (committed s.history (is_live_in s.live) level reads run) ≡ Ok record { answer = answer; next = after } → answer.failed ≡ Some failed →
+    step_of s (committed (terms_of s) level reads run) ≡ Ok record { answer = answer; next = after } → answer.failed ≡ Some failed →
     IsTurnedDown s after level reads answer.answers
 is_turned_down s after level reads run answer failed step some =
-    let t = is_taken s after answer (committed s.history (is_live_in s.live) level reads run) step in
-    down_by s after level reads answer failed t.done (is_judged s.history (is_live_in s.live) level reads run t.done t.taken) t.answered t.left some
+    let t = is_taken s after answer (committed (terms_of s) level reads run) step in
+    down_by s after level reads answer failed t.done (is_judged (terms_of s) level reads run t.done t.taken) t.answered t.left some
 
 -- a compare failed
 pub tells_failed : (s after : Standing) (level : Level) (reads : List ReadAnswer) (run : Run) (answer : TxnAnswer) (failed : FailedCompare) →
-    step_of s (committed s.history (is_live_in s.live) level reads run) ≡ Ok record { answer = answer; next = after } → answer.failed ≡ Some failed →
+    step_of s (committed (terms_of s) level reads run) ≡ Ok record { answer = answer; next = after } → answer.failed ≡ Some failed →
     sent s level reads run ≡ Ok record {
       answer = failed_at (seen_in (slice_get (seen_by reads (latest_writes run.writes)) failed.index)) failed.mod_rev (reads_in answer.answers);
       next = after;
     }
 unfolding told_as
 tells_failed s after level reads run answer failed step some =
-    let t = is_taken s after answer (committed s.history (is_live_in s.live) level reads run) step in
+    let t = is_taken s after answer (committed (terms_of s) level reads run) step in
     let down = is_turned_down s after level reads run answer failed step some in
     let is : t.done.answer.failed ≡ Some failed = ap (λ (a : TxnAnswer). a.failed) t.answered ∙ some in
     let about = seen_in (slice_get (seen_by reads (latest_writes run.writes)) failed.index) in
@@ -180,7 +181,7 @@ tells_failed s after level reads run answer failed step some =
 -- as the code tells it, by the parts of the ready attempt
 pub tells_told : (s after : Standing) (ready : ReadyRun) (run : Run) (answer : TxnAnswer) (failed : FailedCompare) (told : Sent) →
     ready.writes ≡ latest_writes run.writes →
-    step_of s (committed s.history (is_live_in s.live) ready.level ready.answers run) ≡ Ok record { answer = answer; next = after } →
+    step_of s (committed (terms_of s) ready.level ready.answers run) ≡ Ok record { answer = answer; next = after } →
     answer.failed ≡ Some failed →
     told ≡ failed_at (seen_in (slice_get (seen_by ready.answers ready.writes) failed.index)) failed.mod_rev (reads_in answer.answers) →
     sent s ready.level ready.answers run ≡ Ok record { answer = told; next = after }
@@ -199,10 +200,10 @@ refused_by s level reads writes cause (Ok done) refused = inl refused
 refused_by s level reads writes cause (Err first) refused = inr (ap (λ (r : Refusal). Err r) (sym refused))
 
 tells_refused : (s : Standing) (level : Level) (reads : List ReadAnswer) (run : Run) (cause : Refusal) →
-    IsRefusalOf (step_of s (committed s.history (is_live_in s.live) level reads run)) cause →
+    IsRefusalOf (step_of s (committed (terms_of s) level reads run)) cause →
     (cause ≡ OutOfMemory) ⊎ (sent s level reads run ≡ Err cause)
 tells_refused s level reads run cause refused =
-    refused_by s level reads (latest_writes run.writes) cause (committed s.history (is_live_in s.live) level reads run) refused
+    refused_by s level reads (latest_writes run.writes) cause (committed (terms_of s) level reads run) refused
 
 -- as the code tells it
 pub is_refused : (s after : Standing) (ready : ReadyRun) (run : Run) (txn : Txn) (cause : Refusal) → IsRunOnItsAnswers ready →

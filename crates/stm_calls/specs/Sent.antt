@@ -6,7 +6,6 @@
 use Rattle.std.specs.Prelude.{◌≡◌, ◌⊎◌, ℕ, List, [], map, Option, None, Some, Result, Ok, Err, slice_get}
 use Rattle.stm_history.specs.declared.key_state.ReadAnswer.{ReadAnswer}
 use Rattle.stm_history.specs.History.{now}
-use Rattle.stm_leases.specs.Live.{is_live_in}
 use Rattle.stm_program.specs.declared.level.Level.{Level}
 use Rattle.stm_program.specs.declared.write.Write.{Write}
 use Rattle.stm_program.specs.Writes.{latest_writes}
@@ -15,7 +14,7 @@ use Rattle.stm_txn.specs.declared.answer.FailedCompare.{FailedCompare}
 use Rattle.stm_txn.specs.declared.refusal.Refusal.{Refusal}
 use Rattle.stm_txn.specs.declared.refusal.Refusal.TheVariants.{OutOfMemory}
 use Rattle.stm_txn.specs.Outcome.{Done}
-use Rattle.stm_txn.specs.Standing.{Standing, Step, with_history}
+use Rattle.stm_txn.specs.Standing.{Standing, Step, with_history, terms_of}
 use Rattle.stm_compile.specs.Answers.{answer_now}
 use Rattle.stm_compile.specs.CommitTxn.{reread_keys}
 use Rattle.stm_compile.specs.Committed.{committed}
@@ -46,7 +45,7 @@ sent_as s level reads writes (Err cause) = Err cause
 
 -- the commit of a run that has read this
 abbrev pub sent : Standing → Level → List ReadAnswer → Run → Result (Step Sent) Refusal
-sent s level reads run = sent_as s level reads (latest_writes run.writes) (committed s.history (is_live_in s.live) level reads run)
+sent s level reads run = sent_as s level reads (latest_writes run.writes) (committed (terms_of s) level reads run)
 
 -- A commit comes to what its definition says, unless memory ran out. A refusal leaves the store as it was.
 abbrev pub Tells : Result (Step Sent) Refusal → Standing → Result Sent Refusal → Standing → Type 0

@@ -25,6 +25,8 @@ use Rattle.stm_txn.specs.LeaseKeys.{deletions_of}
 use Rattle.stm_txn.specs.Outcome.{Done, outcome, chosen, unless, finished, is_used_up, with_changes, answer_of}
 use Rattle.stm_txn.specs.Standing.{Standing, Step, Advance, IsRefusalOf, IsCutShort, step_of, transacted, granted, kept_alive, ended, revoked}
 use Rattle.stm_txn.specs.Standing.{with_lease, without_lease, with_revision, after, expired_in, expire_up_to, expire_all, at_moment, advanced}
+use Rattle.stm_txn.specs.Terms.{Terms}
+use Rattle.stm_txn.specs.Standing.{terms_of}
 use Rattle.stm_reports.specs.declared.line.ReportLine.{ReportLine}
 use Rattle.stm_reports.specs.declared.line.ReportLine.TheVariants.{Refused}
 use Rattle.stm_entries.specs.declared.entry.Entry.{Entry}
@@ -185,12 +187,14 @@ counter_by : (used : Bool) (h : History) (failed : Option FailedCompare) (change
 counter_by true h failed changes answers = tt
 counter_by false h failed changes answers = refl
 
-counter_told : (h : History) (is_live : ℕ → Bool) (txn : Txn) (failed : Option FailedCompare) →
-    TellsCounter (unless (fault_of txn) (unless (branch_refusal (now h) is_live (chosen failed txn))
-    (finished h failed (changes_of_branch h (chosen failed txn)) (answers_after h (begun h) (chosen failed txn)))))
-counter_told h is_live txn failed =
+counter_told : (terms : Terms) (txn : Txn) (failed : Option FailedCompare) →
+    TellsCounter (unless (fault_of terms.limit txn) (unless (branch_refusal terms (chosen failed txn))
+    (finished terms.history failed (changes_of_branch terms.history (chosen failed txn))
+    (answers_after terms.history (begun terms.history) (chosen failed txn)))))
+counter_told terms txn failed =
+    let h : History = terms.history in
     let ops = chosen failed txn in
-    counter_unless (fault_of txn) _ (counter_unless (branch_refusal (now h) is_live ops) _
+    counter_unless (fault_of terms.limit txn) _ (counter_unless (branch_refusal terms ops) _
     (counter_by (is_used_up h (changes_of_branch h ops)) h failed (changes_of_branch h ops) (answers_after h (begun h) ops)))
 
 -- what a transaction leaves beside the history, and the counter that it tells
@@ -208,8 +212,7 @@ transacted_by s (Err cause) tells = tt
 
 pub is_transacted : (s : Standing) (txn : Txn) → StepIsTransacted s (transacted s txn)
 is_transacted s txn =
-    transacted_by s (outcome s.history (is_live_in s.live) txn)
-    (counter_told s.history (is_live_in s.live) txn (first_failed (key_now s.history) 0 txn.compares))
+    transacted_by s (outcome (terms_of s) txn) (counter_told (terms_of s) txn (first_failed (key_now s.history) 0 txn.compares))
 
 -- the store that a transaction's line leads to
 pub txn_led : (n : ℕ) (s next : Standing) (txn : Txn) (answer : TxnAnswer) → transacted s txn ≡ Ok record { answer = answer; next = next } →

@@ -6,7 +6,6 @@ use Rattle.std.proofs.lemmas.Option.{same_Some}
 use Rattle.std.specs.Prelude.{Result, IsTrue, IfOk, OnOk, MatchOption}
 use Rattle.std.specs.declared.alloc.AllocError.{AllocError}
 use Rattle.stm_history.specs.declared.change.Change.{Change}
-use Rattle.stm_leases.specs.Live.{is_live_in}
 use Rattle.stm_program.specs.Writes.{latest_writes}
 use Rattle.stm_program.proofs.LatestLemmas.{latest_writes-distinct}
 use Rattle.stm_txn.specs.declared.refusal.Refusal.TheVariants.{OutOfMemory}
@@ -30,7 +29,7 @@ use Rattle.stm_meaning.specs.Answer.{Lookup}
 use Rattle.stm_meaning.specs.Meaning.{run_over}
 use Rattle.stm_txn.specs.declared.refusal.Refusal.{Refusal}
 use Rattle.stm_txn.specs.Outcome.{Done}
-use Rattle.stm_txn.specs.Standing.{Standing, Step, IsRefusalOf, write_step, written, with_history as with_standing_history}
+use Rattle.stm_txn.specs.Standing.{Standing, Step, IsRefusalOf, write_step, written, with_history as with_standing_history, terms_of}
 use Rattle.stm_compile.specs.Answers.{AreTrue, look_up, state_now}
 use Rattle.stm_compile.specs.Levels.{is_comparing}
 use Rattle.stm_entries.specs.declared.entry.Entry.TheVariants.{Program}
@@ -255,7 +254,7 @@ written_is : (s : Standing) (run : Run) (changes : List Change) → changes ≡ 
     written s changes ≡ write_step s (applied_run (without_moment s) run)
 written_is s run changes are =
     ap (written s) are
-    ∙ ap (write_step s) (branch_applies s.history (is_live_in s.live) (map as_change (latest_writes run.writes))
+    ∙ ap (write_step s) (branch_applies (terms_of s) (map as_change (latest_writes run.writes))
     (changes_are_distinct (latest_writes run.writes) (latest_writes-distinct run.writes)))
 
 pub writes_distinct : (run : Run) (changes : List Change) → changes ≡ map as_change (latest_writes run.writes) → HasDistinctKeys changes

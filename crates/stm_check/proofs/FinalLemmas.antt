@@ -34,10 +34,10 @@ leases_final (lease ∷ leases) = (tt, leases_final leases)
 pub lines_final : (p : Point) → AreFinal (final_lines p)
 lines_final p =
     let h = p.standing.history in
-    let keys : List ReportLine = key_lines h (keys_named h.revisions) in
+    let keys : List ReportLine = key_lines h (keys_named h) in
     let leases : List ReportLine = map lease_line (finmap.entries p.standing.live) in
     both_final (keys ++ leases) (End (now h) p.entries ∷ [])
-    (both_final keys leases (keys_final h (keys_named h.revisions)) (leases_final (finmap.entries p.standing.live))) (tt, tt)
+    (both_final keys leases (keys_final h (keys_named h)) (leases_final (finmap.entries p.standing.live))) (tt, tt)
 
 -- ---- the keys that are not present have no line
 
@@ -72,10 +72,10 @@ module _ {A : Type 0} where
   pub all_key_lines : (h : History) (texts : List (String A)) (i : ℕ) (before lines : List ReportLine) → length texts ≤ i →
       map string_bytes texts ≡ keys_present h →
       lines ++ key_lines h (map string_bytes (drop i texts)) ≡ before ++ key_lines h (map string_bytes texts) →
-      lines ≡ before ++ key_lines h (keys_named h.revisions)
+      lines ≡ before ++ key_lines h (keys_named h)
   all_key_lines h texts i before lines end are so_far =
       sym (append-nil lines)
       ∙ ap (λ (ts : List (String A)). lines ++ key_lines h (map string_bytes ts)) (sym (drop_all i texts end))
       ∙ so_far
       ∙ ap (λ (ks : List (List ℕ)). before ++ key_lines h ks) are
-      ∙ ap (λ (ls : List ReportLine). before ++ ls) (present_lines h (keys_named h.revisions))
+      ∙ ap (λ (ls : List ReportLine). before ++ ls) (present_lines h (keys_named h))

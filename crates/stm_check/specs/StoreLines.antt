@@ -33,7 +33,7 @@ lease_lines live = map lease_line (finmap.entries live)
 -- number of entries.
 abbrev pub end_lines : Standing → ℕ → List ReportLine
 end_lines s entries =
-    key_lines s.history (keys_named s.history.revisions) ++ lease_lines s.live ++ End (now s.history) entries ∷ []
+    key_lines s.history (keys_named s.history) ++ lease_lines s.live ++ End (now s.history) entries ∷ []
 
 abbrev pub final_lines : Point → List ReportLine
 final_lines p = end_lines p.standing p.entries

@@ -41,7 +41,7 @@ fn add_key(
 
 /// Adds the lines of the keys.
 fn add_keys(alloc: Global, lines: &mut Vec<ReportLine>, keys: &Keys) -> Result<(), AllocError>
-    ensures { OnOk result (lines.new.items ≡ lines.old.items ++ key_lines keys.now.history (keys_named keys.now.history.revisions)) }
+    ensures { OnOk result (lines.new.items ≡ lines.old.items ++ key_lines keys.now.history (keys_named keys.now.history)) }
 {
     let present = present_keys(alloc, keys)?;
     for key in present.as_slice() {

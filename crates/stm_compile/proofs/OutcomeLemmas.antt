@@ -2,7 +2,7 @@
 use Rattle.std.proofs.Common.{◌≡◌, ℕ, ◌+◌, ◌<◌, List, [], ◌∷◌, ◌++◌, map, filter, length, Bool, true, false, cond, Option, None, Some, Err}
 use Rattle.std.proofs.Common.{refl, sym, ◌∙◌, ap, subst, arith, length-append}
 use Rattle.std.proofs.lemmas.List.{length-map}
-use Rattle.std.proofs.lemmas.Bool.{lt-ltb, ltb-true}
+use Rattle.std.proofs.lemmas.Bool.{lt-ltb, le-ltb, ltb-true}
 use Rattle.std.specs.Prelude.{bytes_eq, nat_lt, ◌||◌}
 use Rattle.std.specs.List.{IsDistinct, AllByRecursion}
 use Rattle.std.proofs.lemmas.List.Elements.{recursion_from_All}
@@ -24,11 +24,12 @@ use Rattle.stm_txn.specs.declared.answer.FailedCompare.{FailedCompare}
 use Rattle.stm_txn.specs.declared.answer.OpAnswer.TheVariants.{Get as GetAnswer}
 use Rattle.stm_txn.specs.declared.refusal.Refusal.{Refusal}
 use Rattle.stm_txn.specs.declared.refusal.Refusal.TheVariants.{TooManyOps}
-use Rattle.stm_txn.specs.Checks.{most_operations, has_too_many, fault_of}
+use Rattle.stm_txn.specs.Checks.{has_too_many, fault_of}
 use Rattle.stm_txn.specs.Effect.{op_of, changes_something}
 use Rattle.stm_txn.specs.Outcome.{outcome, chosen, unless, branch_outcome}
 use Rattle.stm_txn.specs.Compares.{first_failed}
 use Rattle.stm_txn.specs.Commits.{read_now, AreNamed, effective, shown, reads_now}
+use Rattle.stm_txn.specs.Terms.{Terms}
 use Rattle.stm_txn.proofs.Applying.{writes_apply, failed_compare_reads, number_alone_is_wrong}
 use Rattle.stm_compile.specs.Answers.{answer_now}
 use Rattle.stm_compile.specs.Now.{as_change, is_present}
@@ -131,12 +132,9 @@ rereads_are_named ReadCommitted reads named = tt
 
 -- ---- numbers
 
-is_above : ℕ → Bool
-is_above n = nat_lt most_operations n
-
--- more compares or more writes, by the numbers of compares, writes and reads of a failure list
-too_many_by : ℕ → ℕ → ℕ → Bool
-too_many_by compares writes rereads = is_above compares || is_above writes || is_above rereads
+-- more compares, writes or reads of a failure list than the limit, by their numbers
+too_many_by : ℕ → ℕ → ℕ → ℕ → Bool
+too_many_by limit compares writes rereads = nat_lt limit compares || nat_lt limit writes || nat_lt limit rereads
 
 same_too : (a b : Bool) → (a || b || a) ≡ (a || b)
 same_too true true = refl
@@ -157,9 +155,8 @@ third_within false true c within = refl
 third_within false false true within = absurd (let e : false ≡ true = within refl in cc)
 third_within false false false within = refl
 
-sum_is_above : (m n : ℕ) → is_above m ≡ true → is_above (m + n) ≡ true
-unfolding is_above
-sum_is_above m n above = lt-ltb most_operations (m + n) (let more : most_operations < m = ltb-true most_operations m above in omega arith)
+sum_is_above : (limit m n : ℕ) → nat_lt limit m ≡ true → nat_lt limit (m + n) ≡ true
+sum_is_above limit m n above = lt-ltb limit (m + n) (let more : limit < m = ltb-true limit m above in omega arith)
 
 -- how many reads a failure list has
 rereads : Level → ℕ → ℕ
@@ -185,62 +182,67 @@ length_of_rereads Serializable reads = length-map reads (λ (a : ReadAnswer). a.
 length_of_rereads RepeatableReads reads = refl
 length_of_rereads ReadCommitted reads = refl
 
-by_level : (level : Level) (reads writes : ℕ) → too_many_by (compared level reads writes) writes (rereads level reads)
-    ≡ (is_above (compared level reads writes) || is_above writes)
-unfolding rereads too_many_by is_above
-by_level SerializableSnapshot reads writes = third_within (is_above (reads + writes)) (is_above writes) (is_above reads) (sum_is_above reads writes)
-by_level Serializable reads writes = same_too (is_above reads) (is_above writes)
-by_level RepeatableReads reads writes = none_too (is_above reads) (is_above writes)
-by_level ReadCommitted reads writes = none_too false (is_above writes)
+by_level : (limit : ℕ) (level : Level) (reads writes : ℕ) → too_many_by limit (compared level reads writes) writes (rereads level reads)
+    ≡ (nat_lt limit (compared level reads writes) || nat_lt limit writes)
+unfolding rereads too_many_by
+by_level limit SerializableSnapshot reads writes =
+    third_within (nat_lt limit (reads + writes)) (nat_lt limit writes) (nat_lt limit reads) (sum_is_above limit reads writes)
+by_level limit Serializable reads writes = same_too (nat_lt limit reads) (nat_lt limit writes)
+by_level limit RepeatableReads reads writes =
+    ap (λ b. nat_lt limit reads || nat_lt limit writes || b) (le-ltb limit 0 (omega arith)) ∙ none_too (nat_lt limit reads) (nat_lt limit writes)
+by_level limit ReadCommitted reads writes = same_too (nat_lt limit 0) (nat_lt limit writes)
 
-pub too_many_is : (level : Level) (reads : List ReadAnswer) (ws : List Write) → has_too_many (commit_of level reads ws) ≡ sends_too_many level reads ws
-unfolding too_many_by is_above
-too_many_is level reads ws =
-    ap (λ n. is_above n || is_above (length (map write_op ws)) || is_above (length (map read_now (reread_keys level reads))))
+pub too_many_is : (limit : ℕ) (level : Level) (reads : List ReadAnswer) (ws : List Write) →
+    has_too_many limit (commit_of level reads ws) ≡ sends_too_many limit level reads ws
+unfolding too_many_by
+too_many_is limit level reads ws =
+    let more : ℕ → Bool = nat_lt limit in
+    ap (λ n. more n || more (length (map write_op ws)) || more (length (map read_now (reread_keys level reads))))
     (length_of_compares level reads ws)
-    ∙ ap (λ n. is_above (compared level (length reads) (length ws)) || is_above n || is_above (length (map read_now (reread_keys level reads))))
+    ∙ ap (λ n. more (compared level (length reads) (length ws)) || more n || more (length (map read_now (reread_keys level reads))))
     (length-map ws write_op)
-    ∙ ap (λ n. is_above (compared level (length reads) (length ws)) || is_above (length ws) || is_above n)
+    ∙ ap (λ n. more (compared level (length reads) (length ws)) || more (length ws) || more n)
     (length-map (reread_keys level reads) read_now ∙ length_of_rereads level reads)
-    ∙ by_level level (length reads) (length ws)
+    ∙ by_level limit level (length reads) (length ws)
 
 -- ---- the outcome
 
 -- nothing of the whole transaction is wrong but its number
-fault_is : (level : Level) (reads : List ReadAnswer) (ws : List Write) → IsDistinct bytes_eq (map key_of ws) →
+fault_is : (limit : ℕ) (level : Level) (reads : List ReadAnswer) (ws : List Write) → IsDistinct bytes_eq (map key_of ws) →
     AllByRecursion (λ (a : ReadAnswer). 0 < length a.key) reads → AllByRecursion (λ w. 0 < length (key_of w)) ws →
-    fault_of (commit_of level reads ws) ≡ cond (sends_too_many level reads ws) (Some TooManyOps) None
-fault_is level reads ws distinct reads_named writes_named =
-    number_alone_is_wrong (commit_of level reads ws) (map as_change ws) (reread_keys level reads) (ops_of_writes ws) refl
+    fault_of limit (commit_of level reads ws) ≡ cond (sends_too_many limit level reads ws) (Some TooManyOps) None
+fault_is limit level reads ws distinct reads_named writes_named =
+    number_alone_is_wrong limit (commit_of level reads ws) (map as_change ws) (reread_keys level reads) (ops_of_writes ws) refl
     (changes_are_distinct ws distinct) (compares_are_named level reads ws reads_named writes_named) (named_writes ws writes_named)
     (rereads_are_named level reads reads_named)
-    ∙ ap (λ b. cond b (Some TooManyOps) None) (too_many_is level reads ws)
+    ∙ ap (λ b. cond b (Some TooManyOps) None) (too_many_is limit level reads ws)
 
-judged_is : (h : History) (is_live : ℕ → Bool) (level : Level) (reads : List ReadAnswer) (run : Run) (failed : Option FailedCompare) →
-    fault_of (commit_of level reads (latest_writes run.writes)) ≡ None → conflict_now h level reads (latest_writes run.writes) ≡ failed →
-    outcome h is_live (commit_of level reads (latest_writes run.writes)) ≡ judged h is_live level reads run failed
-judged_is h is_live level reads run None right found =
-    writes_apply h is_live (commit_of level reads (latest_writes run.writes)) (map as_change (latest_writes run.writes))
+judged_is : (terms : Terms) (level : Level) (reads : List ReadAnswer) (run : Run) (failed : Option FailedCompare) →
+    fault_of terms.limit (commit_of level reads (latest_writes run.writes)) ≡ None →
+    conflict_now terms.history level reads (latest_writes run.writes) ≡ failed →
+    outcome terms (commit_of level reads (latest_writes run.writes)) ≡ judged terms level reads run failed
+judged_is terms level reads run None right found =
+    writes_apply terms (commit_of level reads (latest_writes run.writes)) (map as_change (latest_writes run.writes))
     (ops_of_writes (latest_writes run.writes)) (changes_are_distinct (latest_writes run.writes) (latest_writes-distinct run.writes)) right found
-judged_is h is_live level reads run (Some failed) right found =
-    failed_compare_reads h is_live (commit_of level reads (latest_writes run.writes)) (reread_keys level reads) failed refl right found
+judged_is terms level reads run (Some failed) right found =
+    failed_compare_reads terms (commit_of level reads (latest_writes run.writes)) (reread_keys level reads) failed refl right found
 
-committed_by : (h : History) (is_live : ℕ → Bool) (level : Level) (reads : List ReadAnswer) (run : Run) (b : Bool) →
-    fault_of (commit_of level reads (latest_writes run.writes)) ≡ cond b (Some TooManyOps) None →
-    outcome h is_live (commit_of level reads (latest_writes run.writes))
-    ≡ cond b (Err TooManyOps) (judged h is_live level reads run (conflict_now h level reads (latest_writes run.writes)))
-committed_by h is_live level reads run true fault =
+committed_by : (terms : Terms) (level : Level) (reads : List ReadAnswer) (run : Run) (b : Bool) →
+    fault_of terms.limit (commit_of level reads (latest_writes run.writes)) ≡ cond b (Some TooManyOps) None →
+    outcome terms (commit_of level reads (latest_writes run.writes))
+    ≡ cond b (Err TooManyOps) (judged terms level reads run (conflict_now terms.history level reads (latest_writes run.writes)))
+committed_by terms level reads run true fault =
     let txn = commit_of level reads (latest_writes run.writes) in
-    let failed : Option FailedCompare = first_failed (key_now h) 0 txn.compares in
-    ap (λ (f : Option Refusal). unless f (branch_outcome h is_live failed (chosen failed txn))) fault
-committed_by h is_live level reads run false fault =
-    judged_is h is_live level reads run (conflict_now h level reads (latest_writes run.writes)) fault refl
+    let failed : Option FailedCompare = first_failed (key_now terms.history) 0 txn.compares in
+    ap (λ (f : Option Refusal). unless f (branch_outcome terms failed (chosen failed txn))) fault
+committed_by terms level reads run false fault =
+    judged_is terms level reads run (conflict_now terms.history level reads (latest_writes run.writes)) fault refl
 
 pub commit_comes_to : CommitComesTo
-commit_comes_to h is_live level reads run reads_named writes_named =
+commit_comes_to terms level reads run reads_named writes_named =
     let ws = latest_writes run.writes in
-    committed_by h is_live level reads run (sends_too_many level reads ws)
-    (fault_is level reads ws (latest_writes-distinct run.writes)
+    committed_by terms level reads run (sends_too_many terms.limit level reads ws)
+    (fault_is terms.limit level reads ws (latest_writes-distinct run.writes)
     (recursion_from_All (λ (a : ReadAnswer). 0 < length a.key) reads reads_named)
     (recursion_from_All (λ w. 0 < length (key_of w)) ws writes_named))
 

@@ -14,7 +14,7 @@ use Rattle.stm_txn.specs.declared.answer.FailedCompare.{FailedCompare}
 use Rattle.stm_txn.specs.declared.refusal.Refusal.{Refusal}
 use Rattle.stm_txn.specs.declared.refusal.Refusal.TheVariants.{TooManyOps}
 use Rattle.stm_txn.specs.Compares.{first_failed}
-use Rattle.stm_txn.specs.Checks.{most_operations}
+use Rattle.stm_txn.specs.Terms.{Terms}
 use Rattle.stm_txn.specs.Outcome.{Done}
 use Rattle.stm_txn.specs.Commits.{applied, turned_down}
 use Rattle.stm_compile.specs.Now.{as_change}
@@ -27,10 +27,10 @@ compared Serializable reads writes = reads
 compared RepeatableReads reads writes = reads
 compared ReadCommitted reads writes = 0
 
--- more compares or more writes than a transaction may have
-abbrev pub sends_too_many : Level → List ReadAnswer → List Write → Bool
-sends_too_many level reads writes =
-    nat_lt most_operations (compared level (length reads) (length writes)) || nat_lt most_operations (length writes)
+-- more compares or more writes than the limit of a transaction's operations
+abbrev pub sends_too_many : ℕ → Level → List ReadAnswer → List Write → Bool
+sends_too_many limit level reads writes =
+    nat_lt limit (compared level (length reads) (length writes)) || nat_lt limit (length writes)
 
 -- the first compare that fails, if one does
 abbrev pub conflict_now : History → Level → List ReadAnswer → List Write → Option FailedCompare
@@ -39,12 +39,12 @@ conflict_now h level reads writes = first_failed (key_now h) 0 (compares_of leve
 -- Where no compare fails the latest writes are applied, all at once: LeaseNotFound where one of them names a lease that is not
 -- live, else RevisionsUsedUp where something changes at the highest revision. A failed compare changes nothing: it is told, with
 -- what the keys to be read again are now.
-abbrev pub judged : History → (ℕ → Bool) → Level → List ReadAnswer → Run → Option FailedCompare → Result Done Refusal
-judged h is_live level reads run None = applied h is_live (map as_change (latest_writes run.writes))
-judged h is_live level reads run (Some failed) = Ok (turned_down h failed (reread_keys level reads))
+abbrev pub judged : Terms → Level → List ReadAnswer → Run → Option FailedCompare → Result Done Refusal
+judged terms level reads run None = applied terms (map as_change (latest_writes run.writes))
+judged terms level reads run (Some failed) = Ok (turned_down terms.history failed (reread_keys level reads))
 
--- the commit of a run that has read this
-abbrev pub committed : History → (ℕ → Bool) → Level → List ReadAnswer → Run → Result Done Refusal
-committed h is_live level reads run =
-    if sends_too_many level reads (latest_writes run.writes) then Err TooManyOps
-    else judged h is_live level reads run (conflict_now h level reads (latest_writes run.writes))
+-- the commit, on these terms, of a run that has read this
+abbrev pub committed : Terms → Level → List ReadAnswer → Run → Result Done Refusal
+committed terms level reads run =
+    if sends_too_many terms.limit level reads (latest_writes run.writes) then Err TooManyOps
+    else judged terms level reads run (conflict_now terms.history level reads (latest_writes run.writes))

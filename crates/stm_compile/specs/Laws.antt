@@ -1,5 +1,5 @@
 -- The laws of commits, each carried by a function of `src/laws.rt`. Above them no proof speaks of a transaction's parts.
-use Rattle.std.specs.Prelude.{◌≡◌, ℕ, ◌<◌, ◌≤◌, Bool, true, List, length, map, None, Some, All}
+use Rattle.std.specs.Prelude.{◌≡◌, ℕ, ◌<◌, ◌≤◌, true, List, length, map, None, Some, All}
 use Rattle.stm_history.specs.declared.change.Change.{Change}
 use Rattle.stm_history.specs.declared.key_state.ReadAnswer.{ReadAnswer}
 use Rattle.stm_history.specs.History.{History, key_now, mod_of}
@@ -18,6 +18,7 @@ use Rattle.stm_txn.specs.Commits.{effective, turned_down}
 use Rattle.stm_compile.specs.Now.{as_change, changes_of_writes}
 use Rattle.stm_compile.specs.Levels.{is_comparing}
 use Rattle.stm_txn.specs.declared.answer.OpAnswer.TheVariants.{Get as GetAnswer}
+use Rattle.stm_txn.specs.Terms.{Terms}
 use Rattle.stm_compile.specs.Answers.{seen_of, said, look_up, state_now, state_as_of, AreTrue, answer_now}
 use Rattle.stm_compile.specs.CommitTxn.{first_carried, commit_of, reread_keys}
 use Rattle.stm_compile.specs.Committed.{conflict_now, committed}
@@ -26,9 +27,9 @@ use Rattle.stm_compile.specs.Conflicts.{IsConflict}
 -- The transaction of a run whose keys are not empty comes to the run's commit.
 abbrev pub CommitComesTo : Type 0
 CommitComesTo =
-    (h : History) (is_live : ℕ → Bool) (level : Level) (reads : List ReadAnswer) (run : Run) →
+    (terms : Terms) (level : Level) (reads : List ReadAnswer) (run : Run) →
     All (λ (a : ReadAnswer). 0 < length a.key) reads → All (λ w. 0 < length (key_of w)) (latest_writes run.writes)
-    → outcome h is_live (commit_of level reads (latest_writes run.writes)) ≡ committed h is_live level reads run
+    → outcome terms (commit_of level reads (latest_writes run.writes)) ≡ committed terms level reads run
 
 -- At a comparing level, where no compare fails, the run on true answers is the run of the program on the state now.
 abbrev pub CommitIsTheRunNow : Type 0

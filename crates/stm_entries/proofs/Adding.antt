@@ -1,10 +1,9 @@
 -- What is replayed adds revisions to the history, and nothing else.
-use Rattle.std.proofs.Common.{◌≡◌, ℕ, List, [], ◌∷◌, ◌++◌, map, Bool, true, false, cond, Ok, Err, refl, sym, ◌∙◌, ap, subst, append_assoc, arith}
+use Rattle.std.proofs.Common.{◌≡◌, List, [], ◌∷◌, ◌++◌, map, Bool, true, false, cond, Ok, Err, refl, sym, ◌∙◌, ap, subst, append_assoc, arith}
 use Rattle.std.specs.Prelude.{Result}
 use Rattle.std.specs.List.{list_any}
 use Rattle.stm_history.specs.declared.change.Change.{Change}
 use Rattle.stm_history.specs.History.{History, key_now, HasDistinctKeys, AreRevisions}
-use Rattle.stm_leases.specs.Live.{is_live_in}
 use Rattle.stm_meaning.specs.declared.run.End.{End}
 use Rattle.stm_meaning.specs.declared.run.End.TheVariants.{Done as DoneEnd, Aborted, Faulted}
 use Rattle.stm_meaning.specs.declared.run.Run.{Run}
@@ -22,10 +21,11 @@ use Rattle.stm_txn.proofs.Applying.{history_grows}
 use Rattle.stm_txn.proofs.Ending.{deletions_are_distinct}
 use Rattle.stm_txn.specs.Commits.{applied, effective, is_on_dead_lease}
 use Rattle.stm_txn.specs.Effect.{changes_something}
+use Rattle.stm_txn.specs.Terms.{Terms}
 use Rattle.stm_compile.specs.Now.{as_change}
 use Rattle.stm_entries.specs.declared.entry.Entry.{Entry}
 use Rattle.stm_entries.specs.declared.entry.Entry.TheVariants.{Program, Foreign, Grant, Renew, Revoke, Expire}
-use Rattle.stm_entries.specs.Replayed.{Replayed}
+use Rattle.stm_entries.specs.Replayed.{Replayed, replay_terms}
 use Rattle.stm_entries.specs.Alone.{seen_at, history_left, left_by, left_by_run}
 use Rattle.stm_entries.specs.Replay.{replay, replay_entry}
 use Rattle.stm_entries.specs.Laws.{AddsTo, ReplayOnlyAdds}
@@ -61,16 +61,17 @@ judged_adds : (dead : Bool) (h : History) (rest : Result Done Refusal) → AddsT
 judged_adds true h rest adds = nothing_added h
 judged_adds false h rest adds = adds
 
-applied_adds : (h : History) (is_live : ℕ → Bool) (writes : List Write) →
-    AddsTo h (history_left h (applied h is_live (map as_change (latest_writes writes))))
-applied_adds h is_live writes =
+applied_adds : (terms : Terms) (writes : List Write) →
+    AddsTo terms.history (history_left terms.history (applied terms (map as_change (latest_writes writes))))
+applied_adds terms writes =
+    let h : History = terms.history in
     let changes : List Change = map as_change (latest_writes writes) in
-    judged_adds (list_any (is_on_dead_lease is_live) changes) h _
+    judged_adds (list_any (is_on_dead_lease terms.is_live) changes) h _
     (finished_adds (is_used_up h (effective h changes)) h _
     (changes_add h (effective h changes) (latest_are_distinct (changes_something (key_now h)) writes)))
 
 run_adds : (r : Replayed) (run : Run) (end : End) → AddsTo r.history (left_by run end r).history
-run_adds r run DoneEnd = applied_adds r.history (is_live_in r.live) run.writes
+run_adds r run DoneEnd = applied_adds (replay_terms r) run.writes
 run_adds r run (Aborted text) = nothing_added r.history
 run_adds r run (Faulted fault) = nothing_added r.history
 
@@ -78,15 +79,16 @@ program_adds : (r : Replayed) (answered : Answered) → AddsTo r.history (left_b
 program_adds r (Ended run) = run_adds r run run.end
 program_adds r (Wants key trace) = nothing_added r.history
 
-foreign_adds : (h : History) (is_live : ℕ → Bool) (txn : Txn) (o : Result Done Refusal) → outcome h is_live txn ≡ o → AddsTo h (history_left h o)
-foreign_adds h is_live txn (Ok done) is =
-    let grown : (changes : List Change) × HasDistinctKeys changes × (done.history ≡ with_changes h changes) = history_grows h is_live txn done is in
+foreign_adds : (terms : Terms) (txn : Txn) (o : Result Done Refusal) → outcome terms txn ≡ o → AddsTo terms.history (history_left terms.history o)
+foreign_adds terms txn (Ok done) is =
+    let h : History = terms.history in
+    let grown : (changes : List Change) × HasDistinctKeys changes × (done.history ≡ with_changes h changes) = history_grows terms txn done is in
     subst (AddsTo h) (sym grown.2) (changes_add h grown.0 grown.1)
-foreign_adds h is_live txn (Err refusal) is = nothing_added h
+foreign_adds terms txn (Err refusal) is = nothing_added terms.history
 
 entry_adds : (e : Entry) (r : Replayed) → AddsTo r.history (replay_entry e r).history
 entry_adds (Program program level answers output trace revision) r = program_adds r (run_over (seen_at level answers r.history) program.statements)
-entry_adds (Foreign txn) r = foreign_adds r.history (is_live_in r.live) txn (outcome r.history (is_live_in r.live) txn) refl
+entry_adds (Foreign txn) r = foreign_adds (replay_terms r) txn (outcome (replay_terms r) txn) refl
 entry_adds (Grant id ttl moment) r = nothing_added r.history
 entry_adds (Renew id moment) r = nothing_added r.history
 entry_adds (Revoke id) r = changes_add r.history (deletions_of r.history id) (deletions_are_distinct r.history id)

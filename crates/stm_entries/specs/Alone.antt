@@ -6,7 +6,6 @@
 use Rattle.std.specs.Prelude.{if◌then◌else◌, List, map, Result, Ok, Err}
 use Rattle.stm_history.specs.declared.key_state.ReadAnswer.{ReadAnswer}
 use Rattle.stm_history.specs.History.{History}
-use Rattle.stm_leases.specs.Live.{is_live_in}
 use Rattle.stm_program.specs.declared.level.Level.{Level}
 use Rattle.stm_program.specs.Writes.{latest_writes}
 use Rattle.stm_meaning.specs.declared.run.End.{End}
@@ -21,13 +20,13 @@ use Rattle.stm_txn.specs.Commits.{applied}
 use Rattle.stm_compile.specs.Levels.{is_comparing}
 use Rattle.stm_compile.specs.Answers.{look_up, state_now}
 use Rattle.stm_compile.specs.Now.{as_change}
-use Rattle.stm_entries.specs.Replayed.{Replayed, with_history}
+use Rattle.stm_entries.specs.Replayed.{Replayed, with_history, replay_terms}
 
 -- what a run's writes come to in a store, with nothing compared: LeaseNotFound where one puts a key on a lease that is not
 -- live, else RevisionsUsedUp where something changes at the highest revision, else the last write of each key as one revision,
 -- without the deletes of absent keys
 abbrev pub applied_run : Replayed → Run → Result Done Refusal
-applied_run r run = applied r.history (is_live_in r.live) (map as_change (latest_writes run.writes))
+applied_run r run = applied (replay_terms r) (map as_change (latest_writes run.writes))
 
 -- what a committed program saw: at ReadCommitted its answers, at the comparing levels the state of its commit
 abbrev pub seen_at : Level → List ReadAnswer → History → Lookup

@@ -18,7 +18,7 @@ use Rattle.stm_compile.specs.Levels.{is_comparing}
 use Rattle.stm_compile.specs.Answers.{AreTrue}
 use Rattle.stm_entries.specs.declared.entry.Entry.{Entry}
 use Rattle.stm_entries.specs.declared.entry.Entry.TheVariants.{Program, Foreign, Grant, Renew, Revoke, Expire}
-use Rattle.stm_entries.specs.Replayed.{Replayed}
+use Rattle.stm_entries.specs.Replayed.{Replayed, replay_terms}
 use Rattle.stm_entries.specs.Alone.{seen_at, applied_run}
 use Rattle.stm_entries.specs.Replay.{replay_entry}
 
@@ -43,7 +43,7 @@ pub record IsCommit (program : ProgramTree) (level : Level) (answers : List Read
 -- a foreign transaction that the store takes, and that changes something
 pub record IsForeign (txn : Txn) (before : Replayed) : Type 0 where
   pub done : Done
-  pub taken : outcome before.history (is_live_in before.live) txn ≡ Ok done
+  pub taken : outcome (replay_terms before) txn ≡ Ok done
   pub changed : now before.history < now done.history
 
 -- the end of a live lease: its keys, if it has some, are deleted below the highest revision

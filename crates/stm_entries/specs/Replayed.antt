@@ -5,6 +5,7 @@ use Rattle.std.specs.Prelude.{ℕ}
 use Rattle.std.specs.FinMap as finmap
 use Rattle.stm_history.specs.History.{History, opened_at}
 use Rattle.stm_leases.specs.Live.{Live}
+use Rattle.stm_txn.specs.Terms.{Terms, widest_terms}
 use Rattle.stm_txn.specs.Standing.{Standing}
 
 -- a history and the live leases with their terms
@@ -19,6 +20,10 @@ opening number = record { history = opened_at number; live = finmap.empty }
 -- a store without its moment
 abbrev pub without_moment : Standing → Replayed
 without_moment s = record { history = s.history; live = s.live }
+
+-- the terms on which a transaction is replayed: the widest
+abbrev pub replay_terms : Replayed → Terms
+replay_terms r = widest_terms r.history r.live
 
 abbrev pub with_history : Replayed → History → Replayed
 with_history r h = record { history = h; live = r.live }

@@ -18,6 +18,7 @@ use Rattle.stm_txn.specs.Outcome.{Done, outcome, with_changes, is_used_up}
 use Rattle.stm_txn.specs.LeaseKeys.{deletions_of}
 use Rattle.stm_txn.specs.Standing.{Standing, Step, Advance, IsRefusalOf, refusal_of, with_history, transacted, without_lease, ended}
 use Rattle.stm_txn.specs.Standing.{at_moment, after, expired_in, expire_up_to, expire_all, advanced, HasCome, IsCutShort as StoreCutShort}
+use Rattle.stm_txn.specs.Standing.{terms_of}
 use Rattle.stm_txn.proofs.Applying.{history_grows}
 use Rattle.stm_txn.proofs.Ending.{ended_is, due_lives}
 use Rattle.stm_entries.specs.declared.entry.Entry.{Entry}
@@ -39,7 +40,7 @@ same_history h after (c ∷ cs) is still =
     let higher : now after ≡ now (with_changes h (c ∷ cs)) = ap now is in
     absurd (omega arith)
 
-changed_follows : (s : Standing) (txn : Txn) (done : Done) (b : Bool) → outcome s.history (is_live_in s.live) txn ≡ Ok done →
+changed_follows : (s : Standing) (txn : Txn) (done : Done) (b : Bool) → outcome (terms_of s) txn ≡ Ok done →
     nat_lt (now s.history) (now done.history) ≡ b → Follows s (with_history s done.history) (cond b (Foreign txn ∷ []) [])
 changed_follows s txn done true is changed = record {
   replays = ap (λ o. replayed_with (without_moment s) (history_left s.history o)) is;
@@ -47,14 +48,14 @@ changed_follows s txn done true is changed = record {
 }
 changed_follows s txn done false is changed =
     let grown : (changes : List Change) × HasDistinctKeys changes × (done.history ≡ with_changes s.history changes) =
-    history_grows s.history (is_live_in s.live) txn done is in
+    history_grows (terms_of s) txn done is in
     record {
       replays = ap (λ (h : History). record { history = h; live = s.live }) (same_history s.history done.history grown.0 grown.2 changed);
       there = tt;
     }
 
 -- a transaction that the store takes
-pub txn_follows : (s : Standing) (txn : Txn) (done : Done) → outcome s.history (is_live_in s.live) txn ≡ Ok done →
+pub txn_follows : (s : Standing) (txn : Txn) (done : Done) → outcome (terms_of s) txn ≡ Ok done →
     Follows s (with_history s done.history) (if_changed s (with_history s done.history) txn)
 txn_follows s txn done is = changed_follows s txn done (nat_lt (now s.history) (now done.history)) is refl
 

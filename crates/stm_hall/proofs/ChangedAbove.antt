@@ -104,22 +104,22 @@ passed_above h since n key low under high none =
     next_up h.opening since n key h.revisions (newest h.opening n h.revisions low high) under
     ∙ either_false (is_some (event_about key (events_of h (suc n)))) (changes_above h.opening since key (revisions_up_to h.opening n h.revisions)) none
 
--- the same, of a number above the floor of the search
-pub found_at : (h : History) (floor number : ℕ) (key : List ℕ) → h.opening ≤ floor → floor < number → number ≤ now h →
-    is_some (event_about key (events_of h number)) ≡ true → changes_above h.opening floor key (revisions_up_to h.opening number h.revisions) ≡ true
-found_at h floor zero key opened above reached found = absurd (omega arith)
-found_at h floor (suc n) key opened above reached found = found_above h floor n key (omega arith) (omega arith) reached found
+-- the same, of a number above the start of the search
+pub found_at : (h : History) (start number : ℕ) (key : List ℕ) → h.opening ≤ start → start < number → number ≤ now h →
+    is_some (event_about key (events_of h number)) ≡ true → changes_above h.opening start key (revisions_up_to h.opening number h.revisions) ≡ true
+found_at h start zero key opened above reached found = absurd (omega arith)
+found_at h start (suc n) key opened above reached found = found_above h start n key (omega arith) (omega arith) reached found
 
-pub passed_at : (h : History) (floor number next : ℕ) (key : List ℕ) → suc next ≡ number → h.opening ≤ floor → floor ≤ next → number ≤ now h →
+pub passed_at : (h : History) (start number next : ℕ) (key : List ℕ) → suc next ≡ number → h.opening ≤ start → start ≤ next → number ≤ now h →
     is_some (event_about key (events_of h number)) ≡ false →
-    changes_above h.opening floor key (revisions_up_to h.opening number h.revisions)
-    ≡ changes_above h.opening floor key (revisions_up_to h.opening next h.revisions)
-passed_at h floor number next key step opened above =
+    changes_above h.opening start key (revisions_up_to h.opening number h.revisions)
+    ≡ changes_above h.opening start key (revisions_up_to h.opening next h.revisions)
+passed_at h start number next key step opened above =
     subst (λ (m : ℕ). m ≤ now h → is_some (event_about key (events_of h m)) ≡ false →
-    changes_above h.opening floor key (revisions_up_to h.opening m h.revisions)
-    ≡ changes_above h.opening floor key (revisions_up_to h.opening next h.revisions))
+    changes_above h.opening start key (revisions_up_to h.opening m h.revisions)
+    ≡ changes_above h.opening start key (revisions_up_to h.opening next h.revisions))
     step
-    (λ reached none. passed_above h floor next key (omega arith) above reached none)
+    (λ reached none. passed_above h start next key (omega arith) above reached none)
 
 -- revisions up to the one that was seen are not above it
 nothing_above : (opening since : ℕ) (key : List ℕ) (revisions : List (List Change)) → number_of_last opening revisions ≤ since →
@@ -142,7 +142,7 @@ short_enough opening n (c ∷ revisions) low = ⊎_elim
     ap (λ (l : List (List Change)). length l) (all_up_to opening n (c ∷ revisions) within) in omega (arith, e, within))
     (cases_lt n (number_of_last opening (c ∷ revisions)))
 
--- once the number is at the floor, nothing is left
+-- once the number is at the start, nothing is left
 pub seen_all : (h : History) (since n : ℕ) (key : List ℕ) → h.opening ≤ n → n ≤ since →
     changes_above h.opening since key (revisions_up_to h.opening n h.revisions) ≡ false
 seen_all h since n key low seen =

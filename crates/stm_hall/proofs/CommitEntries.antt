@@ -1,8 +1,7 @@
 -- The entry of a commit that the store took leads to what the commit left.
-use Rattle.std.proofs.Common.{◌≡◌, ℕ, List, [], ◌∷◌, map, None, Ok, Bool, true, false, cond, refl, sym, ◌∙◌, ap, subst}
+use Rattle.std.proofs.Common.{◌≡◌, List, [], ◌∷◌, map, None, Ok, Bool, true, false, cond, refl, sym, ◌∙◌, ap, subst}
 use Rattle.stm_history.specs.declared.key_state.ReadAnswer.{ReadAnswer}
 use Rattle.stm_history.specs.History.{History, now}
-use Rattle.stm_leases.specs.Live.{is_live_in}
 use Rattle.stm_program.specs.Syntax.{Block}
 use Rattle.stm_program.specs.declared.level.Level.{Level}
 use Rattle.stm_program.specs.declared.write.Write.{Write}
@@ -18,7 +17,8 @@ use Rattle.stm_txn.specs.Checks.{fault_of}
 use Rattle.stm_txn.specs.Effect.{op_of}
 use Rattle.stm_txn.specs.Outcome.{Done, outcome}
 use Rattle.stm_txn.specs.Commits.{applied}
-use Rattle.stm_txn.specs.Standing.{Standing, with_history}
+use Rattle.stm_txn.specs.Standing.{Standing, with_history, terms_of}
+use Rattle.stm_txn.specs.Terms.{Terms}
 use Rattle.stm_txn.proofs.Applying.{writes_apply}
 use Rattle.stm_compile.specs.Levels.{is_comparing}
 use Rattle.stm_compile.specs.Answers.{look_up, state_now}
@@ -27,7 +27,7 @@ use Rattle.stm_compile.specs.CommitTxn.{write_op, commit_of}
 use Rattle.stm_compile.specs.Committed.{conflict_now}
 use Rattle.stm_compile.proofs.OutcomeLemmas.{changes_are_distinct}
 use Rattle.stm_attempt.specs.ReadyRun.{ReadyRun, IsRunOnItsAnswers}
-use Rattle.stm_entries.specs.Replayed.{Replayed, without_moment}
+use Rattle.stm_entries.specs.Replayed.{Replayed, without_moment, replay_terms}
 use Rattle.stm_entries.specs.Alone.{seen_at, history_left, left_by, left_by_run}
 use Rattle.stm_hall.specs.Verdicts.{txn_of, answers_kept, entry_of, first_unvouched}
 use Rattle.stm_hall.proofs.Opening.{Follows}
@@ -44,13 +44,14 @@ ops_of_writes [] = refl
 ops_of_writes (w ∷ ws) = ap (λ o. o ∷ map write_op ws) (op_of-as_change w) ∙ ap (λ l. op_of (as_change w) ∷ l) (ops_of_writes ws)
 
 -- the store's transaction applies the writes
-applied_by : (h : History) (is_live : ℕ → Bool) (level : Level) (reads : List ReadAnswer) (run : Run) (done : Done) →
-    fault_of (commit_of level reads (latest_writes run.writes)) ≡ None → conflict_now h level reads (latest_writes run.writes) ≡ None →
-    outcome h is_live (commit_of level reads (latest_writes run.writes)) ≡ Ok done →
-    applied h is_live (map as_change (latest_writes run.writes)) ≡ Ok done
-applied_by h is_live level reads run done right none is =
+applied_by : (terms : Terms) (level : Level) (reads : List ReadAnswer) (run : Run) (done : Done) →
+    fault_of terms.limit (commit_of level reads (latest_writes run.writes)) ≡ None →
+    conflict_now terms.history level reads (latest_writes run.writes) ≡ None →
+    outcome terms (commit_of level reads (latest_writes run.writes)) ≡ Ok done →
+    applied terms (map as_change (latest_writes run.writes)) ≡ Ok done
+applied_by terms level reads run done right none is =
     let ws : List Write = latest_writes run.writes in
-    sym (writes_apply h is_live (commit_of level reads ws) (map as_change ws) (ops_of_writes ws)
+    sym (writes_apply terms (commit_of level reads ws) (map as_change ws) (ops_of_writes ws)
     (changes_are_distinct ws (latest_writes-distinct run.writes)) right none)
     ∙ is
 
@@ -75,17 +76,17 @@ seen_run h level program reads writes run none vouched ended =
 -- ---- its entry
 
 left_by_done : (run : Run) (end : End) (r : Replayed) (done : Done) → end ≡ DoneEnd →
-    applied r.history (is_live_in r.live) (map as_change (latest_writes run.writes)) ≡ Ok done →
+    applied (replay_terms r) (map as_change (latest_writes run.writes)) ≡ Ok done →
     left_by run end r ≡ record { history = done.history; live = r.live }
 left_by_done run end r done is applies =
     ap (λ (e : End). left_by run e r) is ∙ ap (λ o. record { history = history_left r.history o; live = r.live }) applies
 
 -- the store took the transaction of a ready attempt, of which no compare failed, and each value was the store's
 pub record IsTakenBy (s : Standing) (ready : ReadyRun) (done : Done) : Type 0 where
-  pub right : fault_of (txn_of ready) ≡ None
+  pub right : fault_of (terms_of s).limit (txn_of ready) ≡ None
   pub no_conflict : conflict_now s.history ready.level ready.answers ready.writes ≡ None
   pub vouched : first_unvouched s.history ready.level ready.answers ≡ None
-  pub took : outcome s.history (is_live_in s.live) (txn_of ready) ≡ Ok done
+  pub took : outcome (terms_of s) (txn_of ready) ≡ Ok done
 
 pub commit_follows : (s : Standing) (ready : ReadyRun) (done : Done) → IsRunOnItsAnswers ready → IsTakenBy s ready done →
     Follows s (with_history s done.history) (entry_of ready (now done.history) ∷ [])
@@ -94,11 +95,11 @@ commit_follows s ready done kept t =
     let run : Run = kept.run in
     let seen : run_over (seen_at ready.level (answers_kept ready.level ready.answers) h) ready.program.statements ≡ Ended run =
     seen_run h ready.level ready.program.statements ready.answers ready.writes run t.no_conflict t.vouched kept.is_run in
-    let applies : applied h (is_live_in s.live) (map as_change (latest_writes run.writes)) ≡ Ok done =
-    applied_by h (is_live_in s.live) ready.level ready.answers run done
-    (subst (λ (ws : List Write). fault_of (commit_of ready.level ready.answers ws) ≡ None) kept.writes t.right)
+    let applies : applied (terms_of s) (map as_change (latest_writes run.writes)) ≡ Ok done =
+    applied_by (terms_of s) ready.level ready.answers run done
+    (subst (λ (ws : List Write). fault_of (terms_of s).limit (commit_of ready.level ready.answers ws) ≡ None) kept.writes t.right)
     (subst (λ (ws : List Write). conflict_now h ready.level ready.answers ws ≡ None) kept.writes t.no_conflict)
-    (subst (λ (ws : List Write). outcome h (is_live_in s.live) (commit_of ready.level ready.answers ws) ≡ Ok done) kept.writes t.took) in
+    (subst (λ (ws : List Write). outcome (terms_of s) (commit_of ready.level ready.answers ws) ≡ Ok done) kept.writes t.took) in
     record {
       replays = ap (λ a. left_by_run a (without_moment s)) seen ∙ left_by_done run run.end (without_moment s) done kept.is_done applies;
       there = (

@@ -4,7 +4,6 @@ use Rattle.std.proofs.Common.{subst}
 use Rattle.std.proofs.lemmas.Bool.{lt-ltb, le-ltb}
 use Rattle.std.specs.List.{list_all}
 use Rattle.stm_history.specs.History.{History, now, key_now}
-use Rattle.stm_leases.specs.Live.{is_live_in}
 use Rattle.stm_txn.specs.declared.txn.Txn.{Txn}
 use Rattle.stm_txn.specs.declared.txn.Op.{Op}
 use Rattle.stm_txn.specs.declared.txn.Op.TheVariants.{Get, Put, Del}
@@ -14,7 +13,7 @@ use Rattle.stm_txn.specs.declared.refusal.Refusal.{Refusal}
 use Rattle.stm_txn.specs.Branches.{Progress, begun, progress_after, changes_of_branch}
 use Rattle.stm_txn.specs.Compares.{first_failed}
 use Rattle.stm_txn.specs.Outcome.{Done, outcome, with_changes, chosen}
-use Rattle.stm_txn.specs.Standing.{Standing, IsRefusalOf, with_history, step_of, transacted}
+use Rattle.stm_txn.specs.Standing.{Standing, IsRefusalOf, with_history, step_of, transacted, terms_of}
 use Rattle.stm_txn.proofs.Applying.{branch_run, is_done}
 use Rattle.stm_hall.specs.declared.refusal.FetchRefusal.{FetchRefusal}
 use Rattle.stm_hall.specs.declared.refusal.FetchRefusal.TheVariants.{Behind, Store}
@@ -40,7 +39,7 @@ no_change h txn reads =
 
 done_unchanged : (s next : Standing) (txn : Txn) (answer : TxnAnswer) (a : IsAnswered s next txn answer) → OnlyReads txn → a.done.history ≡ s.history
 done_unchanged s next txn answer a reads =
-    ap (λ (d : Done). d.history) (sym (is_done s.history (is_live_in s.live) txn a.done a.came).made) ∙ no_change s.history txn reads
+    ap (λ (d : Done). d.history) (sym (is_done (terms_of s) txn a.done a.came).made) ∙ no_change s.history txn reads
 
 pub store_unchanged : (s next : Standing) (txn : Txn) (answer : TxnAnswer) → OnlyReads txn →
     transacted s txn ≡ Ok record { answer = answer; next = next } → next ≡ s
@@ -59,7 +58,7 @@ revision_unchanged s next txn answer reads step =
 -- the fetch by a caller that has seen more, and by another
 fetched_by : Standing → ℕ → Txn → Bool → Result TxnAnswer FetchRefusal
 fetched_by s seen txn behind =
-    cond behind (Err (Behind seen (now s.history))) (answered (outcome s.history (is_live_in s.live) txn))
+    cond behind (Err (Behind seen (now s.history))) (answered (outcome (terms_of s) txn))
 
 pub tells_behind : (s : Standing) (seen : ℕ) (txn : Txn) → now s.history < seen →
     FetchTells (fetched s seen txn) (Err (Behind seen (now s.history)))
@@ -67,7 +66,7 @@ unfolding fetched_by
 tells_behind s seen txn below = inl (ap (fetched_by s seen txn) (lt-ltb (now s.history) seen below))
 
 not_behind : (s : Standing) (seen : ℕ) (txn : Txn) → seen ≤ now s.history →
-    fetched s seen txn ≡ answered (outcome s.history (is_live_in s.live) txn)
+    fetched s seen txn ≡ answered (outcome (terms_of s) txn)
 unfolding fetched_by
 not_behind s seen txn reached = ap (fetched_by s seen txn) (le-ltb (now s.history) seen reached)
 
@@ -85,4 +84,4 @@ pub tells_refused : (s : Standing) (seen : ℕ) (txn : Txn) (cause : Refusal) �
     IsRefusalOf (transacted s txn) cause → FetchTells (fetched s seen txn) (Err (Store cause))
 tells_refused s seen txn cause reached refused =
     subst (λ (o : Result TxnAnswer FetchRefusal). FetchTells o (Err (Store cause))) (sym (not_behind s seen txn reached))
-    (refused_by s (outcome s.history (is_live_in s.live) txn) cause refused)
+    (refused_by s (outcome (terms_of s) txn) cause refused)

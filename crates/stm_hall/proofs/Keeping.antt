@@ -2,7 +2,6 @@
 use Rattle.std.proofs.Common.{◌≡◌, ◌⊎◌, inl, inr, ℕ, List, [], ◌∷◌, Option, Some, None, Result, Ok, Err, IfOk, IfErr, refl, sym, subst}
 use Rattle.stm_history.specs.declared.key_state.ReadAnswer.{ReadAnswer}
 use Rattle.stm_history.specs.History.{now, key_now}
-use Rattle.stm_leases.specs.Live.{is_live_in}
 use Rattle.stm_txn.specs.declared.txn.Txn.{Txn}
 use Rattle.stm_txn.specs.declared.answer.TxnAnswer.{TxnAnswer}
 use Rattle.stm_txn.specs.declared.answer.FailedCompare.{FailedCompare}
@@ -12,7 +11,7 @@ use Rattle.stm_txn.specs.declared.refusal.Refusal.{Refusal}
 use Rattle.stm_txn.specs.Checks.{fault_of}
 use Rattle.stm_txn.specs.Compares.{first_failed}
 use Rattle.stm_txn.specs.Outcome.{Done, outcome}
-use Rattle.stm_txn.specs.Standing.{Standing, with_history, step_of}
+use Rattle.stm_txn.specs.Standing.{Standing, with_history, step_of, terms_of}
 use Rattle.stm_attempt.specs.ReadyRun.{ReadyRun, IsRunOnItsAnswers}
 use Rattle.stm_entries.specs.declared.entry.Entry.{Entry}
 use Rattle.stm_hall.specs.declared.verdict.Verdict.{Verdict}
@@ -44,28 +43,32 @@ KeptBy hall (Err cause) = Unit {0}
 
 -- ---- a commit
 
-by_outcome : (hall : HallState) (ready : ReadyRun) (o : Result Done Refusal) → IsLocked hall → IsRunOnItsAnswers ready → fault_of (txn_of ready) ≡ None →
+by_outcome : (hall : HallState) (ready : ReadyRun) (o : Result Done Refusal) → IsLocked hall → IsRunOnItsAnswers ready →
+    fault_of (terms_of hall.standing).limit (txn_of ready) ≡ None →
     first_failed (key_now hall.standing.history) 0 (txn_of ready).compares ≡ None → first_unvouched hall.standing.history ready.level ready.answers ≡ None →
-    outcome hall.standing.history (is_live_in hall.standing.live) (txn_of ready) ≡ o → KeptBy hall (taken hall ready o)
+    outcome (terms_of hall.standing) (txn_of ready) ≡ o → KeptBy hall (taken hall ready o)
 by_outcome hall ready (Ok done) locked kept right none vouched is =
     keeps_more hall (with_history hall.standing done.history) (entry_of ready (now done.history) ∷ []) locked
     (commit_follows hall.standing ready done kept (record { right = right; no_conflict = none; vouched = vouched; took = is }))
 by_outcome hall ready (Err cause) locked kept right none vouched is = tt
 
-by_value : (hall : HallState) (ready : ReadyRun) (o : Option ReadAnswer) → IsLocked hall → IsRunOnItsAnswers ready → fault_of (txn_of ready) ≡ None →
+by_value : (hall : HallState) (ready : ReadyRun) (o : Option ReadAnswer) → IsLocked hall → IsRunOnItsAnswers ready →
+    fault_of (terms_of hall.standing).limit (txn_of ready) ≡ None →
     first_failed (key_now hall.standing.history) 0 (txn_of ready).compares ≡ None → first_unvouched hall.standing.history ready.level ready.answers ≡ o →
-    KeptBy hall (unless_unvouched o (taken hall ready (outcome hall.standing.history (is_live_in hall.standing.live) (txn_of ready))))
+    KeptBy hall (unless_unvouched o (taken hall ready (outcome (terms_of hall.standing) (txn_of ready))))
 by_value hall ready None locked kept right none is =
-    by_outcome hall ready (outcome hall.standing.history (is_live_in hall.standing.live) (txn_of ready)) locked kept right none is refl
+    by_outcome hall ready (outcome (terms_of hall.standing) (txn_of ready)) locked kept right none is refl
 by_value hall ready (Some a) locked kept right none is = tt
 
-by_failed : (hall : HallState) (ready : ReadyRun) (o : Option FailedCompare) → IsLocked hall → IsRunOnItsAnswers ready → fault_of (txn_of ready) ≡ None →
+by_failed : (hall : HallState) (ready : ReadyRun) (o : Option FailedCompare) → IsLocked hall → IsRunOnItsAnswers ready →
+    fault_of (terms_of hall.standing).limit (txn_of ready) ≡ None →
     first_failed (key_now hall.standing.history) 0 (txn_of ready).compares ≡ o → KeptBy hall (by_compares hall ready o)
 by_failed hall ready None locked kept right is =
     by_value hall ready (first_unvouched hall.standing.history ready.level ready.answers) locked kept right is refl
 by_failed hall ready (Some failed) locked kept right is = keeps_same hall hall locked refl
 
-by_fault : (hall : HallState) (ready : ReadyRun) (o : Option Refusal) → IsLocked hall → IsRunOnItsAnswers ready → fault_of (txn_of ready) ≡ o →
+by_fault : (hall : HallState) (ready : ReadyRun) (o : Option Refusal) → IsLocked hall → IsRunOnItsAnswers ready →
+    fault_of (terms_of hall.standing).limit (txn_of ready) ≡ o →
     KeptBy hall (unless_at_fault o (by_compares hall ready (first_failed (key_now hall.standing.history) 0 (txn_of ready).compares)))
 by_fault hall ready None locked kept is =
     by_failed hall ready (first_failed (key_now hall.standing.history) 0 (txn_of ready).compares) locked kept is refl
@@ -75,12 +78,13 @@ by_fault hall ready (Some cause) locked kept is = tt
 pub commit_keeps : (before after : HallState) (ready : ReadyRun) (result : Result Verdict CommitRefusal) → IsLocked before → IsRunOnItsAnswers ready →
     CommitTells (verdict_of before ready) before result after → Keeps before after
 commit_keeps before after ready (Ok verdict) locked kept told =
-    subst (λ (o : Result (HallStep Verdict) CommitRefusal). KeptBy before o) told (by_fault before ready (fault_of (txn_of ready)) locked kept refl)
+    subst (λ (o : Result (HallStep Verdict) CommitRefusal). KeptBy before o) told
+    (by_fault before ready (fault_of (terms_of before.standing).limit (txn_of ready)) locked kept refl)
 commit_keeps before after ready (Err cause) locked kept told = keeps_same before after locked told.1
 
 -- ---- a foreign transaction
 
-by_done : (hall : HallState) (txn : Txn) (o : Result Done Refusal) → IsLocked hall → outcome hall.standing.history (is_live_in hall.standing.live) txn ≡ o →
+by_done : (hall : HallState) (txn : Txn) (o : Result Done Refusal) → IsLocked hall → outcome (terms_of hall.standing) txn ≡ o →
     KeptBy hall (entered hall txn (step_of hall.standing o))
 by_done hall txn (Ok done) locked is =
     keeps_more hall (with_history hall.standing done.history) (if_changed hall.standing (with_history hall.standing done.history) txn) locked
@@ -91,7 +95,7 @@ pub made_keeps : (before after : HallState) (txn : Txn) (result : Result TxnAnsw
     Keeps before after
 made_keeps before after txn (Ok answer) locked told =
     subst (λ (o : Result (HallStep TxnAnswer) Refusal). KeptBy before o) told
-    (by_done before txn (outcome before.standing.history (is_live_in before.standing.live) txn) locked refl)
+    (by_done before txn (outcome (terms_of before.standing) txn) locked refl)
 made_keeps before after txn (Err cause) locked told = keeps_same before after locked told.1
 
 -- ---- an advance

@@ -5,7 +5,6 @@ use Rattle.std.specs.Prelude.{slice_get, bytes_eq}
 use Rattle.std.specs.List.{IsDistinct}
 use Rattle.stm_history.specs.declared.key_state.ReadAnswer.{ReadAnswer}
 use Rattle.stm_history.specs.History.{History, now, key_now}
-use Rattle.stm_leases.specs.Live.{is_live_in}
 use Rattle.stm_txn.specs.declared.txn.Txn.{Txn}
 use Rattle.stm_txn.specs.declared.txn.Compare.{Compare}
 use Rattle.stm_txn.specs.declared.answer.OpAnswer.{OpAnswer}
@@ -18,7 +17,7 @@ use Rattle.stm_txn.specs.Compares.{first_failed}
 use Rattle.stm_txn.specs.Numbers.{OpsFit}
 use Rattle.stm_txn.specs.Outcome.{Done, outcome, unless, branch_outcome, chosen}
 use Rattle.stm_txn.specs.Commits.{read_now, turned_down}
-use Rattle.stm_txn.specs.Standing.{Standing, Step, IsRefusalOf, with_history, step_of, transacted}
+use Rattle.stm_txn.specs.Standing.{Standing, Step, IsRefusalOf, with_history, step_of, transacted, terms_of}
 use Rattle.stm_txn.proofs.Applying.{failed_compare_reads, is_done}
 use Rattle.stm_compile.specs.Answers.{answer_now}
 use Rattle.stm_compile.specs.CommitTxn.{reread_keys, compares_of}
@@ -45,7 +44,7 @@ use Rattle.stm_hall.specs.Verdicts.{CommitTells}
 
 -- nothing is wrong with the transaction as a whole, and this is the first compare that fails, if one does
 pub record IsCompared (hall : HallState) (ready : ReadyRun) (failed : Option FailedCompare) : Type 0 where
-  pub right : fault_of (txn_of ready) ≡ None
+  pub right : fault_of (terms_of hall.standing).limit (txn_of ready) ≡ None
   pub compared : first_failed (key_now hall.standing.history) 0 (txn_of ready).compares ≡ failed
 
 pub verdict_compared : (hall : HallState) (ready : ReadyRun) (failed : Option FailedCompare) → IsCompared hall ready failed →
@@ -54,18 +53,18 @@ verdict_compared hall ready failed c =
     ap (λ (o : Option Refusal). unless_at_fault o (by_compares hall ready (first_failed (key_now hall.standing.history) 0 (txn_of ready).compares))) c.right
     ∙ ap (by_compares hall ready) c.compared
 
-pub verdict_at_fault : (hall : HallState) (ready : ReadyRun) (cause : Refusal) → fault_of (txn_of ready) ≡ Some cause →
+pub verdict_at_fault : (hall : HallState) (ready : ReadyRun) (cause : Refusal) → fault_of (terms_of hall.standing).limit (txn_of ready) ≡ Some cause →
     verdict_of hall ready ≡ Err (Store cause)
 verdict_at_fault hall ready cause is =
     ap (λ (o : Option Refusal). unless_at_fault o (by_compares hall ready (first_failed (key_now hall.standing.history) 0 (txn_of ready).compares))) is
 
 pub verdict_taken : (hall : HallState) (ready : ReadyRun) (o : Result Done Refusal) → IsCompared hall ready None →
     first_unvouched hall.standing.history ready.level ready.answers ≡ None →
-    outcome hall.standing.history (is_live_in hall.standing.live) (txn_of ready) ≡ o → verdict_of hall ready ≡ taken hall ready o
+    outcome (terms_of hall.standing) (txn_of ready) ≡ o → verdict_of hall ready ≡ taken hall ready o
 verdict_taken hall ready o c vouched is =
     verdict_compared hall ready None c
     ∙ ap (λ (a : Option ReadAnswer). unless_unvouched a
-    (taken hall ready (outcome hall.standing.history (is_live_in hall.standing.live) (txn_of ready)))) vouched
+    (taken hall ready (outcome (terms_of hall.standing) (txn_of ready)))) vouched
     ∙ ap (taken hall ready) is
 
 -- ---- a transaction that was answered
@@ -73,7 +72,7 @@ verdict_taken hall ready o c vouched is =
 -- it came to this, with this answer, and left the store so
 pub record IsAnswered (s after : Standing) (txn : Txn) (answer : TxnAnswer) : Type 0 where
   pub done : Done
-  pub came : outcome s.history (is_live_in s.live) txn ≡ Ok done
+  pub came : outcome (terms_of s) txn ≡ Ok done
   pub answered : done.answer ≡ answer
   pub left : with_history s done.history ≡ after
 
@@ -94,20 +93,20 @@ pub is_answered : (s after : Standing) (txn : Txn) (answer : TxnAnswer) → tran
     IsAnswered s after txn answer
 unfolding step_to
 is_answered s after txn answer step =
-    let a = answered_by s after answer (outcome s.history (is_live_in s.live) txn) step in
+    let a = answered_by s after answer (outcome (terms_of s) txn) step in
     record { done = a.0; came = a.1; answered = a.2; left = a.3 }
 
 -- the compare that it tells is the first that fails
 pub answer_compared : (s after : Standing) (txn : Txn) (answer : TxnAnswer) (failed : Option FailedCompare) → IsAnswered s after txn answer →
     answer.failed ≡ failed → first_failed (key_now s.history) 0 txn.compares ≡ failed
 answer_compared s after txn answer failed a is =
-    ap (λ (d : Done). d.answer.failed) (is_done s.history (is_live_in s.live) txn a.done a.came).made
+    ap (λ (d : Done). d.answer.failed) (is_done (terms_of s) txn a.done a.came).made
     ∙ ap (λ (x : TxnAnswer). x.failed) a.answered ∙ is
 
 -- the revision that it tells is the store's after it
 pub answer_revision : (s after : Standing) (txn : Txn) (answer : TxnAnswer) (a : IsAnswered s after txn answer) → now a.done.history ≡ answer.revision
 answer_revision s after txn answer a =
-    let made = (is_done s.history (is_live_in s.live) txn a.done a.came).made in
+    let made = (is_done (terms_of s) txn a.done a.came).made in
     subst (λ (d : Done). now d.history ≡ d.answer.revision) made refl ∙ ap (λ (x : TxnAnswer). x.revision) a.answered
 
 -- ---- no compare failed
@@ -125,7 +124,7 @@ tells_committed hall after ready txn answer next index is vouched step none plac
     let s : Standing = hall.standing in
     let a : IsAnswered s next (txn_of ready) answer = is_answered s next (txn_of ready) answer (ap (transacted s) (sym is) ∙ step) in
     let c : IsCompared hall ready None = record {
-      right = (is_done s.history (is_live_in s.live) (txn_of ready) a.done a.came).right;
+      right = (is_done (terms_of s) (txn_of ready) a.done a.came).right;
       compared = answer_compared s next (txn_of ready) answer None a none;
     } in
     verdict_taken hall ready (Ok a.done) c vouched a.came
@@ -142,13 +141,14 @@ pub record IsReread (s after : Standing) (ready : ReadyRun) (answers : List OpAn
   pub rereads : reads_in answers ≡ map (answer_now s.history) (reread_keys ready.level ready.answers)
   pub unchanged : after ≡ s
 
-pub is_reread : (s after : Standing) (ready : ReadyRun) (txn : Txn) (answer : TxnAnswer) (failed : FailedCompare) → fault_of txn ≡ None →
+pub is_reread : (s after : Standing) (ready : ReadyRun) (txn : Txn) (answer : TxnAnswer) (failed : FailedCompare) →
+    fault_of (terms_of s).limit txn ≡ None →
     txn.failure ≡ map read_now (reread_keys ready.level ready.answers) → IsAnswered s after txn answer → answer.failed ≡ Some failed →
     IsReread s after ready answer.answers
 is_reread s after ready txn answer failed right again a some =
     let keys = reread_keys ready.level ready.answers in
-    let turned : outcome s.history (is_live_in s.live) txn ≡ Ok (turned_down s.history failed keys) =
-    failed_compare_reads s.history (is_live_in s.live) txn keys failed again right (answer_compared s after txn answer (Some failed) a some) in
+    let turned : outcome (terms_of s) txn ≡ Ok (turned_down s.history failed keys) =
+    failed_compare_reads (terms_of s) txn keys failed again right (answer_compared s after txn answer (Some failed) a some) in
     let both : Ok (turned_down s.history failed keys) ≡ Ok a.done = sym turned ∙ a.came in
     let same : turned_down s.history failed keys ≡ a.done = cc (both) in
     record {
@@ -187,7 +187,7 @@ sent_compared hall next ready txn answer failed is step found =
     let s : Standing = hall.standing in
     let a : IsAnswered s next (txn_of ready) answer = is_answered s next (txn_of ready) answer (ap (transacted s) (sym is) ∙ step) in
     record {
-      right = (is_done s.history (is_live_in s.live) (txn_of ready) a.done a.came).right;
+      right = (is_done (terms_of s) (txn_of ready) a.done a.came).right;
       compared = answer_compared s next (txn_of ready) answer failed a found;
     }
 
@@ -195,7 +195,7 @@ pub sent_reread : (s next : Standing) (ready : ReadyRun) (txn : Txn) (answer : T
     transacted s txn ≡ Ok record { answer = answer; next = next } → answer.failed ≡ Some failed → IsReread s next ready answer.answers
 sent_reread s next ready txn answer failed is step some =
     let a : IsAnswered s next (txn_of ready) answer = is_answered s next (txn_of ready) answer (ap (transacted s) (sym is) ∙ step) in
-    is_reread s next ready (txn_of ready) answer failed (is_done s.history (is_live_in s.live) (txn_of ready) a.done a.came).right refl a some
+    is_reread s next ready (txn_of ready) answer failed (is_done (terms_of s) (txn_of ready) a.done a.came).right refl a some
 
 -- a compare of a commit is about a key that was read or written
 pub place_seen : (ready : ReadyRun) (txn : Txn) (i : ℕ) → txn.compares ≡ (txn_of ready).compares → i < length txn.compares →
@@ -220,20 +220,20 @@ told_failed ready failed answers told_answers told key seen now_modified is as_t
 -- what a commit of vouched answers is refused for is its verdict
 refused_by : (hall : HallState) (ready : ReadyRun) (cause : Refusal) (o : Result Done Refusal) (fault : Option Refusal) (failed : Option FailedCompare) →
     first_unvouched hall.standing.history ready.level ready.answers ≡ None →
-    outcome hall.standing.history (is_live_in hall.standing.live) (txn_of ready) ≡ o → fault_of (txn_of ready) ≡ fault →
+    outcome (terms_of hall.standing) (txn_of ready) ≡ o → fault_of (terms_of hall.standing).limit (txn_of ready) ≡ fault →
     first_failed (key_now hall.standing.history) 0 (txn_of ready).compares ≡ failed → IsRefusalOf (step_of hall.standing o) cause →
     (Store cause ≡ Store OutOfMemory) ⊎ (verdict_of hall ready ≡ Err (Store cause))
 refused_by hall ready cause (Ok done) fault failed vouched is whole compared refused = inl (ap (λ (c : Refusal). Store c) refused)
 refused_by hall ready cause (Err first) (Some first_fault) failed vouched is whole compared refused =
     let h : History = hall.standing.history in
-    let at_fault : outcome h (is_live_in hall.standing.live) (txn_of ready) ≡ Err first_fault =
-    ap (λ (o : Option Refusal). unless o (branch_outcome h (is_live_in hall.standing.live) (first_failed (key_now h) 0 (txn_of ready).compares)
+    let at_fault : outcome (terms_of hall.standing) (txn_of ready) ≡ Err first_fault =
+    ap (λ (o : Option Refusal). unless o (branch_outcome (terms_of hall.standing) (first_failed (key_now h) 0 (txn_of ready).compares)
     (chosen (first_failed (key_now h) 0 (txn_of ready).compares) (txn_of ready)))) whole in
     let both : Err first_fault ≡ Err first = sym at_fault ∙ is in
     let same : first_fault ≡ first = cc (both) in
     inr (verdict_at_fault hall ready first_fault whole ∙ ap (λ (c : Refusal). Err (Store c)) (same ∙ sym refused))
 refused_by hall ready cause (Err first) None (Some failed) vouched is whole compared refused =
-    let turned = failed_compare_reads hall.standing.history (is_live_in hall.standing.live) (txn_of ready) (reread_keys ready.level ready.answers) failed
+    let turned = failed_compare_reads (terms_of hall.standing) (txn_of ready) (reread_keys ready.level ready.answers) failed
     refl whole compared in
     let both : Ok (turned_down hall.standing.history failed (reread_keys ready.level ready.answers)) ≡ Err first = sym turned ∙ is in
     absurd (cc (both))
@@ -245,7 +245,7 @@ pub tells_refused : (hall after : HallState) (ready : ReadyRun) (txn : Txn) (cau
     first_unvouched hall.standing.history ready.level ready.answers ≡ None → IsRefusalOf (transacted hall.standing txn) cause → after ≡ hall →
     CommitTells (verdict_of hall ready) hall (Err (Store cause)) after
 tells_refused hall after ready txn cause is vouched refused same = (
-  refused_by hall ready cause (outcome hall.standing.history (is_live_in hall.standing.live) (txn_of ready)) (fault_of (txn_of ready))
+  refused_by hall ready cause (outcome (terms_of hall.standing) (txn_of ready)) (fault_of (terms_of hall.standing).limit (txn_of ready))
       (first_failed (key_now hall.standing.history) 0 (txn_of ready).compares) vouched refl refl refl
       (subst (λ (t : Txn). IsRefusalOf (transacted hall.standing t) cause) is refused),
   same,

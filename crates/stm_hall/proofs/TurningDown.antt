@@ -9,7 +9,6 @@ use Rattle.stm_history.specs.declared.change.Change.{Change}
 use Rattle.stm_history.specs.declared.change.Change.TheVariants.{Put as PutChange, Del as DelChange}
 use Rattle.stm_history.specs.declared.key_state.ReadAnswer.{ReadAnswer}
 use Rattle.stm_history.specs.History.{History, key_now, key_of as changed_key, change_of, HasDistinctKeys}
-use Rattle.stm_leases.specs.Live.{is_live_in}
 use Rattle.stm_program.specs.declared.write.Write.{Write}
 use Rattle.stm_program.specs.declared.write.Write.TheVariants.{Put, Del}
 use Rattle.stm_program.specs.Writes.{key_of, latest_writes}
@@ -22,13 +21,13 @@ use Rattle.stm_txn.specs.declared.answer.FailedCompare.{FailedCompare}
 use Rattle.stm_txn.specs.declared.refusal.Refusal.{Refusal}
 use Rattle.stm_txn.specs.declared.refusal.Refusal.TheVariants.{OutOfMemory, TooManyOps, EmptyKey, DuplicateKey}
 use Rattle.stm_txn.specs.Operations.{key_of_op, clash}
-use Rattle.stm_txn.specs.Checks.{most_operations, is_empty_key, has_too_many, has_empty_key, has_clash, fault_of}
+use Rattle.stm_txn.specs.Checks.{is_empty_key, has_too_many, has_empty_key, has_clash, fault_of}
 use Rattle.stm_txn.specs.Compares.{first_failed}
 use Rattle.stm_txn.specs.Effect.{op_of}
 use Rattle.stm_txn.specs.Branches.{changes_of_branch}
 use Rattle.stm_txn.specs.Outcome.{Done, outcome, with_changes, unless, branch_outcome, chosen}
 use Rattle.stm_txn.specs.Commits.{turned_down}
-use Rattle.stm_txn.specs.Standing.{Standing, IsRefusalOf, with_history, step_of, transacted}
+use Rattle.stm_txn.specs.Standing.{Standing, IsRefusalOf, with_history, step_of, transacted, terms_of}
 use Rattle.stm_txn.proofs.Applying.{failed_compare_reads, done_by, is_done}
 use Rattle.stm_txn.proofs.Branching.{apart_case, apart_back}
 use Rattle.stm_compile.specs.Answers.{look_up}
@@ -109,12 +108,13 @@ no_fault_less many empty clash fewer other distinct a b c =
     ∙ ap (λ x. cond fewer (Some TooManyOps) (cond other (Some EmptyKey) (cond x (Some DuplicateKey) None))) c
 
 -- without writes that are not too many nothing else is wrong with a transaction
-pub same_fault : (txn : Txn) → StandsApart txn.success → length txn.success ≤ most_operations → fault_of txn ≡ fault_of (asking txn)
-same_fault txn s few =
-    no_fault_less (has_too_many txn) (has_empty_key txn) (has_clash txn.success || has_clash txn.failure)
-    (has_too_many (asking txn)) (has_empty_key (asking txn)) (has_clash (asking txn).success || has_clash (asking txn).failure)
-    (middle_false (nat_lt most_operations (length txn.compares)) (nat_lt most_operations (length txn.success))
-    (nat_lt most_operations (length txn.failure)) (le-ltb most_operations (length txn.success) few))
+pub same_fault : (limit : ℕ) (txn : Txn) → StandsApart txn.success → length txn.success ≤ limit → fault_of limit txn ≡ fault_of limit (asking txn)
+same_fault limit txn s few =
+    no_fault_less (has_too_many limit txn) (has_empty_key txn) (has_clash txn.success || has_clash txn.failure)
+    (has_too_many limit (asking txn)) (has_empty_key (asking txn)) (has_clash (asking txn).success || has_clash (asking txn).failure)
+    (middle_false (nat_lt limit (length txn.compares)) (nat_lt limit (length txn.success)) (nat_lt limit (length txn.failure))
+    (le-ltb limit (length txn.success) few)
+    ∙ ap (λ b. nat_lt limit (length txn.compares) || b || nat_lt limit (length txn.failure)) (sym (le-ltb limit 0 (omega arith))))
     (middle_false (list_any (λ c. is_empty_key c.key) txn.compares) (list_any names_nothing txn.success) (list_any names_nothing txn.failure) s.named)
     (ap (λ b. b || has_clash txn.failure) s.apart)
 
@@ -123,23 +123,23 @@ or_true true b = refl
 or_true false b = refl
 
 -- too many writes are wrong whatever else is
-pub too_many_writes : (txn : Txn) → most_operations < length txn.success → fault_of txn ≡ Some TooManyOps
-too_many_writes txn more =
+pub too_many_writes : (limit : ℕ) (txn : Txn) → limit < length txn.success → fault_of limit txn ≡ Some TooManyOps
+too_many_writes limit txn more =
     ap (λ b. cond b (Some TooManyOps) (cond (has_empty_key txn) (Some EmptyKey)
     (cond (has_clash txn.success || has_clash txn.failure) (Some DuplicateKey) None)))
-    (ap (λ b. nat_lt most_operations (length txn.compares) || b || nat_lt most_operations (length txn.failure))
-    (lt-ltb most_operations (length txn.success) more)
-    ∙ or_true (nat_lt most_operations (length txn.compares)) (nat_lt most_operations (length txn.failure)))
+    (ap (λ b. nat_lt limit (length txn.compares) || b || nat_lt limit (length txn.failure)) (lt-ltb limit (length txn.success) more)
+    ∙ or_true (nat_lt limit (length txn.compares)) (nat_lt limit (length txn.failure)))
 
 -- ---- what the reads alone come to
 
 -- nothing is wrong with the commit as a whole where nothing is with what it asks
 pub asked_compared : (hall : HallState) (ready : ReadyRun) (next : Standing) (answer : TxnAnswer) (failed : Option FailedCompare) → IsRunOnItsAnswers ready →
-    length (txn_of ready).success ≤ most_operations → IsAnswered hall.standing next (asking (txn_of ready)) answer → answer.failed ≡ failed →
+    length (txn_of ready).success ≤ (terms_of hall.standing).limit → IsAnswered hall.standing next (asking (txn_of ready)) answer →
+    answer.failed ≡ failed →
     IsCompared hall ready failed
 asked_compared hall ready next answer failed kept few a is = record {
-  right = same_fault (txn_of ready) (writes_stand_apart ready kept) few
-      ∙ (is_done hall.standing.history (is_live_in hall.standing.live) (asking (txn_of ready)) a.done a.came).right;
+  right = same_fault (terms_of hall.standing).limit (txn_of ready) (writes_stand_apart ready kept) few
+      ∙ (is_done (terms_of hall.standing) (asking (txn_of ready)) a.done a.came).right;
   compared = answer_compared hall.standing next (asking (txn_of ready)) answer failed a is;
 }
 
@@ -150,14 +150,14 @@ history_by s txn failed = with_changes s.history (changes_of_branch s.history (c
 -- where no compare fails, it changes nothing
 pub nothing_written : (s after : Standing) (txn : Txn) (answer : TxnAnswer) → IsAnswered s after (asking txn) answer → answer.failed ≡ None → after ≡ s
 nothing_written s after txn answer a none =
-    let made : done_by s.history (asking txn) ≡ a.done = (is_done s.history (is_live_in s.live) (asking txn) a.done a.came).made in
+    let made : done_by s.history (asking txn) ≡ a.done = (is_done (terms_of s) (asking txn) a.done a.came).made in
     sym a.left ∙ ap (λ (d : Done). with_history s d.history) (sym made)
     ∙ ap (λ (o : Option FailedCompare). with_history s (history_by s txn o)) (answer_compared s after (asking txn) answer None a none)
 
 pub asked_reread : (s next : Standing) (ready : ReadyRun) (answer : TxnAnswer) (failed : FailedCompare) → IsAnswered s next (asking (txn_of ready)) answer →
     answer.failed ≡ Some failed → IsReread s next ready answer.answers
 asked_reread s next ready answer failed a some =
-    is_reread s next ready (asking (txn_of ready)) answer failed (is_done s.history (is_live_in s.live) (asking (txn_of ready)) a.done a.came).right refl a some
+    is_reread s next ready (asking (txn_of ready)) answer failed (is_done (terms_of s) (asking (txn_of ready)) a.done a.came).right refl a some
 
 pub asked_answered : (s next : Standing) (ready : ReadyRun) (asked : Txn) (answer : TxnAnswer) → asked ≡ asking (txn_of ready) →
     transacted s asked ≡ Ok record { answer = answer; next = next } → IsAnswered s next (asking (txn_of ready)) answer
@@ -170,46 +170,47 @@ pub tells_unvouched : (hall : HallState) (ready : ReadyRun) (unvouched : ReadAns
 tells_unvouched hall ready unvouched c is =
     verdict_compared hall ready None c
     ∙ ap (λ (a : Option ReadAnswer). unless_unvouched a
-    (taken hall ready (outcome hall.standing.history (is_live_in hall.standing.live) (txn_of ready)))) is
+    (taken hall ready (outcome (terms_of hall.standing) (txn_of ready)))) is
 
 -- what it is refused for, where memory suffices, is the fault of the whole
 refused_by : (hall : HallState) (ready : ReadyRun) (cause : Refusal) (o : Result Done Refusal) (fault : Option Refusal) (failed : Option FailedCompare) →
-    fault_of (txn_of ready) ≡ fault_of (asking (txn_of ready)) →
-    outcome hall.standing.history (is_live_in hall.standing.live) (asking (txn_of ready)) ≡ o → fault_of (asking (txn_of ready)) ≡ fault →
+    fault_of (terms_of hall.standing).limit (txn_of ready) ≡ fault_of (terms_of hall.standing).limit (asking (txn_of ready)) →
+    outcome (terms_of hall.standing) (asking (txn_of ready)) ≡ o → fault_of (terms_of hall.standing).limit (asking (txn_of ready)) ≡ fault →
     first_failed (key_now hall.standing.history) 0 (txn_of ready).compares ≡ failed → IsRefusalOf (step_of hall.standing o) cause →
     (Store cause ≡ Store OutOfMemory) ⊎ (verdict_of hall ready ≡ Err (Store cause))
 refused_by hall ready cause (Ok done) fault failed same is whole compared refused = inl (ap (λ (c : Refusal). Store c) refused)
 refused_by hall ready cause (Err first) (Some first_fault) failed same is whole compared refused =
     let h : History = hall.standing.history in
-    let at_fault : outcome h (is_live_in hall.standing.live) (asking (txn_of ready)) ≡ Err first_fault =
-    ap (λ (o : Option Refusal). unless o (branch_outcome h (is_live_in hall.standing.live) (first_failed (key_now h) 0 (txn_of ready).compares)
+    let at_fault : outcome (terms_of hall.standing) (asking (txn_of ready)) ≡ Err first_fault =
+    ap (λ (o : Option Refusal). unless o (branch_outcome (terms_of hall.standing) (first_failed (key_now h) 0 (txn_of ready).compares)
     (chosen (first_failed (key_now h) 0 (txn_of ready).compares) (asking (txn_of ready))))) whole in
     let both : Err first_fault ≡ Err first = sym at_fault ∙ is in
     let one : first_fault ≡ first = cc (both) in
     inr (verdict_at_fault hall ready first_fault (same ∙ whole) ∙ ap (λ (c : Refusal). Err (Store c)) (one ∙ sym refused))
 refused_by hall ready cause (Err first) None (Some failed) same is whole compared refused =
-    let turned = failed_compare_reads hall.standing.history (is_live_in hall.standing.live) (asking (txn_of ready))
+    let turned = failed_compare_reads (terms_of hall.standing) (asking (txn_of ready))
     (reread_keys ready.level ready.answers) failed refl whole compared in
     let both : Ok (turned_down hall.standing.history failed (reread_keys ready.level ready.answers)) ≡ Err first = sym turned ∙ is in
     absurd (cc (both))
 refused_by hall ready cause (Err first) None None same is whole compared refused =
     let h : History = hall.standing.history in
-    let empty : outcome h (is_live_in hall.standing.live) (asking (txn_of ready))
-    ≡ branch_outcome h (is_live_in hall.standing.live) None [] =
-    ap (λ (o : Option Refusal). unless o (branch_outcome h (is_live_in hall.standing.live) (first_failed (key_now h) 0 (txn_of ready).compares)
+    let empty : outcome (terms_of hall.standing) (asking (txn_of ready))
+    ≡ branch_outcome (terms_of hall.standing) None [] =
+    ap (λ (o : Option Refusal). unless o (branch_outcome (terms_of hall.standing) (first_failed (key_now h) 0 (txn_of ready).compares)
     (chosen (first_failed (key_now h) 0 (txn_of ready).compares) (asking (txn_of ready))))) whole
-    ∙ ap (λ (f : Option FailedCompare). branch_outcome h (is_live_in hall.standing.live) f (chosen f (asking (txn_of ready)))) compared in
-    let both : branch_outcome h (is_live_in hall.standing.live) None [] ≡ Err first = sym empty ∙ is in
+    ∙ ap (λ (f : Option FailedCompare). branch_outcome (terms_of hall.standing) f (chosen f (asking (txn_of ready)))) compared in
+    let both : branch_outcome (terms_of hall.standing) None [] ≡ Err first = sym empty ∙ is in
     absurd (cc (both))
 
 pub tells_asked_refused : (hall after : HallState) (ready : ReadyRun) (asked : Txn) (cause : Refusal) → IsRunOnItsAnswers ready →
     asked ≡ asking (txn_of ready) →
-    length (txn_of ready).success ≤ most_operations → IsRefusalOf (transacted hall.standing asked) cause → after ≡ hall →
+    length (txn_of ready).success ≤ (terms_of hall.standing).limit → IsRefusalOf (transacted hall.standing asked) cause → after ≡ hall →
     CommitTells (verdict_of hall ready) hall (Err (Store cause)) after
 tells_asked_refused hall after ready asked cause kept is few refused same = (
-  refused_by hall ready cause (outcome hall.standing.history (is_live_in hall.standing.live) (asking (txn_of ready))) (fault_of (asking (txn_of ready)))
+  refused_by hall ready cause (outcome (terms_of hall.standing) (asking (txn_of ready)))
+      (fault_of (terms_of hall.standing).limit (asking (txn_of ready)))
       (first_failed (key_now hall.standing.history) 0 (txn_of ready).compares)
-      (same_fault (txn_of ready) (writes_stand_apart ready kept) few) refl refl refl
+      (same_fault (terms_of hall.standing).limit (txn_of ready) (writes_stand_apart ready kept) few) refl refl refl
       (subst (λ (t : Txn). IsRefusalOf (transacted hall.standing t) cause) is refused),
   same,
 )

@@ -5,7 +5,6 @@
 use Rattle.std.specs.Prelude.{◌≡◌, ◌⊎◌, ℕ, Bool, true, false, nat_lt, if◌then◌else◌, Result, Ok, Err, IsOk}
 use Rattle.std.specs.List.{list_all}
 use Rattle.stm_history.specs.History.{now}
-use Rattle.stm_leases.specs.Live.{is_live_in}
 use Rattle.stm_txn.specs.declared.txn.Txn.{Txn}
 use Rattle.stm_txn.specs.declared.txn.Op.{Op}
 use Rattle.stm_txn.specs.declared.txn.Op.TheVariants.{Get, Put, Del}
@@ -13,7 +12,7 @@ use Rattle.stm_txn.specs.declared.answer.TxnAnswer.{TxnAnswer}
 use Rattle.stm_txn.specs.declared.refusal.Refusal.{Refusal}
 use Rattle.stm_txn.specs.declared.refusal.Refusal.TheVariants.{OutOfMemory}
 use Rattle.stm_txn.specs.Outcome.{Done, outcome}
-use Rattle.stm_txn.specs.Standing.{Standing}
+use Rattle.stm_txn.specs.Standing.{Standing, terms_of}
 use Rattle.stm_hall.specs.declared.refusal.FetchRefusal.{FetchRefusal}
 use Rattle.stm_hall.specs.declared.refusal.FetchRefusal.TheVariants.{Behind, Store}
 
@@ -34,7 +33,7 @@ answered (Err cause) = Err (Store cause)
 -- a fetch by a caller that has seen this revision
 abbrev pub fetched : Standing → ℕ → Txn → Result TxnAnswer FetchRefusal
 fetched s seen txn =
-    if nat_lt (now s.history) seen then Err (Behind seen (now s.history)) else answered (outcome s.history (is_live_in s.live) txn)
+    if nat_lt (now s.history) seen then Err (Behind seen (now s.history)) else answered (outcome (terms_of s) txn)
 
 -- A fetch answers what its definition says. Want of memory is told only where the definition answers.
 abbrev pub FetchTells : Result TxnAnswer FetchRefusal → Result TxnAnswer FetchRefusal → Type 0

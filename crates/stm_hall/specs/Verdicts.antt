@@ -9,7 +9,6 @@ use Rattle.std.specs.Prelude.{◌≡◌, ◌⊎◌, ℕ, Bool, bytes_eq, not, if
 use Rattle.std.specs.List.{find}
 use Rattle.stm_history.specs.declared.key_state.ReadAnswer.{ReadAnswer}
 use Rattle.stm_history.specs.History.{History, now, key_now, value_of}
-use Rattle.stm_leases.specs.Live.{is_live_in}
 use Rattle.stm_program.specs.declared.level.Level.{Level}
 use Rattle.stm_txn.specs.declared.txn.Txn.{Txn}
 use Rattle.stm_txn.specs.declared.answer.FailedCompare.{FailedCompare}
@@ -18,7 +17,7 @@ use Rattle.stm_txn.specs.declared.refusal.Refusal.TheVariants.{OutOfMemory}
 use Rattle.stm_txn.specs.Checks.{fault_of}
 use Rattle.stm_txn.specs.Compares.{first_failed}
 use Rattle.stm_txn.specs.Outcome.{Done, outcome}
-use Rattle.stm_txn.specs.Standing.{Standing, with_history}
+use Rattle.stm_txn.specs.Standing.{Standing, with_history, terms_of}
 use Rattle.stm_compile.specs.Levels.{is_comparing}
 use Rattle.stm_compile.specs.Answers.{answer_now}
 use Rattle.stm_compile.specs.CommitTxn.{commit_of, reread_keys}
@@ -79,7 +78,7 @@ by_compares hall ready (Some failed) = Ok record {
 }
 by_compares hall ready None =
     unless_unvouched (first_unvouched hall.standing.history ready.level ready.answers)
-    (taken hall ready (outcome hall.standing.history (is_live_in hall.standing.live) (txn_of ready)))
+    (taken hall ready (outcome (terms_of hall.standing) (txn_of ready)))
 
 abbrev pub unless_at_fault : Option Refusal → Result (HallStep Verdict) CommitRefusal → Result (HallStep Verdict) CommitRefusal
 unless_at_fault None next = next
@@ -89,7 +88,8 @@ unless_at_fault (Some cause) next = Err (Store cause)
 -- value that is not the store's; else what the store makes of the transaction. A refusal changes nothing.
 abbrev pub verdict_of : HallState → ReadyRun → Result (HallStep Verdict) CommitRefusal
 verdict_of hall ready =
-    unless_at_fault (fault_of (txn_of ready)) (by_compares hall ready (first_failed (key_now hall.standing.history) 0 (txn_of ready).compares))
+    unless_at_fault (fault_of (terms_of hall.standing).limit (txn_of ready))
+    (by_compares hall ready (first_failed (key_now hall.standing.history) 0 (txn_of ready).compares))
 
 -- A commit comes to its verdict, unless memory ran out. A refusal leaves the hall as it was.
 abbrev pub CommitTells : Result (HallStep Verdict) CommitRefusal → HallState → Result Verdict CommitRefusal → HallState → Type 0

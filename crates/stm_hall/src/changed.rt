@@ -19,12 +19,12 @@ fn has_event_of(events: &[Event], key: &str) -> bool
 
 /// Whether the history changes a key above a revision that is not below its opening. The newest revisions are looked
 /// at first.
-fn is_changed_from(keys: &Keys, key: &str, floor: u64) -> bool
-    requires { keys.now.history.opening ≤ floor }
-    ensures { result ≡ changes_above keys.now.history.opening floor key.now keys.now.history.revisions }
+fn is_changed_from(keys: &Keys, key: &str, start: u64) -> bool
+    requires { keys.now.history.opening ≤ start }
+    ensures { result ≡ changes_above keys.now.history.opening start key.now keys.now.history.revisions }
 {
     let mut number = keys.revision();
-    while floor < number {
+    while start < number {
         if has_event_of(keys.events_at(number), key) {
             return true;
         }
@@ -37,6 +37,6 @@ fn is_changed_from(keys: &Keys, key: &str, floor: u64) -> bool
 pub(crate) fn is_changed_above(keys: &Keys, key: &str, since: u64) -> bool
     ensures { result ≡ changes_above keys.now.history.opening since key.now keys.now.history.revisions }
 {
-    let floor = since.max(keys.opening());
-    is_changed_from(keys, key, floor)
+    let start = since.max(keys.opening());
+    is_changed_from(keys, key, start)
 }

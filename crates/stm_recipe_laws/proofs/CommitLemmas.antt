@@ -1,9 +1,8 @@
 -- What a legal commit at a level that compares makes of the history.
-use Rattle.std.proofs.Common.{◌≡◌, ℕ, List, map, Bool, true, false, cond, Ok, Err, refl, sym, ◌∙◌, ap, subst}
+use Rattle.std.proofs.Common.{◌≡◌, List, map, Bool, true, false, cond, Ok, Err, refl, sym, ◌∙◌, ap, subst}
 use Rattle.std.specs.List.{list_any}
 use Rattle.stm_history.specs.declared.change.Change.{Change}
 use Rattle.stm_history.specs.History.{History}
-use Rattle.stm_leases.specs.Live.{is_live_in}
 use Rattle.stm_program.specs.Syntax.{Block}
 use Rattle.stm_program.specs.Writes.{latest_writes}
 use Rattle.stm_meaning.specs.declared.run.End.{End}
@@ -16,6 +15,7 @@ use Rattle.stm_meaning.specs.Meaning.{run_over}
 use Rattle.stm_txn.specs.declared.refusal.Refusal.TheVariants.{LeaseNotFound, RevisionsUsedUp}
 use Rattle.stm_txn.specs.Outcome.{Done, with_changes, is_used_up}
 use Rattle.stm_txn.specs.Commits.{applied, effective, is_on_dead_lease}
+use Rattle.stm_txn.specs.Terms.{Terms}
 use Rattle.stm_compile.specs.Answers.{state_now, look_up}
 use Rattle.stm_compile.specs.Levels.{is_comparing}
 use Rattle.stm_compile.specs.Now.{as_change}
@@ -24,7 +24,7 @@ use Rattle.stm_entries.specs.declared.entry.Entry.TheVariants.{Program, Foreign,
 use Rattle.stm_entries.specs.Alone.{left_by, left_by_run, history_left, applied_run}
 use Rattle.stm_entries.specs.Legal.{IsLegal}
 use Rattle.stm_entries.specs.Replay.{replay_entry}
-use Rattle.stm_entries.specs.Replayed.{Replayed}
+use Rattle.stm_entries.specs.Replayed.{Replayed, replay_terms}
 use Rattle.stm_recipe_laws.specs.Commits.{IsCommitOf}
 use Rattle.stm_recipe_laws.specs.Queues.{output_of}
 
@@ -45,10 +45,11 @@ done_by true used made done is = absurd (cc)
 done_by false true made done is = absurd (cc)
 done_by false false made done is = cc
 
-applied_history : (h : History) (is_live : ℕ → Bool) (writes : List Change) (done : Done) → applied h is_live writes ≡ Ok done →
-    done.history ≡ with_changes h (effective h writes)
-applied_history h is_live writes done is =
-    sym (ap (λ (d : Done). d.history) (done_by (list_any (is_on_dead_lease is_live) writes) (is_used_up h (effective h writes)) _ done is))
+applied_history : (terms : Terms) (writes : List Change) (done : Done) → applied terms writes ≡ Ok done →
+    done.history ≡ with_changes terms.history (effective terms.history writes)
+applied_history terms writes done is =
+    let h : History = terms.history in
+    sym (ap (λ (d : Done). d.history) (done_by (list_any (is_on_dead_lease terms.is_live) writes) (is_used_up h (effective h writes)) _ done is))
 
 alone_by : (comparing : Bool) (h : History) (answers : Lookup) (statements : Block) (run : Run) → comparing ≡ true →
     run_over (cond comparing (state_now h) answers) statements ≡ Ended run → run_over (state_now h) statements ≡ Ended run
@@ -73,7 +74,7 @@ committed statements (Program program level answers output trace revision) r of 
       run = legal.run;
       alone = subst (λ (b : Block). run_over (state_now h) b ≡ Ended legal.run) of.0 alone;
       is_done = legal.is_done;
-      left = leads ∙ applied_history h (is_live_in r.live) (map as_change (latest_writes legal.run.writes)) legal.done legal.applies;
+      left = leads ∙ applied_history (replay_terms r) (map as_change (latest_writes legal.run.writes)) legal.done legal.applies;
     }
 committed statements (Foreign txn) r of legal = absurd of
 committed statements (Grant id ttl moment) r of legal = absurd of

@@ -32,6 +32,7 @@ use Rattle.stm_entries.specs.declared.entry.Entry.TheVariants.{Program, Expire}
 use Rattle.stm_entries.specs.Alone.{history_left}
 use Rattle.stm_entries.specs.Legal.{IsLegal, AreLegal}
 use Rattle.stm_entries.specs.Replay.{replay, replay_entry}
+use Rattle.stm_txn.specs.Terms.{widest_terms}
 use Rattle.stm_entries.specs.Replayed.{Replayed, opening, with_history}
 use Rattle.stm_recipes.specs.Accounts.{transfer_program, deposit_program}
 use Rattle.stm_recipes.specs.Queues.{enqueue_program, dequeue_program, queue_items_of}
@@ -364,7 +365,7 @@ reserved_by_h = record {
 }
 
 -- a put on a live lease
-put_on_lease : applied (changed []) (is_live_in leases) (PutChange (codes "s") (codes "h") 7 ∷ []) ≡ Ok reserved_by_h
+put_on_lease : applied (widest_terms (changed []) leases) (PutChange (codes "s") (codes "h") 7 ∷ []) ≡ Ok reserved_by_h
 put_on_lease = ap (λ (live : Bool). cond (not live || false) (Err LeaseNotFound) (Ok reserved_by_h)) lease_is_live
 
 by_h_leaves : replay_entry by_h (with_lease []) ≡ with_lease h_holds

@@ -26,6 +26,7 @@ use Rattle.stm_txn.specs.LeaseKeys.{deletions_of}
 use Rattle.stm_txn.specs.Outcome.{Done, outcome, is_used_up}
 use Rattle.stm_txn.specs.Standing.{Standing, Step, Advance, step_of, transacted, granted, kept_alive, ended, revoked, with_revision, with_lease, without_lease}
 use Rattle.stm_txn.specs.Standing.{after, expired_in, expire_up_to, expire_all, at_moment, advanced, watch_step, poll_step, cancel_step}
+use Rattle.stm_txn.specs.Standing.{terms_of}
 use Rattle.stm_entries.specs.declared.entry.Entry.{Entry}
 use Rattle.stm_entries.specs.declared.entry.Entry.TheVariants.{Foreign}
 use Rattle.stm_reports.specs.declared.line.ReportLine.{ReportLine}
@@ -85,7 +86,7 @@ pub txn_right : (n : ℕ) (s : Standing) (rs : List Runner) (txn : StoreTxn) →
     (length (if_changed s (store_after_call s r) txn))
 txn_right n s rs txn = record {
   fits = by_reply (λ x. can_have rs (Txn txn) (line_told n x) ≡ true) TxnDone (transacted s txn) (λ x. refl) (λ cause. refl);
-  is_line = txn_same n s (outcome s.history (is_live_in s.live) txn);
+  is_line = txn_same n s (outcome (terms_of s) txn);
   store = txn_store n s txn (transacted s txn) refl;
   count = txn_count n s txn (transacted s txn) (is_transacted s txn);
 }

@@ -6,7 +6,6 @@ use Rattle.std.specs.declared.alloc.AllocError.{AllocError}
 use Rattle.std.proofs.lemmas.List.Elements.{All-nil, All-cons, All-head, All-tail}
 use Rattle.stm_history.specs.declared.key_state.ReadAnswer.{ReadAnswer}
 use Rattle.stm_history.specs.History.{History, now, key_at, mod_of}
-use Rattle.stm_leases.specs.Live.{is_live_in}
 use Rattle.stm_program.specs.Syntax.{ProgramTree}
 use Rattle.stm_program.specs.declared.level.Level.{Level}
 use Rattle.stm_program.specs.declared.write.Write.{Write}
@@ -24,7 +23,7 @@ use Rattle.stm_txn.specs.declared.refusal.Refusal.{Refusal as StoreRefusal}
 use Rattle.stm_txn.specs.declared.refusal.Refusal.TheVariants.{OutOfMemory}
 use Rattle.stm_txn.specs.Outcome.{Done}
 use Rattle.stm_txn.specs.Commits.{revision_read}
-use Rattle.stm_txn.specs.Standing.{Standing, with_history}
+use Rattle.stm_txn.specs.Standing.{Standing, with_history, terms_of}
 use Rattle.stm_compile.specs.Levels.{is_serializable}
 use Rattle.stm_compile.specs.Answers.{look_up, answer_now}
 use Rattle.stm_compile.specs.CommitTxn.{reread_keys}
@@ -207,13 +206,13 @@ end_leaves id r q s entries run reply x tells slots =
 
 commit_is : (id : ℕ) (r : Runner) (run : Run) (w : World) →
     commit id r r.known.reads run w
-    ≡ commit_told id r r.known.reads run (committed w.standing.history (is_live_in w.standing.live) r.task.level r.known.reads run) w
+    ≡ commit_told id r r.known.reads run (committed (terms_of w.standing) r.task.level r.known.reads run) w
 unfolding commit
 commit_is id r run w = refl
 
 -- what the commit of a run comes to, by the run that is ready
 abbrev pub outcome_of : Standing → ReadyRun → Run → Result Done StoreRefusal
-outcome_of s ready run = committed s.history (is_live_in s.live) ready.level ready.answers run
+outcome_of s ready run = committed (terms_of s) ready.level ready.answers run
 
 -- ---- what it leaves ----
 
@@ -394,7 +393,7 @@ told_is_taken id r reads run (Err cause) w = refl
 commit_is_taken : (id : ℕ) (r : Runner) (reads : List ReadAnswer) (run : Run) (w : World) → IsOk (commit id r reads run w).reply
 unfolding commit
 commit_is_taken id r reads run w =
-    told_is_taken id r reads run (committed w.standing.history (is_live_in w.standing.live) r.task.level reads run) w
+    told_is_taken id r reads run (committed (terms_of w.standing) r.task.level reads run) w
 
 finish_is_taken : (id : ℕ) (r : Runner) (reads : List ReadAnswer) (run : Run) (end : End) (w : World) → IsOk (finish id r reads run end w).reply
 finish_is_taken id r reads run DoneEnd w = commit_is_taken id r reads run w

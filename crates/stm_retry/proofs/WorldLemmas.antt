@@ -7,7 +7,6 @@ use Rattle.std.specs.declared.alloc.AllocError.{AllocError}
 use Rattle.std.proofs.lemmas.List.{drop_more, take_more}
 use Rattle.std.proofs.lemmas.Option.{slice_get-get_or}
 use Rattle.stm_history.specs.declared.key_state.ReadAnswer.{ReadAnswer}
-use Rattle.stm_leases.specs.Live.{is_live_in}
 use Rattle.stm_program.specs.declared.level.Level.{Level}
 use Rattle.stm_program.specs.Syntax.{ProgramTree}
 use Rattle.stm_program.specs.Writes.{latest_writes}
@@ -23,6 +22,7 @@ use Rattle.stm_txn.specs.declared.refusal.Refusal.TheVariants.{OutOfMemory, Empt
 use Rattle.stm_txn.specs.declared.refusal.Refusal.TheVariants.{LeaseIdOutOfRange, LeaseNotFound, NoWatcher, TooManyOps, DuplicateKey, TimeGoesBack}
 use Rattle.stm_txn.specs.Commits.{revision_read}
 use Rattle.stm_txn.specs.Outcome.{Done}
+use Rattle.stm_txn.specs.Standing.{terms_of}
 use Rattle.stm_compile.specs.Committed.{committed}
 use Rattle.stm_compile.specs.Conflicts.{Seen, seen_by}
 use Rattle.stm_attempt.specs.Settled.{run_on}
@@ -81,7 +81,7 @@ told_plain id r reads run (Err cause) w = tt
 commit_plain : (id : ℕ) (r : Runner) (reads : List ReadAnswer) (run : Run) (w : World) → PlainOnly (commit id r reads run w).reply
 unfolding commit
 commit_plain id r reads run w =
-    told_plain id r reads run (committed w.standing.history (is_live_in w.standing.live) r.task.level reads run) w
+    told_plain id r reads run (committed (terms_of w.standing) r.task.level reads run) w
 
 finish_plain : (id : ℕ) (r : Runner) (reads : List ReadAnswer) (run : Run) (end : End) (w : World) → PlainOnly (finish id r reads run end w).reply
 finish_plain id r reads run DoneEnd w = commit_plain id r reads run w

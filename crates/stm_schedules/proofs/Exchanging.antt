@@ -6,7 +6,6 @@ use Rattle.std.specs.Prelude.{nat_lt, not, slice_get}
 use Rattle.stm_history.specs.declared.key_state.ReadAnswer.{ReadAnswer}
 use Rattle.stm_history.specs.History.{now, key_at, mod_of}
 use Rattle.stm_program.specs.Writes.{latest_writes}
-use Rattle.stm_leases.specs.Live.{is_live_in}
 use Rattle.stm_meaning.specs.declared.run.End.{End}
 use Rattle.stm_meaning.specs.declared.run.End.TheVariants.{Done as DoneEnd, Aborted as AbortedEnd, Faulted as FaultedEnd}
 use Rattle.stm_meaning.specs.declared.run.Run.{Run}
@@ -16,7 +15,7 @@ use Rattle.stm_txn.specs.declared.answer.FailedCompare.{FailedCompare}
 use Rattle.stm_txn.specs.declared.refusal.Refusal.{Refusal as StoreRefusal}
 use Rattle.stm_txn.specs.Outcome.{Done}
 use Rattle.stm_txn.specs.Commits.{revision_read}
-use Rattle.stm_txn.specs.Standing.{Standing}
+use Rattle.stm_txn.specs.Standing.{Standing, terms_of}
 use Rattle.stm_compile.specs.Committed.{committed}
 use Rattle.stm_compile.specs.Conflicts.{Seen, seen_by}
 use Rattle.stm_attempt.specs.Settled.{run_on}
@@ -175,8 +174,8 @@ told_does id r reads run (Err cause) s = inl (record {
 commit_does : (id : ℕ) (r : Runner) (reads : List ReadAnswer) (run : Run) (s : Standing) → Does id s (commit id r reads run)
 unfolding commit
 commit_does id r reads run s =
-    does_alike id s (commit_told id r reads run (committed s.history (is_live_in s.live) r.task.level reads run)) (commit id r reads run)
-    (λ slots entries. refl) (told_does id r reads run (committed s.history (is_live_in s.live) r.task.level reads run) s)
+    does_alike id s (commit_told id r reads run (committed (terms_of s) r.task.level reads run)) (commit id r reads run)
+    (λ slots entries. refl) (told_does id r reads run (committed (terms_of s) r.task.level reads run) s)
 
 finish_does : (id : ℕ) (r : Runner) (reads : List ReadAnswer) (run : Run) (end : End) (s : Standing) → Does id s (finish id r reads run end)
 finish_does id r reads run DoneEnd s = commit_does id r reads run s

@@ -34,8 +34,7 @@ use Rattle.stm_txn.specs.Branches.{branch_refusal}
 use Rattle.stm_txn.specs.Effect.{op_of}
 use Rattle.stm_txn.specs.Outcome.{Done, chosen, with_changes, is_used_up, answer_of, finished, unless, branch_outcome, outcome}
 use Rattle.stm_txn.specs.declared.answer.TxnAnswer.{TxnAnswer}
-use Rattle.stm_leases.specs.Live.{is_live_in}
-use Rattle.stm_txn.specs.Standing.{Standing, Step, IsRefusalOf, Tells, with_history, step_of, transacted}
+use Rattle.stm_txn.specs.Standing.{Standing, Step, IsRefusalOf, Tells, with_history, step_of, transacted, terms_of}
 use Rattle.std.specs.Prelude.{IfOk, IfErr}
 use Rattle.std.specs.Prelude.{IfSome}
 use Rattle.stm_txn.specs.Commits.{is_on_dead_lease, write_answer, effective, Read, read_op, read_now, AreReached, AreNamed, shown}
@@ -46,22 +45,25 @@ use Rattle.stm_txn.proofs.Folding.{changes_agree, by_look_up}
 use Rattle.stm_txn.specs.Branches.{begun, answers_after, changes_of_branch}
 use Rattle.stm_txn.specs.LookUps.{outcome_copied}
 use Rattle.stm_txn.specs.Effect.{BranchIsEffect}
+use Rattle.stm_txn.specs.Terms.{Terms}
 use Rattle.stm_txn.proofs.Branching.{effect_copied, changes_are_distinct, apart_case, apart_back, all_absent, absent_push}
 
 -- the outcome, where the whole transaction has no fault
-judged : (h : History) (is_live : ℕ → Bool) (txn : Txn) (failed : Option FailedCompare) → fault_of txn ≡ None →
-    first_failed (key_now h) 0 txn.compares ≡ failed →
-    outcome h is_live txn ≡ branch_outcome h is_live failed (chosen failed txn)
-judged h is_live txn failed whole first =
-    ap (λ o. unless o (branch_outcome h is_live (first_failed (key_now h) 0 txn.compares) (chosen (first_failed (key_now h) 0 txn.compares) txn))) whole
-    ∙ ap (λ f. branch_outcome h is_live f (chosen f txn)) first
+judged : (terms : Terms) (txn : Txn) (failed : Option FailedCompare) → fault_of terms.limit txn ≡ None →
+    first_failed (key_now terms.history) 0 txn.compares ≡ failed →
+    outcome terms txn ≡ branch_outcome terms failed (chosen failed txn)
+judged terms txn failed whole first =
+    let h : History = terms.history in
+    ap (λ o. unless o (branch_outcome terms (first_failed (key_now h) 0 txn.compares) (chosen (first_failed (key_now h) 0 txn.compares) txn))) whole
+    ∙ ap (λ f. branch_outcome terms f (chosen f txn)) first
 
 -- a branch by its refusal, its changes and its answers
-by_parts : (h : History) (is_live : ℕ → Bool) (failed : Option FailedCompare) (ops : List Op) (refusal : Option Refusal) (changes : List Change)
+by_parts : (terms : Terms) (failed : Option FailedCompare) (ops : List Op) (refusal : Option Refusal) (changes : List Change)
     (answers : List OpAnswer) →
-    branch_refusal (now h) is_live ops ≡ refusal → changes_copied h [] ops ≡ changes → answers_copied h [] ops ≡ answers →
-    outcome_copied h is_live failed ops ≡ unless refusal (finished h failed changes answers)
-by_parts h is_live failed ops refusal changes answers refused changed answered =
+    branch_refusal terms ops ≡ refusal → changes_copied terms.history [] ops ≡ changes → answers_copied terms.history [] ops ≡ answers →
+    outcome_copied terms failed ops ≡ unless refusal (finished terms.history failed changes answers)
+by_parts terms failed ops refusal changes answers refused changed answered =
+    let h : History = terms.history in
     ap (λ o. unless o (finished h failed (changes_copied h [] ops) (answers_copied h [] ops))) refused
     ∙ ap (λ cs. unless refusal (finished h failed cs (answers_copied h [] ops))) changed
     ∙ ap (λ l. unless refusal (finished h failed changes l)) answered
@@ -72,13 +74,13 @@ dead_case : (lives any : Bool) (rest : Option Refusal) → rest ≡ cond any (So
 dead_case true any rest is = is
 dead_case false any rest is = refl
 
-pub dead_refusal : (counter : ℕ) (is_live : ℕ → Bool) (ws : List Change) →
-    branch_refusal counter is_live (map op_of ws) ≡ cond (list_any (is_on_dead_lease is_live) ws) (Some LeaseNotFound) None
-dead_refusal counter is_live [] = refl
-dead_refusal counter is_live (PutChange key value lease ∷ ws) =
-    dead_case (nat_eq lease 0 || is_live lease) (list_any (is_on_dead_lease is_live) ws) (branch_refusal counter is_live (map op_of ws))
-    (dead_refusal counter is_live ws)
-dead_refusal counter is_live (DelChange key ∷ ws) = dead_refusal counter is_live ws
+pub dead_refusal : (terms : Terms) (ws : List Change) →
+    branch_refusal terms (map op_of ws) ≡ cond (list_any (is_on_dead_lease terms.is_live) ws) (Some LeaseNotFound) None
+dead_refusal terms [] = refl
+dead_refusal terms (PutChange key value lease ∷ ws) =
+    dead_case (nat_eq lease 0 || terms.is_live lease) (list_any (is_on_dead_lease terms.is_live) ws) (branch_refusal terms (map op_of ws))
+    (dead_refusal terms ws)
+dead_refusal terms (DelChange key ∷ ws) = dead_refusal terms ws
 
 answers_on : (h : History) (done ws : List Change) → HasDistinctKeys ws → all_absent done ws →
     answers_copied h done (map op_of ws) ≡ map (write_answer (key_now h)) ws
@@ -126,23 +128,24 @@ pub branch_is_effect : BranchIsEffect
 branch_is_effect h ws distinct = changes_agree h (map op_of ws) (writes_apart ws distinct) ∙ effect_copied h ws distinct
 
 pub branch_applies : BranchApplies
-branch_applies h is_live ws distinct =
-    by_look_up h is_live None (map op_of ws) (writes_apart ws distinct)
-    ∙ by_parts h is_live None (map op_of ws) (cond (list_any (is_on_dead_lease is_live) ws) (Some LeaseNotFound) None) (effective h ws)
+branch_applies terms ws distinct =
+    let h : History = terms.history in
+    by_look_up terms None (map op_of ws) (writes_apart ws distinct)
+    ∙ by_parts terms None (map op_of ws) (cond (list_any (is_on_dead_lease terms.is_live) ws) (Some LeaseNotFound) None) (effective h ws)
     (map (write_answer (key_now h)) ws)
-    (dead_refusal (now h) is_live ws) (effect_copied h ws distinct) (answers_on h [] ws distinct (nothing_done ws))
-    ∙ unless_dead (list_any (is_on_dead_lease is_live) ws) (finished h None (effective h ws) (map (write_answer (key_now h)) ws))
+    (dead_refusal terms ws) (effect_copied h ws distinct) (answers_on h [] ws distinct (nothing_done ws))
+    ∙ unless_dead (list_any (is_on_dead_lease terms.is_live) ws) (finished h None (effective h ws) (map (write_answer (key_now h)) ws))
 
 pub writes_apply : WritesApply
-writes_apply h is_live txn ws is distinct whole first =
-    judged h is_live txn None whole first ∙ ap (branch_outcome h is_live None) is ∙ branch_applies h is_live ws distinct
+writes_apply terms txn ws is distinct whole first =
+    judged terms txn None whole first ∙ ap (branch_outcome terms None) is ∙ branch_applies terms ws distinct
 
 -- Reads: none above the counter is refused, and none changes anything.
-no_refusal : (h : History) (is_live : ℕ → Bool) (reads : List Read) → AreReached h reads → branch_refusal (now h) is_live (map read_op reads) ≡ None
-no_refusal h is_live [] reached = refl
-no_refusal h is_live (r ∷ rs) reached =
-    ap (λ b. option_or (cond b (Some FutureRevision) None) (branch_refusal (now h) is_live (map read_op rs))) (le-ltb (now h) r.rev reached.0)
-    ∙ no_refusal h is_live rs reached.1
+no_refusal : (terms : Terms) (reads : List Read) → AreReached terms reads → branch_refusal terms (map read_op reads) ≡ None
+no_refusal terms [] reached = refl
+no_refusal terms (r ∷ rs) reached =
+    ap (λ b. option_or (cond b (Some FutureRevision) None) (branch_refusal terms (map read_op rs))) (le-ltb (now terms.history) r.rev reached.0)
+    ∙ no_refusal terms rs reached.1
 
 no_changes : (h : History) (reads : List Read) → changes_copied h [] (map read_op reads) ≡ []
 no_changes h [] = refl
@@ -168,31 +171,32 @@ reads_stand_apart : (reads : List Read) → has_clash (map read_op reads) ≡ fa
 reads_stand_apart [] = refl
 reads_stand_apart (r ∷ rs) = ap (λ b. b || has_clash (map read_op rs)) (get_clashes r.key r.rev (map read_op rs)) ∙ reads_stand_apart rs
 
-reads_come_to : (h : History) (is_live : ℕ → Bool) (failed : Option FailedCompare) (reads : List Read) → AreReached h reads →
-    branch_outcome h is_live failed (map read_op reads) ≡ Ok (read_out h failed reads)
-reads_come_to h is_live failed reads reached =
-    by_look_up h is_live failed (map read_op reads) (reads_stand_apart reads) ∙
-    by_parts h is_live failed (map read_op reads) None [] (map (shown h) reads) (no_refusal h is_live reads reached) (no_changes h reads) (all_shown h reads)
+reads_come_to : (terms : Terms) (failed : Option FailedCompare) (reads : List Read) → AreReached terms reads →
+    branch_outcome terms failed (map read_op reads) ≡ Ok (read_out terms.history failed reads)
+reads_come_to terms failed reads reached =
+    let h : History = terms.history in
+    by_look_up terms failed (map read_op reads) (reads_stand_apart reads) ∙
+    by_parts terms failed (map read_op reads) None [] (map (shown h) reads) (no_refusal terms reads reached) (no_changes h reads) (all_shown h reads)
 
 pub reads_change_nothing : ReadsChangeNothing
-reads_change_nothing h is_live txn reads none is whole reached =
-    judged h is_live txn None whole (ap (first_failed (key_now h) 0) none)
-    ∙ ap (branch_outcome h is_live None) is
-    ∙ reads_come_to h is_live None reads reached
+reads_change_nothing terms txn reads none is whole reached =
+    judged terms txn None whole (ap (first_failed (key_now terms.history) 0) none)
+    ∙ ap (branch_outcome terms None) is
+    ∙ reads_come_to terms None reads reached
 
 as_reads : (keys : List (List ℕ)) → map read_now keys ≡ map read_op (reads_now keys)
 as_reads [] = refl
 as_reads (k ∷ ks) = ap (λ l. Get k 0 ∷ l) (as_reads ks)
 
-now_reached : (h : History) (keys : List (List ℕ)) → AreReached h (reads_now keys)
-now_reached h [] = tt
-now_reached h (k ∷ ks) = (omega arith, now_reached h ks)
+now_reached : (terms : Terms) (keys : List (List ℕ)) → AreReached terms (reads_now keys)
+now_reached terms [] = tt
+now_reached terms (k ∷ ks) = (omega arith, now_reached terms ks)
 
 pub failed_compare_reads : FailedCompareReads
-failed_compare_reads h is_live txn keys failed is whole first =
-    judged h is_live txn (Some failed) whole first
-    ∙ ap (branch_outcome h is_live (Some failed)) (is ∙ as_reads keys)
-    ∙ reads_come_to h is_live (Some failed) (reads_now keys) (now_reached h keys)
+failed_compare_reads terms txn keys failed is whole first =
+    judged terms txn (Some failed) whole first
+    ∙ ap (branch_outcome terms (Some failed)) (is ∙ as_reads keys)
+    ∙ reads_come_to terms (Some failed) (reads_now keys) (now_reached terms keys)
 
 -- The faults of a whole transaction: of named keys none is empty, and distinct writes and reads don't clash.
 has_bytes : (key : List ℕ) → 0 < length key → is_empty_key key ≡ false
@@ -219,7 +223,7 @@ reads_apart [] = refl
 reads_apart (k ∷ ks) = ap (λ b. b || has_clash (map read_now ks)) (get_clashes k 0 (map read_now ks)) ∙ reads_apart ks
 
 pub number_alone_is_wrong : NumberAloneIsWrong
-number_alone_is_wrong txn ws keys writes reads distinct compared written read =
+number_alone_is_wrong limit txn ws keys writes reads distinct compared written read =
     let empty : has_empty_key txn ≡ false =
     ap (λ b. (b || list_any (λ op. is_empty_key (key_of_op op)) txn.success) || list_any (λ op. is_empty_key (key_of_op op)) txn.failure)
     (compares_named txn.compares compared)
@@ -228,9 +232,9 @@ number_alone_is_wrong txn ws keys writes reads distinct compared written read =
     ∙ ap (list_any (λ op. is_empty_key (key_of_op op))) reads ∙ reads_named keys read in
     let clashes : (has_clash txn.success || has_clash txn.failure) ≡ false =
     ap (λ b. b || has_clash txn.failure) (ap has_clash writes ∙ writes_apart ws distinct) ∙ ap has_clash reads ∙ reads_apart keys in
-    ap (λ b. cond (has_too_many txn) (Some TooManyOps) (cond b (Some EmptyKey)
+    ap (λ b. cond (has_too_many limit txn) (Some TooManyOps) (cond b (Some EmptyKey)
     (cond (has_clash txn.success || has_clash txn.failure) (Some DuplicateKey) None))) empty
-    ∙ ap (λ b. cond (has_too_many txn) (Some TooManyOps) (cond b (Some DuplicateKey) None)) clashes
+    ∙ ap (λ b. cond (has_too_many limit txn) (Some TooManyOps) (cond b (Some DuplicateKey) None)) clashes
 
 -- Compares of modification revisions.
 equal_rank : (r : Ordering) (a b : ℕ) → MatchOrdering r (a < b) (a ≡ b) (b < a) → (is_eq r ≡ true) ↔ (a ≡ b)
@@ -359,9 +363,11 @@ no_clash_case false false true failure none = cc
 no_clash_case false false false true none = cc
 no_clash_case false false false false none = (refl, refl)
 
-pub chosen_apart : (txn : Txn) (failed : Option FailedCompare) → fault_of txn ≡ None → has_clash (chosen failed txn) ≡ false
-chosen_apart txn None none = (no_clash_case (has_too_many txn) (has_empty_key txn) (has_clash txn.success) (has_clash txn.failure) none).0
-chosen_apart txn (Some f) none = (no_clash_case (has_too_many txn) (has_empty_key txn) (has_clash txn.success) (has_clash txn.failure) none).1
+pub chosen_apart : (limit : ℕ) (txn : Txn) (failed : Option FailedCompare) → fault_of limit txn ≡ None → has_clash (chosen failed txn) ≡ false
+chosen_apart limit txn None none =
+    (no_clash_case (has_too_many limit txn) (has_empty_key txn) (has_clash txn.success) (has_clash txn.failure) none).0
+chosen_apart limit txn (Some f) none =
+    (no_clash_case (has_too_many limit txn) (has_empty_key txn) (has_clash txn.success) (has_clash txn.failure) none).1
 
 distinct_changes : (h : History) (ops : List Op) → has_clash ops ≡ false → HasDistinctKeys (changes_of_branch h ops)
 distinct_changes h ops apart = subst (λ cs. HasDistinctKeys cs) (sym (changes_agree h ops apart)) (changes_are_distinct h ops apart)
@@ -376,27 +382,29 @@ done_by h txn = record {
   history = with_changes h (changes_of_branch h (branch_run h txn));
 }
 
-pub record IsDone (h : History) (is_live : ℕ → Bool) (txn : Txn) (done : Done) : Type 0 where
-  pub right : fault_of txn ≡ None
-  pub allowed : branch_refusal (now h) is_live (branch_run h txn) ≡ None
-  pub made : done_by h txn ≡ done
+pub record IsDone (terms : Terms) (txn : Txn) (done : Done) : Type 0 where
+  pub right : fault_of terms.limit txn ≡ None
+  pub allowed : branch_refusal terms (branch_run terms.history txn) ≡ None
+  pub made : done_by terms.history txn ≡ done
 
-pub is_done : (h : History) (is_live : ℕ → Bool) (txn : Txn) (done : Done) → outcome h is_live txn ≡ Ok done → IsDone h is_live txn done
-is_done h is_live txn done is =
+pub is_done : (terms : Terms) (txn : Txn) (done : Done) → outcome terms txn ≡ Ok done → IsDone terms txn done
+is_done terms txn done is =
+    let h : History = terms.history in
     let failed : Option FailedCompare = first_failed (key_now h) 0 txn.compares in
     let ops : List Op = branch_run h txn in
-    let whole : (fault_of txn ≡ None) × (branch_outcome h is_live failed ops ≡ Ok done) =
-    of_unless (fault_of txn) (branch_outcome h is_live failed ops) done is in
-    let branch : (branch_refusal (now h) is_live ops ≡ None) × (finished h failed (changes_of_branch h ops) (answers_after h (begun h) ops) ≡ Ok done) =
-    of_unless (branch_refusal (now h) is_live ops) (finished h failed (changes_of_branch h ops) (answers_after h (begun h) ops)) done whole.1 in
+    let whole : (fault_of terms.limit txn ≡ None) × (branch_outcome terms failed ops ≡ Ok done) =
+    of_unless (fault_of terms.limit txn) (branch_outcome terms failed ops) done is in
+    let branch : (branch_refusal terms ops ≡ None) × (finished h failed (changes_of_branch h ops) (answers_after h (begun h) ops) ≡ Ok done) =
+    of_unless (branch_refusal terms ops) (finished h failed (changes_of_branch h ops) (answers_after h (begun h) ops)) done whole.1 in
     record { right = whole.0; allowed = branch.0; made = of_finished (is_used_up h (changes_of_branch h ops)) (done_by h txn) done branch.1 }
 
 pub history_grows : HistoryGrows
-history_grows h is_live txn done is =
-    let came : IsDone h is_live txn done = is_done h is_live txn done is in
+history_grows terms txn done is =
+    let h : History = terms.history in
+    let came : IsDone terms txn done = is_done terms txn done is in
     let changes : List Change = changes_of_branch h (branch_run h txn) in (
       changes,
-      distinct_changes h (branch_run h txn) (chosen_apart txn (first_failed (key_now h) 0 txn.compares) came.right),
+      distinct_changes h (branch_run h txn) (chosen_apart terms.limit txn (first_failed (key_now h) 0 txn.compares) came.right),
       sym (ap (λ (d : Done). d.history) came.made),
     )
 
@@ -407,9 +415,9 @@ pub failed_case : (s : Standing) (outcome_of : Result Done Refusal) (a : TxnAnsw
 failed_case s (Ok done) a next is = (done, refl, ap (λ (r : Result (Step TxnAnswer) Refusal). elim r [ Ok step ↦ step.answer | Err e ↦ a ]) is)
 failed_case s (Err e) a next is = cc
 
-answered_failed : (h : History) (is_live : ℕ → Bool) (txn : Txn) (done : Done) → outcome h is_live txn ≡ Ok done →
-    done.answer.failed ≡ first_failed (key_now h) 0 txn.compares
-answered_failed h is_live txn done is = sym (ap (λ (d : Done). d.answer.failed) (is_done h is_live txn done is).made)
+answered_failed : (terms : Terms) (txn : Txn) (done : Done) → outcome terms txn ≡ Ok done →
+    done.answer.failed ≡ first_failed (key_now terms.history) 0 txn.compares
+answered_failed terms txn done is = sym (ap (λ (d : Done). d.answer.failed) (is_done terms txn done is).made)
 
 place_within : (state : List ℕ → Option KeyState) (cs : List Compare) (failed : Option FailedCompare) → failed ≡ first_failed state 0 cs →
     IfSome failed (λ (f : FailedCompare). f.index < length cs)
@@ -419,10 +427,10 @@ place_within state cs (Some f) is = (failed_has_its_place state cs f (sym is)).w
 pub placed : (s next : Standing) (txn : Txn) (a : TxnAnswer) → transacted s txn ≡ Ok record { answer = a; next = next } →
     IfSome a.failed (λ (f : FailedCompare). f.index < length txn.compares)
 placed s next txn a is =
-    let found : (done : Done) × (outcome s.history (is_live_in s.live) txn ≡ Ok done) × (done.answer ≡ a) =
-    failed_case s (outcome s.history (is_live_in s.live) txn) a next is in
+    let found : (done : Done) × (outcome (terms_of s) txn ≡ Ok done) × (done.answer ≡ a) =
+    failed_case s (outcome (terms_of s) txn) a next is in
     place_within (key_now s.history) txn.compares a.failed
-    (sym (ap (λ (x : TxnAnswer). x.failed) found.2) ∙ answered_failed s.history (is_live_in s.live) txn found.0 found.1)
+    (sym (ap (λ (x : TxnAnswer). x.failed) found.2) ∙ answered_failed (terms_of s) txn found.0 found.1)
 
 -- what holds of each answer that is defined holds of a result that tells it
 pub of_answer : {P : TxnAnswer → Type 0} (s next : Standing) (txn : Txn) (r : Result TxnAnswer Refusal) → Tells (transacted s txn) r next →
@@ -442,22 +450,22 @@ same_but_history s next live moment watchers =
 abbrev answered : TxnAnswer → Standing → Result (Step TxnAnswer) Refusal
 answered a next = Ok record { answer = a; next = next }
 
-pub as_run : (s : Standing) (txn : Txn) (failed : Option FailedCompare) (ops : List Op) → fault_of txn ≡ None →
+pub as_run : (s : Standing) (txn : Txn) (failed : Option FailedCompare) (ops : List Op) → fault_of (terms_of s).limit txn ≡ None →
     first_failed (key_now s.history) 0 txn.compares ≡ failed → chosen failed txn ≡ ops →
-    outcome s.history (is_live_in s.live) txn ≡ outcome_copied s.history (is_live_in s.live) failed ops
+    outcome (terms_of s) txn ≡ outcome_copied (terms_of s) failed ops
 as_run s txn failed ops whole first branch =
-    judged s.history (is_live_in s.live) txn failed whole first
-    ∙ ap (branch_outcome s.history (is_live_in s.live) failed) branch
-    ∙ by_look_up s.history (is_live_in s.live) failed ops (subst (λ l. has_clash l ≡ false) branch (chosen_apart txn failed whole))
+    judged (terms_of s) txn failed whole first
+    ∙ ap (branch_outcome (terms_of s) failed) branch
+    ∙ by_look_up (terms_of s) failed ops (subst (λ l. has_clash l ≡ false) branch (chosen_apart (terms_of s).limit txn failed whole))
 
-pub came : (s next : Standing) (txn : Txn) (failed : Option FailedCompare) (ops : List Op) (r : Result TxnAnswer Refusal) → fault_of txn ≡ None →
-    first_failed (key_now s.history) 0 txn.compares ≡ failed → chosen failed txn ≡ ops →
-    IfOk r (λ a. outcome_copied s.history (is_live_in s.live) failed ops ≡ Ok record { answer = a; history = next.history }) →
-    IfErr r (IsRefusalOf (outcome_copied s.history (is_live_in s.live) failed ops)) → next.live ≡ s.live → next.moment ≡ s.moment
+pub came : (s next : Standing) (txn : Txn) (failed : Option FailedCompare) (ops : List Op) (r : Result TxnAnswer Refusal) →
+    fault_of (terms_of s).limit txn ≡ None → first_failed (key_now s.history) 0 txn.compares ≡ failed → chosen failed txn ≡ ops →
+    IfOk r (λ a. outcome_copied (terms_of s) failed ops ≡ Ok record { answer = a; history = next.history }) →
+    IfErr r (IsRefusalOf (outcome_copied (terms_of s) failed ops)) → next.live ≡ s.live → next.moment ≡ s.moment
     → next.watchers ≡ s.watchers → Tells (transacted s txn) r next
 came s next txn failed ops (Ok a) whole first branch ok refused live moment watchers =
     ap (step_of s) (as_run s txn failed ops whole first branch ∙ ok)
     ∙ ap (answered a) (same_but_history s next live moment watchers)
 came s next txn failed ops (Err e) whole first branch ok refused live moment watchers =
     subst (λ o. IsRefusalOf (step_of s o) e) (sym (as_run s txn failed ops whole first branch))
-    (refusal_of s (outcome_copied s.history (is_live_in s.live) failed ops) e refused)
+    (refusal_of s (outcome_copied (terms_of s) failed ops) e refused)

@@ -18,7 +18,8 @@ use Rattle.stm_txn.specs.declared.refusal.Refusal.TheVariants.{LeaseNotFound}
 use Rattle.stm_txn.specs.Branches.{op_refusal, branch_refusal, deletion_of}
 use Rattle.stm_txn.specs.LookUps.{copy, with_copied}
 use Rattle.stm_txn.specs.Leasing.{hangs_of, HangOnLive, with_hang}
-use Rattle.stm_txn.specs.Numbers.{LeaseFits, ChangeFits, ChangesFit, LeasesFit}
+use Rattle.stm_txn.specs.Standing.{Standing, terms_of}
+use Rattle.stm_txn.specs.Numbers.{LeaseFits, ChangeFits, ChangesFit, RevisionsFit, LeasesFit}
 use Rattle.stm_txn.proofs.Running.{both_none}
 
 pub both : (a b : Bool) → (a && b) ≡ true → (a ≡ true) × (b ≡ true)
@@ -73,16 +74,16 @@ NamesFit (Get key rev ∷ ops) = NamesFit ops
 NamesFit (Put key value lease ∷ ops) = (lease ≤ HIGHEST_NUMBER) × NamesFit ops
 NamesFit (Del key ∷ ops) = NamesFit ops
 
-pub names_fit : (counter : ℕ) (live : Live) (ops : List Op) → AreInRange live → branch_refusal counter (is_live_in live) ops ≡ None → NamesFit ops
-names_fit counter live [] fits none = tt
-names_fit counter live (Get key rev ∷ ops) fits none =
-    names_fit counter live ops fits (both_none (op_refusal counter (is_live_in live) (Get key rev)) (branch_refusal counter (is_live_in live) ops) none).1
-names_fit counter live (Put key value lease ∷ ops) fits none =
-    let parts : (op_refusal counter (is_live_in live) (Put key value lease) ≡ None) × (branch_refusal counter (is_live_in live) ops ≡ None) =
-    both_none (op_refusal counter (is_live_in live) (Put key value lease)) (branch_refusal counter (is_live_in live) ops) none in
-    (put_case live lease (nat_eq lease 0) fits refl parts.0, names_fit counter live ops fits parts.1)
-names_fit counter live (Del key ∷ ops) fits none =
-    names_fit counter live ops fits (both_none (op_refusal counter (is_live_in live) (Del key)) (branch_refusal counter (is_live_in live) ops) none).1
+pub names_fit : (s : Standing) (ops : List Op) → AreInRange s.live → branch_refusal (terms_of s) ops ≡ None → NamesFit ops
+names_fit s [] fits none = tt
+names_fit s (Get key rev ∷ ops) fits none =
+    names_fit s ops fits (both_none (op_refusal (terms_of s) (Get key rev)) (branch_refusal (terms_of s) ops) none).1
+names_fit s (Put key value lease ∷ ops) fits none =
+    let parts : (op_refusal (terms_of s) (Put key value lease) ≡ None) × (branch_refusal (terms_of s) ops ≡ None) =
+    both_none (op_refusal (terms_of s) (Put key value lease)) (branch_refusal (terms_of s) ops) none in
+    (put_case s.live lease (nat_eq lease 0) fits refl parts.0, names_fit s ops fits parts.1)
+names_fit s (Del key ∷ ops) fits none =
+    names_fit s ops fits (both_none (op_refusal (terms_of s) (Del key)) (branch_refusal (terms_of s) ops) none).1
 
 -- the change of a key among these
 found_fits : (key : List ℕ) (cs : List Change) → ChangesFit cs → IfSome (change_of key cs) ChangeFits
@@ -99,23 +100,23 @@ after_fits number (Some (PutChange key value lease)) (Some s) change fits = chan
 after_fits number (Some (DelChange key)) s change fits = tt
 
 -- what a key is after revisions
-after_all_fits : (opening : ℕ) (key : List ℕ) (revisions : List (List Change)) → LeasesFit revisions → IfSome (key_after opening key revisions) LeaseFits
+after_all_fits : (opening : ℕ) (key : List ℕ) (revisions : List (List Change)) → RevisionsFit revisions → IfSome (key_after opening key revisions) LeaseFits
 after_all_fits opening key [] fits = tt
 after_all_fits opening key (changes ∷ older) fits =
     subst (λ (s : Option KeyState). IfSome s LeaseFits) (sym (one_more opening key changes older))
     (after_fits (number_of_last opening (changes ∷ older)) (change_of key changes) (key_after opening key older) (found_fits key changes fits.0)
     (after_all_fits opening key older fits.1))
 
-up_to_fits : (opening r : ℕ) (revisions : List (List Change)) → LeasesFit revisions → LeasesFit (revisions_up_to opening r revisions)
+up_to_fits : (opening r : ℕ) (revisions : List (List Change)) → RevisionsFit revisions → RevisionsFit (revisions_up_to opening r revisions)
 up_to_fits opening r [] fits = tt
 up_to_fits opening r (changes ∷ older) fits =
-    elim (nat_le (number_of_last opening (changes ∷ older)) r) as (λ b. LeasesFit (cond b (changes ∷ older) (revisions_up_to opening r older)))
+    elim (nat_le (number_of_last opening (changes ∷ older)) r) as (λ b. RevisionsFit (cond b (changes ∷ older) (revisions_up_to opening r older)))
     [ true ↦ fits | false ↦ up_to_fits opening r older fits.1 ]
 
-pub lease_at_fits : (h : History) (key : List ℕ) (r : ℕ) → LeasesFit h.revisions → IfSome (key_at h key r) LeaseFits
+pub lease_at_fits : (h : History) (key : List ℕ) (r : ℕ) → LeasesFit h → IfSome (key_at h key r) LeaseFits
 lease_at_fits h key r fits = after_all_fits h.opening key (revisions_up_to h.opening r h.revisions) (up_to_fits h.opening r h.revisions fits)
 
-pub lease_copied_fits : (h : History) (changes : List Change) (key : List ℕ) → LeasesFit h.revisions → ChangesFit changes →
+pub lease_copied_fits : (h : History) (changes : List Change) (key : List ℕ) → LeasesFit h → ChangesFit changes →
     IfSome (copy h changes key) LeaseFits
 lease_copied_fits h changes key fits change =
     after_fits (now h + 1) (change_of key changes) (key_now h key) (found_fits key changes change) (after_all_fits h.opening key h.revisions fits)

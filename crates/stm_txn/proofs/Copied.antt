@@ -10,7 +10,7 @@ use Rattle.stm_txn.specs.Store.{StoreView}
 
 -- what a store keeps true of its parts
 abbrev pub AreParts : Contents → Leases → List (Option Watcher) → Type 0
-AreParts keys leases watchers = HangAsStored (lease_of leases) keys.history × LeasesFit keys.history.revisions × StandFor keys.history watchers
+AreParts keys leases watchers = HangAsStored (lease_of leases) keys.history × LeasesFit keys.history × StandFor keys.history watchers
 
 -- what contracts see of its parts
 abbrev pub store_of : Contents → Leases → ℕ → List (Option Watcher) → StoreView

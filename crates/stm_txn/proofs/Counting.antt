@@ -4,7 +4,6 @@ use Rattle.std.specs.Prelude.{IfOk}
 use Rattle.stm_history.specs.declared.change.Change.{Change}
 use Rattle.stm_history.specs.declared.change.Change.TheVariants.{Put as PutChange, Del as DelChange}
 use Rattle.stm_history.specs.History.{History, now, key_now}
-use Rattle.stm_leases.specs.Live.{is_live_in}
 use Rattle.stm_txn.specs.declared.answer.FailedCompare.{FailedCompare}
 use Rattle.stm_txn.specs.declared.answer.OpAnswer.{OpAnswer}
 use Rattle.stm_txn.specs.declared.refusal.Refusal.{Refusal}
@@ -18,7 +17,8 @@ use Rattle.stm_txn.specs.Branches.{Progress, begun, with_change, with_change_mad
 use Rattle.stm_txn.specs.Branches.{answers_after, branch_refusal, has_changes}
 use Rattle.stm_txn.specs.LookUps.{with_copied, changes_copied}
 use Rattle.stm_txn.specs.Outcome.{Done, chosen, with_changes, is_used_up, answer_of, unless, outcome, would_change}
-use Rattle.stm_txn.specs.Standing.{Standing, step_of, transacted}
+use Rattle.stm_txn.specs.Standing.{Standing, step_of, transacted, terms_of}
+use Rattle.stm_txn.specs.Terms.{Terms}
 use Rattle.stm_txn.proofs.Branching.{stays_changed}
 
 -- ---- by the look-up, also where operations clash: the first change decides
@@ -65,12 +65,13 @@ unless_higher : (h : History) (more : ℕ) (o : Option Refusal) (next : Result D
 unless_higher h more None next is = is
 unless_higher h more (Some refusal) next is = tt
 
-outcome_higher : (h : History) (is_live : ℕ → Bool) (txn : Txn) → IsHigherBy h (cond (would_change h txn) 1 0) (outcome h is_live txn)
-outcome_higher h is_live txn =
+outcome_higher : (terms : Terms) (txn : Txn) → IsHigherBy terms.history (cond (would_change terms.history txn) 1 0) (outcome terms txn)
+outcome_higher terms txn =
+    let h : History = terms.history in
     let failed : Option FailedCompare = first_failed (key_now h) 0 txn.compares in
     let ops : List Op = chosen failed txn in
     let more : ℕ = cond (would_change h txn) 1 0 in
-    unless_higher h more (fault_of txn) _ (unless_higher h more (branch_refusal (now h) is_live ops) _
+    unless_higher h more (fault_of terms.limit txn) _ (unless_higher h more (branch_refusal terms ops) _
     (higher h failed (changes_of_branch h ops) (answers_after h (begun h) ops) (is_used_up h (changes_of_branch h ops))))
 
 step_higher : (s : Standing) (more : ℕ) (o : Result Done Refusal) → IsHigherBy s.history more o →
@@ -83,4 +84,4 @@ pub told_revision : (s : Standing) (txn : Txn) (told : Bool) → told ≡ would_
     IfOk (transacted s txn) (λ step. now step.next.history ≡ now s.history + cond told 1 0)
 told_revision s txn told is =
     subst (λ (b : Bool). IfOk (transacted s txn) (λ step. now step.next.history ≡ now s.history + cond b 1 0)) (sym is)
-    (step_higher s (cond (would_change s.history txn) 1 0) (outcome s.history (is_live_in s.live) txn) (outcome_higher s.history (is_live_in s.live) txn))
+    (step_higher s (cond (would_change s.history txn) 1 0) (outcome (terms_of s) txn) (outcome_higher (terms_of s) txn))

@@ -10,7 +10,7 @@ use Rattle.stm_history.specs.History.{History, now, key_now, key_at, mod_of, cha
 use Rattle.stm_history.proofs.HistoryLaws.{numbers_stay_small, last_revision_is_now, mod_is_reached}
 use Rattle.stm_keys.specs.Keys.{HasSmallNumbers}
 use Rattle.stm_keys.proofs.Numbers.{at_small}
-use Rattle.stm_leases.specs.Live.{Live, is_live_in, AreInRange}
+use Rattle.stm_leases.specs.Live.{is_live_in, AreInRange}
 use Rattle.stm_txn.specs.declared.txn.Op.{Op}
 use Rattle.stm_txn.specs.declared.txn.Op.TheVariants.{Get, Put, Del}
 use Rattle.stm_txn.specs.declared.txn.Txn.{Txn}
@@ -21,7 +21,7 @@ use Rattle.stm_txn.specs.Compares.{first_failed}
 use Rattle.stm_txn.specs.Branches.{carried, deletion_of, count_of, are_readable, changes_of_branch}
 use Rattle.stm_txn.specs.LookUps.{copy, read_copied, with_copied, answers_copied}
 use Rattle.stm_txn.specs.Outcome.{Done, with_changes, outcome}
-use Rattle.stm_txn.specs.Standing.{Standing, transacted, ended, expired_in}
+use Rattle.stm_txn.specs.Standing.{Standing, transacted, ended, expired_in, terms_of}
 use Rattle.stm_txn.specs.LeaseKeys.{deletions_of}
 use Rattle.stm_txn.specs.declared.advance.Expired.{Expired}
 use Rattle.stm_txn.proofs.Ending.{ended_is}
@@ -62,11 +62,11 @@ state_case : (o : Option KeyState) → IfSome o HasSmallNumbers → IfSome o Lea
 state_case None small lease = tt
 state_case (Some s) small lease = record { numbers = small; lease = lease }
 
-pub states_fit : (h : History) → now h ≤ HIGHEST_REVISION → LeasesFit h.revisions → StatesFit h
+pub states_fit : (h : History) → now h ≤ HIGHEST_REVISION → LeasesFit h → StatesFit h
 states_fit h bounded fits key revision = state_case (key_at h key revision) (at_small h key revision bounded) (lease_at_fits h key revision fits)
 
 -- what a read answers
-read_fits : (h : History) (changes : List Change) (key : List ℕ) (rev : ℕ) → now h ≤ HIGHEST_REVISION → LeasesFit h.revisions → ChangesFit changes →
+read_fits : (h : History) (changes : List Change) (key : List ℕ) (rev : ℕ) → now h ≤ HIGHEST_REVISION → LeasesFit h → ChangesFit changes →
     rev ≤ now h → ReadFits (read_copied h changes key rev)
 read_fits h changes key rev bounded fits named reached =
     elim (nat_eq rev 0) as (λ b. ReadFits (cond b
@@ -84,7 +84,7 @@ one_at_most : (o : Option Change) → count_of o ≤ 1
 one_at_most None = omega arith
 one_at_most (Some c) = omega arith
 
-answers_fit : (h : History) (changes : List Change) (ops : List Op) → now h ≤ HIGHEST_REVISION → LeasesFit h.revisions → ChangesFit changes →
+answers_fit : (h : History) (changes : List Change) (ops : List Op) → now h ≤ HIGHEST_REVISION → LeasesFit h → ChangesFit changes →
     NamesFit ops → are_readable (now h) ops ≡ true → OpsFit (answers_copied h changes ops)
 answers_fit h changes [] bounded fits named names readable = tt
 answers_fit h changes (Get key rev ∷ ops) bounded fits named names readable =
@@ -114,25 +114,24 @@ failed_fits h cs (Some f) bounded is =
     let reached : mod_of (key_now h at.compare.key) ≤ now h = mod_is_reached h.opening at.compare.key h.revisions in
     omega arith
 
-done_fits : (h : History) (live : Live) (txn : Txn) (done : Done) → now h ≤ HIGHEST_REVISION → LeasesFit h.revisions → AreInRange live →
-    outcome h (is_live_in live) txn ≡ Ok done → AnswerFits done.answer
-done_fits h live txn done bounded fits in_range is =
-    let came : IsDone h (is_live_in live) txn done = is_done h (is_live_in live) txn done is in
+done_fits : (s : Standing) (txn : Txn) (done : Done) → now s.history ≤ HIGHEST_REVISION → LeasesFit s.history → AreInRange s.live →
+    outcome (terms_of s) txn ≡ Ok done → AnswerFits done.answer
+done_fits s txn done bounded fits in_range is =
+    let h : History = s.history in
+    let came : IsDone (terms_of s) txn done = is_done (terms_of s) txn done is in
     let ops : List Op = branch_run h txn in
     subst AnswerFits (ap (λ (d : Done). d.answer) came.made) (record {
       revision = counter_fits h (changes_of_branch h ops) bounded;
-      answers = subst OpsFit (sym (answers_agree h ops (chosen_apart txn (first_failed (key_now h) 0 txn.compares) came.right)))
-          (answers_fit h [] ops bounded fits tt (names_fit (now h) live ops in_range came.allowed)
-          (all_readable (now h) (is_live_in live) ops came.allowed));
+      answers = subst OpsFit (sym (answers_agree h ops (chosen_apart (terms_of s).limit txn (first_failed (key_now h) 0 txn.compares) came.right)))
+          (answers_fit h [] ops bounded fits tt (names_fit s ops in_range came.allowed) (all_readable (terms_of s) ops came.allowed));
       failed = failed_fits h txn.compares (first_failed (key_now h) 0 txn.compares) bounded refl;
     })
 
-pub numbers_fit : (s next : Standing) (txn : Txn) (a : TxnAnswer) → now s.history ≤ HIGHEST_REVISION → LeasesFit s.history.revisions → AreInRange s.live →
+pub numbers_fit : (s next : Standing) (txn : Txn) (a : TxnAnswer) → now s.history ≤ HIGHEST_REVISION → LeasesFit s.history → AreInRange s.live →
     transacted s txn ≡ Ok record { answer = a; next = next } → AnswerFits a
 numbers_fit s next txn a bounded fits in_range is =
-    let found : (done : Done) × (outcome s.history (is_live_in s.live) txn ≡ Ok done) × (done.answer ≡ a) =
-    failed_case s (outcome s.history (is_live_in s.live) txn) a next is in
-    subst AnswerFits found.2 (done_fits s.history s.live txn found.0 bounded fits in_range found.1)
+    let found : (done : Done) × (outcome (terms_of s) txn ≡ Ok done) × (done.answer ≡ a) = failed_case s (outcome (terms_of s) txn) a next is in
+    subst AnswerFits found.2 (done_fits s txn found.0 bounded fits in_range found.1)
 
 -- a lease that expired, and one more of them
 pub expired_fits : (s next : Standing) (id : ℕ) → now s.history ≤ HIGHEST_REVISION → AreInRange s.live → is_live_in s.live id ≡ true →

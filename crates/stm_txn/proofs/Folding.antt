@@ -16,6 +16,7 @@ use Rattle.stm_txn.specs.Branches.{deletion_of, branch_refusal}
 use Rattle.stm_txn.specs.LookUps.{copy, with_copied, change_copied, answer_copied, changes_copied, answers_copied, outcome_copied}
 use Rattle.stm_txn.specs.Laws.{LookUpIsTheState}
 use Rattle.stm_txn.specs.Outcome.{unless, finished, branch_outcome}
+use Rattle.stm_txn.specs.Terms.{Terms}
 use Rattle.stm_txn.proofs.Branching.{earlier, earlier-none, change_of-push, same_text, neither, all_fit, HasDistinctKeys-push, puts_fit, dels_fit}
 use Rattle.stm_txn.proofs.Branching.{first_deletion, nothing_before}
 
@@ -99,11 +100,12 @@ whole h ops apart = agrees h (begun h) ops (λ key. refl) tt (nothing_before ops
 pub changes_agree : (h : History) (ops : List Op) → has_clash ops ≡ false → changes_of_branch h ops ≡ changes_copied h [] ops
 changes_agree h ops apart = (whole h ops apart).changes
 
-pub by_look_up : (h : History) (is_live : ℕ → Bool) (failed : Option FailedCompare) (ops : List Op) → has_clash ops ≡ false →
-    branch_outcome h is_live failed ops ≡ outcome_copied h is_live failed ops
-by_look_up h is_live failed ops apart =
-    ap (λ cs. unless (branch_refusal (now h) is_live ops) (finished h failed cs (answers_after h (begun h) ops))) (whole h ops apart).changes
-    ∙ ap (λ l. unless (branch_refusal (now h) is_live ops) (finished h failed (changes_copied h [] ops) l)) (whole h ops apart).answers
+pub by_look_up : (terms : Terms) (failed : Option FailedCompare) (ops : List Op) → has_clash ops ≡ false →
+    branch_outcome terms failed ops ≡ outcome_copied terms failed ops
+by_look_up terms failed ops apart =
+    let h : History = terms.history in
+    ap (λ cs. unless (branch_refusal terms ops) (finished h failed cs (answers_after h (begun h) ops))) (whole h ops apart).changes
+    ∙ ap (λ l. unless (branch_refusal terms ops) (finished h failed (changes_copied h [] ops) l)) (whole h ops apart).answers
 
 pub look_up_is_the_state : LookUpIsTheState
 look_up_is_the_state h ops key apart = (whole h ops apart).step key

@@ -16,7 +16,7 @@ use Rattle.stm_leases.specs.AttachedKeys.{is_on, keys_on, IsAscending, AreKeysOf
 use Rattle.stm_leases.proofs.KeyLaws.{keys_on_are_keys, one_list_of_keys, ascending_is_unique}
 use Rattle.stm_txn.specs.Leasing.{hanging, HangAsStored, lease_now}
 use Rattle.stm_txn.specs.PresentKeys.{keys_present, PresentKeysAreListed}
-use Rattle.stm_txn.specs.LeaseKeys.{with_key, with_changed, keys_named, keys_of_lease}
+use Rattle.stm_txn.specs.LeaseKeys.{with_key, with_changed, keys_changed, keys_named, keys_of_lease}
 use Rattle.stm_txn.proofs.Branching.{same_text}
 
 -- Ascending keys stay so, one more among them.
@@ -47,9 +47,9 @@ ascending_changed : (cs : List Change) (ks : List (List ℕ)) → IsAscending ks
 ascending_changed [] ks ascending = ascending
 ascending_changed (c ∷ cs) ks ascending = ascending_with (key_of c) (with_changed cs ks) (ascending_changed cs ks ascending)
 
-named_ascend : (revisions : List (List Change)) → IsAscending (keys_named revisions)
+named_ascend : (revisions : List (List Change)) → IsAscending (keys_changed revisions)
 named_ascend [] = tt
-named_ascend (changes ∷ older) = ascending_changed changes (keys_named older) (named_ascend older)
+named_ascend (changes ∷ older) = ascending_changed changes (keys_changed older) (named_ascend older)
 
 pub skipped : (k x : List ℕ) (xs : List (List ℕ)) → IsAscending (k ∷ (x ∷ xs)) → IsAscending (k ∷ xs)
 skipped k x [] ascending = tt
@@ -126,10 +126,10 @@ present_case n key None before cs ks is older present = older_among key cs ks (o
 present_case n key (Some c) before cs ks is older present = changed_among key c cs ks is
 
 present_named : (opening : ℕ) (key : List ℕ) (revisions : List (List Change)) → is_some (key_after opening key revisions) ≡ true →
-    IsAmong key (keys_named revisions)
+    IsAmong key (keys_changed revisions)
 present_named opening key [] present = cc
 present_named opening key (changes ∷ older) present =
-    present_case (number_of_last opening (changes ∷ older)) key (change_of key changes) (key_after opening key older) changes (keys_named older) refl
+    present_case (number_of_last opening (changes ∷ older)) key (change_of key changes) (key_after opening key older) changes (keys_changed older) refl
     (present_named opening key older) (sym (ap (λ (s : Option KeyState). is_some s) (one_more opening key changes older)) ∙ present)
 
 hanging_present : (s : Option KeyState) (id : ℕ) → hanging s ≡ Some id → is_some s ≡ true
@@ -176,11 +176,11 @@ place_of (x ∷ xs) key (inr there) = let found : Contains xs key = place_of xs 
 
 pub are_keys : (h : History) (id : ℕ) → AreKeysOf (lease_now h) id (keys_of_lease h id)
 are_keys h id = record {
-  ascending = filtered_ascend test (keys_named h.revisions) (named_ascend h.revisions);
+  ascending = filtered_ascend test (keys_named h) (named_ascend h.revisions);
   each = λ key. (
-    (λ has. (on_case id (lease_now h key)).0 (passed test key (keys_named h.revisions) (at_place (keys_of_lease h id) key has.0 has.1 has.2)).1),
+    (λ has. (on_case id (lease_now h key)).0 (passed test key (keys_named h) (at_place (keys_of_lease h id) key has.0 has.1 has.2)).1),
     (λ is. place_of (keys_of_lease h id) key
-        (passes test key (keys_named h.revisions) ((on_case id (lease_now h key)).1 is)
+        (passes test key (keys_named h) ((on_case id (lease_now h key)).1 is)
         (present_named h.opening key h.revisions (hanging_present (key_now h key) id is)))),
   );
 }
@@ -203,11 +203,11 @@ is_the_list s h id keys is kept =
 -- the keys that are present
 pub present_listed : PresentKeysAreListed
 present_listed h keys ascending each =
-    ascending_is_unique keys (keys_present h) ascending (filtered_ascend test (keys_named h.revisions) (named_ascend h.revisions))
+    ascending_is_unique keys (keys_present h) ascending (filtered_ascend test (keys_named h) (named_ascend h.revisions))
     (λ key. (
       (λ has. let present : test key ≡ true = (each key).0 has in
-          place_of (keys_present h) key (passes test key (keys_named h.revisions) present (present_named h.opening key h.revisions present))),
-      (λ has. (each key).1 (passed test key (keys_named h.revisions) (at_place (keys_present h) key has.0 has.1 has.2)).1),
+          place_of (keys_present h) key (passes test key (keys_named h) present (present_named h.opening key h.revisions present))),
+      (λ has. (each key).1 (passed test key (keys_named h) (at_place (keys_present h) key has.0 has.1 has.2)).1),
     ))
   where
     test : List ℕ → Bool

@@ -18,7 +18,7 @@ use Rattle.stm_watch.specs.Pending.{matching, told_at, told_above, pending, even
 use Rattle.stm_watch.specs.Calls.{watcher_at, poll_found}
 use Rattle.stm_txn.specs.declared.refusal.Refusal.{Refusal}
 use Rattle.stm_txn.specs.Standing.{Standing, Step, polled, poll_step}
-use Rattle.stm_txn.specs.Numbers.{LeaseFits, ChangesFit, LeasesFit, EventsFit}
+use Rattle.stm_txn.specs.Numbers.{LeaseFits, ChangesFit, RevisionsFit, LeasesFit, EventsFit}
 use Rattle.stm_txn.proofs.Fitting.{IsSmallFor, changed_small}
 
 -- ---- the events of a revision
@@ -71,7 +71,7 @@ told_append [] us first second = second
 told_append (t ∷ ts) us first second = (first.0, told_append ts us first.1 second)
 
 told_fit : (opening seen : ℕ) (watched : Watched) (revisions : List (List Change)) → number_of_last opening revisions ≤ HIGHEST_REVISION
-    → LeasesFit revisions → AllToldFit (told_above opening seen watched revisions)
+    → RevisionsFit revisions → AllToldFit (told_above opening seen watched revisions)
 told_fit opening seen watched [] bounded fits = tt
 told_fit opening seen watched (changes ∷ older) bounded fits =
     let number = number_of_last opening (changes ∷ older) in
@@ -99,7 +99,7 @@ all_events_fit (t ∷ ts) fits = events_append t.events (events_told ts) fits.0 
 
 -- ---- a batch
 
-found_fits : (s next : Standing) (id most : ℕ) (b : Batch) (o : Option Watching) → now s.history ≤ HIGHEST_REVISION → LeasesFit s.history.revisions
+found_fits : (s next : Standing) (id most : ℕ) (b : Batch) (o : Option Watching) → now s.history ≤ HIGHEST_REVISION → LeasesFit s.history
     → poll_step s (poll_found s.history id most s.watchers o) ≡ Ok record { answer = b; next = next } → EventsFit b.events
 found_fits s next id most b None bounded fits is = absurd (cc)
 found_fits s next id most b (Some w) bounded fits is =
@@ -108,6 +108,6 @@ found_fits s next id most b (Some w) bounded fits is =
     (all_events_fit (take most (pending s.history w)) (taken_fit most (pending s.history w)
     (told_fit s.history.opening w.seen w.watched s.history.revisions bounded fits)))
 
-pub batch_fits : (s next : Standing) (id most : ℕ) (b : Batch) → now s.history ≤ HIGHEST_REVISION → LeasesFit s.history.revisions
+pub batch_fits : (s next : Standing) (id most : ℕ) (b : Batch) → now s.history ≤ HIGHEST_REVISION → LeasesFit s.history
     → polled s id most ≡ Ok record { answer = b; next = next } → EventsFit b.events
 batch_fits s next id most b bounded fits is = found_fits s next id most b (watcher_at id s.watchers) bounded fits is

@@ -21,8 +21,10 @@ use Rattle.stm_txn.specs.declared.refusal.Refusal.TheVariants.{FutureRevision, L
 use Rattle.stm_txn.specs.Branches.{deletion_of, is_readable, are_readable, op_refusal}
 use Rattle.stm_txn.specs.LookUps.{copy, with_copied, changes_copied}
 use Rattle.stm_txn.specs.Branches.{branch_refusal}
-use Rattle.stm_leases.specs.Live.{Live, is_live_in}
+use Rattle.stm_leases.specs.Live.{Live}
 use Rattle.stm_txn.specs.Leasing.{hung_by, with_hang, hangs_of, HangOnLive}
+use Rattle.stm_txn.specs.Terms.{Terms}
+use Rattle.stm_txn.specs.Standing.{Standing, terms_of}
 
 -- where no refusal comes first, neither part has one
 pub both_none : (a b : Option Refusal) → option_or a b ≡ None → (a ≡ None) × (b ≡ None)
@@ -33,17 +35,18 @@ reached_case : (b : Bool) → cond b (Some FutureRevision) None ≡ None → b �
 reached_case true none = cc
 reached_case false none = refl
 
-one_readable : (counter : ℕ) (is_live : ℕ → Bool) (op : Op) → op_refusal counter is_live op ≡ None → is_readable counter op ≡ true
-one_readable counter is_live (Get key rev) none = le-leb rev counter (ltb-false counter rev (reached_case (nat_lt counter rev) none))
-one_readable counter is_live (Put key value lease) none = refl
-one_readable counter is_live (Del key) none = refl
+one_readable : (terms : Terms) (op : Op) → op_refusal terms op ≡ None → is_readable (now terms.history) op ≡ true
+one_readable terms (Get key rev) none =
+    let counter : ℕ = now terms.history in
+    le-leb rev counter (ltb-false counter rev (reached_case (nat_lt counter rev) none))
+one_readable terms (Put key value lease) none = refl
+one_readable terms (Del key) none = refl
 
-pub all_readable : (counter : ℕ) (is_live : ℕ → Bool) (ops : List Op) → branch_refusal counter is_live ops ≡ None → are_readable counter ops ≡ true
-all_readable counter is_live [] none = refl
-all_readable counter is_live (op ∷ ops) none =
-    let parts : (op_refusal counter is_live op ≡ None) × (branch_refusal counter is_live ops ≡ None) =
-    both_none (op_refusal counter is_live op) (branch_refusal counter is_live ops) none in
-    ap (λ b. b && are_readable counter ops) (one_readable counter is_live op parts.0) ∙ all_readable counter is_live ops parts.1
+pub all_readable : (terms : Terms) (ops : List Op) → branch_refusal terms ops ≡ None → are_readable (now terms.history) ops ≡ true
+all_readable terms [] none = refl
+all_readable terms (op ∷ ops) none =
+    let parts : (op_refusal terms op ≡ None) × (branch_refusal terms ops ≡ None) = both_none (op_refusal terms op) (branch_refusal terms ops) none in
+    ap (λ b. b && are_readable (now terms.history) ops) (one_readable terms op parts.0) ∙ all_readable terms ops parts.1
 
 -- one more change at the end hangs its key after the others
 with_hang-append : (key : List ℕ) (to : Option ℕ) (xs ys : List (List ℕ × ℕ)) → with_hang key to xs ++ ys ≡ with_hang key to (xs ++ ys)
@@ -77,26 +80,25 @@ live_push live cs c before one =
     subst P (sym (hangs_of-push cs c)) (live-append live (hangs_of cs) (with_hang (key_of c) (hung_by c) []) before one)
 
 -- what a branch hangs, it hangs on live leases
-live_after : (h : History) (live : Live) (counter : ℕ) (done : List Change) (ops : List Op) → branch_refusal counter (is_live_in live) ops ≡ None →
-    HangOnLive live (hangs_of done) → HangOnLive live (hangs_of (changes_copied h done ops))
-live_after h live counter done [] none before = before
-live_after h live counter done (Get key rev ∷ ops) none before =
-    live_after h live counter done ops (both_none (op_refusal counter (is_live_in live) (Get key rev))
-    (branch_refusal counter (is_live_in live) ops) none).1 before
-live_after h live counter done (Put key value lease ∷ ops) none before =
-    let parts : (op_refusal counter (is_live_in live) (Put key value lease) ≡ None) × (branch_refusal counter (is_live_in live) ops ≡ None) =
-    both_none (op_refusal counter (is_live_in live) (Put key value lease)) (branch_refusal counter (is_live_in live) ops) none in
-    live_after h live counter (done ++ PutChange key value lease ∷ []) ops parts.1
-    (live_push live done (PutChange key value lease) before (named_case live key lease (nat_eq lease 0) parts.0))
-live_after h live counter done (Del key ∷ ops) none before =
-    elim (copy h done key) as (λ s. HangOnLive live (hangs_of (changes_copied h (with_copied done (deletion_of key s)) ops))) [
-      | None ↦ live_after h live counter done ops none before
-      | Some s ↦ live_after h live counter (done ++ DelChange key ∷ []) ops none (live_push live done (DelChange key) before tt)
+live_after : (s : Standing) (done : List Change) (ops : List Op) → branch_refusal (terms_of s) ops ≡ None → HangOnLive s.live (hangs_of done) →
+    HangOnLive s.live (hangs_of (changes_copied s.history done ops))
+live_after s done [] none before = before
+live_after s done (Get key rev ∷ ops) none before =
+    live_after s done ops (both_none (op_refusal (terms_of s) (Get key rev)) (branch_refusal (terms_of s) ops) none).1 before
+live_after s done (Put key value lease ∷ ops) none before =
+    let parts : (op_refusal (terms_of s) (Put key value lease) ≡ None) × (branch_refusal (terms_of s) ops ≡ None) =
+    both_none (op_refusal (terms_of s) (Put key value lease)) (branch_refusal (terms_of s) ops) none in
+    live_after s (done ++ PutChange key value lease ∷ []) ops parts.1
+    (live_push s.live done (PutChange key value lease) before (named_case s.live key lease (nat_eq lease 0) parts.0))
+live_after s done (Del key ∷ ops) none before =
+    elim (copy s.history done key) as (λ o. HangOnLive s.live (hangs_of (changes_copied s.history (with_copied done (deletion_of key o)) ops))) [
+      | None ↦ live_after s done ops none before
+      | Some state ↦ live_after s (done ++ DelChange key ∷ []) ops none (live_push s.live done (DelChange key) before tt)
     ]
 
-pub hangs_live : (h : History) (live : Live) (ops : List Op) → branch_refusal (now h) (is_live_in live) ops ≡ None →
-    HangOnLive live (hangs_of (changes_copied h [] ops))
-hangs_live h live ops none = live_after h live (now h) [] ops none tt
+pub hangs_live : (s : Standing) (ops : List Op) → branch_refusal (terms_of s) ops ≡ None →
+    HangOnLive s.live (hangs_of (changes_copied s.history [] ops))
+hangs_live s ops none = live_after s [] ops none tt
 
 -- nothing is used up below the highest revision, or without changes
 pub none_used : (b : Bool) → (b && false) ≡ false

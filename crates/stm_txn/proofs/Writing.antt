@@ -3,16 +3,17 @@ use Rattle.std.proofs.Common.{◌≡◌, ℕ, Bool, false, cond, List, map, Some
 use Rattle.std.specs.Prelude.{Result, IfOk, IfErr}
 use Rattle.std.specs.List.{list_any}
 use Rattle.stm_history.specs.declared.change.Change.{Change}
-use Rattle.stm_history.specs.History.{History, now, HasDistinctKeys}
+use Rattle.stm_history.specs.History.{History, HasDistinctKeys}
 use Rattle.stm_keys.specs.Keys.{DeletePresent}
-use Rattle.stm_leases.specs.Live.{Live, is_live_in}
+use Rattle.stm_leases.specs.Live.{is_live_in}
 use Rattle.stm_txn.specs.declared.refusal.Refusal.{Refusal}
 use Rattle.stm_txn.specs.declared.refusal.Refusal.TheVariants.{LeaseNotFound}
 use Rattle.stm_txn.specs.Branches.{branch_refusal}
 use Rattle.stm_txn.specs.Commits.{is_on_dead_lease, effective}
 use Rattle.stm_txn.specs.Effect.{op_of}
 use Rattle.stm_txn.specs.Leasing.{hangs_of, HangOnLive}
-use Rattle.stm_txn.specs.Standing.{Standing, Step, IsRefusalOf, Tells, write_step, written, made}
+use Rattle.stm_txn.specs.Standing.{Standing, Step, IsRefusalOf, Tells, write_step, written, made, terms_of}
+use Rattle.stm_txn.specs.Terms.{Terms}
 use Rattle.stm_txn.proofs.Applying.{branch_applies, writes_apart, dead_refusal}
 use Rattle.stm_txn.proofs.Branching.{changes_are_distinct, effect_copied}
 use Rattle.stm_txn.proofs.Running.{hangs_live, deletes_present}
@@ -23,15 +24,15 @@ pub effective_distinct : (h : History) (ws : List Change) → HasDistinctKeys ws
 effective_distinct h ws distinct =
     subst (λ (cs : List Change). HasDistinctKeys cs) (effect_copied h ws distinct) (changes_are_distinct h (map op_of ws) (writes_apart ws distinct))
 
-none_refused : (h : History) (is_live : ℕ → Bool) (ws : List Change) → list_any (is_on_dead_lease is_live) ws ≡ false →
-    branch_refusal (now h) is_live (map op_of ws) ≡ None
-none_refused h is_live ws alive = dead_refusal (now h) is_live ws ∙ ap (λ (b : Bool). cond b (Some LeaseNotFound) None) alive
+none_refused : (terms : Terms) (ws : List Change) → list_any (is_on_dead_lease terms.is_live) ws ≡ false →
+    branch_refusal terms (map op_of ws) ≡ None
+none_refused terms ws alive = dead_refusal terms ws ∙ ap (λ (b : Bool). cond b (Some LeaseNotFound) None) alive
 
-pub effective_live : (h : History) (live : Live) (ws : List Change) → HasDistinctKeys ws → list_any (is_on_dead_lease (is_live_in live)) ws ≡ false →
-    HangOnLive live (hangs_of (effective h ws))
-effective_live h live ws distinct alive =
-    subst (λ (cs : List Change). HangOnLive live (hangs_of cs)) (effect_copied h ws distinct)
-    (hangs_live h live (map op_of ws) (none_refused h (is_live_in live) ws alive))
+pub effective_live : (s : Standing) (ws : List Change) → HasDistinctKeys ws → list_any (is_on_dead_lease (is_live_in s.live)) ws ≡ false →
+    HangOnLive s.live (hangs_of (effective s.history ws))
+effective_live s ws distinct alive =
+    subst (λ (cs : List Change). HangOnLive s.live (hangs_of cs)) (effect_copied s.history ws distinct)
+    (hangs_live s (map op_of ws) (none_refused (terms_of s) ws alive))
 
 pub effective_present : (h : History) (ws : List Change) → HasDistinctKeys ws → DeletePresent h (effective h ws)
 effective_present h ws distinct =
@@ -40,7 +41,7 @@ effective_present h ws distinct =
 -- ---- what comes of them
 
 as_made : (s : Standing) (ws : List Change) → HasDistinctKeys ws → written s ws ≡ made s ws
-as_made s ws distinct = ap (write_step s) (branch_applies s.history (is_live_in s.live) ws distinct)
+as_made s ws distinct = ap (write_step s) (branch_applies (terms_of s) ws distinct)
 
 pub come : (s next : Standing) (ws : List Change) (r : Result ℕ Refusal) → HasDistinctKeys ws →
     IfOk r (λ revision. made s ws ≡ Ok record { answer = revision; next = next }) → IfErr r (IsRefusalOf (made s ws)) → Tells (written s ws) r next

@@ -18,6 +18,7 @@ use Rattle.stm_txn.specs.declared.answer.OpAnswer.{OpAnswer}
 use Rattle.stm_txn.specs.declared.answer.OpAnswer.TheVariants.{Get as GetAnswer, Put as PutAnswer, Del as DelAnswer}
 use Rattle.stm_txn.specs.declared.refusal.Refusal.{Refusal}
 use Rattle.stm_txn.specs.declared.refusal.Refusal.TheVariants.{FutureRevision, LeaseNotFound}
+use Rattle.stm_txn.specs.Terms.{Terms}
 
 -- a branch on its way: what each key is by now, and the changes so far
 pub record Progress : Type 0 where
@@ -89,10 +90,10 @@ changes_of_branch h ops = (progress_after h (begun h) ops).changes
 
 -- Why an operation is refused: a revision above the counter, which is that before the transaction, or a lease that is
 -- not live. No revision is below the floor, since nothing is dropped.
-abbrev pub op_refusal : ℕ → (ℕ → Bool) → Op → Option Refusal
-op_refusal counter is_live (Get key rev) = if nat_lt counter rev then Some FutureRevision else None
-op_refusal counter is_live (Put key value lease) = if nat_eq lease 0 || is_live lease then None else Some LeaseNotFound
-op_refusal counter is_live (Del key) = None
+abbrev pub op_refusal : Terms → Op → Option Refusal
+op_refusal terms (Get key rev) = if nat_lt (now terms.history) rev then Some FutureRevision else None
+op_refusal terms (Put key value lease) = if nat_eq lease 0 || terms.is_live lease then None else Some LeaseNotFound
+op_refusal terms (Del key) = None
 
 -- a branch that changed something
 abbrev pub has_changes : List Change → Bool
@@ -110,6 +111,6 @@ are_readable counter [] = true
 are_readable counter (op ∷ ops) = is_readable counter op && are_readable counter ops
 
 -- the first refusal along a branch
-abbrev pub branch_refusal : ℕ → (ℕ → Bool) → List Op → Option Refusal
-branch_refusal counter is_live [] = None
-branch_refusal counter is_live (op ∷ ops) = option_or (op_refusal counter is_live op) (branch_refusal counter is_live ops)
+abbrev pub branch_refusal : Terms → List Op → Option Refusal
+branch_refusal terms [] = None
+branch_refusal terms (op ∷ ops) = option_or (op_refusal terms op) (branch_refusal terms ops)

@@ -19,6 +19,7 @@ use Rattle.stm_txn.specs.declared.answer.OpAnswer.TheVariants.{Get as GetAnswer,
 use Rattle.stm_txn.specs.declared.answer.FailedCompare.{FailedCompare}
 use Rattle.stm_txn.specs.declared.refusal.Refusal.{Refusal}
 use Rattle.stm_txn.specs.declared.refusal.Refusal.TheVariants.{LeaseNotFound}
+use Rattle.stm_txn.specs.Terms.{Terms}
 use Rattle.stm_txn.specs.Branches.{deletion_of, count_of}
 use Rattle.stm_txn.specs.Effect.{changes_something}
 use Rattle.stm_txn.specs.Outcome.{Done, finished}
@@ -47,9 +48,10 @@ effective h writes = filter (changes_something (key_now h)) writes
 
 -- Writes of distinct keys, all compares holding: LeaseNotFound where a put names a lease that is not live, else
 -- RevisionsUsedUp where something changes at the highest revision, else those that change something as one revision.
-abbrev pub applied : History → (ℕ → Bool) → List Change → Result Done Refusal
-applied h is_live writes =
-    if list_any (is_on_dead_lease is_live) writes then Err LeaseNotFound
+abbrev pub applied : Terms → List Change → Result Done Refusal
+applied terms writes =
+    let h : History = terms.history in
+    if list_any (is_on_dead_lease terms.is_live) writes then Err LeaseNotFound
     else finished h None (effective h writes) (map (write_answer (key_now h)) writes)
 
 -- a read at a revision, 0 for the current one
@@ -65,9 +67,9 @@ abbrev pub read_now : List ℕ → Op
 read_now key = Get key 0
 
 -- no read names a revision above the counter
-abbrev pub AreReached : History → List Read → Type 0
-AreReached h [] = Unit {0}
-AreReached h (read ∷ reads) = (read.rev ≤ now h) × AreReached h reads
+abbrev pub AreReached : Terms → List Read → Type 0
+AreReached terms [] = Unit {0}
+AreReached terms (read ∷ reads) = (read.rev ≤ now terms.history) × AreReached terms reads
 
 -- none of these keys is empty
 abbrev pub AreNamed : List (List ℕ) → Type 0

@@ -1,5 +1,5 @@
 -- The laws of transactions, each carried by a function of `src/laws.rt`.
-use Rattle.std.specs.Prelude.{◌≡◌, ◌↔◌, ℕ, ◌+◌, ◌<◌, Bool, true, false, if◌then◌else◌, List, [], length, map, Option, Some, None, Ok, slice_get}
+use Rattle.std.specs.Prelude.{◌≡◌, ◌↔◌, ℕ, ◌+◌, ◌<◌, true, false, if◌then◌else◌, List, [], length, map, Option, Some, None, Ok, slice_get}
 use Rattle.std.specs.List.{list_all}
 use Rattle.stm_history.specs.declared.change.Change.{Change}
 use Rattle.stm_history.specs.declared.key_state.KeyState.{KeyState}
@@ -15,37 +15,36 @@ use Rattle.stm_txn.specs.Branches.{begun, progress_after, changes_of_branch}
 use Rattle.stm_txn.specs.Effect.{op_of}
 use Rattle.stm_txn.specs.Outcome.{Done, outcome, branch_outcome, with_changes}
 use Rattle.stm_txn.specs.Commits.{mod_is, mod_is_below, applied, Read, read_op, read_now, AreReached, AreNamed, read_out, turned_down}
+use Rattle.stm_txn.specs.Terms.{Terms}
 
 -- Writes of distinct keys come to these writes, where nothing of the whole transaction is wrong and every compare holds.
 abbrev pub WritesApply : Type 0
 WritesApply =
-    (h : History) (is_live : ℕ → Bool) (txn : Txn) (writes : List Change) → txn.success ≡ map op_of writes → HasDistinctKeys writes
-    → fault_of txn ≡ None → first_failed (key_now h) 0 txn.compares ≡ None → outcome h is_live txn ≡ applied h is_live writes
+    (terms : Terms) (txn : Txn) (writes : List Change) → txn.success ≡ map op_of writes → HasDistinctKeys writes
+    → fault_of terms.limit txn ≡ None → first_failed (key_now terms.history) 0 txn.compares ≡ None → outcome terms txn ≡ applied terms writes
 
 -- A branch of writes of distinct keys, with nothing compared, comes to these writes.
 abbrev pub BranchApplies : Type 0
-BranchApplies =
-    (h : History) (is_live : ℕ → Bool) (writes : List Change) → HasDistinctKeys writes
-    → branch_outcome h is_live None (map op_of writes) ≡ applied h is_live writes
+BranchApplies = (terms : Terms) (writes : List Change) → HasDistinctKeys writes → branch_outcome terms None (map op_of writes) ≡ applied terms writes
 
 -- Where a compare fails and the failure list reads, the compare and the reads are told, and nothing changes.
 abbrev pub FailedCompareReads : Type 0
 FailedCompareReads =
-    (h : History) (is_live : ℕ → Bool) (txn : Txn) (keys : List (List ℕ)) (failed : FailedCompare) → txn.failure ≡ map read_now keys
-    → fault_of txn ≡ None → first_failed (key_now h) 0 txn.compares ≡ Some failed → outcome h is_live txn ≡ Ok (turned_down h failed keys)
+    (terms : Terms) (txn : Txn) (keys : List (List ℕ)) (failed : FailedCompare) → txn.failure ≡ map read_now keys → fault_of terms.limit txn ≡ None
+    → first_failed (key_now terms.history) 0 txn.compares ≡ Some failed → outcome terms txn ≡ Ok (turned_down terms.history failed keys)
 
 -- A transaction of reads alone, none above the counter, answers each key at its revision and changes nothing.
 abbrev pub ReadsChangeNothing : Type 0
 ReadsChangeNothing =
-    (h : History) (is_live : ℕ → Bool) (txn : Txn) (reads : List Read) → txn.compares ≡ [] → txn.success ≡ map read_op reads
-    → fault_of txn ≡ None → AreReached h reads → outcome h is_live txn ≡ Ok (read_out h None reads)
+    (terms : Terms) (txn : Txn) (reads : List Read) → txn.compares ≡ [] → txn.success ≡ map read_op reads
+    → fault_of terms.limit txn ≡ None → AreReached terms reads → outcome terms txn ≡ Ok (read_out terms.history None reads)
 
 -- Of writes of distinct keys and reads, whose keys are not empty, nothing can be wrong as a whole but their number.
 abbrev pub NumberAloneIsWrong : Type 0
 NumberAloneIsWrong =
-    (txn : Txn) (writes : List Change) (keys : List (List ℕ)) → txn.success ≡ map op_of writes → txn.failure ≡ map read_now keys
+    (limit : ℕ) (txn : Txn) (writes : List Change) (keys : List (List ℕ)) → txn.success ≡ map op_of writes → txn.failure ≡ map read_now keys
     → HasDistinctKeys writes → AreNamed (map (λ (c : Compare). c.key) txn.compares) → AreNamed (map key_of writes) → AreNamed keys
-    → fault_of txn ≡ (if has_too_many txn then Some TooManyOps else None)
+    → fault_of limit txn ≡ (if has_too_many limit txn then Some TooManyOps else None)
 
 -- A compare of a modification revision holds where the numbers are equal, and one of "below" where it is below.
 pub record ModCompares : Type 0 where
@@ -75,8 +74,8 @@ FailedHasItsPlace =
 -- Whatever a transaction comes to, its history is the old one with some changes of distinct keys, or as it was.
 abbrev pub HistoryGrows : Type 0
 HistoryGrows =
-    (h : History) (is_live : ℕ → Bool) (txn : Txn) (done : Done) → outcome h is_live txn ≡ Ok done
-    → (changes : List Change) × HasDistinctKeys changes × (done.history ≡ with_changes h changes)
+    (terms : Terms) (txn : Txn) (done : Done) → outcome terms txn ≡ Ok done
+    → (changes : List Change) × HasDistinctKeys changes × (done.history ≡ with_changes terms.history changes)
 
 -- Where no two operations of a branch clash, what a key is by now is what its change in the list makes of it.
 abbrev pub LookUpIsTheState : Type 0

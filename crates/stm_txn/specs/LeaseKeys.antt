@@ -22,14 +22,18 @@ abbrev pub with_changed : List Change → List (List ℕ) → List (List ℕ)
 with_changed [] keys = keys
 with_changed (c ∷ cs) keys = with_key (key_of c) (with_changed cs keys)
 
--- the keys that revisions name, ascending by bytes
-abbrev pub keys_named : List (List Change) → List (List ℕ)
-keys_named [] = []
-keys_named (changes ∷ older) = with_changed changes (keys_named older)
+-- the keys that revisions change, ascending by bytes
+abbrev pub keys_changed : List (List Change) → List (List ℕ)
+keys_changed [] = []
+keys_changed (changes ∷ older) = with_changed changes (keys_changed older)
+
+-- the keys that a history names, ascending by bytes
+abbrev pub keys_named : History → List (List ℕ)
+keys_named h = keys_changed h.revisions
 
 -- the keys that hang on a lease now, ascending by bytes
 abbrev pub keys_of_lease : History → ℕ → List (List ℕ)
-keys_of_lease h id = filter (λ key. is_on id (lease_now h key)) (keys_named h.revisions)
+keys_of_lease h id = filter (λ key. is_on id (lease_now h key)) (keys_named h)
 
 -- their deletions
 abbrev pub deletions_of : History → ℕ → List Change

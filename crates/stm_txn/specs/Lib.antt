@@ -1,3 +1,4 @@
+pub mod Terms
 pub mod Operations
 pub mod Compares
 pub mod Checks

@@ -1,6 +1,6 @@
 -- A branch as it is run here: what a key is by now is looked up in the changes so far. Where no two operations clash that
 -- is the branch's state, by a law. No public clause cites this module.
-use Rattle.std.specs.Prelude.{ℕ, ◌+◌, Bool, nat_eq, if◌then◌else◌, List, [], ◌∷◌, ◌++◌, Option, Some, None, Result}
+use Rattle.std.specs.Prelude.{ℕ, ◌+◌, nat_eq, if◌then◌else◌, List, [], ◌∷◌, ◌++◌, Option, Some, None, Result}
 use Rattle.stm_history.specs.declared.change.Change.{Change}
 use Rattle.stm_history.specs.declared.change.Change.TheVariants.{Put as PutChange}
 use Rattle.stm_history.specs.declared.key_state.KeyState.{KeyState}
@@ -12,6 +12,7 @@ use Rattle.stm_txn.specs.declared.answer.OpAnswer.{OpAnswer}
 use Rattle.stm_txn.specs.declared.answer.OpAnswer.TheVariants.{Get as GetAnswer, Put as PutAnswer, Del as DelAnswer}
 use Rattle.stm_txn.specs.declared.answer.FailedCompare.{FailedCompare}
 use Rattle.stm_txn.specs.declared.refusal.Refusal.{Refusal}
+use Rattle.stm_txn.specs.Terms.{Terms}
 use Rattle.stm_txn.specs.Branches.{carried, deletion_of, count_of, branch_refusal}
 use Rattle.stm_txn.specs.Outcome.{Done, unless, finished}
 
@@ -53,6 +54,7 @@ answers_copied h changes [] = []
 answers_copied h changes (op ∷ ops) = answer_copied h changes op ∷ answers_copied h (with_copied changes (change_copied h changes op)) ops
 
 -- what a branch comes to
-abbrev pub outcome_copied : History → (ℕ → Bool) → Option FailedCompare → List Op → Result Done Refusal
-outcome_copied h is_live failed ops =
-    unless (branch_refusal (now h) is_live ops) (finished h failed (changes_copied h [] ops) (answers_copied h [] ops))
+abbrev pub outcome_copied : Terms → Option FailedCompare → List Op → Result Done Refusal
+outcome_copied terms failed ops =
+    let h : History = terms.history in
+    unless (branch_refusal terms ops) (finished h failed (changes_copied h [] ops) (answers_copied h [] ops))

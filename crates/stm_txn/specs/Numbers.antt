@@ -28,10 +28,13 @@ abbrev pub ChangesFit : List Change → Type 0
 ChangesFit [] = Unit {0}
 ChangesFit (c ∷ cs) = ChangeFits c × ChangesFit cs
 
--- the leases that revisions name
-abbrev pub LeasesFit : List (List Change) → Type 0
-LeasesFit [] = Unit {0}
-LeasesFit (changes ∷ older) = ChangesFit changes × LeasesFit older
+abbrev pub RevisionsFit : List (List Change) → Type 0
+RevisionsFit [] = Unit {0}
+RevisionsFit (changes ∷ older) = ChangesFit changes × RevisionsFit older
+
+-- the leases that a history names
+abbrev pub LeasesFit : History → Type 0
+LeasesFit h = RevisionsFit h.revisions
 
 -- each number of a state
 pub record StateFits (s : KeyState) : Type 0 where

@@ -1,5 +1,5 @@
--- The transaction's outcome: from a history, the live leases and a transaction to a refusal, or to an answer and a history.
-use Rattle.std.specs.Prelude.{ℕ, Bool, false, nat_eq, if◌then◌else◌, List, [], ◌∷◌, Option, Some, None, Result, Ok, Err, is_none}
+-- The transaction's outcome: from the terms of a store and a transaction to a refusal, or to an answer and a history.
+use Rattle.std.specs.Prelude.{Bool, false, nat_eq, if◌then◌else◌, List, [], ◌∷◌, Option, Some, None, Result, Ok, Err, is_none}
 use Rattle.stm_history.specs.declared.change.Change.{Change}
 use Rattle.stm_history.specs.declared.revisions.TheConstants.{HIGHEST_REVISION}
 use Rattle.stm_history.specs.History.{History, now, key_now, add_revision}
@@ -10,6 +10,7 @@ use Rattle.stm_txn.specs.declared.answer.FailedCompare.{FailedCompare}
 use Rattle.stm_txn.specs.declared.answer.TxnAnswer.{TxnAnswer}
 use Rattle.stm_txn.specs.declared.refusal.Refusal.{Refusal}
 use Rattle.stm_txn.specs.declared.refusal.Refusal.TheVariants.{RevisionsUsedUp}
+use Rattle.stm_txn.specs.Terms.{Terms}
 use Rattle.stm_txn.specs.Compares.{first_failed}
 use Rattle.stm_txn.specs.Checks.{fault_of}
 use Rattle.stm_txn.specs.Branches.{begun, changes_of_branch, has_changes, answers_after, branch_refusal}
@@ -54,11 +55,12 @@ abbrev pub unless : {T : Type 0} → Option Refusal → Result T Refusal → Res
 unless None next = next
 unless (Some refusal) next = Err refusal
 
-abbrev pub branch_outcome : History → (ℕ → Bool) → Option FailedCompare → List Op → Result Done Refusal
-branch_outcome h is_live failed ops =
-    unless (branch_refusal (now h) is_live ops) (finished h failed (changes_of_branch h ops) (answers_after h (begun h) ops))
+abbrev pub branch_outcome : Terms → Option FailedCompare → List Op → Result Done Refusal
+branch_outcome terms failed ops =
+    let h : History = terms.history in
+    unless (branch_refusal terms ops) (finished h failed (changes_of_branch h ops) (answers_after h (begun h) ops))
 
-abbrev pub outcome : History → (ℕ → Bool) → Txn → Result Done Refusal
-outcome h is_live txn =
-    let failed : Option FailedCompare = first_failed (key_now h) 0 txn.compares in
-    unless (fault_of txn) (branch_outcome h is_live failed (chosen failed txn))
+abbrev pub outcome : Terms → Txn → Result Done Refusal
+outcome terms txn =
+    let failed : Option FailedCompare = first_failed (key_now terms.history) 0 txn.compares in
+    unless (fault_of terms.limit txn) (branch_outcome terms failed (chosen failed txn))

@@ -9,7 +9,7 @@ use Rattle.stm_txn.specs.LeaseKeys.{keys_named}
 
 -- the keys that are present, ascending by bytes
 abbrev pub keys_present : History → List (List ℕ)
-keys_present h = filter (λ key. is_some (key_now h key)) (keys_named h.revisions)
+keys_present h = filter (λ key. is_some (key_now h key)) (keys_named h)
 
 -- Ascending keys that are those that are present are this list.
 abbrev pub PresentKeysAreListed : Type 0

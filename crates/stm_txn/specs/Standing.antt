@@ -24,6 +24,7 @@ use Rattle.stm_txn.specs.declared.answer.TxnAnswer.{TxnAnswer}
 use Rattle.stm_txn.specs.declared.advance.Expired.{Expired}
 use Rattle.stm_txn.specs.declared.refusal.Refusal.{Refusal}
 use Rattle.stm_txn.specs.declared.refusal.Refusal.TheVariants.{OutOfMemory, EmptyKey, LeaseNotFound, NoWatcher, RevisionsUsedUp, TimeGoesBack}
+use Rattle.stm_txn.specs.Terms.{Terms, widest_terms}
 use Rattle.stm_txn.specs.Commits.{applied}
 use Rattle.stm_txn.specs.Effect.{op_of}
 use Rattle.stm_txn.specs.Outcome.{Done, outcome, branch_outcome, with_changes, is_used_up}
@@ -41,6 +42,10 @@ pub record Standing : Type 0 where
 -- a store that opens at a revision
 abbrev pub opening : ℕ → Standing
 opening number = record { history = opened_at number; live = finmap.empty; moment = 0; watchers = [] }
+
+-- the terms on which a store takes a transaction: nothing of it is compacted, and its limit is the highest
+abbrev pub terms_of : Standing → Terms
+terms_of s = widest_terms s.history s.live
 
 -- what a call that is not refused comes to: its answer, and the store after it
 pub record Step (A : Type 0) : Type 0 where
@@ -77,7 +82,7 @@ step_of s (Ok done) = Ok record { answer = done.answer; next = with_history s do
 step_of s (Err refusal) = Err refusal
 
 abbrev pub transacted : Standing → Txn → Result (Step TxnAnswer) Refusal
-transacted s txn = step_of s (outcome s.history (is_live_in s.live) txn)
+transacted s txn = step_of s (outcome (terms_of s) txn)
 
 -- Writes that are made with nothing compared, however many they are, which answer the revision after them: what a branch of
 -- them does.
@@ -86,11 +91,11 @@ write_step s (Ok done) = Ok record { answer = now done.history; next = with_hist
 write_step s (Err refusal) = Err refusal
 
 abbrev pub written : Standing → List Change → Result (Step ℕ) Refusal
-written s writes = write_step s (branch_outcome s.history (is_live_in s.live) None (map op_of writes))
+written s writes = write_step s (branch_outcome (terms_of s) None (map op_of writes))
 
 -- the same by the writes that change something, where they are of distinct keys
 abbrev pub made : Standing → List Change → Result (Step ℕ) Refusal
-made s writes = write_step s (applied s.history (is_live_in s.live) writes)
+made s writes = write_step s (applied (terms_of s) writes)
 
 -- a lease that is renewed at the store's moment
 abbrev pub with_lease : Standing → ℕ → ℕ → Standing

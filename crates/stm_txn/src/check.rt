@@ -2,6 +2,7 @@
 ghost use Rattle.std.specs.Prelude.{◌≡◌, length, nat_lt};
 ghost use Rattle.std.specs.List.{list_any};
 ghost use Rattle.stm_txn.specs.Operations.{key_of_op, clash};
+ghost use Rattle.stm_txn.specs.Terms.{most_operations};
 ghost use Rattle.stm_txn.specs.Checks.{has_too_many, has_empty_key, is_empty_key, has_clash, fault_of};
 
 use crate::refusal::Refusal;
@@ -11,7 +12,7 @@ use crate::txn::{Compare, Op, Txn};
 pub const MOST_OPERATIONS: usize = 128;
 
 fn are_too_many(txn: &Txn) -> bool
-    ensures { result ≡ has_too_many txn.now }
+    ensures { result ≡ has_too_many most_operations txn.now }
 {
     txn.compares.len() > MOST_OPERATIONS
         || txn.success.len() > MOST_OPERATIONS
@@ -79,7 +80,7 @@ fn branch_clashes(ops: &[Op]) -> bool
 
 /// The refusal of a whole transaction, if there is one.
 pub(crate) fn find_fault(txn: &Txn) -> Option<Refusal>
-    ensures { result ≡ fault_of txn.now }
+    ensures { result ≡ fault_of most_operations txn.now }
 {
     if are_too_many(txn) {
         Some(Refusal::TooManyOps)

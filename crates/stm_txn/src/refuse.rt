@@ -1,19 +1,20 @@
 //! Why an operation of a branch is refused.
 ghost use Rattle.std.specs.Prelude.{◌≡◌};
 ghost use Rattle.stm_txn.specs.Branches.{op_refusal, branch_refusal};
-ghost use Rattle.stm_leases.specs.Live.{is_live_in};
+ghost use Rattle.stm_txn.specs.Terms.{widest_terms};
 
 use crate::refusal::Refusal;
 use crate::txn::Op;
+use stm_keys::Keys;
 use stm_leases::Leases;
 
 /// Why an operation is refused, `None` where it is not.
-fn find_op_refusal(op: &Op, counter: u64, leases: &Leases) -> Option<Refusal>
-    ensures { result ≡ op_refusal counter (is_live_in leases.now.live) op.now }
+fn find_op_refusal(op: &Op, keys: &Keys, leases: &Leases) -> Option<Refusal>
+    ensures { result ≡ op_refusal (widest_terms keys.now.history leases.now.live) op.now }
 {
     match op {
         Op::Get { rev, .. } => {
-            if *rev > counter {
+            if *rev > keys.revision() {
                 Some(Refusal::FutureRevision)
             } else {
                 None
@@ -31,11 +32,11 @@ fn find_op_refusal(op: &Op, counter: u64, leases: &Leases) -> Option<Refusal>
 }
 
 /// The first refusal along a branch.
-pub(crate) fn find_refusal(ops: &[Op], counter: u64, leases: &Leases) -> Option<Refusal>
-    ensures { result ≡ branch_refusal counter (is_live_in leases.now.live) ops.now }
+pub(crate) fn find_refusal(ops: &[Op], keys: &Keys, leases: &Leases) -> Option<Refusal>
+    ensures { result ≡ branch_refusal (widest_terms keys.now.history leases.now.live) ops.now }
 {
     for op in ops {
-        if let Some(refusal) = find_op_refusal(op, counter, leases) {
+        if let Some(refusal) = find_op_refusal(op, keys, leases) {
             return Some(refusal);
         }
     }

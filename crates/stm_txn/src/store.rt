@@ -66,7 +66,7 @@ impl Model for Store {
       present = s.keys.present;
     } };
 
-    ghost invariant = { λ s. HangAsStored (lease_of s.leases) s.keys.history × LeasesFit s.keys.history.revisions × StandFor s.keys.history s.watchers };
+    ghost invariant = { λ s. HangAsStored (lease_of s.leases) s.keys.history × LeasesFit s.keys.history × StandFor s.keys.history s.watchers };
 }
 
 /// Whether a branch is to change something at the highest revision.
@@ -166,7 +166,7 @@ impl Store {
     ghost use Rattle.stm_txn.specs.Outcome.{with_changes, answer_of};
     ghost use Rattle.stm_txn.specs.Numbers.{AnswerFits, StatesFit, ExpiredFits, AllExpiredFit, EventsFit};
     ghost use Rattle.stm_txn.specs.Standing.{opening, IsRefusalOf, Tells, refusal_of, transacted, made, written, granted, kept_alive, told, ended, revoked};
-    ghost use Rattle.stm_txn.specs.Standing.{watched, polled, cancelled};
+    ghost use Rattle.stm_txn.specs.Standing.{terms_of, watched, polled, cancelled};
     ghost use Rattle.stm_watch.specs.declared.watched.Watched.TheVariants.{Key, Range};
     ghost use Rattle.stm_watch.specs.Calls.{IsNextPending};
     ghost use Rattle.stm_txn.specs.Standing.{after, expired_in, expire_all, at_moment, advanced, HasCome, IsStopped, IsCutShort, with_expiries};
@@ -300,7 +300,7 @@ impl Store {
     /// Runs a branch that nothing but memory can refuse.
     fn finish(&mut self, ops: &[Op], failed: Option<FailedCompare>) -> Result<TxnAnswer, Refusal>
         requires apart { has_clash ops.now ≡ false }
-        requires allowed { branch_refusal (now self.old.standing.history) (is_live_in self.old.standing.live) ops.now ≡ None }
+        requires allowed { branch_refusal (terms_of self.old.standing) ops.now ≡ None }
         requires room { is_used_up self.old.standing.history (changes_copied self.old.standing.history [] ops.now) ≡ false }
         ensures answer { IfOk result (λ answer. answer ≡ answer_of self.old.standing.history failed
             (changes_copied self.old.standing.history [] ops.now) (answers_copied self.old.standing.history [] ops.now)) }
@@ -324,15 +324,15 @@ impl Store {
     /// Runs one branch, whose first failed compare is given.
     fn run(&mut self, ops: &[Op], failed: Option<FailedCompare>) -> Result<TxnAnswer, Refusal>
         requires { has_clash ops.now ≡ false }
-        ensures ok { IfOk result (λ answer. outcome_copied self.old.standing.history (is_live_in self.old.standing.live) failed ops.now
+        ensures ok { IfOk result (λ answer. outcome_copied (terms_of self.old.standing) failed ops.now
             ≡ Ok (record { answer = answer; history = self.new.standing.history })) }
         ensures live { self.new.standing.live ≡ self.old.standing.live }
         ensures moment { self.new.standing.moment ≡ self.old.standing.moment }
         ensures watchers { self.new.standing.watchers ≡ self.old.standing.watchers }
-        ensures refused { IfErr result (IsRefusalOf (outcome_copied self.old.standing.history (is_live_in self.old.standing.live) failed ops.now)) }
+        ensures refused { IfErr result (IsRefusalOf (outcome_copied (terms_of self.old.standing) failed ops.now)) }
         ensures err { OnErr result (self.new ≡ self.old) }
     {
-        if let Some(refusal) = find_refusal(ops, self.keys.revision(), &self.leases) {
+        if let Some(refusal) = find_refusal(ops, &self.keys, &self.leases) {
             return Err(refusal);
         }
         if uses_up(&self.keys, ops) {
@@ -343,7 +343,7 @@ impl Store {
 
     /// Runs the branch that the compares pick, of a transaction that is right as a whole.
     fn run_chosen(&mut self, txn: &Txn) -> Result<TxnAnswer, Refusal>
-        requires { fault_of txn.now ≡ None }
+        requires { fault_of (terms_of self.old.standing).limit txn.now ≡ None }
         ensures step { Tells (transacted self.old.standing txn.now) result self.new.standing }
         ensures err { OnErr result (self.new ≡ self.old) }
     {

@@ -3,15 +3,15 @@ use Rattle.std.proofs.Common.{◌≡◌, ℕ, List, [], ◌∷◌, Bool, true, f
 use Rattle.std.specs.Prelude.{nat_eq, nat_lt}
 use Rattle.stm_history.specs.declared.key_state.ReadAnswer.{ReadAnswer}
 use Rattle.stm_history.specs.History.{History, now, key_at}
-use Rattle.stm_leases.specs.Live.{is_live_in}
 use Rattle.stm_txn.specs.declared.txn.Txn.{Txn}
 use Rattle.stm_txn.specs.declared.answer.OpAnswer.TheVariants.{Get as GetAnswer}
 use Rattle.stm_txn.specs.declared.answer.TxnAnswer.{TxnAnswer}
 use Rattle.stm_txn.specs.declared.refusal.Refusal.{Refusal}
 use Rattle.stm_txn.specs.Branches.{begun, read_answer}
 use Rattle.stm_txn.specs.Outcome.{Done, outcome}
-use Rattle.stm_txn.specs.Standing.{Standing}
+use Rattle.stm_txn.specs.Standing.{Standing, terms_of}
 use Rattle.stm_txn.specs.Numbers.{AnswerFits, ReadFits}
+use Rattle.stm_txn.specs.Terms.{Terms}
 use Rattle.stm_txn.proofs.Applying.{done_by, is_done}
 use Rattle.stm_compile.specs.Answers.{answer_now}
 use Rattle.stm_calls.specs.Fetched.{fetch_of}
@@ -46,11 +46,12 @@ same_shown : (b : Bool) (x y : ReadAnswer) (n at : ℕ) → x.of_rev ≡ n → y
 same_shown true x y n at left right = left
 same_shown false x y n at left right = right
 
-shown_by_done : (h : History) (is_live : ℕ → Bool) (key : List ℕ) (at : ℕ) (done : Done) → outcome h is_live (fetch_of key at) ≡ Ok done →
+shown_by_done : (terms : Terms) (key : List ℕ) (at : ℕ) (done : Done) → outcome terms (fetch_of key at) ≡ Ok done →
     ShowsKey key at done.answer
 unfolding answer_then
-shown_by_done h is_live key at done came =
-    let made : done_by h (fetch_of key at) ≡ done = (is_done h is_live (fetch_of key at) done came).made in
+shown_by_done terms key at done came =
+    let h : History = terms.history in
+    let made : done_by h (fetch_of key at) ≡ done = (is_done terms (fetch_of key at) done came).made in
     record {
       read = read_answer h (begun h) key at;
       only = sym (ap (λ (d : Done). d.answer.answers) made);
@@ -74,9 +75,9 @@ shown_by : (s : Standing) (seen : ℕ) (key : List ℕ) (at : ℕ) (answer : Txn
     ShowsKey key at answer
 shown_by s seen key at answer came =
     let alone = of_test (nat_lt (now s.history) seen) (Behind seen (now s.history))
-    (answered (outcome s.history (is_live_in s.live) (fetch_of key at))) answer came in
-    let d = of_answered (outcome s.history (is_live_in s.live) (fetch_of key at)) answer alone in
-    subst (ShowsKey key at) d.2 (shown_by_done s.history (is_live_in s.live) key at d.0 d.1)
+    (answered (outcome (terms_of s) (fetch_of key at))) answer came in
+    let d = of_answered (outcome (terms_of s) (fetch_of key at)) answer alone in
+    subst (ShowsKey key at) d.2 (shown_by_done (terms_of s) key at d.0 d.1)
 
 -- a fetch that is answered, in whichever hall it was made
 pub shows_key : (seen : ℕ) (key : List ℕ) (at : ℕ) (txn : Txn) (result : Result TxnAnswer FetchRefusal) (answer : TxnAnswer) → txn ≡ fetch_of key at →

@@ -8,9 +8,9 @@ use Rattle.stm_txn.specs.declared.answer.FailedCompare.{FailedCompare}
 use Rattle.stm_txn.specs.Checks.{fault_of}
 use Rattle.stm_txn.specs.Compares.{first_failed}
 use Rattle.stm_txn.specs.Outcome.{Done, outcome}
+use Rattle.stm_txn.specs.Standing.{terms_of}
 use Rattle.stm_history.specs.History.{now, key_now}
 use Rattle.stm_history.specs.declared.key_state.ReadAnswer.{ReadAnswer}
-use Rattle.stm_leases.specs.Live.{is_live_in}
 use Rattle.stm_program.specs.Syntax.{ProgramTree}
 use Rattle.stm_program.specs.SameProgram.{same_program}
 use Rattle.stm_program.specs.SameProgramLaws.{same_program-equal}
@@ -65,8 +65,8 @@ compared_counts : (hall : HallState) (ready : ReadyRun) (o : Option FailedCompar
 compared_counts hall ready (Some failed) = sym (add-zero (commits_in hall.entries))
 compared_counts hall ready None =
     vouched_counts hall (first_unvouched hall.standing.history ready.level ready.answers)
-    (taken hall ready (outcome hall.standing.history (is_live_in hall.standing.live) (txn_of ready)))
-    (taken_counts hall ready (outcome hall.standing.history (is_live_in hall.standing.live) (txn_of ready)))
+    (taken hall ready (outcome (terms_of hall.standing) (txn_of ready)))
+    (taken_counts hall ready (outcome (terms_of hall.standing) (txn_of ready)))
 
 sound_counts : (hall : HallState) (o : Option Refusal) (next : Result (HallStep Verdict) CommitRefusal) → Counts hall next →
     Counts hall (unless_at_fault o next)
@@ -76,7 +76,7 @@ sound_counts hall (Some cause) next counts = tt
 verdict_counts : (hall : HallState) (ready : ReadyRun) → Counts hall (verdict_of hall ready)
 verdict_counts hall ready =
     let failed = first_failed (key_now hall.standing.history) 0 (txn_of ready).compares in
-    sound_counts hall (fault_of (txn_of ready)) (by_compares hall ready failed) (compared_counts hall ready failed)
+    sound_counts hall (fault_of (terms_of hall.standing).limit (txn_of ready)) (by_compares hall ready failed) (compared_counts hall ready failed)
 
 -- the commits of the hall after a verdict
 pub verdict_adds : (hall after : HallState) (ready : ReadyRun) (verdict : Verdict) →
@@ -114,8 +114,8 @@ compared_adds : (jobs : List Job) (hall : HallState) (ready : ReadyRun) (o : Opt
 compared_adds jobs hall ready (Some failed) of = ([], sym (append-nil hall.entries), refl)
 compared_adds jobs hall ready None of =
     vouched_adds jobs hall (first_unvouched hall.standing.history ready.level ready.answers)
-    (taken hall ready (outcome hall.standing.history (is_live_in hall.standing.live) (txn_of ready)))
-    (taken_adds jobs hall ready (outcome hall.standing.history (is_live_in hall.standing.live) (txn_of ready)) of)
+    (taken hall ready (outcome (terms_of hall.standing) (txn_of ready)))
+    (taken_adds jobs hall ready (outcome (terms_of hall.standing) (txn_of ready)) of)
 
 sound_adds : (jobs : List Job) (hall : HallState) (o : Option Refusal) (next : Result (HallStep Verdict) CommitRefusal) → Adds jobs hall next →
     Adds jobs hall (unless_at_fault o next)
@@ -128,7 +128,8 @@ verdict_puts : (jobs : List Job) (hall after : HallState) (ready : ReadyRun) (ve
 verdict_puts jobs hall after ready verdict of is =
     let failed = first_failed (key_now hall.standing.history) 0 (txn_of ready).compares in
     subst (Adds jobs hall) is
-    (sound_adds jobs hall (fault_of (txn_of ready)) (by_compares hall ready failed) (compared_adds jobs hall ready failed of))
+    (sound_adds jobs hall (fault_of (terms_of hall.standing).limit (txn_of ready)) (by_compares hall ready failed)
+    (compared_adds jobs hall ready failed of))
 
 -- ---- entries behind others
 

@@ -4,7 +4,6 @@ use Rattle.std.proofs.lemmas.List.{append-nil}
 use Rattle.std.specs.Prelude.{nat_eq, nat_lt, slice_get, Result, Ok, Err}
 use Rattle.stm_history.specs.declared.key_state.ReadAnswer.{ReadAnswer}
 use Rattle.stm_history.specs.History.{History, now, key_at, mod_of}
-use Rattle.stm_leases.specs.Live.{is_live_in}
 use Rattle.stm_program.specs.Writes.{latest_writes}
 use Rattle.stm_meaning.specs.declared.run.End.{End}
 use Rattle.stm_meaning.specs.declared.run.End.TheVariants.{Done as DoneEnd, Aborted as AbortedEnd, Faulted as FaultedEnd}
@@ -15,7 +14,7 @@ use Rattle.stm_txn.specs.declared.answer.FailedCompare.{FailedCompare}
 use Rattle.stm_txn.specs.declared.refusal.Refusal.{Refusal as StoreRefusal}
 use Rattle.stm_txn.specs.Outcome.{Done}
 use Rattle.stm_txn.specs.Commits.{revision_read}
-use Rattle.stm_txn.specs.Standing.{Standing, transacted, granted, kept_alive, revoked, advanced, Advance as StoreAdvance}
+use Rattle.stm_txn.specs.Standing.{Standing, transacted, granted, kept_alive, revoked, advanced, Advance as StoreAdvance, terms_of}
 use Rattle.stm_txn.specs.Standing.{watched, polled, cancelled}
 use Rattle.stm_watch.specs.declared.watched.Watched.TheVariants.{Key, Range}
 use Rattle.stm_compile.specs.Committed.{committed}
@@ -119,7 +118,7 @@ record IsDone (w : World) (r : Runner) (run : Run) : Type 0 where
   is_done : run.end ≡ DoneEnd
 
 decided_appends : (w : World) (id : ℕ) (r : Runner) (run : Run) (done : Done) (o : Option FailedCompare) → IsDone w r run →
-    committed w.standing.history (is_live_in w.standing.live) r.task.level r.known.reads run ≡ Ok done → done.answer.failed ≡ o →
+    committed (terms_of w.standing) r.task.level r.known.reads run ≡ Ok done → done.answer.failed ≡ o →
     Appends w (decided id r r.known.reads run done o w)
 decided_appends w id r run done None x comes_to none =
     let reads : List ReadAnswer = r.known.reads in
@@ -135,14 +134,14 @@ decided_appends w id r run done (Some failed) x comes_to some =
     (nat_lt (r.failures + 1) r.task.limit)
 
 commit_by : (w : World) (id : ℕ) (r : Runner) (run : Run) (o : Result Done StoreRefusal) → IsDone w r run →
-    committed w.standing.history (is_live_in w.standing.live) r.task.level r.known.reads run ≡ o → Appends w (commit_told id r r.known.reads run o w)
+    committed (terms_of w.standing) r.task.level r.known.reads run ≡ o → Appends w (commit_told id r r.known.reads run o w)
 commit_by w id r run (Ok done) x is = decided_appends w id r run done done.answer.failed x is refl
 commit_by w id r run (Err cause) x is = ended_appends w id (Ended id cause)
 
 commit_appends : (w : World) (id : ℕ) (r : Runner) (run : Run) → IsDone w r run → Appends w (commit id r r.known.reads run w)
 unfolding commit
 commit_appends w id r run x =
-    commit_by w id r run (committed w.standing.history (is_live_in w.standing.live) r.task.level r.known.reads run) x refl
+    commit_by w id r run (committed (terms_of w.standing) r.task.level r.known.reads run) x refl
 
 finish_appends : (w : World) (id : ℕ) (r : Runner) (run : Run) (end : End) → AreTrue w.standing.history r.known.reads →
     run_on r.task.program r.known.reads ≡ EndedRun run → run.end ≡ end → Appends w (finish id r r.known.reads run end w)

@@ -19,6 +19,7 @@ use Rattle.stm_txn.specs.Grants.{grant_refusal_of}
 use Rattle.stm_txn.specs.LeaseKeys.{deletions_of}
 use Rattle.stm_txn.specs.Standing.{Standing, Step, Advance, step_of, transacted, granted, with_lease, kept_alive, without_lease, ended, with_revision, revoked}
 use Rattle.stm_txn.specs.Standing.{at_moment, after, expired_in, expire_up_to, expire_all, advanced}
+use Rattle.stm_txn.specs.Standing.{terms_of}
 use Rattle.stm_txn.proofs.Applying.{history_grows}
 use Rattle.stm_txn.proofs.Ending.{ended_is, due_lives}
 use Rattle.stm_entries.specs.declared.entry.Entry.TheVariants.{Foreign, Grant as GrantEntry, Renew, Revoke as RevokeEntry, Expire}
@@ -40,12 +41,12 @@ same_history h after (c ∷ cs) is still =
     let higher : now after ≡ now (with_changes h (c ∷ cs)) = ap now is in
     absurd (omega arith)
 
-changed_follows : (s : Standing) (txn : Txn) (done : Done) (b : Bool) → outcome s.history (is_live_in s.live) txn ≡ Ok done →
+changed_follows : (s : Standing) (txn : Txn) (done : Done) (b : Bool) → outcome (terms_of s) txn ≡ Ok done →
     nat_lt (now s.history) (now done.history) ≡ b →
     EntriesFollow s (record s { history = done.history }) (cond b (Foreign txn ∷ []) [])
 changed_follows s txn done b is changed =
     let grown : (changes : List Change) × HasDistinctKeys changes × (done.history ≡ with_changes s.history changes) =
-    history_grows s.history (is_live_in s.live) txn done is in
+    history_grows (terms_of s) txn done is in
     let keeps : Keeps s.history done.history = subst (λ (h : History). Keeps s.history h) (sym grown.2) (keeps_changes s.history grown.0) in
     elim b as (λ c. nat_lt (now s.history) (now done.history) ≡ c → EntriesFollow s (record s { history = done.history }) (cond c (Foreign txn ∷ []) [])) [
       | true ↦ λ e. record {
@@ -64,14 +65,14 @@ refused_follows : (s : Standing) (txn : Txn) (b : Bool) → nat_lt (now s.histor
 refused_follows s txn true changed = let higher : now s.history < now s.history = ltb-true (now s.history) (now s.history) changed in absurd (omega arith)
 refused_follows s txn false changed = nothing_follows s
 
-txn_by : (s : Standing) (txn : Txn) (o : Result Done Refusal) → outcome s.history (is_live_in s.live) txn ≡ o →
+txn_by : (s : Standing) (txn : Txn) (o : Result Done Refusal) → outcome (terms_of s) txn ≡ o →
     EntriesFollow s (store_after_call s (step_of s o)) (if_changed s (store_after_call s (step_of s o)) txn)
 txn_by s txn (Ok done) is = changed_follows s txn done (nat_lt (now s.history) (now done.history)) is refl
 txn_by s txn (Err cause) is = refused_follows s txn (nat_lt (now s.history) (now s.history)) refl
 
 pub txn_follows : (s : Standing) (txn : Txn) →
     EntriesFollow s (store_after_call s (transacted s txn)) (if_changed s (store_after_call s (transacted s txn)) txn)
-txn_follows s txn = txn_by s txn (outcome s.history (is_live_in s.live) txn) refl
+txn_follows s txn = txn_by s txn (outcome (terms_of s) txn) refl
 
 -- ---- leases ----
 

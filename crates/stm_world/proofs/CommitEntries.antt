@@ -1,10 +1,9 @@
 -- What a commit that succeeded leaves of the store is what its entry replays to.
-use Rattle.std.proofs.Common.{◌≡◌, ℕ, List, [], ◌∷◌, map, None, Ok, Bool, true, false, cond, refl, ◌∙◌, ap, subst}
+use Rattle.std.proofs.Common.{◌≡◌, List, [], ◌∷◌, map, None, Ok, Bool, true, false, cond, refl, ◌∙◌, ap, subst}
 use Rattle.std.specs.Prelude.{MatchBool}
 use Rattle.stm_history.specs.declared.change.Change.{Change}
 use Rattle.stm_history.specs.declared.key_state.ReadAnswer.{ReadAnswer}
 use Rattle.stm_history.specs.History.{History, now}
-use Rattle.stm_leases.specs.Live.{is_live_in}
 use Rattle.stm_program.specs.Writes.{latest_writes}
 use Rattle.stm_meaning.specs.declared.run.End.{End}
 use Rattle.stm_meaning.specs.declared.run.End.TheVariants.{Done as DoneEnd}
@@ -13,14 +12,15 @@ use Rattle.stm_meaning.specs.declared.run.Answered.TheVariants.{Ended as EndedRu
 use Rattle.stm_meaning.specs.Meaning.{run_over}
 use Rattle.stm_txn.specs.Outcome.{Done}
 use Rattle.stm_txn.specs.Commits.{applied, effective}
-use Rattle.stm_txn.specs.Standing.{Standing, with_history}
+use Rattle.stm_txn.specs.Standing.{Standing, with_history, terms_of}
+use Rattle.stm_txn.specs.Terms.{Terms}
 use Rattle.stm_compile.specs.Levels.{is_comparing}
 use Rattle.stm_compile.specs.Answers.{AreTrue, look_up, state_now}
 use Rattle.stm_compile.specs.Now.{as_change}
 use Rattle.stm_compile.specs.Committed.{conflict_now, committed}
 use Rattle.stm_compile.specs.Laws.{CommitIsTheRunNow}
 use Rattle.stm_attempt.specs.Settled.{run_on}
-use Rattle.stm_entries.specs.Replayed.{Replayed, without_moment}
+use Rattle.stm_entries.specs.Replayed.{Replayed, without_moment, replay_terms}
 use Rattle.stm_entries.specs.Alone.{seen_at, history_left, left_by, left_by_run}
 use Rattle.stm_world.specs.Task.{Task, answers_told}
 use Rattle.stm_world.specs.World.{entry_of}
@@ -43,7 +43,7 @@ told_truth true h reads t = refl
 told_truth false h reads t = t
 
 left_by_done : (run : Run) (end : End) (r : Replayed) (done : Done) → end ≡ DoneEnd →
-    applied r.history (is_live_in r.live) (map as_change (latest_writes run.writes)) ≡ Ok done →
+    applied (replay_terms r) (map as_change (latest_writes run.writes)) ≡ Ok done →
     left_by run end r ≡ record { history = done.history; live = r.live }
 left_by_done run end r done is applies =
     ap (λ (e : End). left_by run e r) is ∙ ap (λ o. record { history = history_left r.history o; live = r.live }) applies
@@ -53,13 +53,13 @@ pub record Takes (s : Standing) (task : Task) (reads : List ReadAnswer) (run : R
   pub truth : AreTrue s.history reads
   pub is_run : run_on task.program reads ≡ EndedRun run
   pub is_done : run.end ≡ DoneEnd
-  pub comes_to : committed s.history (is_live_in s.live) task.level reads run ≡ Ok done
+  pub comes_to : committed (terms_of s) task.level reads run ≡ Ok done
   pub succeeds : done.answer.failed ≡ None
 
 -- what is known of it
 pub record Taken (s : Standing) (task : Task) (reads : List ReadAnswer) (run : Run) (done : Done) : Type 0 where
   pub alone : run_over (seen_at task.level reads s.history) task.program.statements ≡ EndedRun run
-  pub applies : applied s.history (is_live_in s.live) (map as_change (latest_writes run.writes)) ≡ Ok done
+  pub applies : applied (terms_of s) (map as_change (latest_writes run.writes)) ≡ Ok done
   pub replayed : left_by_run (run_over (seen_at task.level (answers_told task.level reads) s.history) task.program.statements) (without_moment s)
       ≡ record { history = done.history; live = s.live }
 
@@ -74,7 +74,7 @@ committed_run s task reads run done law t clear =
 -- what the commit leaves, as the log and the entry replay it
 replayed_run : (s : Standing) (task : Task) (reads : List ReadAnswer) (run : Run) (done : Done) →
     run_over (seen_at task.level reads s.history) task.program.statements ≡ EndedRun run → run.end ≡ DoneEnd →
-    applied s.history (is_live_in s.live) (map as_change (latest_writes run.writes)) ≡ Ok done →
+    applied (terms_of s) (map as_change (latest_writes run.writes)) ≡ Ok done →
     left_by_run (run_over (seen_at task.level (answers_told task.level reads) s.history) task.program.statements) (without_moment s)
     ≡ record { history = done.history; live = s.live }
 replayed_run s task reads run done alone is_done applies =
@@ -85,15 +85,16 @@ replayed_run s task reads run done alone is_done applies =
 pub taken : (s : Standing) (task : Task) (reads : List ReadAnswer) (run : Run) (done : Done) → CommitIsTheRunNow → Takes s task reads run done →
     Taken s task reads run done
 taken s task reads run done law t =
-    let ok : Succeeds s.history (is_live_in s.live) task.level reads run done =
-    succeeds s.history (is_live_in s.live) task.level reads run done t.comes_to t.succeeds in
+    let ok : Succeeds (terms_of s) task.level reads run done =
+    succeeds (terms_of s) task.level reads run done t.comes_to t.succeeds in
     let alone : run_over (seen_at task.level reads s.history) task.program.statements ≡ EndedRun run =
     committed_run s task reads run done law t ok.no_conflict in
     record { alone = alone; applies = ok.applies; replayed = replayed_run s task reads run done alone t.is_done ok.applies }
 
-pub grown_by : (h : History) (is_live : ℕ → Bool) (changes : List Change) (done : Done) → applied h is_live changes ≡ Ok done → Keeps h done.history
-grown_by h is_live changes done is =
-    subst (λ (x : History). Keeps h x) (applied_history h is_live changes done is) (keeps_changes h (effective h changes))
+pub grown_by : (terms : Terms) (changes : List Change) (done : Done) → applied terms changes ≡ Ok done → Keeps terms.history done.history
+grown_by terms changes done is =
+    let h : History = terms.history in
+    subst (λ (x : History). Keeps h x) (applied_history terms changes done is) (keeps_changes h (effective h changes))
 
 -- the entry of the commit leads to what the commit left
 pub commit_follows_entry : (s : Standing) (task : Task) (reads : List ReadAnswer) (run : Run) (done : Done) → Takes s task reads run done →
@@ -114,5 +115,5 @@ commit_follows_entry s task reads run done t taken = record {
     },
     tt,
   );
-  keeps = grown_by s.history (is_live_in s.live) (map as_change (latest_writes run.writes)) done taken.applies;
+  keeps = grown_by (terms_of s) (map as_change (latest_writes run.writes)) done taken.applies;
 }

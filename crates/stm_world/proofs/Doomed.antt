@@ -16,13 +16,14 @@ use Rattle.std.specs.List.{list_any}
 use Rattle.std.proofs.lemmas.List.Elements.{All-from_recursion}
 use Rattle.stm_history.specs.declared.change.Change.{Change}
 use Rattle.stm_history.specs.History.{now}
-use Rattle.stm_leases.specs.Live.{is_live_in}
 use Rattle.stm_program.specs.declared.level.Level.{Level}
 use Rattle.stm_meaning.specs.declared.run.Run.{Run}
 use Rattle.stm_txn.specs.declared.answer.FailedCompare.{FailedCompare}
 use Rattle.stm_txn.specs.declared.refusal.Refusal.TheVariants.{LeaseNotFound, RevisionsUsedUp, TooManyOps}
 use Rattle.stm_txn.specs.Outcome.{Done, is_used_up}
 use Rattle.stm_txn.specs.Commits.{revision_read, turned_down, effective, is_on_dead_lease}
+use Rattle.stm_txn.specs.Terms.{Terms}
+use Rattle.stm_txn.specs.Standing.{terms_of}
 use Rattle.stm_compile.specs.Answers.{AreTrue}
 use Rattle.stm_compile.specs.Now.{as_change}
 use Rattle.stm_compile.specs.CommitTxn.{reread_keys}
@@ -60,20 +61,21 @@ applied_fails_none true used made done failed none is some = absurd (cc)
 applied_fails_none false true made done failed none is some = absurd (cc)
 applied_fails_none false false made done failed none is some = let same : made ≡ done = cc in absurd (cc)
 
-judged_fails : (h : History) (is_live : ℕ → Bool) (level : Level) (reads : List ReadAnswer) (run : Run) (o : Option FailedCompare) (done : Done)
-    (failed : FailedCompare) → judged h is_live level reads run o ≡ Ok done → done.answer.failed ≡ Some failed → o ≡ Some failed
-judged_fails h is_live level reads run None done failed is some =
+judged_fails : (terms : Terms) (level : Level) (reads : List ReadAnswer) (run : Run) (o : Option FailedCompare) (done : Done)
+    (failed : FailedCompare) → judged terms level reads run o ≡ Ok done → done.answer.failed ≡ Some failed → o ≡ Some failed
+judged_fails terms level reads run None done failed is some =
+    let h : History = terms.history in
     let changes : List Change = map as_change (latest_writes run.writes) in
-    absurd (applied_fails_none (list_any (is_on_dead_lease is_live) changes) (is_used_up h (effective h changes)) _ done failed refl is some)
-judged_fails h is_live level reads run (Some first) done failed is some =
-    let same : turned_down h first (reread_keys level reads) ≡ done = cc in
+    absurd (applied_fails_none (list_any (is_on_dead_lease terms.is_live) changes) (is_used_up h (effective h changes)) _ done failed refl is some)
+judged_fails terms level reads run (Some first) done failed is some =
+    let same : turned_down terms.history first (reread_keys level reads) ≡ done = cc in
     ap (λ (d : Done). d.answer.failed) same ∙ some
 
-commit_fails : (too_many : Bool) (h : History) (is_live : ℕ → Bool) (level : Level) (reads : List ReadAnswer) (run : Run) (o : Option FailedCompare)
-    (done : Done) (failed : FailedCompare) → cond too_many (Err TooManyOps) (judged h is_live level reads run o) ≡ Ok done →
+commit_fails : (too_many : Bool) (terms : Terms) (level : Level) (reads : List ReadAnswer) (run : Run) (o : Option FailedCompare)
+    (done : Done) (failed : FailedCompare) → cond too_many (Err TooManyOps) (judged terms level reads run o) ≡ Ok done →
     done.answer.failed ≡ Some failed → o ≡ Some failed
-commit_fails true h is_live level reads run o done failed is some = absurd (cc)
-commit_fails false h is_live level reads run o done failed is some = judged_fails h is_live level reads run o done failed is some
+commit_fails true terms level reads run o done failed is some = absurd (cc)
+commit_fails false terms level reads run o done failed is some = judged_fails terms level reads run o done failed is some
 
 -- a commit that failed by a conflict, at the number of its runner
 pub real_failure : (start : ℕ) (log : List Line) (id runner : ℕ) (task : Task) (key : List ℕ) (seen now_modified : ℕ) → running id log ≡ Some task →
@@ -81,6 +83,7 @@ pub real_failure : (start : ℕ) (log : List Line) (id runner : ℕ) (task : Tas
     IsRealFailure start log (record { runner = runner; key = key; seen = seen; now_modified = now_modified })
 real_failure start log id runner task key seen now_modified runs same c =
     let h : History = (store start log).history in
+    let terms : Terms = terms_of (store start log) in
     subst (λ n. IsRealFailure start log (record { runner = n; key = key; seen = seen; now_modified = now_modified })) (sym same)
     (record {
       task = task;
@@ -90,8 +93,8 @@ real_failure start log id runner task key seen now_modified runs same c =
       is_done = c.commits.is_done;
       conflict = record {
         compare = c.failed;
-        fails = commit_fails (sends_too_many task.level (told start id task log).reads (latest_writes c.commits.run.writes)) h
-            (is_live_in (store start log).live) task.level (told start id task log).reads c.commits.run
+        fails = commit_fails (sends_too_many terms.limit task.level (told start id task log).reads (latest_writes c.commits.run.writes)) terms
+            task.level (told start id task log).reads c.commits.run
             (conflict_now h task.level (told start id task log).reads (latest_writes c.commits.run.writes)) c.done c.failed c.commits.comes_to c.fails;
         seen = c.conflict.seen;
         about = c.conflict.about;

@@ -36,13 +36,13 @@ use Rattle.stm_world.proofs.LowRevisions.{replay_stays_low}
 use Rattle.stm_world.proofs.MovingOn.{KnowsFrom, fetched_from, conflicted_from, conflict_moves_on}
 
 -- the least revision that the store has after so many failures
-abbrev floor : ℕ → List Line → ℕ → ℕ
-floor start log id = since start id log + failed_commits id log
+abbrev least : ℕ → List Line → ℕ → ℕ
+least start log id = since start id log + failed_commits id log
 
 -- the store has reached it, and the attempt of a runner that runs has seen nothing below it
 record HasMovedOn (start : ℕ) (log : List Line) (id : ℕ) : Type 0 where
-  counter : (task : Task) → begun id log ≡ Some task → floor start log id ≤ now (store start log).history
-  known : (task : Task) → running id log ≡ Some task → KnowsFrom (floor start log id) (told start id task log)
+  counter : (task : Task) → begun id log ≡ Some task → least start log id ≤ now (store start log).history
+  known : (task : Task) → running id log ≡ Some task → KnowsFrom (least start log id) (told start id task log)
 
 -- a log and the next one
 record Grows (start : ℕ) (log : List Line) (line : Line) : Type 0 where
@@ -58,8 +58,8 @@ record IsAboutOthers (id : ℕ) (reply : Result Reply Denied) : Type 0 where
 same_begun : (id : ℕ) (line : Line) (log : List Line) → Untouched id line.reply → begun id (line ∷ log) ≡ begun id log
 same_begun id line log u = ap (λ b. cond b (task_in line.event) (begun id log)) u.not_started
 
-same_floor : (start : ℕ) (log : List Line) (line : Line) (id : ℕ) → IsAboutOthers id line.reply → floor start (line ∷ log) id ≡ floor start log id
-same_floor start log line id o =
+same_least : (start : ℕ) (log : List Line) (line : Line) (id : ℕ) → IsAboutOthers id line.reply → least start (line ∷ log) id ≡ least start log id
+same_least start log line id o =
     ap (λ b. cond b (now (store start log).history) (since start id log) + failed_commits id (line ∷ log)) o.untouched.not_started
     ∙ ap (λ b. since start id log + cond b (failed_commits id log + 1) (failed_commits id log)) o.not_failed
 
@@ -67,13 +67,13 @@ others_move_on : (start : ℕ) (log : List Line) (line : Line) (id : ℕ) → Gr
     HasMovedOn start (line ∷ log) id
 others_move_on start log line id grows o m = record {
   counter = λ task is.
-      let same : floor start (line ∷ log) id ≡ floor start log id = same_floor start log line id o in
-      let before : floor start log id ≤ now (store start log).history = m.counter task (sym (same_begun id line log o.untouched) ∙ is) in
+      let same : least start (line ∷ log) id ≡ least start log id = same_least start log line id o in
+      let before : least start log id ≤ now (store start log).history = m.counter task (sym (same_begun id line log o.untouched) ∙ is) in
       let grown = grows.grown in
       omega (arith, same);
   known = λ task runs.
-      subst (λ n. KnowsFrom n (told start id task (line ∷ log))) (sym (same_floor start log line id o))
-      (subst (KnowsFrom (floor start log id)) (sym (same_told start id task line log o.untouched)) (m.known task (sym (same_running id line log o.untouched) ∙ runs)));
+      subst (λ n. KnowsFrom n (told start id task (line ∷ log))) (sym (same_least start log line id o))
+      (subst (KnowsFrom (least start log id)) (sym (same_told start id task line log o.untouched)) (m.known task (sym (same_running id line log o.untouched) ∙ runs)));
 }
 
 -- ---- a start ----
@@ -120,7 +120,7 @@ started_moves_on start log task id fresh grows =
     ap (λ b. cond b (now (store start log).history) (since start id log)) (same_number id) in
     record {
       counter = λ other is. let grown = grows.grown in omega (arith, none, here);
-      known = λ other runs. subst (KnowsFrom (floor start (line ∷ log) id)) (sym (fresh.nothing other)) (tt, tt);
+      known = λ other runs. subst (KnowsFrom (least start (line ∷ log) id)) (sym (fresh.nothing other)) (tt, tt);
     }
 
 -- ---- a step of the runner ----
@@ -139,50 +139,50 @@ fetched_moves_on : (start : ℕ) (log : List Line) (id : ℕ) (task : Task) (key
 fetched_moves_on start log id task key mod_rev of_rev revision runs fetch grows m =
     let line : Line = record { event = Step id; reply = Ok (Fetched id key mod_rev of_rev revision) } in
     let h : History = (store start log).history in
-    let before : floor start log id ≤ now h = m.counter task (is_begun (is_over id log) (begun id log) task runs) in
+    let before : least start log id ≤ now h = m.counter task (is_begun (is_over id log) (begun id log) task runs) in
     record {
       counter = λ other is. before;
       known = λ other runs_as.
           let is : task ≡ other = some_is_same task other (sym runs ∙ runs_as) in
-          subst (λ (t : Task). KnowsFrom (floor start log id) (told start id t (line ∷ log))) is
-          (subst (KnowsFrom (floor start log id))
+          subst (λ (t : Task). KnowsFrom (least start log id) (told start id t (line ∷ log))) is
+          (subst (KnowsFrom (least start log id))
           (sym (ap (λ b. cond b (after_fetch task (answer_at h key of_rev) (told start id task log)) (told start id task log)) (same_number id)))
-          (fetched_from (floor start log id) h task key of_rev (told start id task log) before fetch.shows (m.known task runs)));
+          (fetched_from (least start log id) h task key of_rev (told start id task log) before fetch.shows (m.known task runs)));
     }
 
 -- the store is above what the runner has seen
 failure_moves_on : (start : ℕ) (log : List Line) (id : ℕ) (task : Task) (failed : FailedCommit) → failed.runner ≡ id → running id log ≡ Some task →
     IsRealFailure start log failed → now (store start log).history ≤ HIGHEST_REVISION → HasMovedOn start log id →
-    floor start log id + 1 ≤ now (store start log).history
+    least start log id + 1 ≤ now (store start log).history
 failure_moves_on start log id task failed same runs real low m =
     let at : running failed.runner log ≡ Some task = subst (λ n. running n log ≡ Some task) (sym same) runs in
     let is : real.task ≡ task = some_is_same real.task task (sym real.runs ∙ at) in
-    let reached : floor start log id ≤ now (store start log).history = m.counter task (is_begun (is_over id log) (begun id log) task runs) in
-    let knows : KnowsFrom (floor start log id) (told start failed.runner real.task log) =
-    subst (λ n. KnowsFrom (floor start log id) (told start n real.task log)) (sym same)
-    (subst (λ (t : Task). KnowsFrom (floor start log id) (told start id t log)) (sym is) (m.known task runs)) in
-    conflict_moves_on (floor start log id) (store start log).history (told start failed.runner real.task log).reads
+    let reached : least start log id ≤ now (store start log).history = m.counter task (is_begun (is_over id log) (begun id log) task runs) in
+    let knows : KnowsFrom (least start log id) (told start failed.runner real.task log) =
+    subst (λ n. KnowsFrom (least start log id) (told start n real.task log)) (sym same)
+    (subst (λ (t : Task). KnowsFrom (least start log id) (told start id t log)) (sym is) (m.known task runs)) in
+    conflict_moves_on (least start log id) (store start log).history (told start failed.runner real.task log).reads
     (latest_writes real.run.writes) real.conflict.seen real.conflict.compare.index failed.key (omega arith) knows.0 real.conflict.about real.conflict.changed
 
 conflict_by : (start : ℕ) (log : List Line) (id : ℕ) (task : Task) (key : List ℕ) (seen now_modified : ℕ) → running id log ≡ Some task →
-    floor start log id + 1 ≤ now (store start log).history → HasMovedOn start (with_line (Step id) (Ok (Conflict id key seen now_modified)) log) id
+    least start log id + 1 ≤ now (store start log).history → HasMovedOn start (with_line (Step id) (Ok (Conflict id key seen now_modified)) log) id
 conflict_by start log id task key seen now_modified runs above =
     let line : Line = record { event = Step id; reply = Ok (Conflict id key seen now_modified) } in
     let h : History = (store start log).history in
     let more : failed_commits id (line ∷ log) ≡ failed_commits id log + 1 =
     ap (λ b. cond b (failed_commits id log + 1) (failed_commits id log)) (same_number id) in
-    let reached : floor start (line ∷ log) id ≤ now h = omega (arith, more) in
+    let reached : least start (line ∷ log) id ≤ now h = omega (arith, more) in
     record {
       counter = λ other is. reached;
       known = λ other runs_as.
-          subst (KnowsFrom (floor start (line ∷ log) id))
+          subst (KnowsFrom (least start (line ∷ log) id))
           (sym (ap (λ b. cond b (after_conflict other h (told start id other log)) (told start id other log)) (same_number id)))
-          (conflicted_from (floor start (line ∷ log) id) h other (told start id other log) reached);
+          (conflicted_from (least start (line ∷ log) id) h other (told start id other log) reached);
     }
 
 -- a run that is over knows nothing any more
 over_by : (start : ℕ) (log : List Line) (line : Line) (id : ℕ) (task : Task) → is_id id (runner_ended line.reply) ≡ true →
-    floor start (line ∷ log) id ≤ now (store start (line ∷ log)).history → HasMovedOn start (line ∷ log) id
+    least start (line ∷ log) id ≤ now (store start (line ∷ log)).history → HasMovedOn start (line ∷ log) id
 over_by start log line id task ended reached = record {
   counter = λ other is. reached;
   known = λ other runs.
@@ -191,13 +191,13 @@ over_by start log line id task ended reached = record {
 }
 
 gave_up_by : (start : ℕ) (log : List Line) (id : ℕ) (task : Task) (attempts : ℕ) (key : List ℕ) (seen now_modified : ℕ) →
-    floor start log id + 1 ≤ now (store start log).history →
+    least start log id + 1 ≤ now (store start log).history →
     HasMovedOn start (with_line (Step id) (Ok (GaveUp id attempts key seen now_modified)) log) id
 gave_up_by start log id task attempts key seen now_modified above =
     let line : Line = record { event = Step id; reply = Ok (GaveUp id attempts key seen now_modified) } in
     let more : failed_commits id (line ∷ log) ≡ failed_commits id log + 1 =
     ap (λ b. cond b (failed_commits id log + 1) (failed_commits id log)) (same_number id) in
-    let reached : floor start (line ∷ log) id ≤ now (store start log).history = omega (arith, more) in
+    let reached : least start (line ∷ log) id ≤ now (store start log).history = omega (arith, more) in
     over_by start log line id task (same_number id) reached
 
 -- ---- each event ----
@@ -227,8 +227,8 @@ ends_by : (start : ℕ) (log : List Line) (id : ℕ) (task : Task) (reply : Repl
     Grows start log (record { event = Step id; reply = Ok reply }) → HasMovedOn start (with_line (Step id) (Ok reply) log) id
 ends_by start log id task reply runs ended not_started not_failed m grows =
     let line : Line = record { event = Step id; reply = Ok reply } in
-    let before : floor start log id ≤ now (store start log).history = m.counter task (is_begun (is_over id log) (begun id log) task runs) in
-    let same : floor start (line ∷ log) id ≡ floor start log id =
+    let before : least start log id ≤ now (store start log).history = m.counter task (is_begun (is_over id log) (begun id log) task runs) in
+    let same : least start (line ∷ log) id ≡ least start log id =
     ap (λ (o : Option ℕ). cond (is_id id o) (now (store start log).history) (since start id log) + failed_commits id (line ∷ log)) not_started
     ∙ ap (λ (o : Option FailedCommit). since start id log + cond (is_of_runner id o) (failed_commits id log + 1) (failed_commits id log)) not_failed in
     let grown = grows.grown in

@@ -1,11 +1,10 @@
 -- A replay of legal entries stays at or below the highest revision.
-use Rattle.std.proofs.Common.{◌≡◌, ℕ, ◌+◌, ◌≤◌, List, [], ◌∷◌, map, Option, Some, None, Bool, true, false, cond, Ok, Err, refl, arith}
+use Rattle.std.proofs.Common.{◌≡◌, ◌+◌, ◌≤◌, List, [], ◌∷◌, map, Option, Some, None, Bool, true, false, cond, Ok, Err, refl, arith}
 use Rattle.std.specs.Prelude.{Result}
 use Rattle.std.specs.List.{list_any}
 use Rattle.stm_history.specs.declared.change.Change.{Change}
 use Rattle.stm_history.specs.declared.revisions.TheConstants.{HIGHEST_REVISION}
 use Rattle.stm_history.specs.History.{History, now, key_now}
-use Rattle.stm_leases.specs.Live.{is_live_in}
 use Rattle.stm_program.specs.Writes.{latest_writes}
 use Rattle.stm_meaning.specs.declared.run.End.{End}
 use Rattle.stm_meaning.specs.declared.run.End.TheVariants.{Done as DoneEnd, Aborted, Faulted}
@@ -25,10 +24,11 @@ use Rattle.stm_txn.specs.Branches.{begun, changes_of_branch, answers_after, bran
 use Rattle.stm_txn.specs.Outcome.{Done, outcome, branch_outcome, chosen, finished, unless, with_changes, is_used_up, answer_of}
 use Rattle.stm_txn.specs.LeaseKeys.{deletions_of}
 use Rattle.stm_txn.specs.Commits.{applied, effective, is_on_dead_lease, write_answer}
+use Rattle.stm_txn.specs.Terms.{Terms}
 use Rattle.stm_compile.specs.Now.{as_change}
 use Rattle.stm_entries.specs.declared.entry.Entry.{Entry}
 use Rattle.stm_entries.specs.declared.entry.Entry.TheVariants.{Program, Foreign, Grant, Renew, Revoke, Expire}
-use Rattle.stm_entries.specs.Replayed.{Replayed}
+use Rattle.stm_entries.specs.Replayed.{Replayed, replay_terms}
 use Rattle.stm_entries.specs.Alone.{seen_at, history_left, left_by, left_by_run}
 use Rattle.stm_entries.specs.Legal.{IsLegal, AreLegal}
 use Rattle.stm_entries.specs.Replay.{replay, replay_entry}
@@ -59,27 +59,30 @@ dead_low : (dead : Bool) (h : History) (next : Result Done Refusal) → IsLow h 
 dead_low true h next low then = low
 dead_low false h next low then = then
 
-applied_low : (h : History) (is_live : ℕ → Bool) (writes : List Change) → IsLow h → IsLow (history_left h (applied h is_live writes))
-applied_low h is_live writes low =
+applied_low : (terms : Terms) (writes : List Change) → IsLow terms.history → IsLow (history_left terms.history (applied terms writes))
+applied_low terms writes low =
+    let h : History = terms.history in
     let changes : List Change = effective h writes in
-    dead_low (list_any (is_on_dead_lease is_live) writes) h (finished h None changes (map (write_answer (key_now h)) writes)) low
+    dead_low (list_any (is_on_dead_lease terms.is_live) writes) h (finished h None changes (map (write_answer (key_now h)) writes)) low
     (finished_low (is_used_up h changes) h None changes (map (write_answer (key_now h)) writes) refl low)
 
-branch_low : (h : History) (is_live : ℕ → Bool) (failed : Option FailedCompare) (ops : List Op) → IsLow h →
-    IsLow (history_left h (branch_outcome h is_live failed ops))
-branch_low h is_live failed ops low =
+branch_low : (terms : Terms) (failed : Option FailedCompare) (ops : List Op) → IsLow terms.history →
+    IsLow (history_left terms.history (branch_outcome terms failed ops))
+branch_low terms failed ops low =
+    let h : History = terms.history in
     let changes : List Change = changes_of_branch h ops in
     let answers : List OpAnswer = answers_after h (begun h) ops in
-    unless_low h (branch_refusal (now h) is_live ops) (finished h failed changes answers) low
+    unless_low h (branch_refusal terms ops) (finished h failed changes answers) low
     (finished_low (is_used_up h changes) h failed changes answers refl low)
 
-outcome_low : (h : History) (is_live : ℕ → Bool) (txn : Txn) → IsLow h → IsLow (history_left h (outcome h is_live txn))
-outcome_low h is_live txn low =
+outcome_low : (terms : Terms) (txn : Txn) → IsLow terms.history → IsLow (history_left terms.history (outcome terms txn))
+outcome_low terms txn low =
+    let h : History = terms.history in
     let failed : Option FailedCompare = first_failed (key_now h) 0 txn.compares in
-    unless_low h (fault_of txn) (branch_outcome h is_live failed (chosen failed txn)) low (branch_low h is_live failed (chosen failed txn) low)
+    unless_low h (fault_of terms.limit txn) (branch_outcome terms failed (chosen failed txn)) low (branch_low terms failed (chosen failed txn) low)
 
 run_low : (r : Replayed) (run : Run) (end : End) → IsLow r.history → IsLow (left_by run end r).history
-run_low r run DoneEnd low = applied_low r.history (is_live_in r.live) (map as_change (latest_writes run.writes)) low
+run_low r run DoneEnd low = applied_low (replay_terms r) (map as_change (latest_writes run.writes)) low
 run_low r run (Aborted text) low = low
 run_low r run (Faulted fault) low = low
 
@@ -90,7 +93,7 @@ program_low r (Wants key trace) low = low
 entry_low : (e : Entry) (r : Replayed) → IsLegal e r → IsLow r.history → IsLow (replay_entry e r).history
 entry_low (Program program level answers output trace revision) r legal low =
     program_low r (run_over (seen_at level answers r.history) program.statements) low
-entry_low (Foreign txn) r legal low = outcome_low r.history (is_live_in r.live) txn low
+entry_low (Foreign txn) r legal low = outcome_low (replay_terms r) txn low
 entry_low (Grant id ttl moment) r legal low = low
 entry_low (Renew id moment) r legal low = low
 entry_low (Revoke id) r legal low = changes_low r.history (deletions_of r.history id) low legal.has_room

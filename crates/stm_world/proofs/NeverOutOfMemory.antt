@@ -25,8 +25,9 @@ use Rattle.stm_txn.specs.declared.refusal.Refusal.TheVariants.{OutOfMemory, Leas
 use Rattle.stm_txn.specs.LeaseKeys.{deletions_of}
 use Rattle.stm_txn.specs.Outcome.{Done, is_used_up}
 use Rattle.stm_txn.specs.Commits.{is_on_dead_lease, effective}
-use Rattle.stm_txn.specs.Standing.{Standing, Step as StoreStep, watch_step, poll_step, cancel_step}
+use Rattle.stm_txn.specs.Standing.{Standing, Step as StoreStep, watch_step, poll_step, cancel_step, terms_of}
 use Rattle.stm_txn.specs.Standing.{transacted, granted, kept_alive, revoked, advanced, watched, polled, cancelled}
+use Rattle.stm_txn.specs.Terms.{Terms}
 use Rattle.stm_compile.specs.Now.{as_change}
 use Rattle.stm_compile.specs.Committed.{sends_too_many, conflict_now, judged, committed}
 use Rattle.stm_world.specs.declared.event.WorldEvent.{WorldEvent}
@@ -102,22 +103,24 @@ applied_for true used done = λ e. absurd (cc)
 applied_for false true done = λ e. absurd (cc)
 applied_for false false done = tt
 
-judged_never : (h : History) (is_live : ℕ → Bool) (level : Level) (reads : List ReadAnswer) (run : Run) (o : Option FailedCompare) →
-    NeverWants (judged h is_live level reads run o)
-judged_never h is_live level reads run None =
+judged_never : (terms : Terms) (level : Level) (reads : List ReadAnswer) (run : Run) (o : Option FailedCompare) →
+    NeverWants (judged terms level reads run o)
+judged_never terms level reads run None =
+    let h : History = terms.history in
     let changes : List Change = map as_change (latest_writes run.writes) in
-    applied_for (list_any (is_on_dead_lease is_live) changes) (is_used_up h (effective h changes)) _
-judged_never h is_live level reads run (Some failed) = tt
+    applied_for (list_any (is_on_dead_lease terms.is_live) changes) (is_used_up h (effective h changes)) _
+judged_never terms level reads run (Some failed) = tt
 
 committed_for : (many : Bool) (o : Result Done Refusal) → NeverWants o → NeverWants (cond many (Err TooManyOps) o)
 committed_for true o never = λ e. absurd (cc)
 committed_for false o never = never
 
-committed_never : (h : History) (is_live : ℕ → Bool) (level : Level) (reads : List ReadAnswer) (run : Run) → NeverWants (committed h is_live level reads run)
-committed_never h is_live level reads run =
-    committed_for (sends_too_many level reads (latest_writes run.writes))
-    (judged h is_live level reads run (conflict_now h level reads (latest_writes run.writes)))
-    (judged_never h is_live level reads run (conflict_now h level reads (latest_writes run.writes)))
+committed_never : (terms : Terms) (level : Level) (reads : List ReadAnswer) (run : Run) → NeverWants (committed terms level reads run)
+committed_never terms level reads run =
+    let h : History = terms.history in
+    committed_for (sends_too_many terms.limit level reads (latest_writes run.writes))
+    (judged terms level reads run (conflict_now h level reads (latest_writes run.writes)))
+    (judged_never terms level reads run (conflict_now h level reads (latest_writes run.writes)))
 
 -- ---- replies ----
 
@@ -177,8 +180,8 @@ refusal start log (Cancel watcher) expired right =
 
 commits_for : (at : Situation) → Commits at (Err OutOfMemory) → ⊥
 commits_for at c =
-    not_want (committed at.store.history (is_live_in at.store.live) at.task.level at.reads c.run)
-    (committed_never at.store.history (is_live_in at.store.live) at.task.level at.reads c.run) c.comes_to
+    not_want (committed (terms_of at.store) at.task.level at.reads c.run)
+    (committed_never (terms_of at.store) at.task.level at.reads c.run) c.comes_to
 
 end_for : (start : ℕ) (log : List Line) (id runner : ℕ) (o : Option Task) → RunnerIsRight start log id o (Ok (Ended runner OutOfMemory)) → ⊥
 end_for start log id runner None right = absurd (cc)
@@ -194,7 +197,7 @@ never_out_of_memory = record {
   watch = λ s keys from. not_want (watched s keys from) (watched_never s keys from);
   poll = λ s id most. not_want (polled s id most) (polled_never s id most);
   cancel = λ s id. not_want (cancelled s id) (cancelled_never s id);
-  commit = λ h is_live level reads run. not_want (committed h is_live level reads run) (committed_never h is_live level reads run);
+  commit = λ terms level reads run. not_want (committed terms level reads run) (committed_never terms level reads run);
   refusal = refusal;
   end = λ start log id runner right. end_for start log id runner (running id log) right;
 }

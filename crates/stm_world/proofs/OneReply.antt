@@ -4,7 +4,6 @@ use Rattle.std.proofs.lemmas.List.{reverse-reverse}
 use Rattle.std.proofs.lemmas.Bool.{lt-ltb, le-ltb}
 use Rattle.std.specs.Prelude.{nat_lt, slice_get, Result}
 use Rattle.stm_history.specs.History.{now, key_at, mod_of}
-use Rattle.stm_leases.specs.Live.{is_live_in}
 use Rattle.stm_program.specs.Writes.{latest_writes}
 use Rattle.stm_meaning.specs.declared.run.End.{End}
 use Rattle.stm_meaning.specs.declared.run.End.TheVariants.{Done as DoneEnd, Aborted as AbortedEnd, Faulted as FaultedEnd}
@@ -15,6 +14,7 @@ use Rattle.stm_txn.specs.declared.answer.FailedCompare.{FailedCompare}
 use Rattle.stm_txn.specs.declared.refusal.Refusal.{Refusal as StoreRefusal}
 use Rattle.stm_txn.specs.Outcome.{Done}
 use Rattle.stm_txn.specs.Commits.{revision_read}
+use Rattle.stm_txn.specs.Standing.{terms_of}
 use Rattle.stm_compile.specs.Committed.{committed}
 use Rattle.stm_compile.specs.Conflicts.{Seen, seen_by}
 use Rattle.stm_attempt.specs.Settled.{run_on}
@@ -49,7 +49,7 @@ by_commit at run (Ok done) = by_compare at run done done.answer.failed
 by_commit at run (Err cause) = Ended at.id cause
 
 abbrev by_end : Situation → Run → End → Reply
-by_end at run DoneEnd = by_commit at run (committed at.store.history (is_live_in at.store.live) at.task.level at.reads run)
+by_end at run DoneEnd = by_commit at run (committed (terms_of at.store) at.task.level at.reads run)
 by_end at run (AbortedEnd text) = Aborted at.id text
 by_end at run (FaultedEnd fault) = Faulted at.id fault
 

@@ -6,7 +6,6 @@ use Rattle.std.proofs.lemmas.Bool.{ltb-true, ltb-false}
 use Rattle.std.specs.Prelude.{nat_lt, option_map, Result, slice_get, ◌||◌}
 use Rattle.stm_history.specs.declared.key_state.ReadAnswer.{ReadAnswer}
 use Rattle.stm_history.specs.History.{History, now, key_at, mod_of}
-use Rattle.stm_leases.specs.Live.{is_live_in}
 use Rattle.stm_program.specs.Writes.{latest_writes}
 use Rattle.stm_meaning.specs.declared.trace_item.TraceItem.{TraceItem}
 use Rattle.stm_meaning.specs.declared.run.End.{End}
@@ -18,7 +17,7 @@ use Rattle.stm_txn.specs.declared.answer.FailedCompare.{FailedCompare}
 use Rattle.stm_txn.specs.declared.refusal.Refusal.{Refusal as StoreRefusal}
 use Rattle.stm_txn.specs.Outcome.{Done}
 use Rattle.stm_txn.specs.Commits.{revision_read}
-use Rattle.stm_txn.specs.Standing.{Standing, with_history}
+use Rattle.stm_txn.specs.Standing.{Standing, with_history, terms_of}
 use Rattle.stm_compile.specs.Answers.{AreTrue}
 use Rattle.stm_compile.specs.Committed.{committed}
 use Rattle.stm_compile.specs.Conflicts.{Seen, seen_by, IsConflict}
@@ -215,7 +214,7 @@ begun_by false o task is = is
 taken_follows : (start : ℕ) (log : List Line) (runners : List Slot) (entries : List Entry) (id : ℕ) (task : Task) (run : Run) (done : Done) →
     CommitIsTheRunNow →
     Runs start log runners entries id task → run_on task.program (told start id task log).reads ≡ EndedRun run → run.end ≡ DoneEnd →
-    committed (store start log).history (is_live_in (store start log).live) task.level (told start id task log).reads run ≡ Ok done →
+    committed (terms_of (store start log)) task.level (told start id task log).reads run ≡ Ok done →
     done.answer.failed ≡ None →
     FollowsStep start log (Step id) (take_commit id (runner_for start log id task) (told start id task log).reads run done
     (world_at start log runners entries))
@@ -265,7 +264,7 @@ taken_follows start log runners entries id task run done law x is_run is_done is
 conflicted : (start : ℕ) (log : List Line) (runners : List Slot) (entries : List Entry) (id : ℕ) (task : Task) (run : Run) (done : Done)
     (failed : FailedCompare) → FailedComparesConflict → Runs start log runners entries id task →
     run_on task.program (told start id task log).reads ≡ EndedRun run → run.end ≡ DoneEnd →
-    committed (store start log).history (is_live_in (store start log).live) task.level (told start id task log).reads run ≡ Ok done →
+    committed (terms_of (store start log)) task.level (told start id task log).reads run ≡ Ok done →
     done.answer.failed ≡ Some failed →
     IsConflicted (situation start log id task)
     (seen_in (slice_get (seen_by (told start id task log).reads (latest_writes run.writes)) failed.index)).key
@@ -273,7 +272,7 @@ conflicted : (start : ℕ) (log : List Line) (runners : List Slot) (entries : Li
 conflicted start log runners entries id task run done failed law x is_run is_done is some =
     let s : Standing = store start log in
     let reads : List ReadAnswer = (told start id task log).reads in
-    let failure : Fails s.history task.level reads run failed done = fails s.history (is_live_in s.live) task.level reads run failed done is some in
+    let failure : Fails s.history task.level reads run failed done = fails (terms_of s) task.level reads run failed done is some in
     let conflict : IsConflict s.history reads (latest_writes run.writes) failed =
     law s.history task.level reads (latest_writes run.writes) failed (reads_truth start log runners entries id task x) failure.conflict in
     record {
@@ -296,7 +295,7 @@ pub record CommitLaws : Type 0 where
 decided_follows : (start : ℕ) (log : List Line) (runners : List Slot) (entries : List Entry) (id : ℕ) (task : Task) (run : Run) (done : Done)
     (o : Option FailedCompare) → CommitLaws → Runs start log runners entries id task →
     run_on task.program (told start id task log).reads ≡ EndedRun run → run.end ≡ DoneEnd →
-    committed (store start log).history (is_live_in (store start log).live) task.level (told start id task log).reads run ≡ Ok done →
+    committed (terms_of (store start log)) task.level (told start id task log).reads run ≡ Ok done →
     done.answer.failed ≡ o →
     FollowsStep start log (Step id) (decided id (runner_for start log id task) (told start id task log).reads run done o
     (world_at start log runners entries))
@@ -311,7 +310,7 @@ decided_follows start log runners entries id task run done (Some failed) laws x 
 commit_follows : (start : ℕ) (log : List Line) (runners : List Slot) (entries : List Entry) (id : ℕ) (task : Task) (run : Run) (o : Result Done StoreRefusal) →
     CommitLaws → Runs start log runners entries id task →
     run_on task.program (told start id task log).reads ≡ EndedRun run → run.end ≡ DoneEnd →
-    committed (store start log).history (is_live_in (store start log).live) task.level (told start id task log).reads run ≡ o →
+    committed (terms_of (store start log)) task.level (told start id task log).reads run ≡ o →
     FollowsStep start log (Step id) (commit_told id (runner_for start log id task) (told start id task log).reads run o
     (world_at start log runners entries))
 commit_follows start log runners entries id task run (Ok done) laws x is_run is_done is =
@@ -328,7 +327,7 @@ done_follows : (start : ℕ) (log : List Line) (runners : List Slot) (entries : 
 unfolding commit
 done_follows start log runners entries id task run laws x is_run is_done =
     commit_follows start log runners entries id task run
-    (committed (store start log).history (is_live_in (store start log).live) task.level (told start id task log).reads run)
+    (committed (terms_of (store start log)) task.level (told start id task log).reads run)
     laws x is_run is_done refl
 
 end_follows : (start : ℕ) (log : List Line) (runners : List Slot) (entries : List Entry) (id : ℕ) (task : Task) (run : Run) (end : End) →

@@ -4,7 +4,6 @@ use Rattle.std.proofs.lemmas.List.{append-nil}
 use Rattle.std.specs.Prelude.{nat_eq, nat_lt, slice_get, Result, Ok, Err}
 use Rattle.stm_history.specs.declared.key_state.ReadAnswer.{ReadAnswer}
 use Rattle.stm_history.specs.History.{History, now, key_at, mod_of}
-use Rattle.stm_leases.specs.Live.{is_live_in}
 use Rattle.stm_program.specs.Writes.{latest_writes}
 use Rattle.stm_meaning.specs.declared.run.End.{End}
 use Rattle.stm_meaning.specs.declared.run.End.TheVariants.{Done as DoneEnd, Aborted as AbortedEnd, Faulted as FaultedEnd}
@@ -17,6 +16,7 @@ use Rattle.stm_txn.specs.Outcome.{Done}
 use Rattle.stm_txn.specs.Commits.{revision_read}
 use Rattle.stm_txn.specs.Standing.{Standing, with_history, transacted, granted, kept_alive, revoked, advanced, Advance as StoreAdvance}
 use Rattle.stm_txn.specs.Standing.{watched, polled, cancelled}
+use Rattle.stm_txn.specs.Standing.{terms_of}
 use Rattle.stm_watch.specs.declared.watched.Watched.TheVariants.{Key, Range}
 use Rattle.stm_compile.specs.Committed.{committed}
 use Rattle.stm_compile.specs.Conflicts.{Seen, seen_by}
@@ -184,7 +184,7 @@ record IsDone (w : World) (id : ℕ) (r : Runner) (run : Run) : Type 0 where
   is_done : run.end ≡ DoneEnd
 
 decided_sound : (w : World) (id : ℕ) (r : Runner) (run : Run) (done : Done) (o : Option FailedCompare) → CommitIsTheRunNow → IsDone w id r run →
-    committed w.standing.history (is_live_in w.standing.live) r.task.level r.known.reads run ≡ Ok done → done.answer.failed ≡ o →
+    committed (terms_of w.standing) r.task.level r.known.reads run ≡ Ok done → done.answer.failed ≡ o →
     IsSound (decided id r r.known.reads run done o w).next
 decided_sound w id r run done None law x comes_to none =
     take_sound w id r run done law x.sound x.found
@@ -194,7 +194,7 @@ decided_sound w id r run done (Some failed) law x comes_to some =
     (nat_lt (r.failures + 1) r.task.limit) x.sound x.found
 
 commit_by : (w : World) (id : ℕ) (r : Runner) (run : Run) (o : Result Done StoreRefusal) → CommitIsTheRunNow → IsDone w id r run →
-    committed w.standing.history (is_live_in w.standing.live) r.task.level r.known.reads run ≡ o →
+    committed (terms_of w.standing) r.task.level r.known.reads run ≡ o →
     IsSound (commit_told id r r.known.reads run o w).next
 commit_by w id r run (Ok done) law x is = decided_sound w id r run done done.answer.failed law x is refl
 commit_by w id r run (Err cause) law x is = ended_sound w id r (Ended id cause) x.sound x.found
@@ -202,7 +202,7 @@ commit_by w id r run (Err cause) law x is = ended_sound w id r (Ended id cause) 
 commit_sound : (w : World) (id : ℕ) (r : Runner) (run : Run) → CommitIsTheRunNow → IsDone w id r run → IsSound (commit id r r.known.reads run w).next
 unfolding commit
 commit_sound w id r run law x =
-    commit_by w id r run (committed w.standing.history (is_live_in w.standing.live) r.task.level r.known.reads run) law x refl
+    commit_by w id r run (committed (terms_of w.standing) r.task.level r.known.reads run) law x refl
 
 finish_sound : (w : World) (id : ℕ) (r : Runner) (run : Run) (end : End) → CommitIsTheRunNow → IsSound w → runner_at id w.runners ≡ Some r →
     run_on r.task.program r.known.reads ≡ EndedRun run → run.end ≡ end → IsSound (finish id r r.known.reads run end w).next

@@ -30,11 +30,11 @@ use Rattle.stm_watch.specs.Calls.{watcher_at, poll_found, Step as WatchStep}
 use Rattle.stm_txn.specs.declared.refusal.Refusal.{Refusal as StoreRefusal}
 use Rattle.stm_txn.specs.Outcome.{Done, outcome, is_used_up}
 use Rattle.stm_txn.specs.LeaseKeys.{deletions_of}
-use Rattle.stm_txn.specs.Standing.{Standing, Step as StoreStep, step_of, ended, expire_up_to, at_moment, with_watchers}
+use Rattle.stm_txn.specs.Standing.{Standing, Step as StoreStep, step_of, ended, expire_up_to, at_moment, with_watchers, terms_of}
 use Rattle.stm_txn.specs.Standing.{watch_step, poll_step, cancel_step}
 use Rattle.stm_txn.proofs.Ending.{ended_is}
 use Rattle.stm_compile.specs.Now.{as_change}
-use Rattle.stm_entries.specs.Replayed.{Replayed, without_moment}
+use Rattle.stm_entries.specs.Replayed.{Replayed, without_moment, replay_terms}
 use Rattle.stm_entries.specs.Alone.{seen_at, applied_run, history_left, left_by, left_by_run}
 use Rattle.stm_world.specs.declared.event.WorldEvent.{WorldEvent}
 use Rattle.stm_world.specs.declared.event.WorldEvent.TheVariants.{Start, Step, Txn, Grant, Keep, Revoke, Advance}
@@ -60,7 +60,7 @@ use Rattle.stm_world.proofs.WatchCalls.{watch_follows, poll_follows, cancel_foll
 -- ---- what an event makes of the history
 
 left_keeps : (r : Replayed) (run : Run) (o : Result Done StoreRefusal) → applied_run r run ≡ o → Keeps r.history (history_left r.history o)
-left_keeps r run (Ok done) is = grown_by r.history (is_live_in r.live) (map as_change (latest_writes run.writes)) done is
+left_keeps r run (Ok done) is = grown_by (replay_terms r) (map as_change (latest_writes run.writes)) done is
 left_keeps r run (Err cause) is = keeps_same r.history
 
 end_keeps : (r : Replayed) (run : Run) (end : End) → Keeps r.history (left_by run end r).history
@@ -473,7 +473,7 @@ told_more start log (Step runner) reply right are =
 told_more start log (Txn txn) reply right are =
     let s : Standing = store start log in
     quiet start log (Txn txn) reply are (λ id. record { told = refl; made = refl; kept = refl })
-    (txn_stays s (outcome s.history (is_live_in s.live) txn))
+    (txn_stays s (outcome (terms_of s) txn))
 told_more start log (Grant lease ttl) reply right are =
     let s : Standing = store start log in
     quiet start log (Grant lease ttl) reply are (λ id. record { told = refl; made = refl; kept = refl })

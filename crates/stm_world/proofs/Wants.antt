@@ -4,7 +4,6 @@ use Rattle.std.proofs.Common.{None, Result, Ok, Err, refl, sym, subst, arith}
 use Rattle.std.specs.Prelude.{nat_lt, nat_eq, ◌||◌}
 use Rattle.std.specs.Option.{option_or}
 use Rattle.std.specs.FinMap as finmap
-use Rattle.stm_leases.specs.Live.{is_live_in}
 use Rattle.stm_leases.specs.DueFirst.{first_due}
 use Rattle.stm_history.specs.History.{History, now, key_now}
 use Rattle.stm_txn.specs.declared.txn.Op.{Op}
@@ -19,8 +18,9 @@ use Rattle.stm_txn.specs.Branches.{op_refusal, branch_refusal, changes_of_branch
 use Rattle.stm_txn.specs.Compares.{first_failed}
 use Rattle.stm_txn.specs.LeaseKeys.{deletions_of}
 use Rattle.stm_txn.specs.Outcome.{Done, outcome, unless, finished, branch_outcome, chosen, is_used_up}
-use Rattle.stm_txn.specs.Standing.{Standing, Advance, step_of, transacted, ended, without_lease}
+use Rattle.stm_txn.specs.Standing.{Standing, Advance, step_of, transacted, ended, without_lease, terms_of}
 use Rattle.stm_txn.specs.Standing.{after, expired_in, expire_up_to, expire_all, at_moment, advanced, IsCutShort}
+use Rattle.stm_txn.specs.Terms.{Terms}
 
 abbrev pub NoWant : Option Refusal → Type 0
 NoWant None = Unit {0}
@@ -54,35 +54,35 @@ by_put : (fine : Bool) → NoWant (cond fine None (Some LeaseNotFound))
 by_put true = tt
 by_put false = λ e. absurd (cc)
 
-op_never : (counter : ℕ) (is_live : ℕ → Bool) (op : Op) → NoWant (op_refusal counter is_live op)
-op_never counter is_live (Get key rev) = by_read (nat_lt counter rev)
-op_never counter is_live (Put key value lease) = by_put (nat_eq lease 0 || is_live lease)
-op_never counter is_live (Del key) = tt
+op_never : (terms : Terms) (op : Op) → NoWant (op_refusal terms op)
+op_never terms (Get key rev) = by_read (nat_lt (now terms.history) rev)
+op_never terms (Put key value lease) = by_put (nat_eq lease 0 || terms.is_live lease)
+op_never terms (Del key) = tt
 
-branch_never : (counter : ℕ) (is_live : ℕ → Bool) (ops : List Op) → NoWant (branch_refusal counter is_live ops)
-branch_never counter is_live [] = tt
-branch_never counter is_live (op ∷ ops) =
-    by_or (op_refusal counter is_live op) (branch_refusal counter is_live ops) (op_never counter is_live op) (branch_never counter is_live ops)
+branch_never : (terms : Terms) (ops : List Op) → NoWant (branch_refusal terms ops)
+branch_never terms [] = tt
+branch_never terms (op ∷ ops) = by_or (op_refusal terms op) (branch_refusal terms ops) (op_never terms op) (branch_never terms ops)
 
 by_room : {A : Type 0} (used : Bool) (done : A) → NeverWants {A = A} (cond used (Err RevisionsUsedUp) (Ok done))
 by_room true done = λ e. absurd (cc)
 by_room false done = tt
 
-outcome_never : (h : History) (is_live : ℕ → Bool) (txn : Txn) → NeverWants (outcome h is_live txn)
-outcome_never h is_live txn =
+outcome_never : (terms : Terms) (txn : Txn) → NeverWants (outcome terms txn)
+outcome_never terms txn =
+    let h : History = terms.history in
     let failed = first_failed (key_now h) 0 txn.compares in
     let ops : List Op = chosen failed txn in
-    by_unless (fault_of txn) (branch_outcome h is_live failed ops)
-    (by_fault (has_too_many txn) (has_empty_key txn) (has_clash txn.success || has_clash txn.failure))
-    (by_unless (branch_refusal (now h) is_live ops) (finished h failed (changes_of_branch h ops) (answers_after h (begun h) ops))
-    (branch_never (now h) is_live ops) (by_room (is_used_up h (changes_of_branch h ops)) _))
+    by_unless (fault_of terms.limit txn) (branch_outcome terms failed ops)
+    (by_fault (has_too_many terms.limit txn) (has_empty_key txn) (has_clash txn.success || has_clash txn.failure))
+    (by_unless (branch_refusal terms ops) (finished h failed (changes_of_branch h ops) (answers_after h (begun h) ops))
+    (branch_never terms ops) (by_room (is_used_up h (changes_of_branch h ops)) _))
 
 by_step : (s : Standing) (o : Result Done Refusal) → NeverWants o → NeverWants (step_of s o)
 by_step s (Ok done) never = tt
 by_step s (Err cause) never = never
 
 pub transacted_never : (s : Standing) (txn : Txn) → NeverWants (transacted s txn)
-transacted_never s txn = by_step s (outcome s.history (is_live_in s.live) txn) (outcome_never s.history (is_live_in s.live) txn)
+transacted_never s txn = by_step s (outcome (terms_of s) txn) (outcome_never (terms_of s) txn)
 
 -- ---- an advance ----
 

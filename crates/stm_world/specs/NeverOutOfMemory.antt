@@ -1,7 +1,6 @@
 -- Nothing that is defined here is ever refused for want of memory: only code runs out of it, and its contracts say what is left then.
-use Rattle.std.specs.Prelude.{◌≢◌, ℕ, Bool, List, Some, Ok, Err}
+use Rattle.std.specs.Prelude.{◌≢◌, ℕ, List, Some, Ok, Err}
 use Rattle.stm_history.specs.declared.key_state.ReadAnswer.{ReadAnswer}
-use Rattle.stm_history.specs.History.{History}
 use Rattle.stm_program.specs.declared.level.Level.{Level}
 use Rattle.stm_meaning.specs.declared.run.Run.{Run}
 use Rattle.stm_watch.specs.declared.watched.Watched.{Watched}
@@ -9,6 +8,7 @@ use Rattle.stm_txn.specs.declared.txn.Txn.{Txn}
 use Rattle.stm_txn.specs.declared.advance.Expired.{Expired}
 use Rattle.stm_txn.specs.declared.refusal.Refusal.TheVariants.{OutOfMemory}
 use Rattle.stm_txn.specs.Standing.{Standing, transacted, granted, kept_alive, revoked, advanced, watched, polled, cancelled}
+use Rattle.stm_txn.specs.Terms.{Terms}
 use Rattle.stm_compile.specs.Committed.{committed}
 use Rattle.stm_world.specs.declared.event.WorldEvent.{WorldEvent}
 use Rattle.stm_world.specs.declared.event.WorldEvent.TheVariants.{Step}
@@ -28,7 +28,7 @@ pub record NeverOutOfMemory : Type 0 where
   pub poll : (s : Standing) (id most : ℕ) → polled s id most ≢ Err OutOfMemory
   pub cancel : (s : Standing) (id : ℕ) → cancelled s id ≢ Err OutOfMemory
   -- no commit of a run
-  pub commit : (h : History) (is_live : ℕ → Bool) (level : Level) (reads : List ReadAnswer) (run : Run) → committed h is_live level reads run ≢ Err OutOfMemory
+  pub commit : (terms : Terms) (level : Level) (reads : List ReadAnswer) (run : Run) → committed terms level reads run ≢ Err OutOfMemory
   -- so no right reply refuses an event for want of memory, or ends a run by it
   pub refusal : (start : ℕ) (log : List Line) (event : WorldEvent) (expired : List Expired)
       → IsRight start log event (Err (record { cause = Store OutOfMemory; expired = expired })) → ⊥

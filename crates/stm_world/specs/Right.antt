@@ -5,7 +5,6 @@
 use Rattle.std.specs.Prelude.{◌≡◌, ◌≢◌, ℕ, ◌+◌, ◌<◌, ◌≤◌, List, [], ◌∷◌, Option, Some, None, Result, Ok, Err}
 use Rattle.stm_history.specs.declared.key_state.ReadAnswer.{ReadAnswer}
 use Rattle.stm_history.specs.History.{now, key_at, mod_of}
-use Rattle.stm_leases.specs.Live.{is_live_in}
 use Rattle.stm_program.specs.Writes.{latest_writes}
 use Rattle.stm_meaning.specs.declared.value.Value.{Value}
 use Rattle.stm_meaning.specs.declared.trace_item.TraceItem.{TraceItem}
@@ -18,7 +17,7 @@ use Rattle.stm_txn.specs.declared.answer.FailedCompare.{FailedCompare}
 use Rattle.stm_txn.specs.declared.refusal.Refusal.{Refusal as StoreRefusal}
 use Rattle.stm_txn.specs.Outcome.{Done}
 use Rattle.stm_txn.specs.Commits.{revision_read}
-use Rattle.stm_txn.specs.Standing.{Standing, transacted, granted, kept_alive, revoked, advanced, watched, polled, cancelled}
+use Rattle.stm_txn.specs.Standing.{Standing, transacted, granted, kept_alive, revoked, advanced, watched, polled, cancelled, terms_of}
 use Rattle.stm_watch.specs.declared.watched.Watched.TheVariants.{Key, Range}
 use Rattle.stm_compile.specs.Committed.{committed}
 use Rattle.stm_compile.specs.Conflicts.{IsConflict}
@@ -67,7 +66,7 @@ pub record Commits (at : Situation) (outcome : Result Done StoreRefusal) : Type 
   pub run : Run
   pub is_run : run_on at.task.program at.reads ≡ EndedRun run
   pub is_done : run.end ≡ DoneEnd
-  pub comes_to : committed at.store.history (is_live_in at.store.live) at.task.level at.reads run ≡ outcome
+  pub comes_to : committed (terms_of at.store) at.task.level at.reads run ≡ outcome
 
 -- A commit that succeeds: at a comparing level output and trace are those of the program run alone on the state of this
 -- moment, at ReadCommitted those of its run on what it read, which is told. What it read are the keys that the run reads, in the

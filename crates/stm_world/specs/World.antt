@@ -7,7 +7,6 @@ use Rattle.std.specs.Prelude.{ℕ, ◌+◌, ◌-◌, nat_eq, nat_lt, if◌then�
 use Rattle.std.specs.Prelude.{slice_get, slice_set, Result, Ok, Err}
 use Rattle.stm_history.specs.declared.key_state.ReadAnswer.{ReadAnswer}
 use Rattle.stm_history.specs.History.{now, key_at, mod_of}
-use Rattle.stm_leases.specs.Live.{is_live_in}
 use Rattle.stm_program.specs.Writes.{latest_writes}
 use Rattle.stm_meaning.specs.declared.run.End.{End}
 use Rattle.stm_meaning.specs.declared.run.End.TheVariants.{Done as DoneEnd, Aborted as AbortedEnd, Faulted as FaultedEnd}
@@ -21,6 +20,7 @@ use Rattle.stm_txn.specs.declared.refusal.Refusal.{Refusal as StoreRefusal}
 use Rattle.stm_txn.specs.Outcome.{Done}
 use Rattle.stm_txn.specs.Commits.{revision_read}
 use Rattle.stm_txn.specs.Standing.{Standing, opening, with_history, transacted, granted, kept_alive, revoked, advanced, watched, polled, cancelled}
+use Rattle.stm_txn.specs.Standing.{terms_of}
 use Rattle.stm_watch.specs.declared.watched.Watched.TheVariants.{Key, Range}
 use Rattle.stm_compile.specs.Committed.{committed}
 use Rattle.stm_compile.specs.Conflicts.{Seen, seen_by}
@@ -151,7 +151,7 @@ commit_told id r reads run (Err cause) w = replied (Ended id cause) id Over w
 -- the commit of a run that is done, one transaction; a refused one ends the run
 unfoldable pub commit : ℕ → Runner → List ReadAnswer → Run → World → Stepped
 commit id r reads run w =
-    commit_told id r reads run (committed w.standing.history (is_live_in w.standing.live) r.task.level reads run) w
+    commit_told id r reads run (committed (terms_of w.standing) r.task.level reads run) w
 
 -- a run that has come to its end: an abort or a fault ends it with nothing committed
 abbrev pub finish : ℕ → Runner → List ReadAnswer → Run → End → World → Stepped

@@ -14,8 +14,8 @@ loop-number-init c =
     record {
       opened = omega (arith, start);
       reached = omega (arith, start);
-      told = from_the_last h c.args.floor c.args.key.now
-          ∙ ap (λ (n : ℕ). changes_above h.opening c.args.floor c.args.key.now (revisions_up_to h.opening n h.revisions)) (sym start);
+      told = from_the_last h c.args.start c.args.key.now
+          ∙ ap (λ (n : ℕ). changes_above h.opening c.args.start c.args.key.now (revisions_up_to h.opening n h.revisions)) (sym start);
     }
 
 -- the revision with the number has an event of the key
@@ -24,18 +24,18 @@ returns-then-has_event_of c =
     let h : History = c.args.keys.now.history in
     let number : ℕ = c.loop-number.number in
     let key : List ℕ = c.args.key.now in
-    let above : c.args.floor < number = omega (arith, c.loop-number-test.true) in
+    let above : c.args.start < number = omega (arith, c.loop-number-test.true) in
     let found : is_some (event_about key (events_of h number)) ≡ true =
     subst (λ (es : List Event). is_some (event_about key es) ≡ true) c.events_at.ensures (sym c.has_event_of.ensures ∙ c.if-has_event_of.true) in
-    sym (c.loop-number.invariant.told ∙ found_at h c.args.floor number key c.requires above c.loop-number.invariant.reached found)
+    sym (c.loop-number.invariant.told ∙ found_at h c.args.start number key c.requires above c.loop-number.invariant.reached found)
 
 pub loop-number-preserved : goal.loop-number-preserved
 loop-number-preserved c =
     let h : History = c.args.keys.now.history in
     let number : ℕ = c.loop-number.number in
     let key : List ℕ = c.args.key.now in
-    let low : h.opening ≤ c.args.floor = c.requires in
-    let above : c.args.floor < number = omega (arith, c.loop-number-test.true) in
+    let low : h.opening ≤ c.args.start = c.requires in
+    let above : c.args.start < number = omega (arith, c.loop-number-test.true) in
     let reached : number ≤ now h = c.loop-number.invariant.reached in
     let none : is_some (event_about key (events_of h number)) ≡ false =
     subst (λ (es : List Event). is_some (event_about key es) ≡ false) c.events_at.ensures (sym c.has_event_of.ensures ∙ c.if-has_event_of.false) in
@@ -44,13 +44,13 @@ loop-number-preserved c =
       opened = omega (arith, low, above);
       reached = omega (arith, reached);
       told = c.loop-number.invariant.told
-          ∙ passed_at h c.args.floor number (number - 1) key step low (omega (arith, above)) reached none;
+          ∙ passed_at h c.args.start number (number - 1) key step low (omega (arith, above)) reached none;
     }
 
--- the number has come to the floor
+-- the number has come to the start
 pub returns : goal.returns
 returns c =
     let h : History = c.args.keys.now.history in
-    let passed : c.loop-number.number ≤ c.args.floor = omega (arith, c.loop-number-test.false) in
+    let passed : c.loop-number.number ≤ c.args.start = omega (arith, c.loop-number-test.false) in
     sym (c.loop-number.invariant.told
-    ∙ seen_all h c.args.floor c.loop-number.number c.args.key.now c.loop-number.invariant.opened passed)
+    ∙ seen_all h c.args.start c.loop-number.number c.args.key.now c.loop-number.invariant.opened passed)

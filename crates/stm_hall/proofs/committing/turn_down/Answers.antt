@@ -5,7 +5,7 @@ use Rattle.std.proofs.lemmas.Result.{err_from_is_err_and}
 use Rattle.stm_history.specs.declared.key_state.ReadAnswer.{ReadAnswer}
 use Rattle.stm_txn.specs.declared.txn.Txn.{Txn}
 use Rattle.stm_txn.specs.declared.refusal.Refusal.TheVariants.{OutOfMemory, TooManyOps}
-use Rattle.stm_txn.specs.Checks.{most_operations}
+use Rattle.stm_txn.specs.Terms.{most_operations}
 use Rattle.stm_txn.specs.Standing.{Standing}
 use Rattle.stm_txn.specs.Store.{StoreView}
 use Rattle.stm_attempt.specs.ReadyRun.{ReadyRun, IsRunOnItsAnswers}
@@ -24,7 +24,7 @@ returns-then-len-gt-MOST_OPERATIONS-clause-verdict c = λ entries start.
     let s : Standing = c.args.store.now.standing in
     let more : most_operations < length (txn_of ready).success =
     subst (λ (t : Txn). most_operations < length t.success) c.requires.is_its (omega (arith, c.len.ensures, c.if-len-gt-MOST_OPERATIONS.true)) in
-    (inr (verdict_at_fault (hall_of s entries start) ready TooManyOps (too_many_writes (txn_of ready) more)), refl)
+    (inr (verdict_at_fault (hall_of s entries start) ready TooManyOps (too_many_writes most_operations (txn_of ready) more)), refl)
 
 -- the store refused what is asked
 pub returns-in_err-answer-clause-verdict : goal.returns-in_err-answer-clause-verdict

@@ -54,5 +54,5 @@ returns c =
     text
     ∙ ap (λ (keys : List (List ℕ)). ((text_of events ++ text_of (key_lines h keys)) ++ text_of leases) ++ line_text (line_data end)) present
     ∙ ap (λ (lines : List ReportLine). ((text_of events ++ text_of lines) ++ text_of leases) ++ line_text (line_data end))
-    (present_lines h (keys_named h.revisions))
-    ∙ whole_text events (key_lines h (keys_named h.revisions)) leases end
+    (present_lines h (keys_named h))
+    ∙ whole_text events (key_lines h (keys_named h)) leases end

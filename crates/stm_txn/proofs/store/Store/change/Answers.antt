@@ -37,7 +37,7 @@ invariant_of-self-2 c =
     let shown : map change_of_event c.last_events.result.now ≡ cs =
     ap (map change_of_event) c.last_events.ensures ∙ ap (λ (x : History). map change_of_event (events_of x (now x))) c.in-Ok.ensures.ok
     ∙ last_changes h cs in
-    subst (λ (next : History). ((key : List ℕ) → lease_of c.move_keys.new.leases key ≡ hanging (key_now next key)) × LeasesFit next.revisions
+    subst (λ (next : History). ((key : List ℕ) → lease_of c.move_keys.new.leases key ≡ hanging (key_now next key)) × LeasesFit next
     × StandFor next c.tell_watchers.new.watchers)
     (sym c.in-Ok.ensures.ok) (
       λ key.

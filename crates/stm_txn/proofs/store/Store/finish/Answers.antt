@@ -1,13 +1,13 @@
 use Rattle.std.proofs.Common.{◌∙◌, sym, ap, subst, List, []}
 use Rattle.std.specs.Prelude.{IsTrue}
 use Rattle.stm_history.specs.declared.change.Change.{Change}
-use Rattle.stm_history.specs.History.{History, now, HasDistinctKeys}
+use Rattle.stm_history.specs.History.{now, HasDistinctKeys}
 use Rattle.stm_txn.specs.declared.txn.Op.{Op}
 use Rattle.stm_txn.specs.Branches.{are_readable}
 use Rattle.stm_txn.specs.LookUps.{changes_copied}
 use Rattle.stm_keys.specs.Keys.{DeletePresent}
-use Rattle.stm_leases.specs.Live.{is_live_in}
 use Rattle.stm_txn.specs.Leasing.{hangs_of, HangOnLive}
+use Rattle.stm_txn.specs.Standing.{terms_of}
 use Rattle.stm_txn.specs.Store.{StoreView}
 use Rattle.stm_txn.proofs.Branching.{changes_are_distinct}
 use Rattle.stm_txn.proofs.Running.{all_readable, hangs_live, deletes_present}
@@ -15,10 +15,9 @@ use Rattle.stm_txn.proofs.store.Store.finish.Goals as goal
 
 pub run_branch-requires : goal.run_branch-requires
 run_branch-requires c =
-    let h : History = c.args.self.now.standing.history in
     let ops : List Op = c.args.ops.now in
     subst (λ (s : StoreView). IsTrue (are_readable (now s.standing.history) ops)) (sym c.self.view_is)
-    (all_readable (now h) (is_live_in c.args.self.now.standing.live) ops c.requires.allowed)
+    (all_readable (terms_of c.args.self.now.standing) ops c.requires.allowed)
 
 pub commit-requires-clause-distinct : goal.commit-requires-clause-distinct
 commit-requires-clause-distinct c =
@@ -30,7 +29,7 @@ pub commit-requires-clause-live : goal.commit-requires-clause-live
 commit-requires-clause-live c =
     subst (λ (cs : List Change). HangOnLive c.args.self.now.standing.live (hangs_of cs)) (sym (c.in_ok-branch.ensures.changes
     ∙ ap (λ (s : StoreView). changes_copied s.standing.history [] c.args.ops.now) c.self.view_is))
-    (hangs_live c.args.self.now.standing.history c.args.self.now.standing.live c.args.ops.now c.requires.allowed)
+    (hangs_live c.args.self.now.standing c.args.ops.now c.requires.allowed)
 
 pub commit-requires-clause-present : goal.commit-requires-clause-present
 commit-requires-clause-present c =

@@ -24,7 +24,7 @@ commit-requires-clause-live c =
     ∙ c.if-any_names_dead_lease.false in
     subst (λ (cs : List Change). HangOnLive c.args.self.now.standing.live (hangs_of cs)) (sym (c.only_effective-changes.ensures
     ∙ ap (λ (s : StoreView). effective s.standing.history c.args.writes.items) c.self.view_is))
-    (effective_live c.args.self.now.standing.history c.args.self.now.standing.live c.args.writes.items c.requires alive)
+    (effective_live c.args.self.now.standing c.args.writes.items c.requires alive)
 
 pub commit-requires-clause-present : goal.commit-requires-clause-present
 commit-requires-clause-present c =

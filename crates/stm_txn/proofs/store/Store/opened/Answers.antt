@@ -16,7 +16,7 @@ invariant_of-result c = (
       ap (λ (m : finmap.FinMap (slice_cmp nat_cmp) ℕ). finmap.get m key) c.new.ensures.attached
       ∙ finmap.get-empty (slice_cmp nat_cmp) key
       ∙ ap (λ h. hanging (key_now h key)) (sym c.with_revision.ensures.history),
-  subst (λ (h : History). LeasesFit h.revisions) (sym c.with_revision.ensures.history) tt,
+  subst (λ (h : History). LeasesFit h) (sym c.with_revision.ensures.history) tt,
   subst (λ (ws : List (Option Watcher)). StandFor c.with_revision.result.history ws) (sym c.requires.unwatched) tt,
 )
 

@@ -11,5 +11,5 @@ returns-clause-numbers c =
     batch_fits c.args.self.now.standing c.take_batch.new.self.standing c.args.id c.args.most c.in_ok-batch.batch
     (subst (λ (s : StoreView). now s.standing.history ≤ HIGHEST_REVISION) c.self.view_is
     (subst (λ n. n ≤ HIGHEST_REVISION) c.revision-counter.ensures.value c.revision-counter.ensures.bounded))
-    (subst (λ (s : StoreView). LeasesFit s.standing.history.revisions) c.self.view_is c.self.invariant.1)
+    (subst (λ (s : StoreView). LeasesFit s.standing.history) c.self.view_is c.self.invariant.1)
     c.in_ok-batch.ensures.step

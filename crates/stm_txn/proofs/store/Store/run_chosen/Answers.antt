@@ -3,13 +3,15 @@ use Rattle.stm_history.specs.History.{key_now}
 use Rattle.stm_txn.specs.declared.txn.Op.{Op}
 use Rattle.stm_txn.specs.Checks.{has_clash}
 use Rattle.stm_txn.specs.Compares.{first_failed}
+use Rattle.stm_txn.specs.Standing.{terms_of}
 use Rattle.stm_txn.specs.Store.{StoreView}
 use Rattle.stm_txn.proofs.Applying.{came, chosen_apart}
 use Rattle.stm_txn.proofs.store.Store.run_chosen.Goals as goal
 
 pub run-requires : goal.run-requires
 run-requires c =
-    subst (λ (ops : List Op). has_clash ops ≡ false) (sym c.choose.ensures) (chosen_apart c.args.txn.now c.find_failed-failed.result c.requires)
+    subst (λ (ops : List Op). has_clash ops ≡ false) (sym c.choose.ensures)
+    (chosen_apart (terms_of c.args.self.now.standing).limit c.args.txn.now c.find_failed-failed.result c.requires)
 
 pub returns-clause-step : goal.returns-clause-step
 returns-clause-step c =

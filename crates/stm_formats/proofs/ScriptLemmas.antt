@@ -1,5 +1,5 @@
 -- From what is written for the bytes that were read to what a script does.
-use Rattle.std.proofs.Common.{◌≡◌, ℕ, List, take, Option, Some, None, IfSome, false, Result, Ok, Err, ap, subst, ◌∙◌}
+use Rattle.std.proofs.Common.{◌≡◌, ℕ, List, take, Option, Some, None, IfSome, Bool, false, Result, Ok, Err, ap, subst, ◌∙◌}
 use Rattle.std.specs.Io.KnownBytes.{Appends}
 use Rattle.stm_texts.specs.declared.scenario.Scenario.{Scenario}
 use Rattle.stm_texts.specs.Reading.{scenario_in}

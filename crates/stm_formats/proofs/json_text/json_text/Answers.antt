@@ -8,6 +8,7 @@ use Rattle.stm_entries.specs.Replayed.{Replayed, opening}
 use Rattle.stm_entries.specs.Replay.{replay}
 use Rattle.stm_entries.specs.LiveLeases.{HasLeases}
 use Rattle.stm_report.proofs.LeaseLemmas.{same_leases}
+use Rattle.stm_formats.specs.Fields.{json_text}
 use Rattle.stm_formats.proofs.json_text.json_text.Goals as goal
 
 pub returns : goal.returns

@@ -14,7 +14,7 @@ use Rattle.stm_schedules.specs.Schedules.{events_along}
 use Rattle.stm_texts.specs.Grammar.{level_text, SpellsEvent, SpellsElements, SpellsScenario}
 use Rattle.stm_texts.specs.Reading.{IsOpening, scenario_in}
 use Rattle.stm_texts.specs.declared.scenario.Scenario.{Scenario}
-use Rattle.stm_texts.proofs.GrammarSound.{spelled_by}
+use Rattle.stm_texts.proofs.GrammarSound.{scenario_sound}
 use Rattle.stm_json.specs.Parts.{SpellsEach}
 use Rattle.stm_world.specs.declared.event.WorldEvent.{WorldEvent}
 use Rattle.stm_world.specs.declared.event.WorldEvent.TheVariants as event
@@ -106,7 +106,7 @@ read_as : (level : Option Level) (bytes : List ℕ) (reading : Outcome Scenario)
     → (reading >>= asked level) ≡ Ok s → IsOpening s.opening × AreSpelled s.events
 read_as level bytes (Err fault) s is asked_is = absurd (cc)
 read_as level bytes (Ok read) s is asked_is =
-    let spelled = read_spelled bytes read (spelled_by bytes (Ok read) is) in
+    let spelled = read_spelled bytes read (scenario_sound bytes read is) in
     subst (λ (t : Scenario). IsOpening t.opening × AreSpelled t.events) (asked_of (first_step read.events) level read s asked_is)
     (spelled.0, events_at-spelled level read.events spelled.1)
 

@@ -1,0 +1,9 @@
+//! Tests of the command `explore` over memory: what is printed of whole scenarios, and bad texts.
+//!
+//! This crate has no code but tests. They stand here, and not beside what they test, since a crate with tests is proved twice.
+#![tactic(auto)]
+
+#[cfg(test)]
+mod scenarios;
+#[cfg(test)]
+mod searches;

@@ -8,7 +8,29 @@ use std::alloc::Global;
 use std::process::Abort;
 use std::test::Fail;
 
-/// A check over memory has this status, and writes this to the two sinks.
+/// A check over memory, of the lines or of the whole report, has this status, and writes this to the two sinks.
+fn judges(
+    rt: &impl Abort,
+    alloc: Global,
+    scenario: &str,
+    report: &str,
+    is_whole: bool,
+    status: u8,
+    says: &str,
+    complains: &str,
+) {
+    let left = check(alloc, scenario, report, is_whole, NONE);
+    is_left(
+        rt,
+        &left,
+        report,
+        status,
+        says.as_bytes(),
+        complains.as_bytes(),
+    );
+}
+
+/// The same, of the lines.
 pub fn checks(
     rt: &impl Abort,
     alloc: Global,
@@ -18,15 +40,7 @@ pub fn checks(
     says: &str,
     complains: &str,
 ) {
-    let left = check(alloc, scenario, report, false, NONE);
-    is_left(
-        rt,
-        &left,
-        report,
-        status,
-        says.as_bytes(),
-        complains.as_bytes(),
-    );
+    judges(rt, alloc, scenario, report, false, status, says, complains);
 }
 
 /// Two programs that each put one key where the sum of both is above 1.
@@ -98,51 +112,6 @@ const WRONG_LINES: [(usize, &str, u8, &str, &str); 7] = [
     ),
 ];
 
-#[test]
-fn reports_are_checked(rt: HostRuntime) -> Result<(), Fail> {
-    let alloc = rt.alloc();
-    for (place, line, status, says, complains) in WRONG_LINES {
-        let report = skew_with(alloc, place, line)?;
-        checks(&rt, alloc, SKEW, report.as_str(), status, says, complains);
-    }
-    checks(&rt, alloc, SKEW, "", 1, "no 1 Count\n", "");
-    // The scenario is judged first.
-    checks(
-        &rt,
-        alloc,
-        "{}",
-        "[",
-        2,
-        "",
-        "stmrun: bad scenario at : Shape\n",
-    );
-    for (_, scenario, report) in REPORTS {
-        checks(&rt, alloc, scenario, report, 0, "yes\n", "");
-    }
-    Ok(())
-}
-
-/// A check of a whole report over memory has this status, and writes this to the two sinks.
-fn checks_whole(
-    rt: &impl Abort,
-    alloc: Global,
-    scenario: &str,
-    report: &str,
-    status: u8,
-    says: &str,
-    complains: &str,
-) {
-    let left = check(alloc, scenario, report, true, NONE);
-    is_left(
-        rt,
-        &left,
-        report,
-        status,
-        says.as_bytes(),
-        complains.as_bytes(),
-    );
-}
-
 /// Texts in the place of a line of the skew's report, each with what a check of the whole report comes to.
 const OTHER_LINES: [(usize, &str, u8, &str, &str); 7] = [
     (0, "", 0, "yes\n", ""),
@@ -204,44 +173,95 @@ const DENIED: &str = "[1,\"started\",1]
 [\"end\",1,0]
 ";
 
-#[test]
-fn whole_reports_are_checked(rt: HostRuntime) -> Result<(), Fail> {
-    let alloc = rt.alloc();
-    for (place, line, status, says, complains) in OTHER_LINES {
-        let report = skew_with(alloc, place, line)?;
-        checks_whole(&rt, alloc, SKEW, report.as_str(), status, says, complains);
-    }
-    checks(&rt, alloc, PUT, DENIED, 0, "yes\n", "");
-    checks_whole(
-        &rt,
-        alloc,
+/// Reports beside a scenario, each with whether it is checked as a whole and what that comes to. The scenario is judged first.
+const JUDGED: [(&str, &str, bool, u8, &str, &str); 6] = [
+    (SKEW, "", false, 1, "no 1 Count\n", ""),
+    ("{}", "[", false, 2, "", "stmrun: bad scenario at : Shape\n"),
+    (PUT, DENIED, false, 0, "yes\n", ""),
+    (
         PUT,
         DENIED,
+        true,
         1,
         "no 2 Differs\n",
         "stmrun: expected [2,\"committed\",1,2,1,[],[],[]]\n",
-    );
-    checks_whole(
-        &rt,
-        alloc,
+    ),
+    (
         PUT,
         "",
+        true,
         1,
         "no 1 Differs\n",
         "stmrun: expected [1,\"started\",1]\n",
-    );
-    // The scenario is judged first.
-    checks_whole(
-        &rt,
+    ),
+    ("{}", "[", true, 2, "", "stmrun: bad scenario at : Shape\n"),
+];
+
+/// The skew's report with such a text in the place of a line comes to this.
+fn judges_line(
+    rt: &impl Abort,
+    alloc: Global,
+    place: usize,
+    line: &str,
+    is_whole: bool,
+    status: u8,
+    says: &str,
+    complains: &str,
+) -> Result<(), Fail> {
+    let report = skew_with(alloc, place, line)?;
+    judges(
+        rt,
         alloc,
-        "{}",
-        "[",
-        2,
-        "",
-        "stmrun: bad scenario at : Shape\n",
+        SKEW,
+        report.as_str(),
+        is_whole,
+        status,
+        says,
+        complains,
     );
-    for (_, scenario, report) in REPORTS {
-        checks_whole(&rt, alloc, scenario, report, 0, "yes\n", "");
+    Ok(())
+}
+
+fn judges_lines(
+    rt: &impl Abort,
+    alloc: Global,
+    is_whole: bool,
+    lines: &[(usize, &str, u8, &str, &str)],
+) -> Result<(), Fail> {
+    for &(place, line, status, says, complains) in lines {
+        judges_line(rt, alloc, place, line, is_whole, status, says, complains)?;
     }
     Ok(())
+}
+
+fn judges_each(rt: &impl Abort, alloc: Global, reports: &[(&str, &str, bool, u8, &str, &str)]) {
+    for &(scenario, report, is_whole, status, says, complains) in reports {
+        judges(
+            rt, alloc, scenario, report, is_whole, status, says, complains,
+        );
+    }
+}
+
+/// Each report of the table is right, line by line and as a whole.
+fn are_right(rt: &impl Abort, alloc: Global, reports: &[(&str, &str, &str)]) {
+    for &(_, scenario, report) in reports {
+        judges(rt, alloc, scenario, report, false, 0, "yes\n", "");
+        judges(rt, alloc, scenario, report, true, 0, "yes\n", "");
+    }
+}
+
+#[test]
+fn reports_with_another_line_are_judged(rt: HostRuntime) -> Result<(), Fail> {
+    judges_lines(&rt, rt.alloc(), false, &WRONG_LINES)?;
+    judges_lines(&rt, rt.alloc(), true, &OTHER_LINES)
+}
+
+#[test]
+fn reports_are_judged_behind_their_scenario(rt: HostRuntime) {
+    judges_each(&rt, rt.alloc(), &JUDGED);
+}
+
+#[test]
+fn reports_of_the_table_are_right(rt: HostRuntime) {
+    are_right(&rt, rt.alloc(), &REPORTS);
 }

@@ -66,18 +66,27 @@ const REFUSED: [(&str, &str); 12] = [
     ),
 ];
 
-#[test]
-fn scenarios_have_their_reports(rt: HostRuntime) {
-    for (name, scenario, report) in REPORTS {
-        reports(&rt, rt.alloc(), name, scenario, report);
+fn all_report(rt: &impl Abort, alloc: Global, scenarios: &[(&str, &str, &str)]) {
+    for &(name, scenario, report) in scenarios {
+        reports(rt, alloc, name, scenario, report);
+    }
+}
+
+/// Each of these texts is refused.
+pub fn all_are_refused(rt: &impl Abort, alloc: Global, texts: &[(&str, &str)]) {
+    for &(text, said) in texts {
+        refuses(rt, alloc, text.as_bytes(), said);
     }
 }
 
 #[test]
+fn scenarios_have_their_reports(rt: HostRuntime) {
+    all_report(&rt, rt.alloc(), &REPORTS);
+}
+
+#[test]
 fn bad_texts(rt: HostRuntime) {
-    for (text, said) in REFUSED {
-        refuses(&rt, rt.alloc(), text.as_bytes(), said);
-    }
+    all_are_refused(&rt, rt.alloc(), &REFUSED);
 }
 
 /// More steps than a scenario may have events, and behind them what is none.

@@ -2,7 +2,7 @@
 
 use crate::commands::script;
 use crate::devices::NONE;
-use crate::scripts::refuses;
+use crate::scripts::{all_are_refused, refuses};
 use std::alloc::Global;
 use std::test::Fail;
 
@@ -50,9 +50,7 @@ const NUMBERS: [(&str, &str); 6] = [
 
 #[test]
 fn numbers_that_are_none(rt: HostRuntime) {
-    for (text, said) in NUMBERS {
-        refuses(&rt, rt.alloc(), text.as_bytes(), said);
-    }
+    all_are_refused(&rt, rt.alloc(), &NUMBERS);
 }
 
 /// So many arrays, each inside the one before it.

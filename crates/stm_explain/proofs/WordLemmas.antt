@@ -4,7 +4,8 @@ use Rattle.serde_json.specs.Data.{Data, Items}
 use Rattle.stm_json.specs.Outcome.{Outcome, bad}
 use Rattle.stm_json.specs.declared.cause.Cause.TheVariants.{Shape}
 use Rattle.stm_program_json.specs.Words.{statement_word, expression_word, condition_word}
-use Rattle.stm_txn_json.specs.Words.{same, order_named, target_named}
+use Rattle.stm_json.specs.Parts.{same}
+use Rattle.stm_txn_json.specs.Words.{order_named, target_named}
 use Rattle.stm_txn_json.specs.Reading.{operation_worded}
 use Rattle.stm_texts.specs.Reading.{level_named, event_worded, watcher_event}
 use Rattle.stm_explain.specs.Words.{TablesAreTheReaders, OthersAreRefused, is_among, level_words, order_words, event_words, statement_words}

@@ -18,7 +18,7 @@ use Rattle.stm_hall.specs.declared.verdict.Verdict.{Verdict}
 use Rattle.stm_hall.specs.declared.refusal.CommitRefusal.{CommitRefusal}
 use Rattle.stm_hall.specs.HallState.{HallState, HallStep, gone_on}
 use Rattle.stm_hall.specs.Locked.{IsLocked}
-use Rattle.stm_hall.specs.Laws.{GoesOn}
+use Rattle.stm_hall.specs.Laws.{GoesOn, ChangesAsAlone}
 use Rattle.stm_hall.specs.Verdicts.{txn_of, entry_of, first_unvouched, taken, unless_unvouched, by_compares, unless_at_fault, verdict_of, CommitTells}
 use Rattle.stm_hall.specs.Entering.{if_changed, entered, made, TxnTells, expiries, IsAdvanced, IsCutShort, HasStopped}
 use Rattle.stm_hall.proofs.Opening.{Follows, stays_locked, goes_on, goes_nowhere}
@@ -43,44 +43,59 @@ KeptBy hall (Err cause) = Unit {0}
 
 -- ---- a commit
 
-by_outcome : (hall : HallState) (ready : ReadyRun) (o : Result Done Refusal) → IsLocked hall → IsRunOnItsAnswers ready →
-    fault_of (terms_of hall.standing).limit (txn_of ready) ≡ None →
+-- what its verdict leads to, which is what the program alone does
+abbrev CommitBy : HallState → ReadyRun → Result (HallStep Verdict) CommitRefusal → Type 0
+CommitBy hall ready (Ok step) = Keeps hall step.next × ChangesAsAlone ready step.answer hall step.next
+CommitBy hall ready (Err cause) = Unit {0}
+
+by_outcome : (hall : HallState) (ready : ReadyRun) (o : Result Done Refusal) → IsLocked hall → IsRunOnItsAnswers ready → fault_of (terms_of hall.standing).limit (txn_of ready) ≡ None →
     first_failed (key_now hall.standing.history) 0 (txn_of ready).compares ≡ None → first_unvouched hall.standing.history ready.level ready.answers ≡ None →
-    outcome (terms_of hall.standing) (txn_of ready) ≡ o → KeptBy hall (taken hall ready o)
+    outcome (terms_of hall.standing) (txn_of ready) ≡ o → CommitBy hall ready (taken hall ready o)
 by_outcome hall ready (Ok done) locked kept right none vouched is =
-    keeps_more hall (with_history hall.standing done.history) (entry_of ready (now done.history) ∷ []) locked
-    (commit_follows hall.standing ready done kept (record { right = right; no_conflict = none; vouched = vouched; took = is }))
+    let after : Standing = with_history hall.standing done.history in
+    let more : List Entry = entry_of ready (now done.history) ∷ [] in
+    let follows : Follows hall.standing after more =
+    commit_follows hall.standing ready done kept (record { right = right; no_conflict = none; vouched = vouched; took = is }) in
+    (keeps_more hall after more locked follows, record { there = follows.there.0; leads = follows.replays })
 by_outcome hall ready (Err cause) locked kept right none vouched is = tt
 
 by_value : (hall : HallState) (ready : ReadyRun) (o : Option ReadAnswer) → IsLocked hall → IsRunOnItsAnswers ready →
     fault_of (terms_of hall.standing).limit (txn_of ready) ≡ None →
     first_failed (key_now hall.standing.history) 0 (txn_of ready).compares ≡ None → first_unvouched hall.standing.history ready.level ready.answers ≡ o →
-    KeptBy hall (unless_unvouched o (taken hall ready (outcome (terms_of hall.standing) (txn_of ready))))
+    CommitBy hall ready (unless_unvouched o (taken hall ready (outcome (terms_of hall.standing) (txn_of ready))))
 by_value hall ready None locked kept right none is =
     by_outcome hall ready (outcome (terms_of hall.standing) (txn_of ready)) locked kept right none is refl
 by_value hall ready (Some a) locked kept right none is = tt
 
-by_failed : (hall : HallState) (ready : ReadyRun) (o : Option FailedCompare) → IsLocked hall → IsRunOnItsAnswers ready →
-    fault_of (terms_of hall.standing).limit (txn_of ready) ≡ None →
-    first_failed (key_now hall.standing.history) 0 (txn_of ready).compares ≡ o → KeptBy hall (by_compares hall ready o)
+by_failed : (hall : HallState) (ready : ReadyRun) (o : Option FailedCompare) → IsLocked hall → IsRunOnItsAnswers ready → fault_of (terms_of hall.standing).limit (txn_of ready) ≡ None →
+    first_failed (key_now hall.standing.history) 0 (txn_of ready).compares ≡ o → CommitBy hall ready (by_compares hall ready o)
 by_failed hall ready None locked kept right is =
     by_value hall ready (first_unvouched hall.standing.history ready.level ready.answers) locked kept right is refl
-by_failed hall ready (Some failed) locked kept right is = keeps_same hall hall locked refl
+by_failed hall ready (Some failed) locked kept right is = (keeps_same hall hall locked refl, refl)
 
-by_fault : (hall : HallState) (ready : ReadyRun) (o : Option Refusal) → IsLocked hall → IsRunOnItsAnswers ready →
-    fault_of (terms_of hall.standing).limit (txn_of ready) ≡ o →
-    KeptBy hall (unless_at_fault o (by_compares hall ready (first_failed (key_now hall.standing.history) 0 (txn_of ready).compares)))
+by_fault : (hall : HallState) (ready : ReadyRun) (o : Option Refusal) → IsLocked hall → IsRunOnItsAnswers ready → fault_of (terms_of hall.standing).limit (txn_of ready) ≡ o →
+    CommitBy hall ready (unless_at_fault o (by_compares hall ready (first_failed (key_now hall.standing.history) 0 (txn_of ready).compares)))
 by_fault hall ready None locked kept is =
     by_failed hall ready (first_failed (key_now hall.standing.history) 0 (txn_of ready).compares) locked kept is refl
 by_fault hall ready (Some cause) locked kept is = tt
 
 -- whatever the verdict
+by_verdict : (before after : HallState) (ready : ReadyRun) (verdict : Verdict) → IsLocked before → IsRunOnItsAnswers ready →
+    verdict_of before ready ≡ Ok record { answer = verdict; next = after } → CommitBy before ready (Ok record { answer = verdict; next = after })
+by_verdict before after ready verdict locked kept told =
+    subst (λ (o : Result (HallStep Verdict) CommitRefusal). CommitBy before ready o) told
+    (by_fault before ready (fault_of (terms_of before.standing).limit (txn_of ready)) locked kept refl)
+
 pub commit_keeps : (before after : HallState) (ready : ReadyRun) (result : Result Verdict CommitRefusal) → IsLocked before → IsRunOnItsAnswers ready →
     CommitTells (verdict_of before ready) before result after → Keeps before after
-commit_keeps before after ready (Ok verdict) locked kept told =
-    subst (λ (o : Result (HallStep Verdict) CommitRefusal). KeptBy before o) told
-    (by_fault before ready (fault_of (terms_of before.standing).limit (txn_of ready)) locked kept refl)
+commit_keeps before after ready (Ok verdict) locked kept told = (by_verdict before after ready verdict locked kept told).0
 commit_keeps before after ready (Err cause) locked kept told = keeps_same before after locked told.1
+
+-- a commit changes the store as its program alone does
+pub commit_alone : (before after : HallState) (ready : ReadyRun) (result : Result Verdict CommitRefusal) → IsLocked before → IsRunOnItsAnswers ready →
+    CommitTells (verdict_of before ready) before result after → IfOk result (λ (verdict : Verdict). ChangesAsAlone ready verdict before after)
+commit_alone before after ready (Ok verdict) locked kept told = (by_verdict before after ready verdict locked kept told).1
+commit_alone before after ready (Err cause) locked kept told = tt
 
 -- ---- a foreign transaction
 

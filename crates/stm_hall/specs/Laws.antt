@@ -8,10 +8,15 @@ use Rattle.stm_program.specs.declared.write.Write.{Write}
 use Rattle.stm_txn.specs.Standing.{Standing}
 use Rattle.stm_compile.specs.Answers.{AreTrue}
 use Rattle.stm_compile.specs.Committed.{conflict_now}
+use Rattle.stm_attempt.specs.ReadyRun.{ReadyRun}
 use Rattle.stm_entries.specs.declared.entry.Entry.{Entry}
+use Rattle.stm_entries.specs.Replay.{replay_entry}
+use Rattle.stm_entries.specs.Replayed.{without_moment}
 use Rattle.stm_hall.specs.HallState.{HallState, made_over}
-use Rattle.stm_hall.specs.Locked.{IsLocked, opening_of}
-use Rattle.stm_hall.specs.Verdicts.{first_unvouched}
+use Rattle.stm_hall.specs.declared.verdict.Verdict.{Verdict}
+use Rattle.stm_hall.specs.declared.verdict.Verdict.TheVariants.{Committed, Failed}
+use Rattle.stm_hall.specs.Locked.{IsCommitThere, IsLocked, opening_of}
+use Rattle.stm_hall.specs.Verdicts.{answers_kept, entry_of, first_unvouched}
 
 -- a hall goes on: its entries are those before with more behind them, and its opening state stays
 pub record GoesOn (before after : HallState) : Type 0 where
@@ -19,6 +24,18 @@ pub record GoesOn (before after : HallState) : Type 0 where
   pub entries : after.entries ≡ before.entries ++ more
   pub start : after.start ≡ before.start
   pub opening : opening_of after ≡ opening_of before
+
+-- A commit that was made: its program, alone on the store as it was, is done with this output and trace, and its writes lead to the store as it is and to this
+-- revision. At ReadCommitted it is alone on the answers that its caller gave.
+pub record IsMadeAlone (ready : ReadyRun) (revision : ℕ) (before after : HallState) : Type 0 where
+  pub there : IsCommitThere ready.program ready.level (answers_kept ready.level ready.answers) ready.output ready.trace revision
+      (without_moment before.standing)
+  pub leads : replay_entry (entry_of ready revision) (without_moment before.standing) ≡ without_moment after.standing
+
+-- a commit that was made changes the store as its program alone does, and one that failed changes nothing
+abbrev pub ChangesAsAlone : ReadyRun → Verdict → HallState → HallState → Type 0
+ChangesAsAlone ready (Committed index revision) before after = IsMadeAlone ready revision before after
+ChangesAsAlone ready (Failed key seen modified answers) before after = after ≡ before
 
 -- A hall that is made over a store is locked, and its opening state is that store.
 pub record OpensAsItsStore (s : Standing) : Type 0 where

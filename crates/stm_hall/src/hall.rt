@@ -6,7 +6,7 @@ ghost use Rattle.stm_calls.specs.StateOf.{IsStateOf};
 ghost use Rattle.stm_compile.specs.Conflicts.{changes_above};
 ghost use Rattle.stm_hall.specs.HallState.{made_over};
 ghost use Rattle.stm_hall.specs.Locked.{IsLocked};
-ghost use Rattle.stm_hall.specs.Laws.{GoesOn};
+ghost use Rattle.stm_hall.specs.Laws.{GoesOn, ChangesAsAlone};
 ghost use Rattle.stm_hall.specs.Fetching.{OnlyReads, fetched, FetchTells};
 ghost use Rattle.stm_hall.specs.Prepared.{IsPreparedFor};
 ghost use Rattle.stm_hall.specs.Verdicts.{verdict_of, CommitTells, CanGoOn};
@@ -88,8 +88,9 @@ impl Hall {
     /// Commits an attempt that is ready, by one transaction.
     ///
     /// `Committed` says that no compare failed and the writes are applied; the attempt is an entry, whose place is told.
-    /// `Failed` says that a compare failed, and the hall is as it was. Its answers may be prefetched for the next
-    /// attempt.
+    /// The store changes as the program changes it that runs alone at this moment, at `ReadCommitted` on the answers that
+    /// the attempt read. `Failed` says that a compare failed, and the hall is as it was. Its answers may be prefetched for
+    /// the next attempt.
     ///
     /// A refusal leaves the hall as it was too. `TooManyOps` and `EmptyKey`: the transaction is wrong as a whole. Where no
     /// compare fails, at a level that compares: `Unvouched`, for the first read whose value is not the store's, an absent
@@ -99,6 +100,7 @@ impl Hall {
     pub fn commit(&mut self, ready: &Ready) -> Result<Verdict, CommitRefusal>
         ensures verdict { CommitTells (verdict_of self.old ready.now) self.old result self.new }
         ensures answers { IfOk result CanGoOn }
+        ensures alone { IfOk result (λ verdict. ChangesAsAlone ready.now verdict self.old self.new) }
         ensures goes_on { GoesOn self.old self.new }
     {
         self.log.commit(self.alloc, ready)
@@ -114,6 +116,7 @@ impl Hall {
         requires { IsPreparedFor prepared ready.now }
         ensures verdict { CommitTells (verdict_of self.old ready.now) self.old result self.new }
         ensures answers { IfOk result CanGoOn }
+        ensures alone { IfOk result (λ verdict. ChangesAsAlone ready.now verdict self.old self.new) }
         ensures goes_on { GoesOn self.old self.new }
     {
         self.log.commit_prepared(self.alloc, ready, prepared)

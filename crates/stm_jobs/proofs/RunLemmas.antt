@@ -16,8 +16,8 @@ use Rattle.stm_report.specs.Script.{Devices}
 use Rattle.stm_report.proofs.ScriptLemmas.{scenario_in-front}
 use Rattle.stm_txn.specs.Standing.{Standing}
 use Rattle.stm_hall.specs.HallState.{HallState, made_over}
-use Rattle.stm_workers.specs.declared.job.Job.{Job}
-use Rattle.stm_workers.specs.declared.job_end.JobEnd.{JobEnd}
+use Rattle.stm_worker.specs.declared.job.Job.{Job}
+use Rattle.stm_worker.specs.declared.job_end.JobEnd.{JobEnd}
 use Rattle.stm_workers.specs.declared.gathered.FaultCause.{FaultCause}
 use Rattle.stm_workers.specs.declared.gathered.FaultCause.TheVariants.{OutOfMemory as NoMemory, Spawn as NoThread, Audit as AtFault}
 use Rattle.stm_workers.specs.Gathered.{RanTo, BrokeOff}
@@ -30,24 +30,30 @@ use Rattle.stm_jobs.specs.Running.{AreLinesOfRun, IsBrokenOffFor, IsBrokenOff, I
 -- ---- the run
 
 -- the lines are of the hall that the jobs were run to, from the one over this store
-pub are_of_run : (shown : Bool) (start : ℕ) (calls : List WorldEvent) (jobs : List Job) (text : List ℕ) (standing : Standing) (ends : List JobEnd) (committed : ℕ)
-    (before after : HallState) → standing ≡ (world_after calls (opened start)).standing → before ≡ made_over standing
-    → RanTo before jobs ends committed after → AreLinesOf shown ends (length jobs) committed after.standing.history text → AreLinesOfRun shown start calls jobs text
-are_of_run shown start calls jobs text standing ends committed before after stands made ran lines = record {
+pub are_of_run : (shown : Bool) (start : ℕ) (calls : List WorldEvent) (jobs : List Job) (text : List ℕ) (standing : Standing) (ends : List JobEnd)
+    (attempts : List ℕ) (committed : ℕ) (before after : HallState) → standing ≡ (world_after calls (opened start)).standing → before ≡ made_over standing
+    → RanTo before jobs ends attempts committed after → AreLinesOf shown ends attempts (length jobs) committed after.standing.history text
+    → AreLinesOfRun shown start calls jobs text
+are_of_run shown start calls jobs text standing ends attempts committed before after stands made ran lines = record {
   ends = ends;
+  attempts = attempts;
   committed = committed;
   after = after;
-  ran = subst (λ (hall : HallState). RanTo hall jobs ends committed after) (made ∙ ap made_over stands) ran;
+  ran = subst (λ (hall : HallState). RanTo hall jobs ends attempts committed after) (made ∙ ap made_over stands) ran;
   lines = lines;
 }
 
 -- a run from the hall over this store that was broken off is told by its cause
-pub broken_off : (start : ℕ) (calls : List WorldEvent) (jobs : List Job) (fault : JobsFault) (cause : FaultCause) (standing : Standing)
+pub broken_off : (start : ℕ) (calls : List WorldEvent) (jobs : List Job) (fault : JobsFault) (cause : FaultCause) (standing : Standing) (ends : List JobEnd)
     (before after : HallState) → standing ≡ (world_after calls (opened start)).standing → before ≡ made_over standing
-    → BrokeOff before jobs cause after → fault ≡ fault_told cause → IsBrokenOff start calls jobs fault
-broken_off start calls jobs fault cause standing before after stands made broke told =
+    → BrokeOff before jobs cause ends after → fault ≡ fault_told cause → IsBrokenOff start calls jobs fault
+broken_off start calls jobs fault cause standing ends before after stands made broke told =
     subst (λ (f : JobsFault). IsBrokenOff start calls jobs f) (sym told)
-    (by_cause cause (record { after = after; broke = subst (λ (hall : HallState). BrokeOff hall jobs cause after) (made ∙ ap made_over stands) broke }))
+    (by_cause cause (record {
+      ends = ends;
+      after = after;
+      broke = subst (λ (hall : HallState). BrokeOff hall jobs cause ends after) (made ∙ ap made_over stands) broke;
+    }))
   where
     by_cause : (c : FaultCause) → IsBrokenOffFor start calls jobs c → IsBrokenOff start calls jobs (fault_told c)
     by_cause NoMemory broken = tt

@@ -11,8 +11,8 @@ use Rattle.stm_report.specs.Script.{Devices, IsUntouched}
 use Rattle.stm_world.specs.declared.event.WorldEvent.{WorldEvent}
 use Rattle.stm_world.specs.World.{opened, world_after}
 use Rattle.stm_hall.specs.HallState.{HallState, made_over}
-use Rattle.stm_workers.specs.declared.job.Job.{Job}
-use Rattle.stm_workers.specs.declared.job_end.JobEnd.{JobEnd}
+use Rattle.stm_worker.specs.declared.job.Job.{Job}
+use Rattle.stm_worker.specs.declared.job_end.JobEnd.{JobEnd}
 use Rattle.stm_workers.specs.declared.gathered.FaultCause.{FaultCause}
 use Rattle.stm_workers.specs.declared.gathered.FaultCause.TheVariants.{OutOfMemory as NoMemory, Spawn as NoThread, Audit as AtFault}
 use Rattle.stm_workers.specs.Gathered.{RanTo, BrokeOff}
@@ -27,15 +27,17 @@ use Rattle.stm_jobs.specs.Lines.{AreLinesOf}
 -- and has taken these calls: what stands in it is the hall that the run came to, and each job has its end there.
 pub record AreLinesOfRun (shown : Bool) (start : ℕ) (calls : List WorldEvent) (jobs : List Job) (text : List ℕ) : Type 0 where
   pub ends : List JobEnd
+  pub attempts : List ℕ
   pub committed : ℕ
   pub after : HallState
-  pub ran : RanTo (made_over (world_after calls (opened start)).standing) jobs ends committed after
-  pub lines : AreLinesOf shown ends (length jobs) committed after.standing.history text
+  pub ran : RanTo (made_over (world_after calls (opened start)).standing) jobs ends attempts committed after
+  pub lines : AreLinesOf shown ends attempts (length jobs) committed after.standing.history text
 
 -- the run of these jobs, from such a hall, was broken off for this cause
 pub record IsBrokenOffFor (start : ℕ) (calls : List WorldEvent) (jobs : List Job) (cause : FaultCause) : Type 0 where
+  pub ends : List JobEnd
   pub after : HallState
-  pub broke : BrokeOff (made_over (world_after calls (opened start)).standing) jobs cause after
+  pub broke : BrokeOff (made_over (world_after calls (opened start)).standing) jobs cause ends after
 
 -- What is told of a run of these jobs of which nothing is printed: the cause for which it was broken off. Memory may be wanted before the run and after
 -- it, too.

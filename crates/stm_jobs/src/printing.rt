@@ -1,5 +1,5 @@
 //! What is printed of a run of jobs.
-ghost use Rattle.std.specs.Prelude.{◌≡◌, ◌++◌, IfOk, OnOk, string_bytes};
+ghost use Rattle.std.specs.Prelude.{◌≡◌, ◌++◌, false, length, IfOk, OnOk, string_bytes};
 ghost use Rattle.serde_json.specs.Data.{string};
 ghost use Rattle.serde_json.specs.View.{view};
 ghost use Rattle.stm_reports.specs.LineData.{whole};
@@ -44,17 +44,29 @@ fn push_value(alloc: Global, text: &mut String, key: &str, value: &str) -> Resul
 }
 
 /// The line of a job whose end tells a number.
-fn number_json(alloc: Global, job: u64, word: &str, told: u64) -> Result<Json, AllocError>
-    ensures { IfOk result (λ v. view v ≡ job_line job word.now (whole told)) }
+fn number_json(
+    alloc: Global,
+    job: u64,
+    word: &str,
+    told: u64,
+    attempts: u32,
+) -> Result<Json, AllocError>
+    ensures { IfOk result (λ v. view v ≡ job_line job word.now (whole told) attempts) }
 {
-    json!(in alloc; ["job", job, word, told])
+    json!(in alloc; ["job", job, word, told, attempts])
 }
 
 /// The line of a job whose end tells a text.
-fn text_json(alloc: Global, job: u64, word: &str, told: &str) -> Result<Json, AllocError>
-    ensures { IfOk result (λ v. view v ≡ job_line job word.now (string told.now)) }
+fn text_json(
+    alloc: Global,
+    job: u64,
+    word: &str,
+    told: &str,
+    attempts: u32,
+) -> Result<Json, AllocError>
+    ensures { IfOk result (λ v. view v ≡ job_line job word.now (string told.now) attempts) }
 {
-    json!(in alloc; ["job", job, word, told])
+    json!(in alloc; ["job", job, word, told, attempts])
 }
 
 /// Adds the line of a job whose end tells a number.
@@ -64,10 +76,11 @@ fn push_number(
     job: u64,
     word: &str,
     told: u64,
+    attempts: u32,
 ) -> Result<(), AllocError>
-    ensures { OnOk result (string_bytes text.new ≡ string_bytes text.old ++ line_text (job_line job word.now (whole told))) }
+    ensures { OnOk result (string_bytes text.new ≡ string_bytes text.old ++ line_text (job_line job word.now (whole told) attempts)) }
 {
-    let line = number_json(alloc, job, word, told)?;
+    let line = number_json(alloc, job, word, told, attempts)?;
     push_line(alloc, text, &line)
 }
 
@@ -78,10 +91,11 @@ fn push_text(
     job: u64,
     word: &str,
     told: &str,
+    attempts: u32,
 ) -> Result<(), AllocError>
-    ensures { OnOk result (string_bytes text.new ≡ string_bytes text.old ++ line_text (job_line job word.now (string told.now))) }
+    ensures { OnOk result (string_bytes text.new ≡ string_bytes text.old ++ line_text (job_line job word.now (string told.now) attempts)) }
 {
-    let line = text_json(alloc, job, word, told)?;
+    let line = text_json(alloc, job, word, told, attempts)?;
     push_line(alloc, text, &line)
 }
 
@@ -96,27 +110,45 @@ fn refusal_name(refusal: &JobRefusal) -> &'static str
     }
 }
 
-/// Adds the line of the end of a job.
-fn push_end(alloc: Global, text: &mut String, job: u64, end: &JobEnd) -> Result<(), AllocError>
-    ensures { OnOk result (string_bytes text.new ≡ string_bytes text.old ++ line_text (end_of_job job end.now)) }
+/// Adds the line of the end of a job, to which it came after so many attempts.
+fn push_end(
+    alloc: Global,
+    text: &mut String,
+    job: u64,
+    end: &JobEnd,
+    attempts: u32,
+) -> Result<(), AllocError>
+    ensures { OnOk result (string_bytes text.new ≡ string_bytes text.old ++ line_text (end_of_job job end.now attempts)) }
 {
     match end {
         JobEnd::Committed { revision, .. } => {
-            push_number(alloc, text, job, "committed", *revision)
+            push_number(alloc, text, job, "committed", *revision, attempts)
         }
-        JobEnd::Aborted { text: told, .. } => push_text(alloc, text, job, "aborted", told.as_str()),
-        JobEnd::Faulted { fault, .. } => push_text(alloc, text, job, "faulted", fault.name()),
-        JobEnd::Refused(refusal) => push_text(alloc, text, job, "ended", refusal_name(refusal)),
-        JobEnd::GaveUp { key } => push_text(alloc, text, job, "gaveup", key.as_str()),
+        JobEnd::Aborted { text: told, .. } => {
+            push_text(alloc, text, job, "aborted", told.as_str(), attempts)
+        }
+        JobEnd::Faulted { fault, .. } => {
+            push_text(alloc, text, job, "faulted", fault.name(), attempts)
+        }
+        JobEnd::Refused(refusal) => {
+            push_text(alloc, text, job, "ended", refusal_name(refusal), attempts)
+        }
+        JobEnd::GaveUp { key } => push_text(alloc, text, job, "gaveup", key.as_str(), attempts),
     }
 }
 
-/// Adds a line for the end of each job, numbered from 0.
-fn push_ends(alloc: Global, text: &mut String, ends: &[JobEnd]) -> Result<(), AllocError>
-    ensures { OnOk result (string_bytes text.new ≡ string_bytes text.old ++ lines_text (lines_of_ends 0 ends.now)) }
+/// Adds a line for the end of each job, numbered from 0, with how many attempts were made of it.
+fn push_ends(
+    alloc: Global,
+    text: &mut String,
+    ends: &[JobEnd],
+    attempts: &[u32],
+) -> Result<(), AllocError>
+    requires { length attempts.now ≡ length ends.now }
+    ensures { OnOk result (string_bytes text.new ≡ string_bytes text.old ++ lines_text (lines_of_ends attempts.now 0 ends.now)) }
 {
     for (job, end) in ends.iter().enumerate() {
-        push_end(alloc, text, job as u64, end)?;
+        push_end(alloc, text, job as u64, end, attempts[job])?;
     }
     Ok(())
 }
@@ -126,12 +158,14 @@ fn push_shown(
     alloc: Global,
     text: &mut String,
     ends: &[JobEnd],
+    attempts: &[u32],
     with_ends: bool,
 ) -> Result<(), AllocError>
-    ensures { OnOk result (string_bytes text.new ≡ string_bytes text.old ++ lines_text (ends_shown with_ends ends.now)) }
+    requires { length attempts.now ≡ length ends.now }
+    ensures { OnOk result (string_bytes text.new ≡ string_bytes text.old ++ lines_text (ends_shown with_ends ends.now attempts.now)) }
 {
     if with_ends {
-        push_ends(alloc, text, ends)
+        push_ends(alloc, text, ends, attempts)
     } else {
         Ok(())
     }
@@ -149,8 +183,8 @@ fn push_values(alloc: Global, text: &mut String, state: &State) -> Result<(), Al
     Ok(())
 }
 
-/// What is printed of a run of so many jobs: how many there are and how many of them committed, a line for the end of each, where these are to be
-/// shown, one for each key that is present with its value, ascending by bytes, and the store's revision.
+/// What is printed of a run of so many jobs: how many there are and how many of them committed, a line for the end of each and its attempts, where these
+/// are to be shown, one for each key that is present with its value, ascending by bytes, and the store's revision.
 ///
 /// Each line is a compact JSON array and a line feed. It fails where a growth was refused.
 pub fn lines(
@@ -159,13 +193,21 @@ pub fn lines(
     gathered: &Gathered,
     with_ends: bool,
 ) -> Result<String, AllocError>
-    ensures { IfOk result (λ text. AreLinesOf with_ends gathered.now.ends.items jobs gathered.now.committed gathered.now.hall.standing.history (string_bytes text)) }
+    requires { length gathered.now.attempts.items ≡ length gathered.now.ends.items }
+    ensures { IfOk result (λ text. AreLinesOf with_ends gathered.now.ends.items gathered.now.attempts.items jobs gathered.now.committed
+        gathered.now.hall.standing.history (string_bytes text)) }
 {
     let state = gathered.hall.state()?;
     let mut text = String::new(alloc);
     push_count(alloc, &mut text, "jobs", jobs as u64)?;
     push_count(alloc, &mut text, "committed", gathered.committed as u64)?;
-    push_shown(alloc, &mut text, gathered.ends.as_slice(), with_ends)?;
+    push_shown(
+        alloc,
+        &mut text,
+        gathered.ends.as_slice(),
+        gathered.attempts.as_slice(),
+        with_ends,
+    )?;
     push_values(alloc, &mut text, &state)?;
     push_count(alloc, &mut text, "end", gathered.hall.revision())?;
     Ok(text)

@@ -1,11 +1,12 @@
 //! From the bytes of a source to what is printed of its jobs in a sink.
-ghost use Rattle.std.specs.Prelude.{◌≡◌, ◌≤◌, ◌+◌, ℕ, List, false, string_bytes, Ok, IfOk, IfErr};
+ghost use Rattle.std.specs.Prelude.{◌≡◌, ◌≤◌, ◌+◌, ℕ, List, false, length, string_bytes, Ok, IfOk, IfErr};
 ghost use Rattle.stm_devices.specs.declared.transfer.TheConstants.{MOST_READ};
 ghost use Rattle.stm_history.specs.declared.revisions.TheConstants.{HIGHEST_REVISION};
 ghost use Rattle.stm_texts.specs.Reading.{IsOpening, scenario_in};
 ghost use Rattle.stm_world.specs.declared.event.WorldEvent.{WorldEvent};
 ghost use Rattle.stm_world.specs.World.{opened, world_after};
 ghost use Rattle.stm_jobs.specs.declared.running.JobsFault.TheVariants.{OutOfMemory};
+ghost use Rattle.stm_workers.specs.declared.run.TheConstants.{MOST_WORKERS};
 ghost use Rattle.stm_jobs.specs.Lines.{AreLinesOf};
 ghost use Rattle.stm_jobs.specs.Running.{AreLinesOfRun, IsBrokenOff, fault_told, Answers, Writes, Does};
 
@@ -88,7 +89,9 @@ fn lines_of_run(
     gathered: Gathered,
     with_ends: bool,
 ) -> Result<String, JobsFault>
-    ensures lines { IfOk result (λ text. AreLinesOf with_ends gathered.ends.items jobs gathered.committed gathered.hall.standing.history (string_bytes text)) }
+    requires { length gathered.attempts.items ≡ length gathered.ends.items }
+    ensures lines { IfOk result (λ text. AreLinesOf with_ends gathered.ends.items gathered.attempts.items jobs gathered.committed
+        gathered.hall.standing.history (string_bytes text)) }
     ensures fault { IfErr result (λ fault. fault ≡ OutOfMemory) }
 {
     match lines(alloc, jobs, &gathered, with_ends) {
@@ -106,7 +109,7 @@ fn lines_on<R: Threads + Wait + Sync>(
     workers: usize,
     with_ends: bool,
 ) -> Result<String, JobsFault>
-    requires { (1 ≤ workers) × (workers ≤ 16) }
+    requires { (1 ≤ workers) × (workers ≤ MOST_WORKERS) }
     ensures lines { IfOk result (λ text. (start : ℕ) (calls : List WorldEvent) → store.standing ≡ (world_after calls (opened start)).standing
         → AreLinesOfRun with_ends start calls jobs.now (string_bytes text)) }
     ensures fault { IfErr result (λ fault. (start : ℕ) (calls : List WorldEvent) → store.standing ≡ (world_after calls (opened start)).standing
@@ -128,7 +131,7 @@ fn lines_of<R: Threads + Wait + Sync>(
     workers: usize,
     with_ends: bool,
 ) -> Result<String, JobsFault>
-    requires { (1 ≤ workers) × (workers ≤ 16) × (1 ≤ start) × (start ≤ HIGHEST_REVISION) }
+    requires { (1 ≤ workers) × (workers ≤ MOST_WORKERS) × (1 ≤ start) × (start ≤ HIGHEST_REVISION) }
     ensures lines { IfOk result (λ text. AreLinesOfRun with_ends start calls.now jobs.now (string_bytes text)) }
     ensures fault { IfErr result (IsBrokenOff start calls.now jobs.now) }
 {
@@ -146,7 +149,7 @@ fn lines_of_scenario<R: Threads + Wait + Sync>(
     workers: usize,
     with_ends: bool,
 ) -> Result<String, JobsFault>
-    requires workers { (1 ≤ workers) × (workers ≤ 16) }
+    requires workers { (1 ≤ workers) × (workers ≤ MOST_WORKERS) }
     requires opening { IsOpening scenario.opening }
     ensures { Answers with_ends string_bytes (Ok scenario) result }
 {
@@ -171,7 +174,7 @@ fn lines_of_bytes<R: Threads + Wait + Sync>(
     workers: usize,
     with_ends: bool,
 ) -> Result<String, JobsFault>
-    requires { (1 ≤ workers) × (workers ≤ 16) }
+    requires { (1 ≤ workers) × (workers ≤ MOST_WORKERS) }
     ensures { Answers with_ends string_bytes (scenario_in bytes.now) result }
 {
     let scenario = read_scenario(alloc, bytes)?;
@@ -187,7 +190,7 @@ fn write_lines<R: Threads + Wait + Sync, W: Sink>(
     with_ends: bool,
     sink: &mut W,
 ) -> Result<(), JobsFault>
-    requires workers { (1 ≤ workers) × (workers ≤ 16) }
+    requires workers { (1 ≤ workers) × (workers ≤ MOST_WORKERS) }
     requires sink_works { W.failed sink.old ≡ false }
     ensures { Writes with_ends bytes.now (W.held sink.old) (W.held sink.new) (W.failed sink.new) result }
 {
@@ -217,7 +220,7 @@ pub fn run_jobs<R: Threads + Wait + Sync, S: Source, W: Sink>(
     with_ends: bool,
     sink: &mut W,
 ) -> Result<(), JobsFault>
-    requires workers { (1 ≤ workers) × (workers ≤ 16) }
+    requires workers { (1 ≤ workers) × (workers ≤ MOST_WORKERS) }
     requires source_works { S.failed source.old ≡ false }
     requires sink_works { W.failed sink.old ≡ false }
     ensures done { Does with_ends (record {

@@ -2,9 +2,9 @@
 use Rattle.std.proofs.Common.{◌≡◌, ℕ, zero, suc, ◌<◌, List, [], ◌∷◌, length, Option, None, Some, option_and_then, slice_get, refl, subst, ⊎_elim, arith}
 use Rattle.std.proofs.lemmas.Bool.{cases_order}
 use Rattle.stm_hall.specs.HallState.{HallState}
-use Rattle.stm_workers.specs.declared.begun.Begun.{Begun}
-use Rattle.stm_workers.specs.declared.job.Job.{Job}
-use Rattle.stm_workers.specs.declared.job_end.JobEnd.{JobEnd}
+use Rattle.stm_workers.specs.declared.start_point.StartPoint.{StartPoint}
+use Rattle.stm_worker.specs.declared.job.Job.{Job}
+use Rattle.stm_worker.specs.declared.job_end.JobEnd.{JobEnd}
 use Rattle.stm_workers.specs.Ends.{entry_named, IsNew, Stands, AllStand, CommitsAreApart}
 
 -- an end that names an entry is an end
@@ -33,7 +33,7 @@ there (x ∷ xs) zero short = record { item = x; is = refl }
 there (x ∷ xs) (suc k) short = let r = there xs k (omega arith) in record { item = r.item; is = r.is }
 
 -- an end that stands names an entry that none before it has named
-later_is_new : (begun : Begun) (hall : HallState) (jobs : List Job) (ends : List JobEnd) → length ends ≡ length jobs → AllStand begun hall jobs ends
+later_is_new : (begun : StartPoint) (hall : HallState) (jobs : List Job) (ends : List JobEnd) → length ends ≡ length jobs → AllStand begun hall jobs ends
     → (k index : ℕ) → option_and_then entry_named (slice_get ends k) ≡ Some index → IsNew ends k index
 later_is_new begun hall jobs ends same stand k index names =
     let n = named (slice_get ends k) index names in

@@ -1,11 +1,7 @@
 pub mod EndLaws
 pub mod StopLaws
-pub mod RoundLemmas
+pub mod AttemptLaws
 pub mod SeatLemmas
-pub mod AskLemmas
-pub mod NextLemmas
-pub mod AttemptLemmas
-pub mod TriedLemmas
 pub mod AuditLemmas
 pub mod RunLemmas
-pub mod Sent
+pub mod Shareable

@@ -1,78 +1,95 @@
 -- What a run of jobs comes to.
-use Rattle.std.proofs.Common.{◌≡◌, ℕ, ◌+◌, ◌<◌, true, List, length, count_by, Option, Some, None, IfSome, IfNone, Result, Ok, IfOk, sym, ◌∙◌, ap, subst}
+use Rattle.std.proofs.Common.{◌≡◌, ℕ, ◌+◌, ◌<◌, true, List, length, count_by, Option, Some, None, IfSome, IfNone, Result, Ok, IfOk, refl, sym, ◌∙◌, ap, subst}
+use Rattle.stm_draw.specs.declared.table.JobSeat.{JobSeat}
+use Rattle.stm_draw.specs.declared.view.Size.{Size}
 use Rattle.stm_hall.specs.HallState.{HallState}
-use Rattle.stm_workers.specs.declared.begun.Begun.{Begun}
-use Rattle.stm_workers.specs.declared.job.Job.{Job}
-use Rattle.stm_workers.specs.declared.job_end.JobEnd.{JobEnd}
+use Rattle.stm_workers.specs.declared.start_point.StartPoint.{StartPoint}
+use Rattle.stm_worker.specs.declared.job.Job.{Job}
+use Rattle.stm_worker.specs.declared.job_end.JobEnd.{JobEnd}
 use Rattle.stm_workers.specs.declared.gathered.FaultCause.{FaultCause}
 use Rattle.stm_workers.specs.declared.gathered.FaultCause.TheVariants.{OutOfMemory, Spawn, Audit}
-use Rattle.stm_workers.specs.Ends.{begun_at, commits_in, is_committed, AllStand, StandsAt, TookCommitsOf}
-use Rattle.stm_workers.specs.declared.worker.EndOf.{EndOf}
-use Rattle.stm_workers.specs.Attempts.{HasItsRun, HaveTheirRuns}
+use Rattle.stm_workers.specs.Ends.{start_point, AllStand, StandsAt}
+use Rattle.stm_worker.specs.Commits.{commits_in, is_committed, TookCommitsOf}
+use Rattle.stm_workers.specs.Drawn.{HasDrawnAll}
+use Rattle.stm_workers.specs.Runs.{HaveTheirRuns}
 use Rattle.stm_workers.specs.Gathered.{RanTo, IsAtFault, OnAudit, BrokeOff}
-use Rattle.stm_workers.specs.declared.lost.Lost.{Lost}
-use Rattle.stm_workers.specs.declared.lost.Lost.TheVariants.{OutOfMemory as NoMemory, Spawn as NoThread}
+use Rattle.stm_workers.specs.declared.thread_fault.ThreadFault.{ThreadFault}
+use Rattle.stm_workers.specs.declared.thread_fault.ThreadFault.TheVariants.{OutOfMemory as NoMemory, Spawn as NoThread}
 use Rattle.stm_workers.specs.Causes.{cause_of}
-use Rattle.stm_workers.specs.Rounds.{HasGoneOn, takes_commits_of}
-use Rattle.stm_workers.proofs.RoundLemmas.{goes_on, has_not_gone, took_commits, took_nothing}
+use Rattle.stm_worker.specs.Calls.{HasGoneOn, HasKeptStore, takes_commits_of}
+use Rattle.stm_worker.proofs.LockedLemmas.{goes_on, has_not_gone, took_commits, took_nothing}
 
 -- the ends were gathered, and each stands
-pub ran_to : (before after : HallState) (jobs : List Job) (ends : List JobEnd) (begun : Begun) (committed : ℕ) → begun ≡ begun_at before →
-    HasGoneOn before after → TookCommitsOf jobs before after → length ends ≡ length jobs →
-    commits_in after.entries ≡ commits_in before.entries + count_by is_committed ends →
-    committed ≡ count_by is_committed ends → AllStand begun after jobs ends → HaveTheirRuns jobs ends → RanTo before jobs ends committed after
-ran_to before after jobs ends begun committed began gone takes places commits counted stand ran = record {
-  places = places;
+pub ran_to : (before after : HallState) (jobs : List Job) (ends : List JobEnd) (attempts : List ℕ) (begun : StartPoint) (committed : ℕ) →
+    begun ≡ start_point before → HasGoneOn before after → HasKeptStore before after → TookCommitsOf jobs before after →
+    (length ends ≡ length jobs) × (length attempts ≡ length jobs) → commits_in after.entries ≡ commits_in before.entries + count_by is_committed ends →
+    committed ≡ count_by is_committed ends → AllStand begun after jobs ends → HaveTheirRuns jobs ends attempts →
+    RanTo before jobs ends attempts committed after
+ran_to before after jobs ends attempts begun committed began gone kept takes places commits counted stand ran = record {
+  places = places.0;
+  attempted = places.1;
   counted = counted;
   commits = commits ∙ ap (λ (n : ℕ). commits_in before.entries + n) (sym counted);
-  stand = subst (λ (b : Begun). AllStand b after jobs ends) began stand;
+  stand = subst (λ (b : StartPoint). AllStand b after jobs ends) began stand;
   ran = ran;
   takes = takes;
   goes_on = goes_on before after gone;
+  keeps = kept;
 }
 
--- a run that ended for another cause than an audit
-broke_off : (before after : HallState) (jobs : List Job) (cause : FaultCause) → HasGoneOn before after → TookCommitsOf jobs before after →
-    OnAudit cause (IsAtFault before jobs after) → BrokeOff before jobs cause after
-broke_off before after jobs cause gone takes fault = record { at_fault = fault; takes = takes; goes_on = goes_on before after gone }
+-- a run that was broken off
+pub broke_off : (before after : HallState) (jobs : List Job) (cause : FaultCause) (ends : List JobEnd) → HasGoneOn before after → HasKeptStore before after →
+    TookCommitsOf jobs before after → OnAudit cause (IsAtFault before jobs ends after) → BrokeOff before jobs cause ends after
+broke_off before after jobs cause ends gone kept takes fault =
+    record { at_fault = fault; takes = takes; goes_on = goes_on before after gone; keeps = kept }
 
 -- the cause of threads that were given up is no audit
-no_audit : (lost : Lost) (fact : ℕ → Type 0) → OnAudit (cause_of lost) fact
+no_audit : (lost : ThreadFault) (fact : ℕ → Type 0) → OnAudit (cause_of lost) fact
 no_audit NoMemory fact = tt
 no_audit NoThread fact = tt
 
-pub given_up : (before after : HallState) (jobs : List Job) (lost : Lost) (cause : FaultCause) → HasGoneOn before after → TookCommitsOf jobs before after →
-    cause ≡ cause_of lost → BrokeOff before jobs cause after
-given_up before after jobs lost cause gone takes is =
-    broke_off before after jobs cause gone takes
-    (subst (λ (told : FaultCause). OnAudit told (IsAtFault before jobs after)) (sym is) (no_audit lost (IsAtFault before jobs after)))
+pub given_up : (before after told : HallState) (jobs : List Job) (lost : ThreadFault) (cause : FaultCause) (ends : List JobEnd) → HasGoneOn before after →
+    HasKeptStore before after → TookCommitsOf jobs before after → told ≡ after → cause ≡ cause_of lost → BrokeOff before jobs cause ends told
+given_up before after told jobs lost cause ends gone kept takes same is =
+    subst (λ (h : HallState). BrokeOff before jobs cause ends h) (sym same)
+    (broke_off before after jobs cause ends gone kept takes
+    (subst (λ (c : FaultCause). OnAudit c (IsAtFault before jobs ends after)) (sym is) (no_audit lost (IsAtFault before jobs ends after))))
 
 -- or before it began
-pub broke_off_early : (before : HallState) (jobs : List Job) → BrokeOff before jobs OutOfMemory before
-broke_off_early before jobs = record { at_fault = tt; takes = took_nothing jobs before; goes_on = goes_on before before (has_not_gone before) }
+pub broke_off_early : (before told : HallState) (jobs : List Job) (cause : FaultCause) (ends : List JobEnd) → told ≡ before → cause ≡ OutOfMemory →
+    BrokeOff before jobs cause ends told
+broke_off_early before told jobs cause ends same is =
+    subst (λ (c : FaultCause). BrokeOff before jobs c ends told) (sym is)
+    (subst (λ (h : HallState). BrokeOff before jobs OutOfMemory ends h) (sym same)
+    (broke_off before before jobs OutOfMemory ends (has_not_gone before) (refl {a = before}) (took_nothing jobs before) tt))
 
 -- the end of this job does not stand
-on_fault : (before after : HallState) (jobs : List Job) (ends : List JobEnd) (begun : Begun) (cause : FaultCause) → begun ≡ begun_at before →
-    length ends ≡ length jobs →
-    OnAudit cause (λ (job : ℕ). (job < length jobs) × (StandsAt begun after jobs ends job → ⊥)) → OnAudit cause (IsAtFault before jobs after)
-on_fault before after jobs ends begun OutOfMemory began places told = tt
-on_fault before after jobs ends begun Spawn began places told = tt
-on_fault before after jobs ends begun (Audit job) began places told =
-    (told.0, (ends, places, subst (λ (b : Begun). StandsAt b after jobs ends job → ⊥) began told.1))
+began_there : (before after : HallState) (jobs : List Job) (ends : List JobEnd) (begun : StartPoint) (cause : FaultCause) → begun ≡ start_point before →
+    OnAudit cause (λ (job : ℕ). (job < length jobs) × (length ends ≡ length jobs) × (StandsAt begun after jobs ends job → ⊥)) →
+    OnAudit cause (IsAtFault before jobs ends after)
+began_there before after jobs ends begun OutOfMemory began told = tt
+began_there before after jobs ends begun Spawn began told = tt
+began_there before after jobs ends begun (Audit job) began told =
+    (told.0, told.1, subst (λ (b : StartPoint). StandsAt b after jobs ends job → ⊥) began told.2)
 
-pub fault_found : (before after : HallState) (jobs : List Job) (ends : List JobEnd) (begun : Begun) (cause : FaultCause) → begun ≡ begun_at before →
-    length ends ≡ length jobs → HasGoneOn before after → TookCommitsOf jobs before after →
-    OnAudit cause (λ (job : ℕ). (job < length jobs) × (StandsAt begun after jobs ends job → ⊥)) → BrokeOff before jobs cause after
-fault_found before after jobs ends begun cause began places gone takes told =
-    broke_off before after jobs cause gone takes (on_fault before after jobs ends begun cause began places told)
+pub fault_found : (before after told : HallState) (jobs : List Job) (ends : List JobEnd) (begun : StartPoint) (cause : FaultCause) →
+    begun ≡ start_point before → HasGoneOn before after → HasKeptStore before after → TookCommitsOf jobs before after → told ≡ after →
+    OnAudit cause (λ (job : ℕ). (job < length jobs) × (length ends ≡ length jobs) × (StandsAt begun after jobs ends job → ⊥)) →
+    BrokeOff before jobs cause ends told
+fault_found before after told jobs ends begun cause began gone kept takes same fault =
+    subst (λ (h : HallState). BrokeOff before jobs cause ends h) (sym same)
+    (broke_off before after jobs cause ends gone kept takes (began_there before after jobs ends begun cause began fault))
 
--- ---- one round
+-- ---- one run
 
--- the hall that was handed in is the one that the round is of
+-- the hall that was handed in is the one that the run is of
 pub gone_from : (hall before after : HallState) → hall ≡ before → HasGoneOn before after → HasGoneOn hall after
 gone_from hall before after same gone = subst (λ (h : HallState). HasGoneOn h after) (sym same) gone
 
--- and the jobs are the round's
+pub kept_from : (hall before after : HallState) → hall ≡ before → HasKeptStore before after → HasKeptStore hall after
+kept_from hall before after same kept = subst (λ (h : HallState). HasKeptStore h after) (sym same) kept
+
+-- and the jobs are the run's
 pub taken_from : (jobs its : List Job) (hall before after : HallState) → jobs ≡ its → hall ≡ before → takes_commits_of its before after ≡ true →
     TookCommitsOf jobs hall after
 taken_from jobs its hall before after are same takes =
@@ -80,10 +97,10 @@ taken_from jobs its hall before after are same takes =
     (ap (λ (js : List Job). takes_commits_of js hall after) are ∙ ap (λ (h : HallState). takes_commits_of its h after) same ∙ takes)
 
 -- it has the commits that it had, and one for each end that is one
-pub round_commits : (hall before after : HallState) (amount told counted : ℕ) → hall ≡ before →
+pub run_commits : (hall before after : HallState) (amount told counted : ℕ) → hall ≡ before →
     commits_in after.entries ≡ commits_in before.entries + amount → amount ≡ told → counted ≡ told →
     commits_in after.entries ≡ commits_in hall.entries + counted
-round_commits hall before after amount told counted same closed shared sorted =
+run_commits hall before after amount told counted same closed shared sorted =
     closed
     ∙ ap (λ (h : HallState). commits_in h.entries + amount) (sym same)
     ∙ ap (λ (n : ℕ). commits_in hall.entries + n) (shared ∙ sym sorted)
@@ -91,20 +108,28 @@ round_commits hall before after amount told counted same closed shared sorted =
 -- ---- what the audit says
 
 -- it clears the ends, which it was shown
-pub all_clear : (begun : Begun) (hall : HallState) (jobs : List Job) (shown ends : List JobEnd) (found : Option ℕ) → found ≡ None → shown ≡ ends →
-    IfNone found (AllStand begun hall jobs shown) → AllStand begun hall jobs ends
-all_clear begun hall jobs shown ends None none same clear = subst (λ (es : List JobEnd). AllStand begun hall jobs es) same clear
-all_clear begun hall jobs shown ends (Some place) none same clear = absurd (cc)
+pub all_clear : (begun : StartPoint) (hall : HallState) (jobs : List Job) (shown ends : List JobEnd) → shown ≡ ends → AllStand begun hall jobs shown →
+    AllStand begun hall jobs ends
+all_clear begun hall jobs shown ends same clear = subst (λ (es : List JobEnd). AllStand begun hall jobs es) same clear
 
--- it tells a job that is at fault
-pub one_at_fault : (begun : Begun) (hall : HallState) (jobs : List Job) (shown ends : List JobEnd) (found : Option ℕ) (job : ℕ) → found ≡ Some job →
-    shown ≡ ends → IfSome found (λ (place : ℕ). (place < length jobs) × (StandsAt begun hall jobs shown place → ⊥)) →
-    (job < length jobs) × (StandsAt begun hall jobs ends job → ⊥)
-one_at_fault begun hall jobs shown ends None job told same fault = absurd (cc)
-one_at_fault begun hall jobs shown ends (Some place) job told same fault =
-    let here : place ≡ job = cc (told) in
-    subst (λ (k : ℕ). (k < length jobs) × (StandsAt begun hall jobs ends k → ⊥)) here
-    (subst (λ (es : List JobEnd). (place < length jobs) × (StandsAt begun hall jobs es place → ⊥)) same fault)
+-- it tells a job that is at fault, of the ends that are handed back
+told_of : (begun : StartPoint) (hall : HallState) (jobs : List Job) (ends : List JobEnd) (cause : FaultCause) → length ends ≡ length jobs →
+    OnAudit cause (λ (job : ℕ). (job < length jobs) × (StandsAt begun hall jobs ends job → ⊥)) →
+    OnAudit cause (λ (job : ℕ). (job < length jobs) × (length ends ≡ length jobs) × (StandsAt begun hall jobs ends job → ⊥))
+told_of begun hall jobs ends OutOfMemory places fault = tt
+told_of begun hall jobs ends Spawn places fault = tt
+told_of begun hall jobs ends (Audit job) places fault = (fault.0, places, fault.1)
+
+pub at_fault : (begun : StartPoint) (hall : HallState) (jobs : List Job) (shown ends given : List JobEnd) (cause told : FaultCause) → shown ≡ ends →
+    given ≡ ends → told ≡ cause → length ends ≡ length jobs →
+    OnAudit cause (λ (job : ℕ). (job < length jobs) × (StandsAt begun hall jobs shown job → ⊥)) →
+    OnAudit told (λ (job : ℕ). (job < length jobs) × (length given ≡ length jobs) × (StandsAt begun hall jobs given job → ⊥))
+at_fault begun hall jobs shown ends given cause told same are is places fault =
+    let its : OnAudit cause (λ (job : ℕ). (job < length jobs) × (StandsAt begun hall jobs ends job → ⊥)) =
+    subst (λ (es : List JobEnd). OnAudit cause (λ (job : ℕ). (job < length jobs) × (StandsAt begun hall jobs es job → ⊥))) same fault in
+    subst (λ (c : FaultCause). OnAudit c (λ (job : ℕ). (job < length jobs) × (length given ≡ length jobs) × (StandsAt begun hall jobs given job → ⊥))) (sym is)
+    (subst (λ (es : List JobEnd). OnAudit cause (λ (job : ℕ). (job < length jobs) × (length es ≡ length jobs) × (StandsAt begun hall jobs es job → ⊥))) (sym are)
+    (told_of begun hall jobs ends cause places its))
 
 -- ---- what was gathered, in its own words
 
@@ -112,13 +137,14 @@ one_at_fault begun hall jobs shown ends (Some place) job told same fault =
 pub at_ok : {A E : Type 0} (P : A → Type 0) (outcome : Result A E) (made : A) → outcome ≡ Ok made → IfOk outcome P → P made
 at_ok {A} {E} P outcome made is holds = subst (λ (r : Result A E). IfOk r P) is holds
 
--- the same run, told by the hall and the ends that were gathered
-pub ran_on : (before after told : HallState) (jobs : List Job) (ends given : List JobEnd) (committed : ℕ) → told ≡ after → given ≡ ends →
-    RanTo before jobs ends committed after → RanTo before jobs given committed told
-ran_on before after told jobs ends given committed same are ran =
-    subst (λ (h : HallState). RanTo before jobs given committed h) (sym same)
-    (subst (λ (es : List JobEnd). RanTo before jobs es committed after) (sym are) ran)
+-- the same run, told by the hall, the ends and the attempts that were gathered
+pub ran_on : (before after told : HallState) (jobs : List Job) (ends given : List JobEnd) (attempts made : List ℕ) (committed : ℕ) → told ≡ after →
+    given ≡ ends → made ≡ attempts → RanTo before jobs ends attempts committed after → RanTo before jobs given made committed told
+ran_on before after told jobs ends given attempts made committed same are were ran =
+    subst (λ (h : HallState). RanTo before jobs given made committed h) (sym same)
+    (subst (λ (es : List JobEnd). RanTo before jobs es made committed after) (sym are)
+    (subst (λ (ns : List ℕ). RanTo before jobs ends ns committed after) (sym were) ran))
 
-pub broke_on : (before after told : HallState) (jobs : List Job) (cause : FaultCause) → told ≡ after → BrokeOff before jobs cause after →
-    BrokeOff before jobs cause told
-broke_on before after told jobs cause same broke = subst (λ (h : HallState). BrokeOff before jobs cause h) (sym same) broke
+-- the seat that is handed back is the one that has drawn the jobs
+pub seat_handed : (size : Size) (seat given : JobSeat) → given ≡ seat → HasDrawnAll size seat → HasDrawnAll size given
+seat_handed size seat given same all = subst (λ (s : JobSeat). HasDrawnAll size s) (sym same) all

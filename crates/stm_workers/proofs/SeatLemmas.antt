@@ -11,15 +11,17 @@ use Rattle.stm_draw.specs.declared.view.Size.{Size}
 use Rattle.stm_draw.specs.declared.view.View.{View}
 use Rattle.stm_draw.specs.declared.table.JobSeat.{JobSeat}
 use Rattle.atomic_table.specs.Seated.{TableId}
-use Rattle.stm_draw.specs.Seats.{IsSeatAt}
+use Rattle.stm_draw.specs.Seats.{IsSeatAt, seat_view}
 use Rattle.stm_draw.specs.Draw.{EachOnce, Knows, times, once_below, fresh, given, drew, joined, after_none}
 use Rattle.stm_draw.proofs.Counted.{as_many}
-use Rattle.stm_workers.specs.declared.job_end.JobEnd.{JobEnd}
-use Rattle.stm_workers.specs.declared.job.Job.{Job}
-use Rattle.stm_workers.specs.Attempts.{HasSomeRun, HasItsRun, HaveTheirRuns}
+use Rattle.stm_worker.specs.declared.job_end.JobEnd.{JobEnd}
+use Rattle.stm_worker.specs.declared.job.Job.{Job}
+use Rattle.stm_worker.specs.Attempts.{HasCome, HasSomeRun}
+use Rattle.stm_workers.specs.Runs.{HasItsRun, HaveTheirRuns}
 use Rattle.stm_workers.specs.declared.worker.EndOf.{EndOf}
-use Rattle.stm_workers.specs.Ends.{is_committed}
-use Rattle.stm_workers.specs.Rounds.{jobs_of, committed_in, ends_in, counted_end, drawing, used_up, EachAtItsPlace}
+use Rattle.stm_worker.specs.Commits.{is_committed}
+use Rattle.stm_workers.specs.Drawn.{jobs_of, attempts_in, committed_in, ends_in, drawing, used_up, EachAtItsPlace, HasDrawnAll}
+use Rattle.stm_worker.specs.Calls.{counted_end}
 
 -- ---- seats
 
@@ -88,13 +90,23 @@ past_together mine theirs both size numbers theirs_are together =
     ap (λ (v : View). v.past) together ∙ ap (λ (v : View). mine.past + v.past) theirs_are
 
 -- who has everything back has drawn every job once
-pub all_drawn : (size : Size) (ended : List EndOf) (v : View) (parts : ℕ) → v.size ≡ size → v.drawn ≡ jobs_of ended → v.past + v.left ≡ parts →
-    parts ≡ size.seats → 0 < v.past → Knows v → EachOnce size.jobs (jobs_of ended)
-all_drawn size ended v parts same drawn even all some knows =
+pub all_drawn : (size : Size) (ended : List EndOf) (seat : JobSeat) (parts : ℕ) → (seat_view seat).size ≡ size → (seat_view seat).drawn ≡ jobs_of ended →
+    (seat_view seat).past + (seat_view seat).left ≡ parts → parts ≡ size.seats → 0 < (seat_view seat).past → Knows (seat_view seat) →
+    HasDrawnAll size seat
+all_drawn size ended seat parts same drawn even all some knows =
+    let v : View = seat_view seat in
     let seats : v.size.seats ≡ size.seats = ap (λ (s : Size). s.seats) same in
     let whole : v.past + v.left ≡ v.size.seats = even ∙ all ∙ sym seats in
-    subst (λ (numbers : List ℕ). EachOnce size.jobs numbers) drawn
-    (subst (λ (s : Size). EachOnce s.jobs v.drawn) same (knows.1 (whole, some)))
+    record {
+      of_size = same;
+      whole = (whole, some);
+      each_once = subst (λ (s : Size). EachOnce s.jobs v.drawn) same (knows.1 (whole, some));
+    }
+
+-- these are the jobs whose ends it has
+pub all_ended : (size : Size) (ended : List EndOf) (seat : JobSeat) → (seat_view seat).drawn ≡ jobs_of ended → HasDrawnAll size seat →
+    EachOnce size.jobs (jobs_of ended)
+all_ended size ended seat drawn all = subst (λ (numbers : List ℕ). EachOnce size.jobs numbers) drawn all.each_once
 
 -- ---- the ends in their places
 
@@ -109,6 +121,10 @@ ends_length : (ended : List EndOf) → length (ends_in ended) ≡ length ended
 ends_length [] = refl
 ends_length (e ∷ es) = ap (λ (k : ℕ). suc k) (ends_length es)
 
+attempts_length : (ended : List EndOf) → length (attempts_in ended) ≡ length ended
+attempts_length [] = refl
+attempts_length (e ∷ es) = ap (λ (k : ℕ). suc k) (attempts_length es)
+
 ends_counted : (ended : List EndOf) → count_by is_committed (ends_in ended) ≡ committed_in ended
 ends_counted [] = refl
 ends_counted (e ∷ es) =
@@ -119,6 +135,11 @@ ends_counted (e ∷ es) =
 pub sorted_length : (ended sorted : List EndOf) (ends : List JobEnd) → IsPermutation ended sorted → ends ≡ ends_in sorted → length ends ≡ length ended
 sorted_length ended sorted ends moved are =
     ap (λ (l : List JobEnd). length l) are ∙ ends_length sorted ∙ length_permutation ended sorted moved
+
+pub sorted_attempts_length : (ended sorted : List EndOf) (attempts : List ℕ) → IsPermutation ended sorted → attempts ≡ attempts_in sorted →
+    length attempts ≡ length ended
+sorted_attempts_length ended sorted attempts moved are =
+    ap (λ (l : List ℕ). length l) are ∙ attempts_length sorted ∙ length_permutation ended sorted moved
 
 pub sorted_counted : (ended sorted : List EndOf) (ends : List JobEnd) → IsPermutation ended sorted → ends ≡ ends_in sorted →
     count_by is_committed ends ≡ committed_in ended
@@ -284,14 +305,55 @@ ended_at (e ∷ es) zero end is = (omega arith, λ d. same e.end end is)
     same x y both = ap (end_or x) both
 ended_at (e ∷ es) (suc k) end is = let r = ended_at es k end is in (let low = r.0 in omega (arith, low), r.1)
 
+attempts_at : (es : List EndOf) (k made : ℕ) → slice_get (attempts_in es) k ≡ Some made → (d : EndOf) → (slice_index_or es k d).attempts ≡ made
+attempts_at [] k made is d = absurd (cc)
+attempts_at (e ∷ es) zero made is d = same e.attempts made is
+  where
+    number_or : ℕ → Option ℕ → ℕ
+    number_or other None = other
+    number_or other (Some x) = x
+
+    same : (x y : ℕ) → Some x ≡ Some y → x ≡ y
+    same x y both = ap (number_or x) both
+attempts_at (e ∷ es) (suc k) made is d = attempts_at es k made is d
+
 -- so each job has come to the end at its place
-pub sorted_ran : (ended sorted : List EndOf) (ends : List JobEnd) → EachOnce (length ended) (jobs_of ended) → IsPermutation ended sorted →
-    IsNonDecreasingBy (λ (e : EndOf). e.job) sorted → ends ≡ ends_in sorted → (jobs : List Job) → All (HasItsRun jobs) ended → HaveTheirRuns jobs ends
-sorted_ran ended sorted ends each moved rises are jobs ran place job end job_is end_is =
+pub sorted_ran : (ended sorted : List EndOf) (ends : List JobEnd) (attempts : List ℕ) → EachOnce (length ended) (jobs_of ended) →
+    IsPermutation ended sorted → IsNonDecreasingBy (λ (e : EndOf). e.job) sorted → ends ≡ ends_in sorted → attempts ≡ attempts_in sorted →
+    (jobs : List Job) → All (HasItsRun jobs) ended → HaveTheirRuns jobs ends attempts
+sorted_ran ended sorted ends attempts each moved rises are were jobs ran place job end made job_is end_is made_is =
     let here = ended_at sorted place end (ap (λ (l : List JobEnd). slice_get l place) (sym are) ∙ end_is) in
-    let own : EndOf = record { job = place; end = end } in
+    let own : EndOf = record { job = place; end = end; attempts = made } in
+    let counted : (slice_index_or sorted place own).attempts ≡ made =
+    attempts_at sorted place made (ap (λ (l : List ℕ). slice_get l place) (sym were) ∙ made_is) own in
     let found : (slice_index_or sorted place own).job ≡ 0 + place =
     in_order sorted 0 (length ended) rises (are_from_zero (length ended) ended sorted each moved) place own here.0 in
     let its : (slice_index_or sorted place own).job ≡ place = omega (arith, found) in
-    subst (λ (e : JobEnd). HasSomeRun job e) (here.1 own)
-    (All-permutation (HasItsRun jobs) ended sorted moved ran place own here.0 job (ap (λ (n : ℕ). slice_get jobs n) its ∙ job_is))
+    subst (λ (e : JobEnd). HasSomeRun job e made) (here.1 own)
+    (subst (λ (n : ℕ). HasSomeRun job (slice_index_or sorted place own).end n) counted
+    (All-permutation (HasItsRun jobs) ended sorted moved ran place own here.0 job (ap (λ (n : ℕ). slice_get jobs n) its ∙ job_is)))
+
+-- ---- a job that a worker brought to its end
+
+-- the same of the job at its place
+pub come_there : (jobs : List Job) (place : ℕ) (job : Job) (seen : ℕ) (end : JobEnd) (after made : ℕ) → slice_get jobs place ≡ Some job →
+    HasCome job seen end after made → (other : Job) → slice_get jobs place ≡ Some other → HasCome other seen end after made
+come_there jobs place job seen end after made at came other is =
+    subst (λ (j : Job). HasCome j seen end after made) (same job other (sym at ∙ is)) came
+  where
+    job_or : Job → Option Job → Job
+    job_or default None = default
+    job_or default (Some j) = j
+
+    same : (x y : Job) → Some x ≡ Some y → x ≡ y
+    same x y e = ap (job_or x) e
+
+-- and so has the run of which it is one
+pub some_run : (jobs its : List Job) (job : Job) (ended : EndOf) (seen after : ℕ) → jobs ≡ its → slice_get jobs ended.job ≡ Some job →
+    HasCome job seen ended.end after ended.attempts → HasItsRun its ended
+some_run jobs its job ended seen after are at came other is =
+    ∣ (
+      seen,
+      after,
+      come_there jobs ended.job job seen ended.end after ended.attempts at came other (ap (λ (js : List Job). slice_get js ended.job) are ∙ is),
+    ) ∣₁

@@ -1,5 +1,5 @@
 -- The law of jobs that aborted or came to a fault.
-use Rattle.std.proofs.Common.{◌≡◌, ◌⊎◌, inl, inr, ℕ, ◌≤◌, true, List, [], ◌∷◌, Option, Some, None, slice_get, refl, sym, ◌∙◌, ap, subst}
+use Rattle.std.proofs.Common.{◌≡◌, ◌⊎◌, inl, inr, ℕ, ◌<◌, ◌≤◌, true, List, [], ◌∷◌, Option, Some, None, slice_get, refl, sym, ◌∙◌, ap, subst}
 use Rattle.std.proofs.Math.Logic.{∥∥₁_elim}
 use Rattle.std.specs.Coded.{Coded-set}
 use Rattle.std.specs.List.{AllByRecursion}
@@ -26,18 +26,19 @@ use Rattle.stm_hall.specs.declared.verdict.Verdict.{Verdict}
 use Rattle.stm_hall.specs.declared.verdict.Verdict.TheVariants.{Committed, Failed}
 use Rattle.stm_hall.specs.HallState.{HallState}
 use Rattle.stm_hall.specs.Showing.{AreShownAt}
-use Rattle.stm_workers.specs.declared.begun.Begun.{Begun}
-use Rattle.stm_workers.specs.declared.job.Job.{Job}
-use Rattle.stm_workers.specs.declared.job_end.JobEnd.{JobEnd}
-use Rattle.stm_workers.specs.declared.job_end.JobEnd.TheVariants.{Committed as CommittedJob, Aborted as AbortedJob, Faulted as FaultedJob, Refused as RefusedJob}
-use Rattle.stm_workers.specs.declared.job_end.JobEnd.TheVariants.{GaveUp}
-use Rattle.stm_workers.specs.declared.stop.Stop.{Stop}
-use Rattle.stm_workers.specs.declared.stop.Stop.TheVariants.{OutOfMemory, Aborted, Faulted, Refused}
-use Rattle.stm_workers.specs.Ends.{begun_at, AreOfOneState, MayHaveStopped, IsBorneOut}
-use Rattle.stm_workers.specs.Attempts.{JobState, end_told, reads_told, fetch_refusal_told, commit_refusal_told, job_end_told, end_after}
-use Rattle.stm_workers.specs.Attempts.{IsStop, StopsAt, EndsByStop, EndsByVerdict, HasCome, HasSomeRun}
+use Rattle.stm_workers.specs.declared.start_point.StartPoint.{StartPoint}
+use Rattle.stm_worker.specs.declared.job.Job.{Job}
+use Rattle.stm_worker.specs.declared.job_end.JobEnd.{JobEnd}
+use Rattle.stm_worker.specs.declared.job_end.JobEnd.TheVariants.{Committed as CommittedJob, Aborted as AbortedJob, Faulted as FaultedJob, Refused as RefusedJob}
+use Rattle.stm_worker.specs.declared.job_end.JobEnd.TheVariants.{GaveUp}
+use Rattle.stm_worker.specs.declared.stop.Stop.{Stop}
+use Rattle.stm_worker.specs.declared.stop.Stop.TheVariants.{OutOfMemory, Aborted, Faulted, Refused}
+use Rattle.stm_workers.specs.Ends.{start_point, AreOfOneState, MayHaveStopped, IsBorneOut}
+use Rattle.stm_worker.specs.Attempts.{JobState, end_told, reads_told, fetch_refusal_told, commit_refusal_told, job_end_told, end_after}
+use Rattle.stm_worker.specs.Attempts.{IsStop, StopsAt, EndsByStop, EndsByVerdict, HasCome, HasSomeRun}
 use Rattle.stm_workers.specs.Gathered.{RanTo}
 use Rattle.stm_workers.specs.Stops.{IsEndAlone, OnStop, StopsAreOfOneState}
+use Rattle.stm_workers.proofs.EndLaws.{there, within}
 
 -- ---- the run on what was read
 
@@ -125,11 +126,11 @@ same_told (Faulted fault reads) job_end told =
 same_told (Refused refusal) job_end told =
     let same = some_of _ _ told in (ap told_end same, ap told_reads same)
 
-by_come : (job : Job) (seen : ℕ) (job_end : JobEnd) (after : ℕ) (end : End) (reads : List ReadAnswer) → told_end job_end ≡ Some end →
-    told_reads job_end ≡ Some reads → HasCome job seen job_end after → RunsTo (run_on job.program reads) end
-by_come job seen job_end after end reads tells on (inl came) =
+by_come : (job : Job) (seen : ℕ) (job_end : JobEnd) (after attempts : ℕ) (end : End) (reads : List ReadAnswer) → told_end job_end ≡ Some end →
+    told_reads job_end ≡ Some reads → HasCome job seen job_end after attempts → RunsTo (run_on job.program reads) end
+by_come job seen job_end after attempts end reads tells on (inl came) =
     absurd (not_by_verdict came.then_is.verdict end (sym (ap told_end came.then_is.told) ∙ tells))
-by_come job seen job_end after end reads tells on (inr came) =
+by_come job seen job_end after attempts end reads tells on (inr came) =
     let same = same_told came.then_is.stop job_end came.then_is.told in
     by_stop job came.then_is.stopped.at came.then_is.stop reads end (same.0 ∙ tells) (same.1 ∙ on) came.then_is.stopped.is_stop
 
@@ -151,15 +152,15 @@ the_run {A} (EndedRun own) end some is = (own, refl, ∥∥₁_elim some (Coded-
         run_of : (x y : Run) → EndedRun x ≡ EndedRun y → x ≡ y
         run_of x y told = ap (run_or x) told
 
-runs_to : (job : Job) (job_end : JobEnd) (end : End) (reads : List ReadAnswer) → told_end job_end ≡ Some end → told_reads job_end ≡ Some reads →
-    HasSomeRun job job_end → RunsTo (run_on job.program reads) end
-runs_to job job_end end reads tells on some =
-    the_run (run_on job.program reads) end some (λ came. by_come job came.0 job_end came.1 end reads tells on came.2)
+runs_to : (job : Job) (job_end : JobEnd) (attempts : ℕ) (end : End) (reads : List ReadAnswer) → told_end job_end ≡ Some end →
+    told_reads job_end ≡ Some reads → HasSomeRun job job_end attempts → RunsTo (run_on job.program reads) end
+runs_to job job_end attempts end reads tells on some =
+    the_run (run_on job.program reads) end some (λ came. by_come job came.0 job_end came.1 attempts end reads tells on came.2)
 
 -- ---- the law
 
 -- the run on reads of one state
-ends_alone : (begun : Begun) (hall : HallState) (job : Job) (reads : List ReadAnswer) (end : End) → AreOfOneState begun hall reads →
+ends_alone : (begun : StartPoint) (hall : HallState) (job : Job) (reads : List ReadAnswer) (end : End) → AreOfOneState begun hall reads →
     RunsTo (run_on job.program reads) end → IsEndAlone begun hall job end
 ends_alone begun hall job reads end one ran = record {
   revision = one.revision;
@@ -170,17 +171,18 @@ ends_alone begun hall job reads end one ran = record {
   ends = ran.2;
 }
 
-on_stop : (begun : Begun) (hall : HallState) (job : Job) (job_end : JobEnd) → is_serializable job.level ≡ true → HasSomeRun job job_end →
-    IsBorneOut begun hall job job_end → OnStop job_end (IsEndAlone begun hall job)
-on_stop begun hall job (CommittedJob index revision) serializable some borne = tt
-on_stop begun hall job (AbortedJob text reads) serializable some borne =
-    ends_alone begun hall job reads (AbortedEnd text) (borne serializable) (runs_to job (AbortedJob text reads) (AbortedEnd text) reads refl refl some)
-on_stop begun hall job (FaultedJob fault reads) serializable some borne =
-    ends_alone begun hall job reads (FaultedEnd fault) (borne serializable) (runs_to job (FaultedJob fault reads) (FaultedEnd fault) reads refl refl some)
-on_stop begun hall job (RefusedJob cause) serializable some borne = tt
-on_stop begun hall job (GaveUp key) serializable some borne = tt
+on_stop : (begun : StartPoint) (hall : HallState) (job : Job) (job_end : JobEnd) (attempts : ℕ) → is_serializable job.level ≡ true →
+    HasSomeRun job job_end attempts → IsBorneOut begun hall job job_end → OnStop job_end (IsEndAlone begun hall job)
+on_stop begun hall job (CommittedJob index revision) attempts serializable some borne = tt
+on_stop begun hall job (AbortedJob text reads) attempts serializable some borne =
+    ends_alone begun hall job reads (AbortedEnd text) (borne serializable) (runs_to job (AbortedJob text reads) attempts (AbortedEnd text) reads refl refl some)
+on_stop begun hall job (FaultedJob fault reads) attempts serializable some borne =
+    ends_alone begun hall job reads (FaultedEnd fault) (borne serializable) (runs_to job (FaultedJob fault reads) attempts (FaultedEnd fault) reads refl refl some)
+on_stop begun hall job (RefusedJob cause) attempts serializable some borne = tt
+on_stop begun hall job (GaveUp key) attempts serializable some borne = tt
 
 pub stops_are_of_one_state : StopsAreOfOneState
-stops_are_of_one_state before jobs ends committed after ran place job job_end job_is end_is serializable =
-    on_stop (begun_at before) after job job_end serializable (ran.ran place job job_end job_is end_is)
+stops_are_of_one_state before jobs ends attempts committed after ran place job job_end job_is end_is serializable =
+    let made = there attempts place (subst (λ (n : ℕ). place < n) (sym ran.attempted) (within jobs place job job_is)) in
+    on_stop (start_point before) after job job_end made.item serializable (ran.ran place job job_end made.item job_is end_is made.is)
     (ran.stand place job job_end job_is end_is).borne_out

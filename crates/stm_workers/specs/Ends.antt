@@ -3,7 +3,7 @@
 -- The documentation of the Go package `clientv3/concurrency`, "STM": a transaction whose commit fails is run again. That a job sends
 -- so many commits at most, and then tells the key over which the last one failed, is our own; so is the look at all ends once the
 -- threads have ended.
-use Rattle.std.specs.Prelude.{◌≡◌, ℕ, ◌+◌, ◌<◌, ◌≤◌, ◌==◌, Bool, true, false, List, length, Option, None, Some, option_and_then, slice_get, count_by}
+use Rattle.std.specs.Prelude.{◌≡◌, ℕ, ◌+◌, ◌<◌, ◌≤◌, ◌==◌, Bool, true, false, List, length, Option, None, Some, option_and_then, slice_get}
 use Rattle.stm_history.specs.declared.key_state.ReadAnswer.{ReadAnswer}
 use Rattle.stm_history.specs.History.{now}
 use Rattle.stm_compile.specs.Levels.{is_comparing, is_serializable}
@@ -12,27 +12,16 @@ use Rattle.stm_entries.specs.declared.entry.Entry.{Entry}
 use Rattle.stm_entries.specs.declared.entry.Entry.TheVariants.{Program, Foreign, Grant, Renew, Revoke, Expire}
 use Rattle.stm_hall.specs.HallState.{HallState}
 use Rattle.stm_hall.specs.Showing.{AreShownAt}
-use Rattle.stm_workers.specs.declared.job.Job.{Job}
-use Rattle.stm_workers.specs.declared.job_end.JobEnd.{JobEnd}
-use Rattle.stm_workers.specs.declared.job_end.JobEnd.TheVariants.{Committed, Aborted, Faulted, Refused, GaveUp}
-use Rattle.stm_workers.specs.declared.begun.Begun.{Begun}
+use Rattle.stm_worker.specs.declared.job.Job.{Job}
+use Rattle.stm_worker.specs.declared.job_end.JobEnd.{JobEnd}
+use Rattle.stm_worker.specs.declared.job_end.JobEnd.TheVariants.{Committed, Aborted, Faulted, Refused, GaveUp}
+use Rattle.stm_workers.specs.declared.start_point.StartPoint.{StartPoint}
 
 -- how far a hall had come when it was handed in: how many entries it had, and its store's counter
-abbrev pub begun_at : HallState → Begun
-begun_at hall = record { entries = length hall.entries; revision = now hall.standing.history }
+abbrev pub start_point : HallState → StartPoint
+start_point hall = record { entries = length hall.entries; revision = now hall.standing.history }
 
--- ---- commits among entries
-
-abbrev pub is_commit : Entry → Bool
-is_commit (Program program level answers output trace revision) = true
-is_commit (Foreign txn) = false
-is_commit (Grant id ttl moment) = false
-is_commit (Renew id moment) = false
-is_commit (Revoke id) = false
-is_commit (Expire id) = false
-
-abbrev pub commits_in : List Entry → ℕ
-commits_in entries = count_by is_commit entries
+-- ---- ends
 
 -- the entry is a commit of the job's program at its level, and this was the store's revision after it
 abbrev pub IsCommitOf : Job → ℕ → Option Entry → Type 0
@@ -43,30 +32,6 @@ IsCommitOf job revision (Some (Grant id ttl moment)) = ⊥
 IsCommitOf job revision (Some (Renew id moment)) = ⊥
 IsCommitOf job revision (Some (Revoke id)) = ⊥
 IsCommitOf job revision (Some (Expire id)) = ⊥
-
--- an entry is a commit of one of these jobs: of its program, at its level
-abbrev pub IsOfAJob : List Job → Entry → Type 0
-IsOfAJob jobs (Program program level answers output trace revision) =
-    (place : ℕ) × (job : Job) × (slice_get jobs place ≡ Some job) × (program ≡ job.program) × (level ≡ job.level)
-IsOfAJob jobs (Foreign txn) = ⊥
-IsOfAJob jobs (Grant id ttl moment) = ⊥
-IsOfAJob jobs (Renew id moment) = ⊥
-IsOfAJob jobs (Revoke id) = ⊥
-IsOfAJob jobs (Expire id) = ⊥
-
--- what a hall has beyond the entries of another are commits of these jobs
-abbrev pub TookCommitsOf : List Job → HallState → HallState → Type 0
-TookCommitsOf jobs before after =
-    (index : ℕ) (entry : Entry) → length before.entries ≤ index → slice_get after.entries index ≡ Some entry → IsOfAJob jobs entry
-
--- ---- ends
-
-abbrev pub is_committed : JobEnd → Bool
-is_committed (Committed index revision) = true
-is_committed (Aborted text reads) = false
-is_committed (Faulted fault reads) = false
-is_committed (Refused cause) = false
-is_committed (GaveUp key) = false
 
 -- the entry that an end names
 abbrev pub entry_named : JobEnd → Option ℕ
@@ -86,32 +51,32 @@ names_entry index (GaveUp key) = false
 
 -- a job gave up over this key: at a level that compares; the key was changed since the hall was handed in, and the counter has grown by
 -- the commits that the job could send
-abbrev pub IsGivenUp : Begun → HallState → Job → List ℕ → Type 0
+abbrev pub IsGivenUp : StartPoint → HallState → Job → List ℕ → Type 0
 IsGivenUp begun hall job key =
     (is_comparing job.level ≡ true) × IsChangedAbove hall.standing.history begun.revision key × (begun.revision + job.limit ≤ now hall.standing.history)
 
 -- What was read is of one state of the hall's history: at this revision, which is not before the one at which the hall was handed in. Where nothing was
 -- read, any state serves.
-pub record AreOfOneState (begun : Begun) (hall : HallState) (reads : List ReadAnswer) : Type 0 where
+pub record AreOfOneState (begun : StartPoint) (hall : HallState) (reads : List ReadAnswer) : Type 0 where
   pub revision : ℕ
   pub begins : begun.revision ≤ revision
   pub reached : revision ≤ now hall.standing.history
   pub shown : AreShownAt hall.standing.history revision reads
 
 -- a job may have aborted, or come to a fault, on these reads: at a serializable level they are of one state
-abbrev pub MayHaveStopped : Begun → HallState → Job → List ReadAnswer → Type 0
+abbrev pub MayHaveStopped : StartPoint → HallState → Job → List ReadAnswer → Type 0
 MayHaveStopped begun hall job reads = is_serializable job.level ≡ true → AreOfOneState begun hall reads
 
 -- What an end says is so: a commit is an entry made since the hall was handed in, who gave up could, and so could who aborted or came to a fault. Of a
 -- refusal nothing is said.
-abbrev pub IsBorneOut : Begun → HallState → Job → JobEnd → Type 0
+abbrev pub IsBorneOut : StartPoint → HallState → Job → JobEnd → Type 0
 IsBorneOut begun hall job (Committed index revision) = (begun.entries ≤ index) × IsCommitOf job revision (slice_get hall.entries index)
 IsBorneOut begun hall job (GaveUp key) = IsGivenUp begun hall job key
 IsBorneOut begun hall job (Aborted text reads) = MayHaveStopped begun hall job reads
 IsBorneOut begun hall job (Faulted fault reads) = MayHaveStopped begun hall job reads
 IsBorneOut begun hall job (Refused cause) = Unit {0}
 
-abbrev pub BorneOutAt : Begun → HallState → List Job → List JobEnd → ℕ → Type 0
+abbrev pub BorneOutAt : StartPoint → HallState → List Job → List JobEnd → ℕ → Type 0
 BorneOutAt begun hall jobs ends place =
     (job : Job) (end : JobEnd) → slice_get jobs place ≡ Some job → slice_get ends place ≡ Some end → IsBorneOut begun hall job end
 
@@ -120,16 +85,16 @@ abbrev pub IsNew : List JobEnd → ℕ → ℕ → Type 0
 IsNew ends place index = (k : ℕ) → k < place → option_and_then entry_named (slice_get ends k) ≡ Some index → ⊥
 
 -- the end of a job stands: what it says is so, and no job before it has named its entry
-pub record Stands (begun : Begun) (hall : HallState) (ends : List JobEnd) (place : ℕ) (job : Job) (end : JobEnd) : Type 0 where
+pub record Stands (begun : StartPoint) (hall : HallState) (ends : List JobEnd) (place : ℕ) (job : Job) (end : JobEnd) : Type 0 where
   pub borne_out : IsBorneOut begun hall job end
   pub is_new : (index : ℕ) → entry_named end ≡ Some index → IsNew ends place index
 
-abbrev pub StandsAt : Begun → HallState → List Job → List JobEnd → ℕ → Type 0
+abbrev pub StandsAt : StartPoint → HallState → List Job → List JobEnd → ℕ → Type 0
 StandsAt begun hall jobs ends place =
     (job : Job) (end : JobEnd) → slice_get jobs place ≡ Some job → slice_get ends place ≡ Some end → Stands begun hall ends place job end
 
 -- each does
-abbrev pub AllStand : Begun → HallState → List Job → List JobEnd → Type 0
+abbrev pub AllStand : StartPoint → HallState → List Job → List JobEnd → Type 0
 AllStand begun hall jobs ends = (place : ℕ) → StandsAt begun hall jobs ends place
 
 -- ---- a law
@@ -143,5 +108,5 @@ NameDifferentEntries ends =
 -- where all ends stand, each commit among them is an entry of its own
 abbrev pub CommitsAreApart : Type 0
 CommitsAreApart =
-    (begun : Begun) (hall : HallState) (jobs : List Job) (ends : List JobEnd) → length ends ≡ length jobs → AllStand begun hall jobs ends
+    (begun : StartPoint) (hall : HallState) (jobs : List Job) (ends : List JobEnd) → length ends ≡ length jobs → AllStand begun hall jobs ends
     → NameDifferentEntries ends

@@ -1,9 +1,8 @@
-pub mod Tried
-pub mod Attempts
-pub mod Codes
+pub mod Drawn
+pub mod Runs
 pub mod Ends
 pub mod Marks
 pub mod Gathered
-pub mod Rounds
 pub mod Causes
 pub mod Stops
+pub mod Laws

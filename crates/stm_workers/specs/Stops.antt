@@ -12,16 +12,16 @@ use Rattle.stm_meaning.specs.Meaning.{run_over}
 use Rattle.stm_compile.specs.Levels.{is_serializable}
 use Rattle.stm_compile.specs.Answers.{state_as_of}
 use Rattle.stm_hall.specs.HallState.{HallState}
-use Rattle.stm_workers.specs.declared.begun.Begun.{Begun}
-use Rattle.stm_workers.specs.declared.job.Job.{Job}
-use Rattle.stm_workers.specs.declared.job_end.JobEnd.{JobEnd}
-use Rattle.stm_workers.specs.declared.job_end.JobEnd.TheVariants.{Committed, Aborted, Faulted, Refused, GaveUp}
-use Rattle.stm_workers.specs.Ends.{begun_at}
+use Rattle.stm_workers.specs.declared.start_point.StartPoint.{StartPoint}
+use Rattle.stm_worker.specs.declared.job.Job.{Job}
+use Rattle.stm_worker.specs.declared.job_end.JobEnd.{JobEnd}
+use Rattle.stm_worker.specs.declared.job_end.JobEnd.TheVariants.{Committed, Aborted, Faulted, Refused, GaveUp}
+use Rattle.stm_workers.specs.Ends.{start_point}
 use Rattle.stm_workers.specs.Gathered.{RanTo}
 
 -- The job's program, run alone on the state at some revision of the hall's history, comes to this end. The revision is not before the one at which the hall was
 -- handed in.
-pub record IsEndAlone (begun : Begun) (hall : HallState) (job : Job) (end : End) : Type 0 where
+pub record IsEndAlone (begun : StartPoint) (hall : HallState) (job : Job) (end : End) : Type 0 where
   pub revision : ℕ
   pub begins : begun.revision ≤ revision
   pub reached : revision ≤ now hall.standing.history
@@ -41,6 +41,7 @@ OnStop (GaveUp key) fact = Unit {0}
 -- ends so: also where its commit would have failed.
 abbrev pub StopsAreOfOneState : Type 0
 StopsAreOfOneState =
-    (before : HallState) (jobs : List Job) (ends : List JobEnd) (committed : ℕ) (after : HallState) → RanTo before jobs ends committed after
+    (before : HallState) (jobs : List Job) (ends : List JobEnd) (attempts : List ℕ) (committed : ℕ) (after : HallState)
+    → RanTo before jobs ends attempts committed after
     → (place : ℕ) (job : Job) (end : JobEnd) → slice_get jobs place ≡ Some job → slice_get ends place ≡ Some end → is_serializable job.level ≡ true
-    → OnStop end (IsEndAlone (begun_at before) after job)
+    → OnStop end (IsEndAlone (start_point before) after job)

@@ -6,13 +6,12 @@ ghost use Rattle.stm_workers.specs.Ends.{AreOfOneState, MayHaveStopped};
 ghost use Rattle.stm_workers.specs.Ends.{entry_named, names_entry, IsCommitOf, IsGivenUp, IsBorneOut, BorneOutAt, StandsAt, AllStand};
 ghost use Rattle.stm_workers.specs.Marks.{NamesWithin, IsNewAt, is_marked, revision_of};
 
-use crate::begun::Begun;
-use crate::job::Job;
-use crate::job_end::JobEnd;
+use crate::start_point::StartPoint;
 use std::alloc::{AllocError, Global};
 use stm_entries::Entry;
 use stm_hall::{Hall, ReadAnswer};
 use stm_program::Level;
+use stm_worker::{Job, JobEnd};
 
 /// Whether an entry is a commit of this job after which the store's revision was this.
 fn is_commit_of(entry: &Entry, job: &Job, after: u64) -> bool
@@ -46,7 +45,7 @@ fn entry_at(entries: &[Entry], index: usize) -> &Entry
 }
 
 /// Whether the entry at a place is that commit, made since the run began.
-fn has_commit(entries: &[Entry], begun: Begun, job: &Job, index: usize, after: u64) -> bool
+fn has_commit(entries: &[Entry], begun: StartPoint, job: &Job, index: usize, after: u64) -> bool
     ensures { IsTrue result ↔ ((begun.entries ≤ index) × IsCommitOf job.now after (slice_get entries.now index)) }
 {
     if index < begun.entries {
@@ -81,7 +80,7 @@ fn has_grown_by(now: u64, since: u64, many: u32) -> bool
 }
 
 /// Whether a job may have sent its last commit over a key that others changed.
-fn may_have_given_up(hall: &Hall, begun: Begun, job: &Job, key: &str) -> bool
+fn may_have_given_up(hall: &Hall, begun: StartPoint, job: &Job, key: &str) -> bool
     ensures { IsTrue result ↔ IsGivenUp begun hall.now job.now key.now }
 {
     if !is_comparing(job.level) {
@@ -94,7 +93,7 @@ fn may_have_given_up(hall: &Hall, begun: Begun, job: &Job, key: &str) -> bool
 }
 
 /// The revision that reads are of: the one that the first of them shows, and where nothing was read the one from which the run went on.
-fn revision_of(begun: Begun, reads: &[ReadAnswer]) -> u64
+fn revision_of(begun: StartPoint, reads: &[ReadAnswer]) -> u64
     ensures { result ≡ revision_of begun.revision reads.now }
 {
     match reads {
@@ -134,7 +133,7 @@ fn are_shown_at(hall: &Hall, revision: u64, reads: &[ReadAnswer]) -> bool
 }
 
 /// Whether reads are of one state of the hall's history since the run began.
-fn are_of_one_state(hall: &Hall, begun: Begun, reads: &[ReadAnswer]) -> bool
+fn are_of_one_state(hall: &Hall, begun: StartPoint, reads: &[ReadAnswer]) -> bool
     ensures { IsTrue result ↔ AreOfOneState begun hall.now reads.now }
 {
     let revision = revision_of(begun, reads);
@@ -148,7 +147,7 @@ fn are_of_one_state(hall: &Hall, begun: Begun, reads: &[ReadAnswer]) -> bool
 }
 
 /// Whether a job may have aborted, or come to a fault, on these reads.
-fn may_have_stopped(hall: &Hall, begun: Begun, job: &Job, reads: &[ReadAnswer]) -> bool
+fn may_have_stopped(hall: &Hall, begun: StartPoint, job: &Job, reads: &[ReadAnswer]) -> bool
     ensures { IsTrue result ↔ MayHaveStopped begun hall.now job.now reads.now }
 {
     match job.level {
@@ -160,7 +159,7 @@ fn may_have_stopped(hall: &Hall, begun: Begun, job: &Job, reads: &[ReadAnswer]) 
 }
 
 /// Whether what an end says of the hall is so.
-fn is_borne_out(hall: &Hall, begun: Begun, job: &Job, end: &JobEnd) -> bool
+fn is_borne_out(hall: &Hall, begun: StartPoint, job: &Job, end: &JobEnd) -> bool
     ensures { IsTrue result ↔ IsBorneOut begun hall.now job.now end.now }
 {
     match end {
@@ -191,7 +190,13 @@ fn end_at(ends: &[JobEnd], place: usize) -> &JobEnd
 }
 
 /// Whether what the end at a place says of the hall is so.
-fn is_borne_out_at(jobs: &[Job], ends: &[JobEnd], place: usize, begun: Begun, hall: &Hall) -> bool
+fn is_borne_out_at(
+    jobs: &[Job],
+    ends: &[JobEnd],
+    place: usize,
+    begun: StartPoint,
+    hall: &Hall,
+) -> bool
     requires { (place < length jobs.now) × (place < length ends.now) }
     ensures { IsTrue result ↔ BorneOutAt begun hall.now jobs.now ends.now place }
 {
@@ -199,7 +204,7 @@ fn is_borne_out_at(jobs: &[Job], ends: &[JobEnd], place: usize, begun: Begun, ha
 }
 
 /// The first job whose end the hall does not bear out.
-fn find_unborne(jobs: &[Job], ends: &[JobEnd], begun: Begun, hall: &Hall) -> Option<usize>
+fn find_unborne(jobs: &[Job], ends: &[JobEnd], begun: StartPoint, hall: &Hall) -> Option<usize>
     requires { length ends.now ≡ length jobs.now }
     ensures clear { IfNone result ((place : ℕ) → BorneOutAt begun hall.now jobs.now ends.now place) }
     ensures fault { IfSome result (λ place. (place < length jobs.now) × (BorneOutAt begun hall.now jobs.now ends.now place → ⊥)) }
@@ -263,7 +268,7 @@ fn audit_names(
     alloc: Global,
     jobs: &[Job],
     ends: &[JobEnd],
-    begun: Begun,
+    begun: StartPoint,
     hall: &Hall,
 ) -> Result<Option<usize>, AllocError>
     requires many { length ends.now ≡ length jobs.now }
@@ -285,7 +290,7 @@ pub fn audit(
     alloc: Global,
     jobs: &[Job],
     ends: &[JobEnd],
-    begun: Begun,
+    begun: StartPoint,
     hall: &Hall,
 ) -> Result<Option<usize>, AllocError>
     requires { length ends.now ≡ length jobs.now }

@@ -1,14 +1,19 @@
 //! What a run of jobs comes to.
-use crate::job_end::JobEnd;
+use stm_draw::JobSeat;
 use stm_hall::Hall;
+use stm_worker::JobEnd;
 
 /// All jobs have ended.
 #[derive(Drop)]
 pub struct Gathered {
     /// The end of each job, at its place.
     pub ends: Vec<JobEnd>,
+    /// How many attempts of each job were made, at its place: one more than commits of it failed before its last attempt.
+    pub attempts: Vec<u32>,
     /// How many committed.
     pub committed: usize,
+    /// The seat that has drawn the jobs, each once.
+    pub seat: JobSeat,
     /// The hall that was handed in, with what was committed.
     pub hall: Hall,
 }
@@ -17,6 +22,8 @@ pub struct Gathered {
 #[derive(Drop)]
 pub struct RunFault {
     pub cause: FaultCause,
+    /// The end of each job, at its place, where an audit found one that does not stand; none at another cause.
+    pub ends: Vec<JobEnd>,
     /// The hall that was handed in, with what was committed until then.
     pub hall: Hall,
 }

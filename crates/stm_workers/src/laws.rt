@@ -1,5 +1,6 @@
 //! The laws of the ends of jobs. Each function does nothing: its contract is the law.
 ghost use Rattle.stm_workers.specs.Ends.{CommitsAreApart};
+ghost use Rattle.stm_workers.specs.Laws.{AttemptsAreCounted};
 ghost use Rattle.stm_workers.specs.Stops.{StopsAreOfOneState};
 
 /// Where all ends stand, each commit among them is an entry of its own.
@@ -11,4 +12,9 @@ pub fn commits_are_apart()
 /// program, run alone, ends so.
 pub fn stops_are_of_one_state()
     ensures { StopsAreOfOneState }
+{}
+
+/// Of each job that was run at least one attempt was made, and at most as many as it may send commits; of one that gave up it was exactly so many.
+pub fn attempts_are_counted()
+    ensures { AttemptsAreCounted }
 {}

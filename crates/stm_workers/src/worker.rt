@@ -2,14 +2,13 @@
 ghost use Rattle.std.specs.Prelude.{◌≡◌, ◌+◌, ◌<◌, ◌≤◌, [], All, OnOk};
 ghost use Rattle.stm_draw.specs.Draw.{newcomer, EachOnce};
 ghost use Rattle.stm_draw.specs.Seats.{IsSeatAt, seat_view, table_id, table_size};
-ghost use Rattle.stm_workers.specs.Attempts.{HasItsRun};
-ghost use Rattle.stm_workers.specs.Rounds.{jobs_of, committed_in, drawing, used_up};
+ghost use Rattle.stm_workers.specs.Runs.{HasItsRun};
+ghost use Rattle.stm_workers.specs.Drawn.{jobs_of, committed_in, drawing, used_up, HasDrawnAll};
 
-use crate::desk::Round;
-use crate::job_end::JobEnd;
 use std::alloc::{AllocError, Global};
 use std::sync::ledger::Share;
 use stm_draw::{JobSeat, JobTable};
+use stm_worker::{JobEnd, RunOfJobs};
 
 /// The end of one job.
 #[derive(Drop)]
@@ -17,12 +16,14 @@ pub struct EndOf {
     /// The job's place.
     pub job: usize,
     pub end: JobEnd,
+    /// How many attempts of it were made.
+    pub attempts: u32,
 }
 
 /// A worker at its jobs, between two of them: a seat with one pass left, one part of the ledger, the greatest revision that an answer to
 /// it carried, and the ends of the jobs that it drew, in the order of its draws.
 #[derive(Drop)]
-pub(crate) struct Busy<R: Round> {
+pub(crate) struct Worker<R: RunOfJobs> {
     pub seat: JobSeat,
     pub share: Share<R>,
     pub seen: u64,
@@ -35,7 +36,7 @@ pub(crate) struct Busy<R: Round> {
 
 /// A worker that found no job left.
 #[derive(Drop)]
-pub(crate) struct Idle<R: Round> {
+pub(crate) struct RetiredWorker<R: RunOfJobs> {
     pub seat: JobSeat,
     pub share: Share<R>,
     pub ended: Vec<EndOf>,
@@ -47,17 +48,17 @@ pub(crate) struct Idle<R: Round> {
 
 /// A worker after it looked for a job.
 #[derive(Drop)]
-pub(crate) enum Shift<R: Round> {
+pub(crate) enum WorkerStep<R: RunOfJobs> {
     /// It has brought one more job to its end.
-    On(Busy<R>),
+    Working(Worker<R>),
     /// It found none.
-    Over(Idle<R>),
+    Retired(RetiredWorker<R>),
 }
 
 /// Who starts the workers, and takes in what they hand back. It draws nothing itself. Of what it has, each pass of its seat, used or
 /// left, goes with a part of the ledger.
 #[derive(Drop)]
-pub(crate) struct Chief<R: Round> {
+pub(crate) struct Coordinator<R: RunOfJobs> {
     pub seat: JobSeat,
     pub share: Share<R>,
     pub ended: Vec<EndOf>,
@@ -68,17 +69,17 @@ pub(crate) struct Chief<R: Round> {
     ghost even: { (seat_view seat).past + (seat_view seat).left ≡ share.parts },
 }
 
-/// A chief that has everything back.
+/// A coordinator that has everything back.
 #[derive(Drop)]
-pub(crate) struct Whole<R: Round> {
-    pub chief: Chief<R>,
-    ghost all_parts: { chief.share.parts ≡ R.size.seats },
-    ghost some_past: { 0 < (seat_view chief.seat).past },
+pub(crate) struct Collected<R: RunOfJobs> {
+    pub coordinator: Coordinator<R>,
+    ghost all_parts: { coordinator.share.parts ≡ R.size.seats },
+    ghost some_past: { 0 < (seat_view coordinator.seat).past },
 }
 
-impl<R: Round> Busy<R> {
+impl<R: RunOfJobs> Worker<R> {
     /// A worker that has brought these jobs to their ends.
-    pub fn at_work(seat: JobSeat, share: Share<R>, seen: u64, ended: Vec<EndOf>) -> Busy<R>
+    pub fn at_work(seat: JobSeat, share: Share<R>, seen: u64, ended: Vec<EndOf>) -> Worker<R>
         requires seated { IsSeatAt R.table R.size seat }
         requires one_left { seat_view seat ≡ drawing R.size (jobs_of ended.items) }
         requires counted { (share.parts ≡ 1) × (share.amount ≡ committed_in ended.items) }
@@ -86,7 +87,7 @@ impl<R: Round> Busy<R> {
         ensures seen { result.seen ≡ seen }
         ensures ended { result.ended.items ≡ ended.items }
     {
-        Busy {
+        Worker {
             seat,
             share,
             seen,
@@ -95,26 +96,26 @@ impl<R: Round> Busy<R> {
     }
 }
 
-impl<R: Round> Idle<R> {
+impl<R: RunOfJobs> RetiredWorker<R> {
     /// A worker that has brought these jobs to their ends, and found no more.
-    pub fn at_rest(seat: JobSeat, share: Share<R>, ended: Vec<EndOf>) -> Idle<R>
+    pub fn at_rest(seat: JobSeat, share: Share<R>, ended: Vec<EndOf>) -> RetiredWorker<R>
         requires seated { IsSeatAt R.table R.size seat }
         requires none_left { seat_view seat ≡ used_up R.size (jobs_of ended.items) }
         requires counted { (share.parts ≡ 1) × (share.amount ≡ committed_in ended.items) }
         requires ran { All (HasItsRun R.jobs) ended.items }
     {
-        Idle { seat, share, ended }
+        RetiredWorker { seat, share, ended }
     }
 }
 
-impl<R: Round> Chief<R> {
+impl<R: RunOfJobs> Coordinator<R> {
     /// With the first seat and the first share.
-    pub fn new(alloc: Global, seat: JobSeat, share: Share<R>) -> Chief<R>
+    pub fn new(alloc: Global, seat: JobSeat, share: Share<R>) -> Coordinator<R>
         requires seat { IsSeatAt R.table R.size seat × (seat_view seat ≡ newcomer R.size) }
         requires share { (share.parts ≡ R.size.seats) × (share.amount ≡ 0) }
         ensures { (result.seat ≡ seat) × (result.share ≡ share) × (result.ended.items ≡ []) }
     {
-        Chief {
+        Coordinator {
             seat,
             share,
             ended: Vec::new(alloc),
@@ -122,7 +123,7 @@ impl<R: Round> Chief<R> {
     }
 
     /// The next worker, which has drawn nothing yet. It takes no memory.
-    pub fn equip(&mut self, alloc: Global, table: &JobTable) -> Busy<R>
+    pub fn equip(&mut self, alloc: Global, table: &JobTable) -> Worker<R>
         requires table { (table_id table.now ≡ R.table) × (table_size table.now ≡ R.size) }
         requires passes { 2 ≤ (seat_view self.old.seat).left }
         requires parts { 2 ≤ self.old.share.parts }
@@ -132,20 +133,20 @@ impl<R: Round> Chief<R> {
     {
         let seat = table.split(&mut self.seat);
         let share = self.share.split_off(1, 0);
-        Busy::at_work(seat, share, 0, Vec::new(alloc))
+        Worker::at_work(seat, share, 0, Vec::new(alloc))
     }
 
     /// Takes in what a worker hands back. `AllocError`: a growth was refused, and it is as it was; what the worker had is lost.
-    pub fn take_in(&mut self, table: &JobTable, idle: Idle<R>) -> Result<(), AllocError>
+    pub fn take_in(&mut self, table: &JobTable, retired: RetiredWorker<R>) -> Result<(), AllocError>
         requires { (table_id table.now ≡ R.table) × (table_size table.now ≡ R.size) }
         ensures past { OnOk result ((seat_view self.new.seat).past ≡ (seat_view self.old.seat).past + 1) }
         ensures parts { OnOk result (self.new.share.parts ≡ self.old.share.parts + 1) }
     {
-        let Idle {
+        let RetiredWorker {
             seat,
             share,
             mut ended,
-        } = idle;
+        } = retired;
         self.ended.append(&mut ended)?;
         table.join(&mut self.seat, seat);
         self.share.merge(share);
@@ -153,25 +154,26 @@ impl<R: Round> Chief<R> {
     }
 }
 
-impl<R: Round> Whole<R> {
-    /// This chief.
-    pub fn of(chief: Chief<R>) -> Whole<R>
-        requires parts { chief.share.parts ≡ R.size.seats }
-        requires past { 0 < (seat_view chief.seat).past }
+impl<R: RunOfJobs> Collected<R> {
+    /// This coordinator.
+    pub fn of(coordinator: Coordinator<R>) -> Collected<R>
+        requires parts { coordinator.share.parts ≡ R.size.seats }
+        requires past { 0 < (seat_view coordinator.seat).past }
     {
-        Whole { chief }
+        Collected { coordinator }
     }
 
-    /// The whole share, and the ends of all jobs: each job has one.
-    pub fn parts(self) -> (Share<R>, Vec<EndOf>)
+    /// The whole share, the ends of all jobs, and the seat that has drawn them: each job once.
+    pub fn parts(self) -> (Share<R>, Vec<EndOf>, JobSeat)
         ensures share { (result.0.parts ≡ R.size.seats) × (result.0.amount ≡ committed_in result.1.items) }
         ensures each_once { EachOnce R.size.jobs (jobs_of result.1.items) }
+        ensures drawn { HasDrawnAll R.size result.2 }
         ensures ran { All (HasItsRun R.jobs) result.1.items }
     {
-        let Whole { chief } = self;
-        let Chief { seat, share, ended } = chief;
+        let Collected { coordinator } = self;
+        let Coordinator { seat, share, ended } = coordinator;
         // (the seat knows that every job was drawn)
         let _passes = seat.left();
-        (share, ended)
+        (share, ended, seat)
     }
 }

@@ -3,6 +3,7 @@
 #![tactic(auto)]
 
 ghost use Rattle.std.specs.Prelude.{◌≤◌};
+ghost use Rattle.stm_workers.specs.declared.run.TheConstants.{MOST_WORKERS};
 
 #[cfg(test)]
 mod device_tests;
@@ -126,7 +127,7 @@ fn run_threads<T: Threads + Wait + Sync>(
     workers: usize,
     ends: bool,
 ) -> u8
-    requires { (1 ≤ workers) × (workers ≤ 16) }
+    requires { (1 ≤ workers) × (workers ≤ MOST_WORKERS) }
 {
     let mut input = Std::new(open(rt, path_of(scenario)));
     let mut out = Std::new(rt.stdout());

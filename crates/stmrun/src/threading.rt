@@ -2,6 +2,7 @@
 ghost use Rattle.std.specs.Prelude.{◌≡◌, ◌≤◌, ◌+◌, true, false, decimal};
 ghost use Rattle.stm_devices.specs.declared.transfer.TheConstants.{MOST_READ};
 ghost use Rattle.stm_devices.specs.Transfers.{HasWritten};
+ghost use Rattle.stm_workers.specs.declared.run.TheConstants.{MOST_WORKERS};
 ghost use Rattle.stm_jobs.specs.declared.running.JobsFault.TheVariants.{Audit};
 ghost use Rattle.stmrun.specs.Threading.{fault_status, fault_message, SaysOf, Ends};
 
@@ -77,7 +78,7 @@ fn run_to<R: Threads + Wait + Sync, S: Source, W: Sink, E: Sink>(
     out: &mut W,
     err: &mut E,
 ) -> u8
-    requires workers { (1 ≤ workers) × (workers ≤ 16) }
+    requires workers { (1 ≤ workers) × (workers ≤ MOST_WORKERS) }
     requires input_works { S.failed input.old ≡ false }
     requires out_works { W.failed out.old ≡ false }
     requires err_works { E.failed err.old ≡ false }
@@ -113,7 +114,7 @@ pub fn threads_to<R: Threads + Wait + Sync, S: Source, W: Sink, E: Sink>(
     out: &mut W,
     err: &mut E,
 ) -> u8
-    requires workers { (1 ≤ workers) × (workers ≤ 16) }
+    requires workers { (1 ≤ workers) × (workers ≤ MOST_WORKERS) }
     requires input_works { S.failed input.old ≡ false }
     requires out_works { W.failed out.old ≡ false }
     requires err_works { E.failed err.old ≡ false }
@@ -129,7 +130,8 @@ pub fn threads_to<R: Threads + Wait + Sync, S: Source, W: Sink, E: Sink>(
     run_to(rt, alloc, input, workers, false, out, err)
 }
 
-/// Does what `threads_to` does, and behind the number of commits writes a line for the end of each job, in their order.
+/// Does what `threads_to` does, and behind the number of commits writes a line for the end of each job, in their order, with how many attempts of it were
+/// made.
 pub fn threads_with_ends_to<R: Threads + Wait + Sync, S: Source, W: Sink, E: Sink>(
     rt: &R,
     alloc: Global,
@@ -138,7 +140,7 @@ pub fn threads_with_ends_to<R: Threads + Wait + Sync, S: Source, W: Sink, E: Sin
     out: &mut W,
     err: &mut E,
 ) -> u8
-    requires workers { (1 ≤ workers) × (workers ≤ 16) }
+    requires workers { (1 ≤ workers) × (workers ≤ MOST_WORKERS) }
     requires input_works { S.failed input.old ≡ false }
     requires out_works { W.failed out.old ≡ false }
     requires err_works { E.failed err.old ≡ false }

@@ -1,5 +1,6 @@
 //! The command `threads`, run over memory and devices that fail. What is expected comes from the rules, and never from a run.
 ghost use Rattle.std.specs.Prelude.{◌≤◌};
+ghost use Rattle.stm_workers.specs.declared.run.TheConstants.{MOST_WORKERS};
 
 use crate::{threads_to, threads_with_ends_to};
 use std::alloc::{AllocError, Global};
@@ -41,7 +42,7 @@ fn leaves<R: Abort + Threads + Wait + Sync>(
     printed: &str,
     said: &str,
 )
-    requires { (1 ≤ workers) × (workers ≤ 16) }
+    requires { (1 ≤ workers) × (workers ≤ MOST_WORKERS) }
 {
     let mut input = Std::new(scenario.as_bytes());
     let mut out = Std::new(Vec::new(alloc));
@@ -59,10 +60,10 @@ const ENDED: &str =
 /// What is printed of them with their ends, in the order of the jobs.
 const ENDS: &str = "[\"jobs\",4]
 [\"committed\",1]
-[\"job\",0,\"committed\",3]
-[\"job\",1,\"aborted\",\"no\"]
-[\"job\",2,\"faulted\",\"ZeroDivisor\"]
-[\"job\",3,\"ended\",\"LeaseNotFound\"]
+[\"job\",0,\"committed\",3,1]
+[\"job\",1,\"aborted\",\"no\",1]
+[\"job\",2,\"faulted\",\"ZeroDivisor\",1]
+[\"job\",3,\"ended\",\"LeaseNotFound\",1]
 [\"value\",\"a\",\"1\"]
 [\"value\",\"b\",\"1\"]
 [\"end\",3]

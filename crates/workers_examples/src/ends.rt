@@ -93,7 +93,7 @@ fn tell_abort(told: &mut String, text: &str, reads: &[ReadAnswer]) -> Result<(),
 }
 
 /// How a job ended: a commit with the index of its entry, and the store's revision after it.
-fn tell_end(told: &mut String, end: &JobEnd) -> Result<(), AllocError> {
+pub(crate) fn tell_end(told: &mut String, end: &JobEnd) -> Result<(), AllocError> {
     match end {
         JobEnd::Committed { index, revision } => write!(told, "commit {index} at {revision}; "),
         JobEnd::Aborted { text, reads } => tell_abort(told, text.as_str(), reads.as_slice()),

@@ -1,7 +1,10 @@
 //! Two workers are at work at once, and the lock is not held where a fetch or a commit is about to be made: job 0 is held there until
-//! job 1's commit was answered, which can't be on one thread. A job whose commit failed is attempted again.
+//! job 1's commit was answered, which can't be on one thread. A job whose commit failed is attempted again, each end stands at the place of
+//! its job, and what a job at a serializable level reads is of one revision.
 ghost use Rattle.std.specs.Prelude.{◌≤◌};
+ghost use Rattle.stm_workers.specs.declared.run.TheConstants.{MOST_WORKERS};
 
+use crate::ends::tell_end;
 use crate::making::add_job;
 use std::alloc::{AllocError, Global};
 use std::process::Abort;
@@ -30,6 +33,8 @@ enum Place {
     /// Before its commit; and job 1 before its own until job 0 stands there: so whatever job 0 reads, it reads before job 1's commit,
     /// and sends its own after it.
     CommitOnceBothStand,
+    /// Before its second fetch; and job 1 before its commit until job 0 stands there.
+    SecondFetch,
 }
 
 /// Holds the jobs, by what they tell each other.
@@ -38,7 +43,7 @@ struct Holding {
     place: Place,
     /// How often a job that is held looks for a sign.
     turns: u32,
-    /// Job 0 stands before its commit.
+    /// Job 0 stands where it is held.
     standing: AtomicBool,
     /// Job 1's commit was answered.
     answered: AtomicBool,
@@ -71,11 +76,25 @@ impl Holding {
         self.serial.store(true, Ordering::SeqCst);
     }
 
+    /// Holds job 0 where it is, until job 1's commit was answered.
+    fn hold(&self) {
+        self.standing.store(true, Ordering::SeqCst);
+        self.wait_for(&self.answered);
+    }
+
     /// Holds job 0 before its commit.
     fn hold_commit(&self) {
-        if !matches!(self.place, Place::Fetch) {
-            self.standing.store(true, Ordering::SeqCst);
-            self.wait_for(&self.answered);
+        if matches!(self.place, Place::Commit | Place::CommitOnceBothStand) {
+            self.hold();
+        }
+    }
+
+    /// Holds job 0 before a fetch, before which it has made so many.
+    fn hold_fetch(&self, made: u64) {
+        if matches!(self.place, Place::Fetch)
+            || (made == 1 && matches!(self.place, Place::SecondFetch))
+        {
+            self.hold();
         }
     }
 
@@ -94,16 +113,14 @@ impl Gate for Holding {
         if job != 0 {
             return;
         }
-        self.fetches.fetch_add(1, Ordering::SeqCst);
-        if matches!(self.place, Place::Fetch) {
-            self.wait_for(&self.answered);
-        }
+        let made = self.fetches.fetch_add(1, Ordering::SeqCst);
+        self.hold_fetch(made);
     }
 
     fn before_commit(&self, job: usize) {
         if job == 0 {
             self.hold_commit();
-        } else if matches!(self.place, Place::CommitOnceBothStand) {
+        } else if matches!(self.place, Place::CommitOnceBothStand | Place::SecondFetch) {
             self.wait_for(&self.standing);
         }
     }
@@ -123,11 +140,19 @@ fn add_two(alloc: Global, jobs: &mut Vec<Job>, texts: (&str, &str), limit: u32) 
     add_job(alloc, jobs, Level::SerializableSnapshot, texts.1, limit)
 }
 
-/// What job 0 gave up over.
-fn given_up_over(ends: &[JobEnd]) -> &str {
+/// How job 0 ended.
+fn tell_first(told: &mut String, ends: &[JobEnd]) -> Result<(), AllocError> {
     match ends.first() {
-        Some(JobEnd::GaveUp { key }) => key.as_str(),
-        _ => "nothing",
+        Some(end) => tell_end(told, end),
+        None => Ok(()),
+    }
+}
+
+/// How many attempts of job 0 were made.
+fn attempts_of_first(attempts: &[u32]) -> u32 {
+    match attempts.first() {
+        Some(made) => *made,
+        None => 0,
     }
 }
 
@@ -150,18 +175,19 @@ fn p_now(hall: &Hall) -> Result<&'static str, AllocError> {
 }
 
 /// What is told of a run, in a line: whether the jobs were at work at once, how many committed, the store's revision, whether `p` is
-/// "1", what job 0 gave up over, and how many keys it fetched.
+/// "1", and of job 0 how many keys it fetched, how many attempts of it were made, and how it ended.
 fn tell_run(told: &mut String, holding: &Holding, gathered: &Gathered) -> Result<(), AllocError> {
     let put = p_now(&gathered.hall)?;
     write!(
         told,
-        "{}: {} committed, revision {}, p {put}, gave up over {}, {} fetched",
+        "{}: {} committed, revision {}, p {put}, {} fetched, {} attempts, ",
         holding.manner(),
         gathered.committed,
         gathered.hall.revision(),
-        given_up_over(gathered.ends.as_slice()),
-        holding.fetches.load(Ordering::SeqCst)
-    )
+        holding.fetches.load(Ordering::SeqCst),
+        attempts_of_first(gathered.attempts.as_slice())
+    )?;
+    tell_first(told, gathered.ends.as_slice())
 }
 
 /// What jobs come to on an empty hall.
@@ -173,7 +199,7 @@ fn tell_jobs<W: Threads + Wait + Sync>(
     workers: usize,
     holding: &Holding,
 ) -> Result<(), Fail>
-    requires { (1 ≤ workers) × (workers ≤ 16) }
+    requires { (1 ≤ workers) × (workers ≤ MOST_WORKERS) }
 {
     let store = Store::new(alloc)?;
     match run_workers(rt, alloc, jobs, workers, Hall::new(alloc, store), holding) {
@@ -200,7 +226,7 @@ fn tell_two<W: Threads + Wait + Sync>(
     workers: usize,
     holding: &Holding,
 ) -> Result<(), Fail>
-    requires { (1 ≤ limit) × (1 ≤ workers) × (workers ≤ 16) }
+    requires { (1 ≤ limit) × (1 ≤ workers) × (workers ≤ MOST_WORKERS) }
 {
     add_two(alloc, jobs, texts, limit)?;
     tell_jobs(rt, alloc, told, jobs.as_slice(), workers, holding)
@@ -214,7 +240,7 @@ fn told_of_two<W: Threads + Wait + Sync>(
     workers: usize,
     holding: &Holding,
 ) -> Result<String, Fail>
-    requires { (1 ≤ limit) × (1 ≤ workers) × (workers ≤ 16) }
+    requires { (1 ≤ limit) × (1 ≤ workers) × (workers ≤ MOST_WORKERS) }
 {
     let mut told = String::new(alloc);
     let mut jobs = Vec::new(alloc);
@@ -236,7 +262,7 @@ fn is_told<W: Threads + Wait + Sync + Abort>(
     workers: usize,
     expected: &str,
 ) -> Result<(), Fail>
-    requires { (1 ≤ limit) × (1 ≤ workers) × (workers ≤ 16) }
+    requires { (1 ≤ limit) × (1 ≤ workers) × (workers ≤ MOST_WORKERS) }
 {
     let told = told_of_two(rt, alloc, texts, limit, workers, holding)?;
     assert_eq!(rt; told.as_str(), expected);
@@ -249,17 +275,25 @@ const PUT_Q: &str = r#"[["put","q","1",0]]"#;
 
 const READ_Q: &str = r#"[["put","p",["get","q"],0]]"#;
 
+const EXTEND_P: &str = r#"[["put","p",["cat",["get","p"],"x"],0]]"#;
+
+const PUT_BOTH: &str = r#"[["put","a","1",0],["put","b","1",0]]"#;
+
+const READ_BOTH: &str = r#"[["abort",["cat",["get","a"],["get","b"]]]]"#;
+
 #[test]
 fn two_workers_are_at_work_at_once(rt: HostRuntime) -> Result<(), Fail> {
     let holding = Holding::new(Place::Commit, MANY_TURNS);
-    let expected = "at once: 2 committed, revision 3, p is 1, gave up over nothing, 0 fetched";
+    let expected =
+        "at once: 2 committed, revision 3, p is 1, 0 fetched, 1 attempts, commit 1 at 3; ";
     is_told(&rt, rt.alloc(), &holding, (PUT_P, PUT_Q), 1, 2, expected)
 }
 
 #[test]
 fn one_worker_runs_one_job_after_another(rt: HostRuntime) -> Result<(), Fail> {
     let holding = Holding::new(Place::Commit, FEW_TURNS);
-    let expected = "serial: 2 committed, revision 3, p is 1, gave up over nothing, 0 fetched";
+    let expected =
+        "serial: 2 committed, revision 3, p is 1, 0 fetched, 1 attempts, commit 0 at 2; ";
     is_told(&rt, rt.alloc(), &holding, (PUT_P, PUT_Q), 1, 1, expected)
 }
 
@@ -267,7 +301,8 @@ fn one_worker_runs_one_job_after_another(rt: HostRuntime) -> Result<(), Fail> {
 #[test]
 fn no_lock_is_held_before_a_fetch(rt: HostRuntime) -> Result<(), Fail> {
     let holding = Holding::new(Place::Fetch, MANY_TURNS);
-    let expected = "at once: 2 committed, revision 3, p is 1, gave up over nothing, 1 fetched";
+    let expected =
+        "at once: 2 committed, revision 3, p is 1, 1 fetched, 1 attempts, commit 1 at 3; ";
     is_told(&rt, rt.alloc(), &holding, (READ_Q, PUT_Q), 1, 2, expected)
 }
 
@@ -275,7 +310,8 @@ fn no_lock_is_held_before_a_fetch(rt: HostRuntime) -> Result<(), Fail> {
 #[test]
 fn one_worker_waits_before_its_fetch(rt: HostRuntime) -> Result<(), Fail> {
     let holding = Holding::new(Place::Fetch, FEW_TURNS);
-    let expected = "serial: 2 committed, revision 3, p is not 1, gave up over nothing, 1 fetched";
+    let expected =
+        "serial: 2 committed, revision 3, p is not 1, 1 fetched, 1 attempts, commit 0 at 2; ";
     is_told(&rt, rt.alloc(), &holding, (READ_Q, PUT_Q), 1, 1, expected)
 }
 
@@ -283,7 +319,8 @@ fn one_worker_waits_before_its_fetch(rt: HostRuntime) -> Result<(), Fail> {
 #[test]
 fn a_job_gives_up_over_a_key_that_another_put(rt: HostRuntime) -> Result<(), Fail> {
     let holding = Holding::new(Place::CommitOnceBothStand, MANY_TURNS);
-    let expected = "at once: 1 committed, revision 2, p is not 1, gave up over q, 1 fetched";
+    let expected =
+        "at once: 1 committed, revision 2, p is not 1, 1 fetched, 1 attempts, gave up over q; ";
     is_told(&rt, rt.alloc(), &holding, (READ_Q, PUT_Q), 1, 2, expected)
 }
 
@@ -291,6 +328,41 @@ fn a_job_gives_up_over_a_key_that_another_put(rt: HostRuntime) -> Result<(), Fai
 #[test]
 fn a_job_is_sent_again_without_a_fetch(rt: HostRuntime) -> Result<(), Fail> {
     let holding = Holding::new(Place::CommitOnceBothStand, MANY_TURNS);
-    let expected = "at once: 2 committed, revision 3, p is 1, gave up over nothing, 1 fetched";
+    let expected =
+        "at once: 2 committed, revision 3, p is 1, 1 fetched, 2 attempts, commit 1 at 3; ";
     is_told(&rt, rt.alloc(), &holding, (READ_Q, PUT_Q), 2, 2, expected)
+}
+
+// Both jobs have one program: job 1 commits first, and job 0 gives up. So their ends could be exchanged, and would still stand.
+#[test]
+fn ends_of_one_program_are_not_exchanged(rt: HostRuntime) -> Result<(), Fail> {
+    let holding = Holding::new(Place::CommitOnceBothStand, MANY_TURNS);
+    let expected =
+        "at once: 1 committed, revision 2, p is not 1, 1 fetched, 1 attempts, gave up over p; ";
+    is_told(
+        &rt,
+        rt.alloc(),
+        &holding,
+        (EXTEND_P, EXTEND_P),
+        1,
+        2,
+        expected,
+    )
+}
+
+// Job 1 puts both keys between the two fetches of job 0. That reads them as they were together, and aborts with what it has read: nothing.
+#[test]
+fn an_abort_is_of_one_revision(rt: HostRuntime) -> Result<(), Fail> {
+    let holding = Holding::new(Place::SecondFetch, MANY_TURNS);
+    let expected =
+        "at once: 1 committed, revision 2, p is not 1, 2 fetched, 1 attempts, abort  on a of 1 on b of 1; ";
+    is_told(
+        &rt,
+        rt.alloc(),
+        &holding,
+        (READ_BOTH, PUT_BOTH),
+        1,
+        2,
+        expected,
+    )
 }

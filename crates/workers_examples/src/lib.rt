@@ -9,3 +9,5 @@ mod ends;
 mod gates;
 #[cfg(test)]
 mod making;
+#[cfg(test)]
+mod turns;

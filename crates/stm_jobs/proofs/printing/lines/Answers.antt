@@ -7,12 +7,14 @@ pub returns : goal.returns
 returns c =
     let h = c.args.gathered.now.hall.standing.history in
     let state = c.in_ok-state.state in
-    let text : string_bytes c.push_count-3.new.text ≡ text_of c.args.jobs c.args.gathered.now.committed (ends_shown c.args.with_ends c.args.gathered.now.ends.items) state (now h) =
+    let text : string_bytes c.push_count-3.new.text ≡ text_of c.args.jobs c.args.gathered.now.committed
+    (ends_shown c.args.with_ends c.args.gathered.now.ends.items c.args.gathered.now.attempts.items) state (now h) =
     rw (
       c.in_ok-push_count-3.ensures,
       c.in_ok-push_values.ensures.text,
       c.in_ok-push_shown.ensures,
       c.as_slice.ensures.value,
+      c.as_slice-2.ensures.value,
       c.in_ok-push_count-2.ensures,
       c.in_ok-push_count.ensures,
       c.new-text.ensures.bytes,

@@ -1,18 +1,20 @@
-use Rattle.std.proofs.Common.{List, count_by, refl, ap, ◌∙◌}
-use Rattle.stm_workers.specs.declared.job_end.JobEnd.{JobEnd}
-use Rattle.stm_workers.specs.Ends.{is_committed}
-use Rattle.stm_workers.proofs.RunLemmas.{all_clear, one_at_fault}
+use Rattle.std.proofs.Common.{List, count_by, ap, ◌∙◌}
+use Rattle.stm_worker.specs.declared.job_end.JobEnd.{JobEnd}
+use Rattle.stm_worker.specs.Commits.{is_committed}
+use Rattle.stm_workers.proofs.RunLemmas.{all_clear, at_fault}
 use Rattle.stm_workers.proofs.run.gather.Goals as goal
 
-pub returns-in-Ok-None-clause-ends : goal.returns-in-Ok-None-clause-ends
-returns-in-Ok-None-clause-ends c = (
-  refl,
-  c.count_committed-committed.ensures ∙ ap (λ (es : List JobEnd). count_by is_committed es) c.as_slice.ensures.value,
-  all_clear c.args.begun c.args.hall c.args.jobs.now c.as_slice-2.result.now c.args.ends.items c.in-Ok-None.field-0 c.in-Ok-None.field-0-is
-      c.as_slice-2.ensures.value c.in-Ok-None.ensures.clear,
-)
+pub returns-in-None-clause-committed : goal.returns-in-None-clause-committed
+returns-in-None-clause-committed c =
+    c.gathered_of.ensures.others.0
+    ∙ c.count_committed-committed.ensures
+    ∙ ap (λ (es : List JobEnd). count_by is_committed es) c.as_slice.ensures.value
 
-pub returns-in-Ok-Some-clause-cause : goal.returns-in-Ok-Some-clause-cause
-returns-in-Ok-Some-clause-cause c =
-    one_at_fault c.args.begun c.args.hall c.args.jobs.now c.as_slice-2.result.now c.args.ends.items c.in-Ok-Some.field-0 c.in-Ok-Some.job
-    c.in-Ok-Some.field-0-is c.as_slice-2.ensures.value c.in-Ok-Some.ensures.fault
+pub returns-in-None-clause-stand : goal.returns-in-None-clause-stand
+returns-in-None-clause-stand c =
+    all_clear c.args.start c.args.hall c.args.jobs.now c.as_slice-2.result.now c.args.placed.ends.items c.as_slice-2.ensures.value c.in-None.ensures.stand
+
+pub returns-in-Some-clause-cause : goal.returns-in-Some-clause-cause
+returns-in-Some-clause-cause c =
+    at_fault c.args.start c.args.hall c.args.jobs.now c.as_slice-2.result.now c.args.placed.ends.items c.at_fault.result.ends.items c.in-Some.cause
+    c.at_fault.result.cause c.as_slice-2.ensures.value c.at_fault.ensures.1 c.at_fault.ensures.0 c.requires c.in-Some.ensures.cause

@@ -1,6 +1,0 @@
-use Rattle.stm_workers.proofs.RoundLemmas.{begins}
-use Rattle.stm_workers.proofs.desk.Desk.new.Goals as goal
-
-pub invariant_of-result : goal.invariant_of-result
-invariant_of-result g c =
-    let b = begins _ _ c.args.hall c.args.commits.total c.requires.0 c.requires.1 in record { gone_on = b.0; takes = b.1; counted = b.2 }

@@ -1,0 +1,48 @@
+use Rattle.std.proofs.Common.{◌≡◌, ℕ, List, Some, slice_get, refl, sym, subst, ap, ◌∙◌}
+use Rattle.std.proofs.lemmas.List.Elements.{All-same, All-push}
+use Rattle.stm_worker.specs.declared.job.Job.{Job}
+use Rattle.stm_worker.specs.Attempts.{HasCome}
+use Rattle.stm_worker.proofs.LockedLemmas.{job_of_some}
+use Rattle.stm_workers.specs.declared.worker.EndOf.{EndOf}
+use Rattle.stm_workers.specs.Drawn.{jobs_of, committed_in, drawing}
+use Rattle.stm_workers.specs.Runs.{HasItsRun}
+use Rattle.stm_workers.proofs.SeatLemmas.{come_there, one_more, one_counted, some_run}
+use Rattle.stm_workers.proofs.shared.Shared.bring_to_end.Goals as goal
+
+-- the job at the place is one of the run's
+pub run_job-requires-clause-of_a_job : goal.run_job-requires-clause-of_a_job
+run_job-requires-clause-of_a_job g c =
+    job_of_some _ _ _
+    (subst (λ (jobs : List Job). slice_get jobs c.args.job ≡ Some c.job_at-it.result.now) c.args.self.now.are_its c.job_at-it.ensures)
+
+pub at_work-requires-clause-one_left : goal.at_work-requires-clause-one_left
+at_work-requires-clause-one_left g c =
+    let last : EndOf = record { job = c.args.job; end = c.in_ok-end.end; attempts = c.run_job.new.attempts } in
+    one_more _ _ last _ _ refl c.requires.drawn ∙ ap (λ (es : List EndOf). drawing _ (jobs_of es)) (sym c.in_ok-push.ensures.items)
+
+pub at_work-requires-clause-counted : goal.at_work-requires-clause-counted
+at_work-requires-clause-counted g c =
+    let last : EndOf = record { job = c.args.job; end = c.in_ok-end.end; attempts = c.run_job.new.attempts } in (
+      c.run_job.ensures.parts ∙ c.requires.counted.0,
+      one_counted c.args.ended.items last c.args.share.amount c.run_job.new.share.amount c.requires.counted.1 c.in_ok-end.ensures.counted
+          ∙ ap (λ (es : List EndOf). committed_in es) (sym c.in_ok-push.ensures.items),
+    )
+
+pub at_work-requires-clause-ran : goal.at_work-requires-clause-ran
+at_work-requires-clause-ran g c =
+    let last : EndOf = record { job = c.args.job; end = c.in_ok-end.end; attempts = c.run_job.new.attempts } in
+    All-same (HasItsRun g.R.RunOfJobs.jobs) _ _ c.in_ok-push.ensures.items
+    (All-push (HasItsRun g.R.RunOfJobs.jobs) c.args.ended.items last c.requires.ran
+    (some_run c.args.self.now.jobs.now g.R.RunOfJobs.jobs c.job_at-it.result.now last c.args.seen c.run_job.new.seen c.args.self.now.are_its c.job_at-it.ensures
+    c.in_ok-end.ensures.came))
+
+pub returns-clause-came : goal.returns-clause-came
+returns-clause-came g c = record {
+  end = c.in_ok-end.end;
+  attempts = c.run_job.new.attempts;
+  ended = c.at_work.ensures.ended ∙ c.in_ok-push.ensures.items;
+  came = subst (λ (then : ℕ). (job : Job) → slice_get c.args.self.now.jobs.now c.args.job ≡ Some job → HasCome job c.args.seen c.in_ok-end.end then
+      c.run_job.new.attempts) (sym c.at_work.ensures.seen)
+      (come_there c.args.self.now.jobs.now c.args.job c.job_at-it.result.now c.args.seen c.in_ok-end.end c.run_job.new.seen c.run_job.new.attempts
+      c.job_at-it.ensures c.in_ok-end.ensures.came);
+}

@@ -1,0 +1,31 @@
+-- A law of the attempts of jobs, carried by a function of `src/laws.rt`.
+--
+-- The documentation of the Go package `clientv3/concurrency`, "STM": a transaction whose commit fails is run again. How often it is run is our own.
+use Rattle.std.specs.Prelude.{◌≡◌, ℕ, ◌≤◌, List, Some, slice_get}
+use Rattle.stm_hall.specs.HallState.{HallState}
+use Rattle.stm_worker.specs.declared.job.Job.{Job}
+use Rattle.stm_worker.specs.declared.job_end.JobEnd.{JobEnd}
+use Rattle.stm_worker.specs.declared.job_end.JobEnd.TheVariants.{Committed, Aborted, Faulted, Refused, GaveUp}
+use Rattle.stm_workers.specs.Gathered.{RanTo}
+
+-- a job that gave up has made all the attempts that it may
+abbrev pub IfGaveUp : JobEnd → Type 0 → Type 0
+IfGaveUp (Committed index revision) fact = Unit {0}
+IfGaveUp (Aborted text reads) fact = Unit {0}
+IfGaveUp (Faulted fault reads) fact = Unit {0}
+IfGaveUp (Refused cause) fact = Unit {0}
+IfGaveUp (GaveUp key) fact = fact
+
+-- so many attempts may end so
+pub record AreAttemptsOf (job : Job) (end : JobEnd) (attempts : ℕ) : Type 0 where
+  pub some : 1 ≤ attempts
+  pub within : attempts ≤ job.limit
+  pub all : IfGaveUp end (attempts ≡ job.limit)
+
+-- Of each job that was run at least one attempt was made, and at most as many as it may send commits; of one that gave up it was exactly so many.
+abbrev pub AttemptsAreCounted : Type 0
+AttemptsAreCounted =
+    (before : HallState) (jobs : List Job) (ends : List JobEnd) (attempts : List ℕ) (committed : ℕ) (after : HallState)
+    → RanTo before jobs ends attempts committed after
+    → (place : ℕ) (job : Job) (end : JobEnd) (made : ℕ) → slice_get jobs place ≡ Some job → slice_get ends place ≡ Some end
+    → slice_get attempts place ≡ Some made → AreAttemptsOf job end made

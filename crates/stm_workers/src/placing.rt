@@ -1,0 +1,70 @@
+//! The ends of jobs, each at the place of its job.
+ghost use Rattle.std.specs.Prelude.{◌≡◌, List, All, length, count_by, IfOk, IfErr};
+ghost use Rattle.stm_draw.specs.Draw.{EachOnce};
+ghost use Rattle.stm_worker.specs.declared.job.Job.{Job as AnyJob};
+ghost use Rattle.stm_worker.specs.Commits.{is_committed};
+ghost use Rattle.stm_workers.specs.declared.thread_fault.ThreadFault.TheVariants.{OutOfMemory};
+ghost use Rattle.stm_workers.specs.Runs.{HasItsRun, HaveTheirRuns};
+ghost use Rattle.stm_workers.specs.Drawn.{attempts_in, committed_in, ends_in, jobs_of, EachAtItsPlace};
+
+use crate::thread_fault::ThreadFault;
+use crate::worker::EndOf;
+use std::alloc::{AllocError, Global};
+use stm_draw::JobSeat;
+use stm_worker::JobEnd;
+
+/// The ends of jobs and the number of their attempts, each at the place of its job, and the seat that has drawn them.
+#[derive(Drop)]
+pub(crate) struct Placed {
+    pub ends: Vec<JobEnd>,
+    pub attempts: Vec<u32>,
+    pub seat: JobSeat,
+}
+
+/// How many attempts were made of each job.
+fn attempts_of(alloc: Global, ended: &[EndOf]) -> Result<Vec<u32>, AllocError>
+    ensures { IfOk result (λ attempts. attempts.items ≡ attempts_in ended.now) }
+{
+    let mut attempts = Vec::with_capacity(alloc, ended.len())?;
+    for ended_job in ended {
+        attempts.push(ended_job.attempts)?;
+    }
+    Ok(attempts)
+}
+
+/// The ends, without the places of their jobs.
+fn ends_of(alloc: Global, ended: Vec<EndOf>) -> Result<Vec<JobEnd>, AllocError>
+    ensures { IfOk result (λ ends. ends.items ≡ ends_in ended.items) }
+{
+    let mut ends = Vec::with_capacity(alloc, ended.len())?;
+    for ended_job in ended {
+        ends.push(ended_job.end)?;
+    }
+    Ok(ends)
+}
+
+/// The ends of jobs that were drawn once each, in the order of the jobs: each at the place of its job. `OutOfMemory` is its only fault.
+pub(crate) fn place_ends(
+    alloc: Global,
+    ended: Vec<EndOf>,
+    seat: JobSeat,
+) -> Result<Placed, ThreadFault>
+    requires { EachOnce (length ended.items) (jobs_of ended.items) }
+    ensures places { IfOk result (λ placed. EachAtItsPlace ended.items placed.ends.items) }
+    ensures length { IfOk result (λ placed. (length placed.ends.items ≡ length ended.items) × (length placed.attempts.items ≡ length ended.items)) }
+    ensures counted { IfOk result (λ placed. count_by is_committed placed.ends.items ≡ committed_in ended.items) }
+    ensures ran { IfOk result (λ placed. (jobs : List AnyJob) → All (HasItsRun jobs) ended.items
+        → HaveTheirRuns jobs placed.ends.items placed.attempts.items) }
+    ensures seat { IfOk result (λ placed. placed.seat ≡ seat) }
+    ensures fault { IfErr result (λ fault. fault ≡ OutOfMemory) }
+{
+    let mut ended = ended;
+    ended.sort_unstable_by_key(|ended_job| ended_job.job);
+    let attempts = attempts_of(alloc, ended.as_slice())?;
+    let ends = ends_of(alloc, ended)?;
+    Ok(Placed {
+        ends,
+        attempts,
+        seat,
+    })
+}

@@ -78,7 +78,7 @@ fn skew_with(alloc: Global, place: usize, line: &str) -> Result<String, Fail> {
 }
 
 /// Texts in the place of a line of the skew's report, each with the status and what is said.
-const WRONG_LINES: [(usize, &str, u8, &str, &str); 7] = [
+static WRONG_LINES: [(usize, &str, u8, &str, &str); 7] = [
     (0, "", 0, "yes\n", ""),
     // Another trace than the program has alone.
     (
@@ -113,7 +113,7 @@ const WRONG_LINES: [(usize, &str, u8, &str, &str); 7] = [
 ];
 
 /// Texts in the place of a line of the skew's report, each with what a check of the whole report comes to.
-const OTHER_LINES: [(usize, &str, u8, &str, &str); 7] = [
+static OTHER_LINES: [(usize, &str, u8, &str, &str); 7] = [
     (0, "", 0, "yes\n", ""),
     // Another revision of a read.
     (
@@ -174,7 +174,7 @@ const DENIED: &str = "[1,\"started\",1]
 ";
 
 /// Reports beside a scenario, each with whether it is checked as a whole and what that comes to. The scenario is judged first.
-const JUDGED: [(&str, &str, bool, u8, &str, &str); 6] = [
+static JUDGED: [(&str, &str, bool, u8, &str, &str); 6] = [
     (SKEW, "", false, 1, "no 1 Count\n", ""),
     ("{}", "[", false, 2, "", "stmrun: bad scenario at : Shape\n"),
     (PUT, DENIED, false, 0, "yes\n", ""),

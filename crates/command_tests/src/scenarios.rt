@@ -10,7 +10,7 @@ pub const FIRST_PUT_REPORT: &str = r#"[1,"started",1]
 "#;
 
 /// Scenarios by name, each with its report.
-pub const REPORTS: [(&str, &str, &str); 30] = [
+pub static REPORTS: [(&str, &str, &str); 30] = [
     // An empty scenario.
     (
         "no_events",

@@ -20,7 +20,7 @@ pub fn refuses(rt: &impl Abort, alloc: Global, text: &[u8], said: &str) {
 }
 
 /// Bad texts, each with what is said of its first fault.
-const REFUSED: [(&str, &str); 12] = [
+static REFUSED: [(&str, &str); 12] = [
     ("[[\"step\",1]", "stmrun: bad scenario at : NotJson\n"),
     ("{}", "stmrun: bad scenario at : Shape\n"),
     (

@@ -6,7 +6,7 @@ use std::test::Fail;
 use stm_meaning::Fault;
 
 /// Programs on the empty state, each with the end of its run and what it emitted.
-const ENDS: [(Example, &str); 23] = [
+static ENDS: [(Example, &str); 23] = [
     (Example::Run(r#"[["emit",["num_of","x"]]]"#), "NotANumber"),
     (Example::Run(r#"[["emit",["num_of","+1"]]]"#), "NotANumber"),
     (Example::Run(r#"[["emit",["num_of","-007"]]]"#), "Done -7"),

@@ -1,11 +1,13 @@
 //! Programs from JSON and to JSON, and the small parts of programs. What is expected comes from the description of the
 //! language, and never from a run.
 use crate::player::{Example, are_told, is_told};
+use std::alloc::Global;
+use std::process::Abort;
 use std::test::Fail;
 use stm_program::{Level, Variable};
 
 /// Programs as they are written.
-const PROGRAMS: [&str; 49] = [
+static PROGRAMS: [&str; 49] = [
     r#"[["emit",["num_of","x"]]]"#,
     r#"[["emit",["add",9223372036854775807,1]]]"#,
     r#"[["emit",["div",1,0]]]"#,
@@ -78,7 +80,7 @@ const PROGRAMS: [&str; 49] = [
 ];
 
 /// Bad programs, each with the place and the cause of its first fault.
-const FAULTS: [(Example, &str); 17] = [
+static FAULTS: [(Example, &str); 17] = [
     (Example::Text("{}"), "at : Shape"),
     (Example::Text("[5]"), "at /0: Shape"),
     (Example::Text(r#"[["put","a","1"]]"#), "at /0: Shape"),
@@ -187,12 +189,16 @@ const SMALL: [(Example, &str); 3] = [
     (Example::Writes, "3 true true none"),
 ];
 
-#[test]
-fn programs_are_read_written_and_read_again(rt: HostRuntime) -> Result<(), Fail> {
-    for text in PROGRAMS {
-        is_told(&rt, rt.alloc(), Example::Text(text), "kept")?;
+fn are_kept(rt: &impl Abort, alloc: Global, texts: &[&'static str]) -> Result<(), Fail> {
+    for &text in texts {
+        is_told(rt, alloc, Example::Text(text), "kept")?;
     }
     Ok(())
+}
+
+#[test]
+fn programs_are_read_written_and_read_again(rt: HostRuntime) -> Result<(), Fail> {
+    are_kept(&rt, rt.alloc(), &PROGRAMS)
 }
 
 #[test]

@@ -113,248 +113,261 @@ fn asks<'a>(
     }
 }
 
+/// A command line asks for this, and nothing is printed.
+fn takes<'a>(rt: &impl Abort, alloc: Global, words: &'a [&'a [u8]], asked: Asked<'_>) {
+    asks(rt, alloc, words, &[], asked, asked);
+}
+
+/// A command line is refused, with all these words.
+fn refuses<'a>(rt: &impl Abort, alloc: Global, words: &'a [&'a [u8]], wanted: &'a [&'a str]) {
+    let usage = Asked::Nothing(2);
+    asks(rt, alloc, words, wanted, usage, usage);
+}
+
+/// A command line shows a text with all these words.
+fn shows<'a>(rt: &impl Abort, alloc: Global, words: &'a [&'a [u8]], wanted: &'a [&'a str]) {
+    asks(
+        rt,
+        alloc,
+        words,
+        wanted,
+        Asked::Nothing(0),
+        Asked::Nothing(3),
+    );
+}
+
+/// The program's name.
+const NAME: &[u8] = b"stmrun";
+
+const HELP: &[u8] = b"--help";
+
+/// The flag of a fault that is explained.
+const EXPLAIN: &[u8] = b"--explain";
+
+/// What each refusal has.
+const HINT: [&str; 2] = ["Usage: stmrun", "--help"];
+
 #[test]
 fn command_lines(rt: HostRuntime) {
     let alloc = rt.alloc();
-    let name = "stmrun".as_bytes();
-    let script = "script".as_bytes();
-    let help = "--help".as_bytes();
-    let other = "scripts".as_bytes();
-    let not_text = b"\xff".as_slice();
-    let usage = Asked::Nothing(2);
-    let shown = Asked::Nothing(0);
-    let failed = Asked::Nothing(3);
     let whole = [
         "script",
         "check",
         "[\"step\",1]]",
         "Statuses: 0 done or yes, 1 no, 2 bad input",
     ];
-    let hint = ["Usage: stmrun", "--help"];
-    let input = Asked::Script {
+    shows(&rt, alloc, &[NAME, HELP], &whole);
+    let version = ["stmrun 0.1.0 (rattle-kit-13f)"];
+    shows(&rt, alloc, &[NAME, b"--version"], &version);
+    shows(&rt, alloc, &[NAME, b"-V"], &version);
+    refuses(&rt, alloc, &[NAME], &HINT);
+    refuses(&rt, alloc, &[NAME, b"scripts"], &HINT);
+}
+
+/// A script of this path, in lines.
+fn script(scenario: Option<&str>) -> Asked<'_> {
+    Asked::Script {
+        scenario,
+        format: None,
+        explain: false,
+    }
+}
+
+#[test]
+fn command_lines_of_script(rt: HostRuntime) {
+    let alloc = rt.alloc();
+    let (word, other): (&[u8], &[u8]) = (b"script", b"scripts");
+    takes(&rt, alloc, &[NAME, word], script(None));
+    takes(&rt, alloc, &[NAME, word, other], script(Some("scripts")));
+    let explained = Asked::Script {
         scenario: None,
         format: None,
+        explain: true,
     };
-    asks(&rt, alloc, &[name, script], &[], input, input);
-    let file = Asked::Script {
-        scenario: Some("scripts"),
-        format: None,
-    };
-    asks(&rt, alloc, &[name, script, other], &[], file, file);
+    takes(&rt, alloc, &[NAME, word, EXPLAIN], explained);
     let text = Asked::Script {
         scenario: Some("scripts"),
         format: Some("text"),
+        explain: false,
     };
-    let format = "--format".as_bytes();
-    let word = "text".as_bytes();
-    let joined = "--format=text".as_bytes();
-    asks(
-        &rt,
-        alloc,
-        &[name, script, format, word, other],
-        &[],
-        text,
-        text,
-    );
-    asks(&rt, alloc, &[name, script, other, joined], &[], text, text);
+    let line: [&[u8]; 5] = [NAME, word, b"--format", b"text", other];
+    takes(&rt, alloc, &line, text);
+    takes(&rt, alloc, &[NAME, word, other, b"--format=text"], text);
     let lacking = ["--format <FORMAT>", "--help"];
-    asks(&rt, alloc, &[name, script, format], &lacking, usage, usage);
-    asks(&rt, alloc, &[name, help], &whole, shown, failed);
-    let version = ["stmrun 0.1.0 (rattle-kit-13f)"];
-    for asked in ["--version", "-V"] {
-        let line = [name, asked.as_bytes()];
-        asks(&rt, alloc, &line, &version, shown, failed);
+    refuses(&rt, alloc, &[NAME, word, b"--format"], &lacking);
+    refuses(&rt, alloc, &[NAME, word, other, other], &HINT);
+    refuses(&rt, alloc, &[NAME, word, b"\xff"], &HINT);
+    let help = ["report", "stmrun: bad scenario at /0: Shape", "--explain"];
+    shows(&rt, alloc, &[NAME, word, HELP], &help);
+}
+
+/// A check of these paths, whole or not.
+fn check<'a>(scenario: &'a str, report: &'a str, whole: bool) -> Asked<'a> {
+    Asked::Check {
+        scenario,
+        report,
+        whole,
+        explain: false,
     }
-    asks(
-        &rt,
-        alloc,
-        &[name, script, help],
-        &["report", "stmrun: bad scenario at /0: Shape"],
-        shown,
-        failed,
-    );
-    asks(&rt, alloc, &[name], &hint, usage, usage);
-    asks(&rt, alloc, &[name, other], &hint, usage, usage);
-    asks(
-        &rt,
-        alloc,
-        &[name, script, other, other],
-        &hint,
-        usage,
-        usage,
-    );
-    asks(&rt, alloc, &[name, script, not_text], &hint, usage, usage);
 }
 
 #[test]
 fn command_lines_of_check(rt: HostRuntime) {
     let alloc = rt.alloc();
-    let name = "stmrun".as_bytes();
-    let check = "check".as_bytes();
-    let help = "--help".as_bytes();
-    let usage = Asked::Nothing(2);
-    let shown = Asked::Nothing(0);
-    let failed = Asked::Nothing(3);
-    let hint = ["Usage: stmrun", "--help"];
-    let one = "s.json".as_bytes();
-    let two = "r.txt".as_bytes();
-    let both = Asked::Check {
+    let (word, flag): (&[u8], &[u8]) = (b"check", b"--whole");
+    let (one, two): (&[u8], &[u8]) = (b"s.json", b"r.txt");
+    let both = check("s.json", "r.txt", false);
+    takes(&rt, alloc, &[NAME, word, one, two], both);
+    let whole = check("-", "r.txt", true);
+    takes(&rt, alloc, &[NAME, word, flag, b"-", two], whole);
+    takes(&rt, alloc, &[NAME, word, b"-", two, flag], whole);
+    let explained = Asked::Check {
         scenario: "s.json",
         report: "r.txt",
-        whole: false,
-    };
-    asks(&rt, alloc, &[name, check, one, two], &[], both, both);
-    let each_line = Asked::Check {
-        scenario: "-",
-        report: "r.txt",
         whole: true,
+        explain: true,
     };
-    let (flag, input) = ("--whole".as_bytes(), "-".as_bytes());
-    let line = [name, check, flag, input, two];
-    asks(&rt, alloc, &line, &[], each_line, each_line);
-    let line = [name, check, input, two, flag];
-    asks(&rt, alloc, &line, &[], each_line, each_line);
-    let line = [name, check, flag, one, two, flag];
-    asks(&rt, alloc, &line, &hint, usage, usage);
-    let valued = "--whole=true".as_bytes();
-    asks(
+    takes(
         &rt,
         alloc,
-        &[name, check, valued, one, two],
-        &hint,
-        usage,
-        usage,
+        &[NAME, word, EXPLAIN, one, two, flag],
+        explained,
     );
-    asks(&rt, alloc, &[name, check, one], &hint, usage, usage);
-    asks(
-        &rt,
-        alloc,
-        &[name, check, one, two, two],
-        &hint,
-        usage,
-        usage,
-    );
-    let explained = [
+}
+
+#[test]
+fn command_lines_of_check_that_are_refused(rt: HostRuntime) {
+    let alloc = rt.alloc();
+    let (word, flag): (&[u8], &[u8]) = (b"check", b"--whole");
+    let (one, two): (&[u8], &[u8]) = (b"s.json", b"r.txt");
+    refuses(&rt, alloc, &[NAME, word, flag, one, two, flag], &HINT);
+    refuses(&rt, alloc, &[NAME, word, b"--whole=true", one, two], &HINT);
+    refuses(&rt, alloc, &[NAME, word, one], &HINT);
+    refuses(&rt, alloc, &[NAME, word, one, two, two], &HINT);
+    let help = [
         "SCENARIO",
         "REPORT",
         "--whole",
+        "--explain",
         "no LINE CAUSE",
         "no 3 Final",
         "no LINE Differs",
     ];
-    asks(&rt, alloc, &[name, check, help], &explained, shown, failed);
+    shows(&rt, alloc, &[NAME, word, HELP], &help);
+}
+
+/// A run by so many threads.
+fn threads(scenario: Option<&str>, workers: usize, ends: bool) -> Asked<'_> {
+    Asked::Threads {
+        scenario,
+        workers,
+        ends,
+        explain: false,
+    }
 }
 
 #[test]
 fn command_lines_of_threads(rt: HostRuntime) {
     let alloc = rt.alloc();
-    let name = "stmrun".as_bytes();
-    let threads = "threads".as_bytes();
-    let option = "--workers".as_bytes();
-    let file = "s.json".as_bytes();
-    let four = "4".as_bytes();
-    let usage = Asked::Nothing(2);
-    let input = Asked::Threads {
-        scenario: None,
-        workers: 4,
-        ends: false,
-    };
-    asks(
+    let (word, option): (&[u8], &[u8]) = (b"threads", b"--workers");
+    let (file, sixteen): (&[u8], &[u8]) = (b"s.json", b"--workers=16");
+    takes(
         &rt,
         alloc,
-        &[name, threads, option, four],
-        &[],
-        input,
-        input,
+        &[NAME, word, option, b"4"],
+        threads(None, 4, false),
     );
-    let most = Asked::Threads {
+    let most = threads(Some("s.json"), 16, false);
+    takes(&rt, alloc, &[NAME, word, file, sixteen], most);
+    takes(&rt, alloc, &[NAME, word, sixteen, file], most);
+    let with_ends = threads(Some("s.json"), 16, true);
+    let line: [&[u8]; 5] = [NAME, word, b"--ends", file, sixteen];
+    takes(&rt, alloc, &line, with_ends);
+    let explained = Asked::Threads {
         scenario: Some("s.json"),
         workers: 16,
         ends: false,
+        explain: true,
     };
-    let sixteen = "--workers=16".as_bytes();
-    asks(&rt, alloc, &[name, threads, file, sixteen], &[], most, most);
-    asks(&rt, alloc, &[name, threads, sixteen, file], &[], most, most);
-    let with_ends = Asked::Threads {
-        scenario: Some("s.json"),
-        workers: 16,
-        ends: true,
-    };
-    let line = [name, threads, "--ends".as_bytes(), file, sixteen];
-    asks(&rt, alloc, &line, &[], with_ends, with_ends);
+    takes(&rt, alloc, &[NAME, word, EXPLAIN, file, sixteen], explained);
+}
+
+#[test]
+fn command_lines_of_threads_that_are_refused(rt: HostRuntime) {
+    let alloc = rt.alloc();
+    let (word, option): (&[u8], &[u8]) = (b"threads", b"--workers");
     let missing = ["Usage: stmrun", "--workers"];
-    asks(&rt, alloc, &[name, threads, file], &missing, usage, usage);
+    refuses(&rt, alloc, &[NAME, word, b"s.json"], &missing);
     let wrong = ["--workers", "--help"];
     for number in ["0", "17", "-1", "x", "", "18446744073709551617"] {
-        let line = [name, threads, option, number.as_bytes()];
-        asks(&rt, alloc, &line, &wrong, usage, usage);
+        let line = [NAME, word, option, number.as_bytes()];
+        refuses(&rt, alloc, &line, &wrong);
     }
-    let explained = ["--workers <N>", "--ends", "[\"committed\",1]", "audit JOB"];
-    asks(
-        &rt,
-        alloc,
-        &[name, threads, "--help".as_bytes()],
-        &explained,
-        Asked::Nothing(0),
-        Asked::Nothing(3),
-    );
+    let help = [
+        "--workers <N>",
+        "--ends",
+        "--explain",
+        "[\"committed\",1]",
+        "audit JOB",
+    ];
+    shows(&rt, alloc, &[NAME, word, HELP], &help);
 }
 
 #[test]
 fn command_lines_of_explore(rt: HostRuntime) {
     let alloc = rt.alloc();
-    let name = "stmrun".as_bytes();
-    let explore = "explore".as_bytes();
-    let file = "s.json".as_bytes();
-    let (keeps, rule) = ("--keeps".as_bytes(), "rule.json".as_bytes());
-    let (level, budget) = ("--level".as_bytes(), "--budget".as_bytes());
-    let usage = Asked::Nothing(2);
+    let (word, file): (&[u8], &[u8]) = (b"explore", b"s.json");
     let bare = Asked::Explore {
         scenario: "s.json",
         keeps: None,
         level: None,
         budget: 5000000,
+        explain: false,
     };
-    asks(&rt, alloc, &[name, explore, file], &[], bare, bare);
+    takes(&rt, alloc, &[NAME, word, file], bare);
     let whole = Asked::Explore {
         scenario: "s.json",
         keeps: Some("rule.json"),
         level: Some("Serializable"),
         budget: 0,
+        explain: true,
     };
-    let serializable = "Serializable".as_bytes();
-    let none = "0".as_bytes();
-    let line = [
-        name,
-        explore,
+    let line: [&[u8]; 10] = [
+        NAME,
+        word,
         file,
-        keeps,
-        rule,
-        level,
-        serializable,
-        budget,
-        none,
+        b"--keeps",
+        b"rule.json",
+        b"--level",
+        b"Serializable",
+        EXPLAIN,
+        b"--budget",
+        b"0",
     ];
-    asks(&rt, alloc, &line, &[], whole, whole);
+    takes(&rt, alloc, &line, whole);
+}
+
+#[test]
+fn command_lines_of_explore_that_are_refused(rt: HostRuntime) {
+    let alloc = rt.alloc();
+    let (word, file): (&[u8], &[u8]) = (b"explore", b"s.json");
+    let budget: &[u8] = b"--budget";
     let missing = ["Usage: stmrun explore", "SCENARIO"];
-    asks(&rt, alloc, &[name, explore], &missing, usage, usage);
+    refuses(&rt, alloc, &[NAME, word], &missing);
     let wrong = ["--budget", "--help"];
     for number in ["x", "", "18446744073709551616"] {
-        let line = [name, explore, file, budget, number.as_bytes()];
-        asks(&rt, alloc, &line, &wrong, usage, usage);
+        let line = [NAME, word, file, budget, number.as_bytes()];
+        refuses(&rt, alloc, &line, &wrong);
     }
     let signed = ["Usage: stmrun explore", "--help"];
-    let line = [name, explore, file, budget, "-1".as_bytes()];
-    asks(&rt, alloc, &line, &signed, usage, usage);
-    let explained = ["--keeps <PROGRAM>", "[\"broken\",LENGTH,END]", "4 open"];
-    asks(
-        &rt,
-        alloc,
-        &[name, explore, "--help".as_bytes()],
-        &explained,
-        Asked::Nothing(0),
-        Asked::Nothing(3),
-    );
+    refuses(&rt, alloc, &[NAME, word, file, budget, b"-1"], &signed);
+    let help = [
+        "--keeps <PROGRAM>",
+        "--explain",
+        "[\"broken\",LENGTH,END]",
+        "4 open",
+    ];
+    shows(&rt, alloc, &[NAME, word, HELP], &help);
 }
 
 /// The level of a name, and the status and the usage of one that is none.
@@ -400,31 +413,28 @@ fn words_of(words: Words<'_>) -> RecipeWords<'_> {
 #[test]
 fn command_lines_of_recipe(rt: HostRuntime) {
     let alloc = rt.alloc();
-    let name = "stmrun".as_bytes();
-    let recipe = "recipe".as_bytes();
-    let help = "--help".as_bytes();
-    let word = "dequeue".as_bytes();
-    let usage = Asked::Nothing(2);
+    let (recipe, word): (&[u8], &[u8]) = (b"recipe", b"dequeue");
     let one = Asked::Recipe(words_of(("dequeue", None, None, None)));
-    asks(&rt, alloc, &[name, recipe, word], &[], one, one);
+    takes(&rt, alloc, &[NAME, recipe, word], one);
     let two = Asked::Recipe(words_of(("dequeue", Some("recipe"), None, None)));
-    asks(&rt, alloc, &[name, recipe, word, recipe], &[], two, two);
+    takes(&rt, alloc, &[NAME, recipe, word, recipe], two);
     let whole = Asked::Recipe(words_of(("transfer", Some("a"), Some("b"), Some("30"))));
-    let (transfer, from, to) = ("transfer".as_bytes(), "a".as_bytes(), "b".as_bytes());
-    let amount = "30".as_bytes();
-    let line = [name, recipe, transfer, from, to, amount];
-    asks(&rt, alloc, &line, &[], whole, whole);
+    let line: [&[u8]; 6] = [NAME, recipe, b"transfer", b"a", b"b", b"30"];
+    takes(&rt, alloc, &line, whole);
     let dashed = Asked::Recipe(words_of(("dequeue", Some("-q"), None, None)));
-    let (dashes, queue) = ("--".as_bytes(), "-q".as_bytes());
-    let line = [name, recipe, dashes, word, queue];
-    asks(&rt, alloc, &line, &[], dashed, dashed);
+    takes(&rt, alloc, &[NAME, recipe, b"--", word, b"-q"], dashed);
+}
+
+#[test]
+fn command_lines_of_recipe_that_are_refused(rt: HostRuntime) {
+    let alloc = rt.alloc();
+    let (recipe, word): (&[u8], &[u8]) = (b"recipe", b"dequeue");
     let hint = ["Usage: stmrun recipe", "NAME", "--help"];
-    asks(&rt, alloc, &[name, recipe], &hint, usage, usage);
-    let line = [name, recipe, transfer, from, to, amount, amount];
-    asks(&rt, alloc, &line, &hint, usage, usage);
-    let line = [name, recipe, word, queue];
-    asks(&rt, alloc, &line, &hint, usage, usage);
-    let explained = [
+    refuses(&rt, alloc, &[NAME, recipe], &hint);
+    let line: [&[u8]; 7] = [NAME, recipe, b"transfer", b"a", b"b", b"30", b"30"];
+    refuses(&rt, alloc, &line, &hint);
+    refuses(&rt, alloc, &[NAME, recipe, word, b"-q"], &hint);
+    let help = [
         "transfer FROM TO AMOUNT",
         "deposit ACCOUNT AMOUNT",
         "enqueue QUEUE ITEM",
@@ -432,12 +442,5 @@ fn command_lines_of_recipe(rt: HostRuntime) {
         "reserve_slot SLOT HOLDER LEASE",
         "release_slot SLOT HOLDER",
     ];
-    asks(
-        &rt,
-        alloc,
-        &[name, recipe, help],
-        &explained,
-        Asked::Nothing(0),
-        Asked::Nothing(3),
-    );
+    shows(&rt, alloc, &[NAME, recipe, HELP], &help);
 }

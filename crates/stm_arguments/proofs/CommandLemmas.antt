@@ -31,11 +31,11 @@ asks_something None status by = by
 asks_something (Some named) status by = by
 
 pub asks : (words : List Text) (asked : Asked) → faults_of words ≡ [] → AsksBy (subcommand_of stmrun_app words) asked → Asks words asked
-asks words (Script file format) none by = (none, by)
-asks words (Check scenario report whole) none by = (none, by)
-asks words (Threads file workers ends) none by = (none, by)
+asks words (Script file format explain) none by = (none, by)
+asks words (Check scenario report whole explain) none by = (none, by)
+asks words (Threads file workers ends explain) none by = (none, by)
 asks words (Recipe named) none by = (none, by)
-asks words (Explore scenario keeps level budget) none by = (none, by)
+asks words (Explore scenario keeps level budget explain) none by = (none, by)
 asks words (Nothing status) none by = absurd (asks_something (subcommand_of stmrun_app words) status by)
 
 -- ---- the number of threads

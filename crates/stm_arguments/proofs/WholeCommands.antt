@@ -604,7 +604,8 @@ check_sets =
     let scenario = one_value AnyText again (first_of_rules check_shape.rules) refl refl (λ v vs none. tt) in
     let report = one_value AnyText again (first_of_rules (drop 1 check_shape.rules)) refl refl (λ v vs none. tt) in
     let whole = one_flag AnyText again (first_of_rules (drop 2 check_shape.rules)) refl refl refl tt in
-    (scenario, (report, (whole, (no_request AnyText again (first_of_rules (drop 3 check_shape.rules)) refl, tt))))
+    let explain = one_flag AnyText again (first_of_rules (drop 3 check_shape.rules)) refl refl refl tt in
+    (scenario, (report, (whole, (explain, (no_request AnyText again (first_of_rules (drop 4 check_shape.rules)) refl, tt)))))
 
 both_given : (one two : Bool) → (not one || (not two || false)) ≡ false → (one ≡ true) × (two ≡ true)
 both_given true true none = (refl, refl)
@@ -614,7 +615,7 @@ both_given false two none = absurd (true≢false none)
 files_given : (words : List Text) → level_fault check_shape [] nothing_held words false [] ≡ [] → HasFiles (rows_after check_shape.rules [] words)
 files_given words none =
     let rows = rows_after check_shape.rules [] words in
-    let kept = level_starts AnyText check_shape check_sets words (tt, (tt, (tt, (tt, tt)))) none in
+    let kept = level_starts AnyText check_shape check_sets words (tt, (tt, (tt, (tt, (tt, tt))))) none in
     let both = both_given (is_given (codes "SCENARIO") rows) (is_given (codes "REPORT") rows) (last_checks check_shape rows false kept.1).1 in
     let scenario = given_first AnyText (AnyText []) (codes "SCENARIO") rows (λ other v same may. tt) kept.0 both.0 in
     let report = given_first AnyText (AnyText []) (codes "REPORT") rows (λ other v same may. tt) kept.0 both.1 in
@@ -641,7 +642,8 @@ threads_sets =
     let file = one_value IsWorkersIfThere again (first_of_rules threads_shape.rules) refl refl (λ v vs none same. absurd (true≢false (sym same))) in
     let workers = one_value IsWorkersIfThere again (first_of_rules (drop 1 threads_shape.rules)) refl refl (λ v vs none same. number_passes v _ none) in
     let ends = one_flag IsWorkersIfThere again (first_of_rules (drop 2 threads_shape.rules)) refl refl refl (λ same. absurd (true≢false (sym same))) in
-    (file, (workers, (ends, (no_request IsWorkersIfThere again (first_of_rules (drop 3 threads_shape.rules)) refl, tt))))
+    let explain = one_flag IsWorkersIfThere again (first_of_rules (drop 3 threads_shape.rules)) refl refl refl (λ same. absurd (true≢false (sym same))) in
+    (file, (workers, (ends, (explain, (no_request IsWorkersIfThere again (first_of_rules (drop 4 threads_shape.rules)) refl, tt)))))
 
 one_given : (one : Bool) → (not one || false) ≡ false → one ≡ true
 one_given true none = refl
@@ -650,7 +652,8 @@ one_given false none = absurd (true≢false none)
 workers_given : (words : List Text) → level_fault threads_shape [] nothing_held words false [] ≡ [] → HasWorkers (rows_after threads_shape.rules [] words)
 workers_given words none =
     let rows = rows_after threads_shape.rules [] words in
-    let kept = level_starts IsWorkersIfThere threads_shape threads_sets words (tt, (tt, ((λ same. absurd (true≢false (sym same))), (tt, tt)))) none in
+    let kept = level_starts IsWorkersIfThere threads_shape threads_sets words
+    (tt, (tt, ((λ same. absurd (true≢false (sym same))), ((λ same. absurd (true≢false (sym same))), (tt, tt))))) none in
     let given = one_given (is_given (codes "workers") rows) (last_checks threads_shape rows false kept.1).1 in
     given_first IsWorkersIfThere (IsUnsignedIn 1 16) (codes "workers") rows (λ other v same may. may same) kept.0 given
 
@@ -692,7 +695,8 @@ explore_sets =
     let keeps = one_value IsBudgetIfThere again (first_of_rules (drop 1 explore_shape.rules)) refl refl (λ v vs none same. absurd (true≢false (sym same))) in
     let level = one_value IsBudgetIfThere again (first_of_rules (drop 2 explore_shape.rules)) refl refl (λ v vs none same. absurd (true≢false (sym same))) in
     let budget = one_value IsBudgetIfThere again (first_of_rules (drop 3 explore_shape.rules)) refl refl (λ v vs none same. any_number_passes v _ none) in
-    (scenario, (keeps, (level, (budget, (no_request IsBudgetIfThere again (first_of_rules (drop 4 explore_shape.rules)) refl, tt)))))
+    let explain = one_flag IsBudgetIfThere again (first_of_rules (drop 4 explore_shape.rules)) refl refl refl (λ same. absurd (true≢false (sym same))) in
+    (scenario, (keeps, (level, (budget, (explain, (no_request IsBudgetIfThere again (first_of_rules (drop 5 explore_shape.rules)) refl, tt))))))
 
 -- what is given, if anything is, has a first value
 first_if_there : (P : Text → Text → Type 0) (Q : Text → Type 0) (id : Text) (values : List Text) → ((v : Text) → P id v → Q v) → Starts P id values
@@ -715,7 +719,8 @@ there_first P Q id (r ∷ rs) each all =
 search_given : (words : List Text) → level_fault explore_shape [] nothing_held words false [] ≡ [] → HasSearch (rows_after explore_shape.rules [] words)
 search_given words none =
     let rows = rows_after explore_shape.rules [] words in
-    let kept = level_keeps IsBudgetIfThere explore_shape explore_sets words (refl, (refl, (refl, (refl, (refl, tt))))) none in
+    let kept = level_starts IsBudgetIfThere explore_shape explore_sets words
+    (tt, (tt, (tt, (tt, ((λ same. absurd (true≢false (sym same))), (tt, tt)))))) none in
     let given = one_given (is_given (codes "SCENARIO") rows) (last_checks explore_shape rows false kept.1).1 in
     let scenario = given_first IsBudgetIfThere (AnyText []) (codes "SCENARIO") rows (λ other v same may. tt) kept.0 given in (
       is_there (first_of (codes "SCENARIO") rows) (AnyText []) scenario,

@@ -46,28 +46,28 @@ BudgetAt (Some text) n = NamesNumber text n
 -- a command of this name, with what stands in the places of its arguments, asks for a script of its file, or of standard
 -- input where it names none, in the format that it names, for a check of its files, a whole one where that flag is set, for a run of its file by so many
 -- threads, from 1 to 16, with the ends of its jobs where that flag is set, for the recipe of its words, or for a search of its files, at the
--- level of a name, with so many events at most
+-- level of a name, with so many events at most; each but a recipe with its fault explained, where that flag is set
 abbrev pub AsksAt : Text → List Row → Asked → Type 0
-AsksAt name rows (Script file format) =
+AsksAt name rows (Script file format explain) =
     (name ≡ codes "script") × (first_of (codes "FILE") rows ≡ option_map (λ path. path.now) file)
-    × (first_of (codes "format") rows ≡ option_map (λ word. word.now) format)
-AsksAt name rows (Check scenario report whole) =
+    × (first_of (codes "format") rows ≡ option_map (λ word. word.now) format) × (explain ≡ is_set (first_of (codes "explain") rows))
+AsksAt name rows (Check scenario report whole explain) =
     (name ≡ codes "check") × (first_of (codes "SCENARIO") rows ≡ Some scenario.now) × (first_of (codes "REPORT") rows ≡ Some report.now)
-    × (whole ≡ is_set (first_of (codes "whole") rows))
-AsksAt name rows (Threads file workers ends) =
+    × (whole ≡ is_set (first_of (codes "whole") rows)) × (explain ≡ is_set (first_of (codes "explain") rows))
+AsksAt name rows (Threads file workers ends explain) =
     (name ≡ codes "threads") × (first_of (codes "FILE") rows ≡ option_map (λ path. path.now) file)
     × NumberAt (first_of (codes "workers") rows) workers × (1 ≤ workers) × (workers ≤ 16)
-    × (ends ≡ is_set (first_of (codes "ends") rows))
+    × (ends ≡ is_set (first_of (codes "ends") rows)) × (explain ≡ is_set (first_of (codes "explain") rows))
 AsksAt name rows (Recipe words) =
     (name ≡ codes "recipe") × (first_of (codes "NAME") rows ≡ Some words.name.now)
     × (first_of (codes "FIRST") rows ≡ option_map (λ word. word.now) words.first)
     × (first_of (codes "SECOND") rows ≡ option_map (λ word. word.now) words.second)
     × (first_of (codes "THIRD") rows ≡ option_map (λ word. word.now) words.third)
-AsksAt name rows (Explore scenario keeps level budget) =
+AsksAt name rows (Explore scenario keeps level budget explain) =
     (name ≡ codes "explore") × (first_of (codes "SCENARIO") rows ≡ Some scenario.now)
     × (first_of (codes "keeps") rows ≡ option_map (λ path. path.now) keeps)
     × (first_of (codes "level") rows ≡ option_map (λ name. name.now) level)
-    × BudgetAt (first_of (codes "budget") rows) budget
+    × BudgetAt (first_of (codes "budget") rows) budget × (explain ≡ is_set (first_of (codes "explain") rows))
 AsksAt name rows (Nothing status) = ⊥
 
 -- the same, of the command that the words name

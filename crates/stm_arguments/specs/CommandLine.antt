@@ -17,23 +17,32 @@ wanted name = record (new_rule name) { required = true }
 abbrev pub flag_rule : List ℕ → Rule
 flag_rule name = record (new_rule name) { long = Some name; action = Some SetTrue }
 
+-- the flag of a command whose fault is explained
+abbrev pub explain_rule : Rule
+explain_rule = flag_rule (codes "explain")
+
 -- an option that may be there, with a word
 abbrev pub format_rule : Rule
 format_rule = record (new_rule (codes "format")) { long = Some (codes "format"); value_names = 1 }
 
 abbrev pub script_app : App
-script_app = with_rule (with_rule (new_app (codes "script")) (new_rule (codes "FILE"))) format_rule
+script_app = with_rule (with_rule (with_rule (new_app (codes "script")) (new_rule (codes "FILE"))) format_rule) explain_rule
 
 abbrev pub check_app : App
 check_app =
-    with_rule (with_rule (with_rule (new_app (codes "check")) (wanted (codes "SCENARIO"))) (wanted (codes "REPORT"))) (flag_rule (codes "whole"))
+    with_rule
+    (with_rule (with_rule (with_rule (new_app (codes "check")) (wanted (codes "SCENARIO"))) (wanted (codes "REPORT"))) (flag_rule (codes "whole")))
+    explain_rule
 
 -- an option that has to be there, with a number from 1 to 16
 abbrev pub workers_rule : Rule
 workers_rule = record (wanted (codes "workers")) { long = Some (codes "workers"); value_names = 1; parser = Some (Unsigned 1 16) }
 
 abbrev pub threads_app : App
-threads_app = with_rule (with_rule (with_rule (new_app (codes "threads")) (new_rule (codes "FILE"))) workers_rule) (flag_rule (codes "ends"))
+threads_app =
+    with_rule
+    (with_rule (with_rule (with_rule (new_app (codes "threads")) (new_rule (codes "FILE"))) workers_rule) (flag_rule (codes "ends")))
+    explain_rule
 
 abbrev pub recipe_app : App
 recipe_app =
@@ -49,9 +58,11 @@ abbrev pub explore_app : App
 explore_app =
     with_rule
     (with_rule
+    (with_rule
     (with_rule (with_rule (new_app (codes "explore")) (wanted (codes "SCENARIO"))) (option_rule (codes "keeps") AnyText))
     (option_rule (codes "level") AnyText))
-    (option_rule (codes "budget") (Unsigned 0 18446744073709551615))
+    (option_rule (codes "budget") (Unsigned 0 18446744073709551615)))
+    explain_rule
 
 -- a command that is added to another makes it that one with this as a subcommand, the last
 abbrev pub IsAddedAs : App → Command → Type 0

@@ -1,7 +1,7 @@
 //! The command line.
 ghost use Rattle.std.specs.Prelude.{◌≡◌, ◌≤◌, ◌⊎◌, codes, false, IfOk, IfErr, IfNone, IfSome, Some, map, option_map, string_bytes};
 ghost use Rattle.clap.specs.Words.{IsUnsignedIn, app_of, first_of, found_of, kind_of, new_rule, rows_of, rule_of, subcommand_rows_of};
-ghost use Rattle.stm_arguments.specs.CommandLine.{format_rule, script_app, check_app, threads_app, recipe_app, stmrun_app, flag_rule, wanted, workers_rule, IsAddedAs, IsToldBy};
+ghost use Rattle.stm_arguments.specs.CommandLine.{format_rule, script_app, check_app, threads_app, recipe_app, stmrun_app, explain_rule, flag_rule, wanted, workers_rule, IsAddedAs, IsToldBy};
 ghost use Rattle.stm_arguments.specs.Asking.{Asks, AsksAt, AsksBy, HasFiles, HasName, HasWorkers, IsWhole, NamesNumber, is_set};
 
 use crate::exploring::{explore_command, explore_of};
@@ -20,12 +20,16 @@ pub enum Asked<'a> {
     Script {
         scenario: Option<&'a str>,
         format: Option<&'a str>,
+        /// Whether a fault is explained.
+        explain: bool,
     },
     /// A check of a report, by the paths of its scenario and of itself: of each line, where it is to be whole.
     Check {
         scenario: &'a str,
         report: &'a str,
         whole: bool,
+        /// Whether a fault is explained.
+        explain: bool,
     },
     /// A run of the scenario's jobs by so many threads, by the path of the scenario; of standard input, where there is none. The end of each
     /// job is shown, or is not.
@@ -33,6 +37,8 @@ pub enum Asked<'a> {
         scenario: Option<&'a str>,
         workers: usize,
         ends: bool,
+        /// Whether a fault is explained.
+        explain: bool,
     },
     /// The program of a recipe, by its name and its arguments.
     Recipe(RecipeWords<'a>),
@@ -45,6 +51,8 @@ pub enum Asked<'a> {
         level: Option<&'a str>,
         /// At most so many events are taken.
         budget: u64,
+        /// Whether a fault is explained.
+        explain: bool,
     },
     /// Nothing more: help was printed, or the command line was refused, with this status.
     Nothing(u8),
@@ -115,6 +123,11 @@ From this scenario, which lacks the runner of its step,
 it prints no report, but says
 
   stmrun: bad scenario at /0: Shape
+
+With --explain a second line says where that is, what was found there and what is allowed; check, threads and
+explore have --explain too:
+
+  s.json:1:2: elements behind \"step\": 0 found, 1 wanted
 
 Statuses: 0 done, 2 bad input or usage, 3 want of memory or a failed device.";
 
@@ -227,6 +240,18 @@ fn flag<'a>(alloc: Global, name: &'a str, help: &'a str) -> Arg<'a>
         .help(help)
 }
 
+/// Whether a fault is explained.
+pub(crate) fn explain<'a>(alloc: Global) -> Arg<'a>
+    ensures rule { rule_of result ≡ explain_rule }
+    ensures local { result.global ≡ false }
+{
+    flag(
+        alloc,
+        "explain",
+        "Whether a fault is explained: where it stands, what was found, and what is allowed",
+    )
+}
+
 /// The format of a report, which may be there.
 fn format<'a>(alloc: Global) -> Arg<'a>
     ensures rule { rule_of result ≡ format_rule }
@@ -248,11 +273,13 @@ fn script_command<'a>(alloc: Global) -> Result<Command<'a>, AllocError>
         "The file of the scenario, in the place of standard input",
     );
     let form = format(alloc);
+    let explained = explain(alloc);
     Command::new(alloc, "script")
         .about("Runs a scenario, and prints its report")
         .after_help(SCRIPT_EXAMPLE)
         .arg(input)?
-        .arg(form)
+        .arg(form)?
+        .arg(explained)
 }
 
 /// The command `check`.
@@ -266,12 +293,14 @@ fn check_command<'a>(alloc: Global) -> Result<Command<'a>, AllocError>
         "whole",
         "Whether REPORT is, line by line, what script prints for SCENARIO",
     );
+    let explained = explain(alloc);
     Command::new(alloc, "check")
         .about("Says whether REPORT is a report of SCENARIO, and if not, which line is wrong first")
         .after_help(CHECK_EXAMPLE)
         .arg(scenario)?
         .arg(report)?
-        .arg(whole)
+        .arg(whole)?
+        .arg(explained)
 }
 
 /// The number of threads, which has to be there.
@@ -303,12 +332,14 @@ fn threads_command<'a>(alloc: Global) -> Result<Command<'a>, AllocError>
         "ends",
         "Whether a line is printed for the end of each job",
     );
+    let explained = explain(alloc);
     Command::new(alloc, "threads")
         .about("Runs the starts of a scenario as jobs, by several threads on one store")
         .after_help(THREADS_EXAMPLE)
         .arg(input)?
         .arg(count)?
-        .arg(ends)
+        .arg(ends)?
+        .arg(explained)
 }
 
 /// The command `recipe`.
@@ -396,7 +427,7 @@ pub(crate) fn word_of<'a>(found: &ArgMatches<'a>, name: &str) -> Option<&'a str>
 }
 
 /// Whether a flag is set.
-fn flag_of(found: &ArgMatches<'_>, name: &str) -> bool
+pub(crate) fn flag_of(found: &ArgMatches<'_>, name: &str) -> bool
     ensures { result ≡ is_set (first_of name.now (rows_of (found_of found.now))) }
 {
     match word_of(found, name) {
@@ -413,10 +444,12 @@ fn files_of<'a>(found: &ArgMatches<'a>) -> Option<Asked<'a>>
     let scenario = word_of(found, "SCENARIO")?;
     let report = word_of(found, "REPORT")?;
     let whole = flag_of(found, "whole");
+    let explain = flag_of(found, "explain");
     Some(Asked::Check {
         scenario,
         report,
         whole,
+        explain,
     })
 }
 
@@ -454,10 +487,12 @@ fn threads_of<'a>(found: &ArgMatches<'a>) -> Option<Asked<'a>>
     let text = word_of(found, "workers")?;
     let workers = workers_in(text)?;
     let ends = flag_of(found, "ends");
+    let explain = flag_of(found, "explain");
     Some(Asked::Threads {
         scenario,
         workers,
         ends,
+        explain,
     })
 }
 
@@ -487,7 +522,12 @@ fn asked_at<'a>(name: &str, found: &ArgMatches<'a>) -> Option<Asked<'a>>
     if name == "script" {
         let scenario = word_of(found, "FILE");
         let format = word_of(found, "format");
-        return Some(Asked::Script { scenario, format });
+        let explain = flag_of(found, "explain");
+        return Some(Asked::Script {
+            scenario,
+            format,
+            explain,
+        });
     }
     if name == "check" {
         return files_of(found);

@@ -4,7 +4,7 @@ ghost use Rattle.clap.specs.Words.{IsUnsignedIn, found_of, rows_of, rule_of};
 ghost use Rattle.stm_arguments.specs.Asking.{AsksAt, HasSearch, NamesNumber, LevelAt, BudgetAt, level_named};
 ghost use Rattle.stm_arguments.specs.CommandLine.{explore_app, option_rule, IsAddedAs};
 
-use crate::arguments::{Asked, fail, required, word_of};
+use crate::arguments::{Asked, explain, fail, flag_of, required, word_of};
 use clap::builder::ValueParser;
 use clap::{Arg, ArgMatches, Command};
 use std::alloc::{AllocError, Global};
@@ -97,6 +97,7 @@ pub(crate) fn explore_command<'a>(alloc: Global) -> Result<Command<'a>, AllocErr
         ValueParser::Unsigned(0, u64::MAX),
         "How many events are taken at most, 5000000 if not said",
     );
+    let explained = explain(alloc);
     Command::new(alloc, "explore")
         .about(
             "Looks through every interleaving of a scenario, for one that breaks a rule or for what they come to",
@@ -105,7 +106,8 @@ pub(crate) fn explore_command<'a>(alloc: Global) -> Result<Command<'a>, AllocErr
         .arg(scenario)?
         .arg(keeps)?
         .arg(level)?
-        .arg(budget)
+        .arg(budget)?
+        .arg(explained)
 }
 
 /// The level of a name.
@@ -170,10 +172,12 @@ pub(crate) fn explore_of<'a>(found: &ArgMatches<'a>) -> Option<Asked<'a>>
     let keeps = word_of(found, "keeps");
     let level = word_of(found, "level");
     let budget = budget_at(word_of(found, "budget"))?;
+    let explain = flag_of(found, "explain");
     Some(Asked::Explore {
         scenario,
         keeps,
         level,
         budget,
+        explain,
     })
 }

@@ -6,6 +6,7 @@ use Rattle.stm_jobs.specs.declared.running.JobsFault.{JobsFault}
 use Rattle.stm_jobs.specs.declared.running.JobsFault.TheVariants.{OutOfMemory, Bad, Read, Write, Spawn, Audit}
 use Rattle.stm_jobs.specs.Running.{Does}
 use Rattle.stm_commands.specs.Statuses.{bad_input, Says}
+use Rattle.stm_commands.specs.Explaining.{SaysMore}
 
 -- 2 for bad input, 3 for want of memory, a failed device, a thread that was refused and an end that does not stand
 abbrev pub fault_status : JobsFault → ℕ
@@ -37,3 +38,18 @@ EndsBy before after failed (Err fault) status = SaysOf before after failed fault
 abbrev pub Ends : Bool → Devices → Option (List ℕ) → Option (List ℕ) → Bool → ℕ → Type 0
 Ends shown devices before after failed status =
     (ended : Result (Unit {0}) JobsFault) × Does shown devices ended × EndsBy before after failed ended status
+
+-- ---- with an explanation
+
+-- what is said and answered of a fault, with its explanation
+abbrev pub SaysMoreOf : Option (List ℕ) → Option (List ℕ) → Bool → JobsFault → ℕ → Type 0
+SaysMoreOf before after failed fault status = (status ≡ fault_status fault) × SaysMore before after failed (fault_message fault)
+
+abbrev pub EndsMoreBy : {A : Type 0} → Option (List ℕ) → Option (List ℕ) → Bool → Result A JobsFault → ℕ → Type 0
+EndsMoreBy before after failed (Ok u) status = (status ≡ 0) × (failed ≡ false) × Keeps before after
+EndsMoreBy before after failed (Err fault) status = SaysMoreOf before after failed fault status
+
+-- the same of the command that explains a bad scenario
+abbrev pub EndsExplained : Bool → Devices → Option (List ℕ) → Option (List ℕ) → Bool → ℕ → Type 0
+EndsExplained shown devices before after failed status =
+    (ended : Result (Unit {0}) JobsFault) × Does shown devices ended × EndsMoreBy before after failed ended status

@@ -1,7 +1,7 @@
-//! Files and standard input as readers.
+//! Files and standard input as readers, and why the system refused what was asked of one.
 
 use std::fs;
-use std::io::{self, ErrorKind, Input, Read};
+use std::io::{self, Input, Read, Write};
 use std::rt::Files;
 
 /// A file, or standard input. A file that could not be opened fails when it is read.
@@ -11,8 +11,8 @@ pub(crate) enum Opened<F, I> {
     File(F),
     /// Standard input.
     Standard(I),
-    /// None could be opened.
-    Missing,
+    /// None could be opened, for this reason.
+    Missing(io::Error),
 }
 
 /// The file of a path, or standard input where the path is `-`.
@@ -22,7 +22,7 @@ pub(crate) fn open<R: Files + Input>(rt: &R, path: &str) -> Opened<R::File, R::R
     }
     match fs::open(rt, path) {
         Ok(file) => Opened::File(file),
-        Err(_) => Opened::Missing,
+        Err(error) => Opened::Missing(error),
     }
 }
 
@@ -31,7 +31,54 @@ impl<F: Read, I: Read> Read for Opened<F, I> {
         match self {
             Opened::File(file) => file.read(buffer),
             Opened::Standard(input) => input.read(buffer),
-            Opened::Missing => Err(io::Error::from(ErrorKind::NotFound)),
+            Opened::Missing(error) => Err(*error),
         }
+    }
+}
+
+/// A reader or a writer that notes why it failed last.
+#[derive(Drop)]
+pub(crate) struct Noting<D> {
+    /// The reader or the writer.
+    device: D,
+    /// Why it failed last, where it has failed.
+    pub(crate) failure: Option<io::Error>,
+}
+
+impl<D> Noting<D> {
+    /// A device that has not failed.
+    pub(crate) fn new(device: D) -> Noting<D> {
+        Noting {
+            device,
+            failure: None,
+        }
+    }
+}
+
+impl<R: Read> Read for Noting<R> {
+    fn read(&mut self, buffer: &mut [u8]) -> io::Result<usize> {
+        match self.device.read(buffer) {
+            Ok(count) => Ok(count),
+            Err(error) => {
+                self.failure = Some(error);
+                Err(error)
+            }
+        }
+    }
+}
+
+impl<W: Write> Write for Noting<W> {
+    fn write(&mut self, bytes: &[u8]) -> io::Result<usize> {
+        match self.device.write(bytes) {
+            Ok(count) => Ok(count),
+            Err(error) => {
+                self.failure = Some(error);
+                Err(error)
+            }
+        }
+    }
+
+    fn flush(&mut self) -> io::Result<()> {
+        self.device.flush()
     }
 }

@@ -7,6 +7,8 @@ ghost use Rattle.stm_workers.specs.declared.run.TheConstants.{MOST_WORKERS};
 
 #[cfg(test)]
 mod device_tests;
+mod explained_threads;
+mod explaining;
 #[cfg(test)]
 mod file_tests;
 mod files;
@@ -14,6 +16,7 @@ mod threading;
 #[cfg(test)]
 mod threading_tests;
 
+pub use explained_threads::threads_explained_to;
 use files::open;
 use std::process::ExitCode;
 use std::sync::Wait;
@@ -21,7 +24,9 @@ use std::thread::Threads;
 use stm_arguments::{Asked, asked_of, read_level, read_words};
 use stm_commands::{Format, Level, RecipeWords, Std, no_format_to};
 pub use stm_commands::{
-    check_to, check_whole_to, explore_to, outcomes_to, recipe_to, script_as_to, script_to,
+    check_explained_to, check_to, check_whole_explained_to, check_whole_to, explore_explained_to,
+    explore_to, outcomes_explained_to, outcomes_to, recipe_to, script_as_to, script_explained_to,
+    script_to,
 };
 pub use threading::{threads_to, threads_with_ends_to};
 
@@ -46,19 +51,29 @@ fn format_of(word: Option<&str>) -> Option<Format> {
     }
 }
 
-/// Runs a scenario, where the word names a format.
-fn run_script_in(rt: &HostRuntime, scenario: Option<&str>, word: Option<&str>) -> u8 {
+/// Runs a scenario, where the word names a format. A fault is explained, or is not.
+fn run_script_in(
+    rt: &HostRuntime,
+    scenario: Option<&str>,
+    word: Option<&str>,
+    explain: bool,
+) -> u8 {
     match format_of(word) {
+        Some(format) if explain => explaining::run_script(rt, path_of(scenario), format),
         Some(format) => run_script(rt, scenario, format),
         None => no_format_to(&mut Std::new(rt.stderr())),
     }
 }
 
-/// Checks the report of a path beside the scenario of another: each line, where it is to be whole. Only one of them can be standard input.
-fn run_check(rt: &HostRuntime, scenario: &str, report: &str, whole: bool) -> u8 {
+/// Checks the report of a path beside the scenario of another: each line, where it is to be whole. A fault is explained, or is not. Only one of
+/// the two can be standard input.
+fn run_check(rt: &HostRuntime, scenario: &str, report: &str, whole: bool, explain: bool) -> u8 {
     if scenario == "-" && report == "-" {
         let _ = rt.eprintln("stmrun: standard input can be only one of SCENARIO and REPORT");
         return 2;
+    }
+    if explain {
+        return explaining::run_check(rt, scenario, report, whole);
     }
     let mut scenario = Std::new(open(rt, scenario));
     let mut report = Std::new(open(rt, report));
@@ -70,17 +85,22 @@ fn run_check(rt: &HostRuntime, scenario: &str, report: &str, whole: bool) -> u8 
     check_to(rt.alloc(), &mut scenario, &mut report, &mut out, &mut err)
 }
 
-/// Looks through the interleavings of a path's scenario for one that breaks the rule of another path. Only one of them can be standard input.
+/// Looks through the interleavings of a path's scenario for one that breaks the rule of another path. A fault is explained, or is not. Only one
+/// of the two can be standard input.
 fn run_rule(
     rt: &HostRuntime,
     scenario: &str,
     keeps: &str,
     level: Option<Level>,
     budget: u64,
+    explain: bool,
 ) -> u8 {
     if scenario == "-" && keeps == "-" {
         let _ = rt.eprintln("stmrun: standard input can be only one of SCENARIO and PROGRAM");
         return 2;
+    }
+    if explain {
+        return explaining::run_rule(rt, scenario, keeps, level, budget);
     }
     let mut scenario = Std::new(open(rt, scenario));
     let mut keeps = Std::new(open(rt, keeps));
@@ -97,8 +117,17 @@ fn run_rule(
     )
 }
 
-/// Goes through the interleavings of a path's scenario.
-fn run_outcomes(rt: &HostRuntime, scenario: &str, level: Option<Level>, budget: u64) -> u8 {
+/// Goes through the interleavings of a path's scenario. A fault is explained, or is not.
+fn run_outcomes(
+    rt: &HostRuntime,
+    scenario: &str,
+    level: Option<Level>,
+    budget: u64,
+    explain: bool,
+) -> u8 {
+    if explain {
+        return explaining::run_outcomes(rt, scenario, level, budget);
+    }
     let mut scenario = Std::new(open(rt, scenario));
     let mut out = Std::new(rt.stdout());
     let mut err = Std::new(rt.stderr());
@@ -112,23 +141,29 @@ fn run_explore(
     keeps: Option<&str>,
     level: Option<Level>,
     budget: u64,
+    explain: bool,
 ) -> u8 {
     match keeps {
-        Some(keeps) => run_rule(rt, scenario, keeps, level, budget),
-        None => run_outcomes(rt, scenario, level, budget),
+        Some(keeps) => run_rule(rt, scenario, keeps, level, budget, explain),
+        None => run_outcomes(rt, scenario, level, budget, explain),
     }
 }
 
-/// Runs the jobs of the scenario of a path, or of that on standard input, by so many threads. The ends of the jobs are printed too, or are not.
+/// Runs the jobs of the scenario of a path, or of that on standard input, by so many threads. The ends of the jobs are printed too, or are not, and
+/// a fault is explained, or is not.
 fn run_threads<T: Threads + Wait + Sync>(
     rt: &HostRuntime,
     threads: &T,
     scenario: Option<&str>,
     workers: usize,
     ends: bool,
+    explain: bool,
 ) -> u8
     requires { (1 ≤ workers) × (workers ≤ MOST_WORKERS) }
 {
+    if explain {
+        return explaining::run_threads(rt, threads, path_of(scenario), workers, ends);
+    }
     let mut input = Std::new(open(rt, path_of(scenario)));
     let mut out = Std::new(rt.stdout());
     let mut err = Std::new(rt.stderr());
@@ -152,25 +187,32 @@ fn run<T: Threads + Wait + Sync>(rt: &HostRuntime, threads: &T) -> u8 {
         Err(status) => return status,
     };
     match asked_of(rt, rt.alloc(), words.as_slice()) {
-        Asked::Script { scenario, format } => run_script_in(rt, scenario, format),
+        Asked::Script {
+            scenario,
+            format,
+            explain,
+        } => run_script_in(rt, scenario, format, explain),
         Asked::Check {
             scenario,
             report,
             whole,
-        } => run_check(rt, scenario, report, whole),
+            explain,
+        } => run_check(rt, scenario, report, whole, explain),
         Asked::Threads {
             scenario,
             workers,
             ends,
-        } => run_threads(rt, threads, scenario, workers, ends),
+            explain,
+        } => run_threads(rt, threads, scenario, workers, ends, explain),
         Asked::Recipe(words) => run_recipe(rt, &words),
         Asked::Explore {
             scenario,
             keeps,
             level,
             budget,
+            explain,
         } => match read_level(rt, level) {
-            Ok(level) => run_explore(rt, scenario, keeps, level, budget),
+            Ok(level) => run_explore(rt, scenario, keeps, level, budget, explain),
             Err(status) => status,
         },
         Asked::Nothing(status) => status,

@@ -15,7 +15,7 @@ use stm_jobs::{JobsFault, run_jobs};
 use stm_report::{DeviceFault, Sink, Source};
 
 /// The status of a fault.
-fn status(fault: &JobsFault) -> u8
+pub(crate) fn status(fault: &JobsFault) -> u8
     ensures { result ≡ fault_status fault.now }
 {
     match fault {
@@ -46,7 +46,7 @@ fn write_audit<E: Sink>(err: &mut E, job: u64) -> Result<(), DeviceFault>
 }
 
 /// Writes what is said of a fault. Where the sink fails, a front of it was written.
-fn write_message<E: Sink>(err: &mut E, fault: &JobsFault) -> Result<(), DeviceFault>
+pub(crate) fn write_message<E: Sink>(err: &mut E, fault: &JobsFault) -> Result<(), DeviceFault>
     requires { E.failed err.old ≡ false }
     ensures { HasWritten (E.held err.old) (E.held err.new) (E.failed err.new) result (fault_message fault.now) }
 {

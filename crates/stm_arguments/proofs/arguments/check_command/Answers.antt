@@ -15,8 +15,10 @@ returns c =
     let two_are = neither _ _ (c.in_ok-arg.ensures.globals ∙ one_is) c.required-report.ensures.local in
     let with_scenario = c.in_ok-arg.ensures.shape c.required-scenario.ensures.local ∙ ap₂ with_rule bare_is c.required-scenario.ensures.rule in
     let with_report = c.in_ok-arg-2.ensures.shape c.required-report.ensures.local ∙ ap₂ with_rule with_scenario c.required-report.ensures.rule in
-    IfOk-weaker c.arg-3.result _ _ (λ m adds. λ (old new : Command). λ (h : AddsSubcommand old m new).
-    h.shape (adds.globals ∙ neither _ _ (c.in_ok-arg-2.ensures.globals ∙ two_are) c.flag-whole.ensures.local)
+    let three_are = neither _ _ (c.in_ok-arg-2.ensures.globals ∙ two_are) c.flag-whole.ensures.local in
+    let with_whole = c.in_ok-arg-3.ensures.shape c.flag-whole.ensures.local ∙ ap₂ with_rule with_report c.flag-whole.ensures.rule in
+    IfOk-weaker c.arg-4.result _ _ (λ m adds. λ (old new : Command). λ (h : AddsSubcommand old m new).
+    h.shape (adds.globals ∙ neither _ _ (c.in_ok-arg-3.ensures.globals ∙ three_are) c.explain-explained.ensures.local)
     ∙ ap (λ (a : App). with_subcommand (app_of old) a.top)
-    (adds.shape c.flag-whole.ensures.local ∙ ap₂ with_rule with_report c.flag-whole.ensures.rule))
-    c.arg-3.ensures
+    (adds.shape c.explain-explained.ensures.local ∙ ap₂ with_rule with_whole c.explain-explained.ensures.rule))
+    c.arg-4.ensures

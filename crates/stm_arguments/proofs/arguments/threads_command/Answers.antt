@@ -15,8 +15,10 @@ returns c =
     let two_are = neither _ _ (c.in_ok-arg.ensures.globals ∙ one_is) c.workers-count.ensures.local in
     let with_file = c.in_ok-arg.ensures.shape c.optional-input.ensures.local ∙ ap₂ with_rule bare_is c.optional-input.ensures.rule in
     let with_count = c.in_ok-arg-2.ensures.shape c.workers-count.ensures.local ∙ ap₂ with_rule with_file c.workers-count.ensures.rule in
-    IfOk-weaker c.arg-3.result _ _ (λ m adds. λ (old new : Command). λ (h : AddsSubcommand old m new).
-    h.shape (adds.globals ∙ neither _ _ (c.in_ok-arg-2.ensures.globals ∙ two_are) c.flag-ends.ensures.local)
+    let three_are = neither _ _ (c.in_ok-arg-2.ensures.globals ∙ two_are) c.flag-ends.ensures.local in
+    let with_ends = c.in_ok-arg-3.ensures.shape c.flag-ends.ensures.local ∙ ap₂ with_rule with_count c.flag-ends.ensures.rule in
+    IfOk-weaker c.arg-4.result _ _ (λ m adds. λ (old new : Command). λ (h : AddsSubcommand old m new).
+    h.shape (adds.globals ∙ neither _ _ (c.in_ok-arg-3.ensures.globals ∙ three_are) c.explain-explained.ensures.local)
     ∙ ap (λ (a : App). with_subcommand (app_of old) a.top)
-    (adds.shape c.flag-ends.ensures.local ∙ ap₂ with_rule with_count c.flag-ends.ensures.rule))
-    c.arg-3.ensures
+    (adds.shape c.explain-explained.ensures.local ∙ ap₂ with_rule with_ends c.explain-explained.ensures.rule))
+    c.arg-4.ensures

@@ -12,6 +12,7 @@ returns-clause-asks c = (
   c.in_ok-workers.ensures.number.0,
   c.in_ok-workers.ensures.number.1,
   c.flag_of-ends.ensures,
+  c.flag_of-explain.ensures,
 )
 
 -- what stands in the place of the number is none

@@ -17,8 +17,10 @@ returns c =
     let named = c.in_ok-arg.ensures.shape c.required-scenario.ensures.local ∙ ap₂ with_rule bare_is c.required-scenario.ensures.rule in
     let with_keeps = c.in_ok-arg-2.ensures.shape c.option-keeps.ensures.local ∙ ap₂ with_rule named c.option-keeps.ensures.rule in
     let with_level = c.in_ok-arg-3.ensures.shape c.option-level.ensures.local ∙ ap₂ with_rule with_keeps c.option-level.ensures.rule in
-    IfOk-weaker c.arg-4.result _ _ (λ m adds. λ (old new : Command). λ (h : AddsSubcommand old m new).
-    h.shape (adds.globals ∙ neither _ _ (c.in_ok-arg-3.ensures.globals ∙ three_are) c.option-budget.ensures.local)
+    let four_are = neither _ _ (c.in_ok-arg-3.ensures.globals ∙ three_are) c.option-budget.ensures.local in
+    let with_budget = c.in_ok-arg-4.ensures.shape c.option-budget.ensures.local ∙ ap₂ with_rule with_level c.option-budget.ensures.rule in
+    IfOk-weaker c.arg-5.result _ _ (λ m adds. λ (old new : Command). λ (h : AddsSubcommand old m new).
+    h.shape (adds.globals ∙ neither _ _ (c.in_ok-arg-4.ensures.globals ∙ four_are) c.explain-explained.ensures.local)
     ∙ ap (λ (a : App). with_subcommand (app_of old) a.top)
-    (adds.shape c.option-budget.ensures.local ∙ ap₂ with_rule with_level c.option-budget.ensures.rule))
-    c.arg-4.ensures
+    (adds.shape c.explain-explained.ensures.local ∙ ap₂ with_rule with_budget c.explain-explained.ensures.rule))
+    c.arg-5.ensures

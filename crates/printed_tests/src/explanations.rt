@@ -1,0 +1,266 @@
+//! What is said of bad inputs whose faults are explained. What is expected comes from the formats, and never from a run.
+
+use std::alloc::Global;
+use std::io;
+use std::io::{ErrorKind, Write};
+use std::process::Abort;
+use stm_commands::{
+    Format, Kept, Std, check_explained_to, explore_explained_to, outcomes_explained_to,
+    script_explained_to,
+};
+
+/// A script of this text is refused, and says this.
+fn says(rt: &impl Abort, alloc: Global, text: &[u8], said: &str) {
+    let mut input = Kept::new(alloc, "s.json", Std::new(text));
+    let mut out = Std::new(Vec::new(alloc));
+    let mut err = Std::new(Vec::new(alloc));
+    let status = script_explained_to(alloc, Format::Lines, &mut input, &mut out, &mut err);
+    assert_eq!(rt; status, 2, "{said}");
+    assert!(rt; out.device.is_empty(), "{said}");
+    assert!(rt; err.device.as_slice() == said.as_bytes(), "{said}");
+}
+
+/// A check of this report of one put is refused, and says this.
+fn says_of_report(rt: &impl Abort, alloc: Global, report: &str, said: &str) {
+    let mut scenario = Kept::new(alloc, "s.json", Std::new(FIRST_PUT.as_bytes()));
+    let mut report = Kept::new(alloc, "r.txt", Std::new(report.as_bytes()));
+    let mut out = Std::new(Vec::new(alloc));
+    let mut err = Std::new(Vec::new(alloc));
+    let status = check_explained_to(alloc, &mut scenario, &mut report, &mut out, &mut err);
+    assert_eq!(rt; status, 2, "{said}");
+    assert!(rt; out.device.is_empty(), "{said}");
+    assert!(rt; err.device.as_slice() == said.as_bytes(), "{said}");
+}
+
+/// A search with this rule is refused, and says this.
+fn says_of_rule(rt: &impl Abort, alloc: Global, scenario: &str, rule: &str, said: &str) {
+    let mut scenario = Kept::new(alloc, "s.json", Std::new(scenario.as_bytes()));
+    let mut rule = Kept::new(alloc, "rule.json", Std::new(rule.as_bytes()));
+    let mut out = Std::new(Vec::new(alloc));
+    let mut err = Std::new(Vec::new(alloc));
+    let status = explore_explained_to(
+        alloc,
+        &mut scenario,
+        &mut rule,
+        None,
+        100,
+        &mut out,
+        &mut err,
+    );
+    assert_eq!(rt; status, 2, "{said}");
+    assert!(rt; out.device.is_empty(), "{said}");
+    assert!(rt; err.device.as_slice() == said.as_bytes(), "{said}");
+}
+
+/// One put.
+const FIRST_PUT: &str = r#"[["start","ReadCommitted",1,[["put","a","1",0]]],["step",1]]"#;
+
+/// Texts that are no JSON, and what is said of them.
+#[test]
+fn texts_that_are_no_json(rt: HostRuntime) {
+    let alloc = rt.alloc();
+    let cases: [(&[u8], &str); 9] = [
+        (
+            b"[[\"step\",1],\n ]",
+            "s.json:2:2: no JSON: ] cannot stand here; a value is missing before it, or a comma is too many\n",
+        ),
+        (
+            b"// a comment\n[]",
+            "s.json:1:1: no JSON: / cannot stand here; JSON has no comments\n",
+        ),
+        (
+            b"[['step',1]]",
+            "s.json:1:3: no JSON: ' cannot stand here; texts stand between \" and \"\n",
+        ),
+        (
+            b"\xef\xbb\xbf[]",
+            "s.json:1:1: no JSON: a byte order mark cannot stand here\n",
+        ),
+        (
+            b"[\"a\",\n\"\xe4\"]",
+            "s.json:2:2: no JSON: what stands here is not UTF-8\n",
+        ),
+        (
+            b"",
+            "s.json:1:1: no JSON: the text ends before its value does\n",
+        ),
+        (
+            b"[[\"step\",1]\n",
+            "s.json:2:1: no JSON: the text ends before its value does\n",
+        ),
+        (
+            b"[1,\"started\",1]\n[2,\"committed\",1,2,1,[],[],[]]\n",
+            "s.json:2:1: no JSON: the value has ended before this\n",
+        ),
+        (
+            b"[1e400]",
+            "s.json:1:7: no JSON: the number before this is too far from 0\n",
+        ),
+    ];
+    for (text, explained) in cases {
+        let said = format!(in alloc; "stmrun: bad scenario at : NotJson\n{explained}");
+        if let Ok(said) = said {
+            says(&rt, alloc, text, said.as_str());
+        }
+    }
+}
+
+/// A text that nests too deep for JSON's reader.
+#[test]
+fn texts_that_nest_too_deep(rt: HostRuntime) {
+    let deep = [b'['; 200];
+    says(
+        &rt,
+        rt.alloc(),
+        &deep,
+        "stmrun: bad scenario at : NotJson\ns.json:1:129: no JSON: nested deeper than 127\n",
+    );
+}
+
+/// Scenarios with an element that does not fit, and what is said of them.
+#[test]
+fn scenarios_with_a_fault(rt: HostRuntime) {
+    let alloc = rt.alloc();
+    let cases = [
+        (
+            "[[\"start\",\"serializable\",1,[]],[\"step\",1]]",
+            "stmrun: bad scenario at /0/1: Shape
+s.json:1:11: unknown level \"serializable\": one of \"SerializableSnapshot\", \"Serializable\", \"RepeatableReads\", \"ReadCommitted\"; the nearest is \"Serializable\"\n",
+        ),
+        (
+            "[\n [\"start\",\"Serializable\",1,\n  [[\"put\",\"a\",\"1\"]]]]",
+            "stmrun: bad scenario at /0/3/0: Shape\ns.json:3:4: elements behind \"put\": 2 found, 3 wanted\n",
+        ),
+        (
+            "[[\"start\",\"Serializable\",1,[[\"if\",[\"lt\",1,2],[],[]]]]]",
+            "stmrun: bad scenario at /0/3/0/1: Shape
+s.json:1:35: unknown condition \"lt\": one of \"eq\", \"less\", \"not\", \"and\", \"or\"\n",
+        ),
+        (
+            "[[\"start\",\"Serializable\",1,[\"put\"]]]",
+            "stmrun: bad scenario at /0/3/0: Shape
+s.json:1:29: found \"put\", where a statement, which is an array that begins with a word, is wanted\n",
+        ),
+        (
+            "[[\"start\",\"Serializable\",1,[[\"set\",16,0]]]]",
+            "stmrun: bad scenario at /0/3/0/1: Range
+s.json:1:36: found 16, where a variable, which is a whole number from 0 to 15, is wanted\n",
+        ),
+        (
+            "[[\"strat\",\"Serializable\",1,[]]]",
+            "stmrun: bad scenario at /0: Shape
+s.json:1:2: unknown event \"strat\": one of \"start\", \"step\", \"txn\", \"grant\", \"keep\", \"revoke\", \"advance\", \"watch_key\", \"watch_range\", \"poll\", \"cancel\"; the nearest is \"start\"\n",
+        ),
+        (
+            "[[\"txn\",[[\"mod\",\"a\",\"==\",0]],[],[]]]",
+            "stmrun: bad scenario at /0/1/0/2: Shape
+s.json:1:21: unknown order \"==\": one of \"=\", \"!=\", \">\", \"<\"; the nearest is \"=\"\n",
+        ),
+        (
+            "[[\"begin\",0]]",
+            "stmrun: bad scenario at /0/1: Range
+s.json:1:11: found 0, where a whole number from 1 to 9223372036854775806 is wanted\n",
+        ),
+        (
+            "{\"a\":1}",
+            "stmrun: bad scenario at : Shape\ns.json:1:1: found {\"a\":1}, where an array of events is wanted\n",
+        ),
+    ];
+    for (text, said) in cases {
+        says(&rt, alloc, text.as_bytes(), said);
+    }
+}
+
+/// Reports with a line that is none, and what is said of them.
+#[test]
+fn reports_with_a_fault(rt: HostRuntime) {
+    let alloc = rt.alloc();
+    says_of_report(
+        &rt,
+        alloc,
+        "[1,\"started\",1]\n[2,\"comitted\",1,2,1,[],[],[]]\n",
+        "stmrun: bad report at /1: Shape
+r.txt:2:1: unknown line \"comitted\": one of \"started\", \"fetched\", \"committed\", \"conflict\", \"gaveup\", \"aborted\", \"faulted\", \"ended\", \"txn\", \"granted\", \"kept\", \"revoked\", \"advanced\", \"watching\", \"cancelled\", \"batch\", \"refused\", \"key\", \"lease\", \"end\"; the nearest is \"committed\"\n",
+    );
+    says_of_report(
+        &rt,
+        alloc,
+        "[1,\"started\",1]\n[2,\n",
+        "stmrun: bad report at /1: NotJson\nr.txt:2:4: no JSON: the text ends before its value does\n",
+    );
+    says_of_report(
+        &rt,
+        alloc,
+        "[1,\"started\",1]",
+        "stmrun: bad report at /0: Shape\nr.txt:1:1: the last line is not ended by a line feed\n",
+    );
+    says_of_report(
+        &rt,
+        alloc,
+        "[1,\"started\",-1]\n",
+        "stmrun: bad report at /0/2: Range\nr.txt:1:14: found -1, where something else is wanted\n",
+    );
+}
+
+/// Searches with a rule or a scenario that is bad, and what is said of them.
+#[test]
+fn searches_with_a_fault(rt: HostRuntime) {
+    let alloc = rt.alloc();
+    says_of_rule(
+        &rt,
+        alloc,
+        "[]",
+        "[[\"abort\"]]",
+        "stmrun: bad program at /0: Shape\nrule.json:1:2: elements behind \"abort\": 0 found, 1 wanted\n",
+    );
+    says_of_rule(
+        &rt,
+        alloc,
+        "[[\"step\",1]]",
+        "[]",
+        "stmrun: bad scenario at /0: Shape
+s.json:1:2: \"step\" has no place in a scenario that is searched, whose steps are what is searched for\n",
+    );
+    let mut scenario = Kept::new(alloc, "s.json", Std::new("[1]".as_bytes()));
+    let mut out = Std::new(Vec::new(alloc));
+    let mut err = Std::new(Vec::new(alloc));
+    let status = outcomes_explained_to(alloc, &mut scenario, None, 100, &mut out, &mut err);
+    assert_eq!(rt; status, 2);
+    assert!(rt;
+        err.device.as_slice()
+            == b"stmrun: bad scenario at /0: Shape
+s.json:1:2: found 1, where an event, which is an array that begins with a word, is wanted\n"
+                .as_slice()
+    );
+}
+
+/// A writer that fails.
+#[derive(Drop)]
+struct Broken;
+
+impl Write for Broken {
+    fn write(&mut self, _bytes: &[u8]) -> io::Result<usize> {
+        Err(io::Error::from(ErrorKind::BrokenPipe))
+    }
+
+    fn flush(&mut self) -> io::Result<()> {
+        Ok(())
+    }
+}
+
+/// That standard error fails changes no status, and of a good scenario nothing is said.
+#[test]
+fn statuses(rt: HostRuntime) {
+    let alloc = rt.alloc();
+    let mut input = Kept::new(alloc, "s.json", Std::new("[1]".as_bytes()));
+    let mut out = Std::new(Vec::new(alloc));
+    let mut broken = Std::new(Broken);
+    let status = script_explained_to(alloc, Format::Lines, &mut input, &mut out, &mut broken);
+    assert_eq!(rt; status, 2);
+    let mut input = Kept::new(alloc, "s.json", Std::new(FIRST_PUT.as_bytes()));
+    let mut err = Std::new(Vec::new(alloc));
+    let status = script_explained_to(alloc, Format::Lines, &mut input, &mut out, &mut err);
+    assert_eq!(rt; status, 0);
+    assert!(rt; !out.device.is_empty());
+    assert!(rt; err.device.is_empty());
+}

@@ -1,0 +1,149 @@
+//! The commands with their faults explained: where a bad input is bad, and which file the system refused and why.
+ghost use Rattle.std.specs.Prelude.{◌≡◌, ◌≤◌, false};
+
+use crate::explained_threads::threads_explained_to;
+use crate::files::{Noting, Opened, open};
+use std::io;
+use std::io::Input;
+use std::rt::Files;
+use std::sync::Wait;
+use std::thread::Threads;
+use stm_commands::{
+    Format, Kept, Level, Std, check_explained_to, check_whole_explained_to, explore_explained_to,
+    outcomes_explained_to, script_explained_to,
+};
+
+/// The name of an input, as people know it.
+fn name_of(path: &str) -> &str {
+    if path == "-" { "standard input" } else { path }
+}
+
+/// The file of a path, or standard input, to be read and kept.
+fn kept<'a, R: Files + Input + AllocGlobal>(
+    rt: &R,
+    path: &'a str,
+) -> Kept<'a, Std<Noting<Opened<R::File, R::Reader>>>>
+    ensures { result.source.failed ≡ false }
+{
+    let source = Std::new(Noting::new(open(rt, path)));
+    Kept::new(rt.alloc(), name_of(path), source)
+}
+
+/// Says of an input that could not be read why the system refused it.
+fn say_unread(rt: &HostRuntime, name: &str, failure: Option<io::Error>) {
+    if let Some(error) = failure {
+        let _ = eprintln!(rt; "{name}: cannot be read: {error}");
+    }
+}
+
+/// Says of standard output that could not be written why the system refused it.
+fn say_unwritten(rt: &HostRuntime, failure: Option<io::Error>) {
+    if let Some(error) = failure {
+        let _ = eprintln!(rt; "standard output: cannot be written: {error}");
+    }
+}
+
+/// Runs the scenario of a path.
+pub(crate) fn run_script(rt: &HostRuntime, path: &str, format: Format) -> u8 {
+    let mut input = kept(rt, path);
+    let mut out = Std::new(Noting::new(rt.stdout()));
+    let mut err = Std::new(rt.stderr());
+    let status = script_explained_to(rt.alloc(), format, &mut input, &mut out, &mut err);
+    say_unread(rt, input.name, input.source.device.failure);
+    say_unwritten(rt, out.device.failure);
+    status
+}
+
+/// Checks the report of a path beside the scenario of another: each line, where it is to be whole.
+pub(crate) fn run_check(rt: &HostRuntime, scenario: &str, report: &str, whole: bool) -> u8 {
+    let mut scenario = kept(rt, scenario);
+    let mut report = kept(rt, report);
+    let mut out = Std::new(Noting::new(rt.stdout()));
+    let mut err = Std::new(rt.stderr());
+    let status = if whole {
+        check_whole_explained_to(rt.alloc(), &mut scenario, &mut report, &mut out, &mut err)
+    } else {
+        check_explained_to(rt.alloc(), &mut scenario, &mut report, &mut out, &mut err)
+    };
+    say_unread(rt, scenario.name, scenario.source.device.failure);
+    say_unread(rt, report.name, report.source.device.failure);
+    say_unwritten(rt, out.device.failure);
+    status
+}
+
+/// Looks through the interleavings of a path's scenario for one that breaks the rule of another path.
+pub(crate) fn run_rule(
+    rt: &HostRuntime,
+    scenario: &str,
+    keeps: &str,
+    level: Option<Level>,
+    budget: u64,
+) -> u8 {
+    let mut scenario = kept(rt, scenario);
+    let mut keeps = kept(rt, keeps);
+    let mut out = Std::new(Noting::new(rt.stdout()));
+    let mut err = Std::new(rt.stderr());
+    let status = explore_explained_to(
+        rt.alloc(),
+        &mut scenario,
+        &mut keeps,
+        level,
+        budget,
+        &mut out,
+        &mut err,
+    );
+    say_unread(rt, scenario.name, scenario.source.device.failure);
+    say_unread(rt, keeps.name, keeps.source.device.failure);
+    say_unwritten(rt, out.device.failure);
+    status
+}
+
+/// Goes through the interleavings of a path's scenario.
+pub(crate) fn run_outcomes(
+    rt: &HostRuntime,
+    scenario: &str,
+    level: Option<Level>,
+    budget: u64,
+) -> u8 {
+    let mut scenario = kept(rt, scenario);
+    let mut out = Std::new(Noting::new(rt.stdout()));
+    let mut err = Std::new(rt.stderr());
+    let status = outcomes_explained_to(
+        rt.alloc(),
+        &mut scenario,
+        level,
+        budget,
+        &mut out,
+        &mut err,
+    );
+    say_unread(rt, scenario.name, scenario.source.device.failure);
+    say_unwritten(rt, out.device.failure);
+    status
+}
+
+/// Runs the jobs of a path's scenario by so many threads. The ends of the jobs are printed too, or are not.
+pub(crate) fn run_threads<T: Threads + Wait + Sync>(
+    rt: &HostRuntime,
+    threads: &T,
+    path: &str,
+    workers: usize,
+    ends: bool,
+) -> u8
+    requires { (1 ≤ workers) × (workers ≤ 16) }
+{
+    let mut input = kept(rt, path);
+    let mut out = Std::new(Noting::new(rt.stdout()));
+    let mut err = Std::new(rt.stderr());
+    let status = threads_explained_to(
+        threads,
+        rt.alloc(),
+        &mut input,
+        workers,
+        ends,
+        &mut out,
+        &mut err,
+    );
+    say_unread(rt, input.name, input.source.device.failure);
+    say_unwritten(rt, out.device.failure);
+    status
+}

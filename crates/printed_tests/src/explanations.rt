@@ -56,48 +56,50 @@ fn says_of_rule(rt: &impl Abort, alloc: Global, scenario: &str, rule: &str, said
 const FIRST_PUT: &str = r#"[["start","ReadCommitted",1,[["put","a","1",0]]],["step",1]]"#;
 
 /// Texts that are no JSON, and what is said of them.
+static NO_JSON: [(&[u8], &str); 9] = [
+    (
+        b"[[\"step\",1],\n ]",
+        "s.json:2:2: no JSON: ] cannot stand here; a value is missing before it, or a comma is too many\n",
+    ),
+    (
+        b"// a comment\n[]",
+        "s.json:1:1: no JSON: / cannot stand here; JSON has no comments\n",
+    ),
+    (
+        b"[['step',1]]",
+        "s.json:1:3: no JSON: ' cannot stand here; texts stand between \" and \"\n",
+    ),
+    (
+        b"\xef\xbb\xbf[]",
+        "s.json:1:1: no JSON: a byte order mark cannot stand here\n",
+    ),
+    (
+        b"[\"a\",\n\"\xe4\"]",
+        "s.json:2:2: no JSON: what stands here is not UTF-8\n",
+    ),
+    (
+        b"",
+        "s.json:1:1: no JSON: the text ends before its value does\n",
+    ),
+    (
+        b"[[\"step\",1]\n",
+        "s.json:2:1: no JSON: the text ends before its value does\n",
+    ),
+    (
+        b"[1,\"started\",1]\n[2,\"committed\",1,2,1,[],[],[]]\n",
+        "s.json:2:1: no JSON: the value has ended before this\n",
+    ),
+    (
+        b"[1e400]",
+        "s.json:1:7: no JSON: the number before this is too far from 0\n",
+    ),
+];
+
+/// Each text that is no JSON is explained.
 #[test]
 fn texts_that_are_no_json(rt: HostRuntime) {
     let alloc = rt.alloc();
-    let cases: [(&[u8], &str); 9] = [
-        (
-            b"[[\"step\",1],\n ]",
-            "s.json:2:2: no JSON: ] cannot stand here; a value is missing before it, or a comma is too many\n",
-        ),
-        (
-            b"// a comment\n[]",
-            "s.json:1:1: no JSON: / cannot stand here; JSON has no comments\n",
-        ),
-        (
-            b"[['step',1]]",
-            "s.json:1:3: no JSON: ' cannot stand here; texts stand between \" and \"\n",
-        ),
-        (
-            b"\xef\xbb\xbf[]",
-            "s.json:1:1: no JSON: a byte order mark cannot stand here\n",
-        ),
-        (
-            b"[\"a\",\n\"\xe4\"]",
-            "s.json:2:2: no JSON: what stands here is not UTF-8\n",
-        ),
-        (
-            b"",
-            "s.json:1:1: no JSON: the text ends before its value does\n",
-        ),
-        (
-            b"[[\"step\",1]\n",
-            "s.json:2:1: no JSON: the text ends before its value does\n",
-        ),
-        (
-            b"[1,\"started\",1]\n[2,\"committed\",1,2,1,[],[],[]]\n",
-            "s.json:2:1: no JSON: the value has ended before this\n",
-        ),
-        (
-            b"[1e400]",
-            "s.json:1:7: no JSON: the number before this is too far from 0\n",
-        ),
-    ];
-    for (text, explained) in cases {
+    for (text, explained) in NO_JSON.iter().copied() {
         let said = format!(in alloc; "stmrun: bad scenario at : NotJson\n{explained}");
         if let Ok(said) = said {
             says(&rt, alloc, text, said.as_str());
@@ -118,55 +120,57 @@ fn texts_that_nest_too_deep(rt: HostRuntime) {
 }
 
 /// Scenarios with an element that does not fit, and what is said of them.
+static FAULTS: [(&str, &str); 9] = [
+    (
+        "[[\"start\",\"serializable\",1,[]],[\"step\",1]]",
+        "stmrun: bad scenario at /0/1: Shape
+s.json:1:11: unknown level \"serializable\": one of \"SerializableSnapshot\", \"Serializable\", \"RepeatableReads\", \"ReadCommitted\"; the nearest is \"Serializable\"\n",
+    ),
+    (
+        "[\n [\"start\",\"Serializable\",1,\n  [[\"put\",\"a\",\"1\"]]]]",
+        "stmrun: bad scenario at /0/3/0: Shape\ns.json:3:4: elements behind \"put\": 2 found, 3 wanted\n",
+    ),
+    (
+        "[[\"start\",\"Serializable\",1,[[\"if\",[\"lt\",1,2],[],[]]]]]",
+        "stmrun: bad scenario at /0/3/0/1: Shape
+s.json:1:35: unknown condition \"lt\": one of \"eq\", \"less\", \"not\", \"and\", \"or\"\n",
+    ),
+    (
+        "[[\"start\",\"Serializable\",1,[\"put\"]]]",
+        "stmrun: bad scenario at /0/3/0: Shape
+s.json:1:29: found \"put\", where a statement, which is an array that begins with a word, is wanted\n",
+    ),
+    (
+        "[[\"start\",\"Serializable\",1,[[\"set\",16,0]]]]",
+        "stmrun: bad scenario at /0/3/0/1: Range
+s.json:1:36: found 16, where a variable, which is a whole number from 0 to 15, is wanted\n",
+    ),
+    (
+        "[[\"strat\",\"Serializable\",1,[]]]",
+        "stmrun: bad scenario at /0: Shape
+s.json:1:2: unknown event \"strat\": one of \"start\", \"step\", \"txn\", \"grant\", \"keep\", \"revoke\", \"advance\", \"watch_key\", \"watch_range\", \"poll\", \"cancel\"; the nearest is \"start\"\n",
+    ),
+    (
+        "[[\"txn\",[[\"mod\",\"a\",\"==\",0]],[],[]]]",
+        "stmrun: bad scenario at /0/1/0/2: Shape
+s.json:1:21: unknown order \"==\": one of \"=\", \"!=\", \">\", \"<\"; the nearest is \"=\"\n",
+    ),
+    (
+        "[[\"begin\",0]]",
+        "stmrun: bad scenario at /0/1: Range
+s.json:1:11: found 0, where a whole number from 1 to 9223372036854775806 is wanted\n",
+    ),
+    (
+        "{\"a\":1}",
+        "stmrun: bad scenario at : Shape\ns.json:1:1: found {\"a\":1}, where an array of events is wanted\n",
+    ),
+];
+
+/// Each scenario with an element that does not fit is explained.
 #[test]
 fn scenarios_with_a_fault(rt: HostRuntime) {
     let alloc = rt.alloc();
-    let cases = [
-        (
-            "[[\"start\",\"serializable\",1,[]],[\"step\",1]]",
-            "stmrun: bad scenario at /0/1: Shape
-s.json:1:11: unknown level \"serializable\": one of \"SerializableSnapshot\", \"Serializable\", \"RepeatableReads\", \"ReadCommitted\"; the nearest is \"Serializable\"\n",
-        ),
-        (
-            "[\n [\"start\",\"Serializable\",1,\n  [[\"put\",\"a\",\"1\"]]]]",
-            "stmrun: bad scenario at /0/3/0: Shape\ns.json:3:4: elements behind \"put\": 2 found, 3 wanted\n",
-        ),
-        (
-            "[[\"start\",\"Serializable\",1,[[\"if\",[\"lt\",1,2],[],[]]]]]",
-            "stmrun: bad scenario at /0/3/0/1: Shape
-s.json:1:35: unknown condition \"lt\": one of \"eq\", \"less\", \"not\", \"and\", \"or\"\n",
-        ),
-        (
-            "[[\"start\",\"Serializable\",1,[\"put\"]]]",
-            "stmrun: bad scenario at /0/3/0: Shape
-s.json:1:29: found \"put\", where a statement, which is an array that begins with a word, is wanted\n",
-        ),
-        (
-            "[[\"start\",\"Serializable\",1,[[\"set\",16,0]]]]",
-            "stmrun: bad scenario at /0/3/0/1: Range
-s.json:1:36: found 16, where a variable, which is a whole number from 0 to 15, is wanted\n",
-        ),
-        (
-            "[[\"strat\",\"Serializable\",1,[]]]",
-            "stmrun: bad scenario at /0: Shape
-s.json:1:2: unknown event \"strat\": one of \"start\", \"step\", \"txn\", \"grant\", \"keep\", \"revoke\", \"advance\", \"watch_key\", \"watch_range\", \"poll\", \"cancel\"; the nearest is \"start\"\n",
-        ),
-        (
-            "[[\"txn\",[[\"mod\",\"a\",\"==\",0]],[],[]]]",
-            "stmrun: bad scenario at /0/1/0/2: Shape
-s.json:1:21: unknown order \"==\": one of \"=\", \"!=\", \">\", \"<\"; the nearest is \"=\"\n",
-        ),
-        (
-            "[[\"begin\",0]]",
-            "stmrun: bad scenario at /0/1: Range
-s.json:1:11: found 0, where a whole number from 1 to 9223372036854775806 is wanted\n",
-        ),
-        (
-            "{\"a\":1}",
-            "stmrun: bad scenario at : Shape\ns.json:1:1: found {\"a\":1}, where an array of events is wanted\n",
-        ),
-    ];
-    for (text, said) in cases {
+    for (text, said) in FAULTS.iter().copied() {
         says(&rt, alloc, text.as_bytes(), said);
     }
 }

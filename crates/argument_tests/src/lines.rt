@@ -262,6 +262,18 @@ fn threads(scenario: Option<&str>, workers: usize, ends: bool) -> Asked<'_> {
         scenario,
         workers,
         ends,
+        repeat: None,
+        explain: false,
+    }
+}
+
+/// So many runs by two threads.
+fn repeated(repeat: u32) -> Asked<'static> {
+    Asked::Threads {
+        scenario: Some("s.json"),
+        workers: 2,
+        ends: false,
+        repeat: Some(repeat),
         explain: false,
     }
 }
@@ -287,9 +299,28 @@ fn command_lines_of_threads(rt: HostRuntime) {
         scenario: Some("s.json"),
         workers: 16,
         ends: false,
+        repeat: None,
         explain: true,
     };
     takes(&rt, alloc, &[NAME, word, EXPLAIN, file, sixteen], explained);
+}
+
+#[test]
+fn command_lines_of_repeated_threads(rt: HostRuntime) {
+    let alloc = rt.alloc();
+    let (word, two, file): (&[u8], &[u8], &[u8]) = (b"threads", b"--workers=2", b"s.json");
+    let option: &[u8] = b"--repeat";
+    let line: [&[u8]; 6] = [NAME, word, two, option, b"1", file];
+    takes(&rt, alloc, &line, repeated(1));
+    let line: [&[u8]; 5] = [NAME, word, b"--repeat=1000000", two, file];
+    takes(&rt, alloc, &line, repeated(1000000));
+    let wrong = ["--repeat", "--help"];
+    for number in ["0", "1000001", "x", "", "18446744073709551617"] {
+        let line = [NAME, word, two, option, number.as_bytes()];
+        refuses(&rt, alloc, &line, &wrong);
+    }
+    let signed = ["'-1'", "Usage: stmrun threads", "--help"];
+    refuses(&rt, alloc, &[NAME, word, two, option, b"-1"], &signed);
 }
 
 #[test]
@@ -306,6 +337,7 @@ fn command_lines_of_threads_that_are_refused(rt: HostRuntime) {
     let help = [
         "--workers <N>",
         "--ends",
+        "--repeat <RUNS>",
         "--explain",
         "[\"committed\",1]",
         "audit JOB",

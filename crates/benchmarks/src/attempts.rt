@@ -4,7 +4,7 @@
 //! `bench/attempts` refuses its growths from outside, each in a run of its own: those between the first and the second line
 //! on standard error.
 ghost use Rattle.std.specs.Prelude.{◌≡◌, Some, IfOk, OnOk, OnErr};
-ghost use Rattle.stm_txn.specs.Numbers.{ReadFits};
+ghost use Rattle.stm_outcome.specs.Numbers.{ReadFits};
 ghost use Rattle.stm_attempt.specs.AttemptState.{IsOf, advanced, awaited};
 ghost use Rattle.stm_attempt.specs.Next.{key_asked};
 

@@ -3,10 +3,18 @@
 use crate::scenarios::{AT_LEVEL, OUTCOMES, RULES};
 use std::alloc::Global;
 use std::process::Abort;
-use stm_commands::{Level, Std, explore_to, outcomes_to};
+use stm_commands::{Budget, Level, Nobody, Std, explore_to, outcomes_to};
 
 /// How many events a search takes at most, where nothing else is said.
 const BUDGET: u64 = 5000000;
+
+/// So many events, of which nobody is told.
+fn unseen(events: u64) -> Budget<Nobody> {
+    Budget {
+        left: events,
+        observer: Nobody,
+    }
+}
 
 /// A search for a schedule that breaks a rule has this status, and writes this to the two sinks.
 fn explores(
@@ -29,7 +37,7 @@ fn explores(
         &mut first,
         &mut second,
         level,
-        budget,
+        &mut unseen(budget),
         &mut out,
         &mut err,
     );
@@ -51,7 +59,14 @@ fn gathers(
     let mut input = Std::new(scenario.as_bytes());
     let mut out = Std::new(Vec::new(alloc));
     let mut err = Std::new(Vec::new(alloc));
-    let ended = outcomes_to(alloc, &mut input, None, budget, &mut out, &mut err);
+    let ended = outcomes_to(
+        alloc,
+        &mut input,
+        None,
+        &mut unseen(budget),
+        &mut out,
+        &mut err,
+    );
     assert_eq!(rt; ended, status, "{scenario}");
     assert!(rt; out.device.as_slice() == prints.as_bytes(), "{scenario}");
     assert!(rt; err.device.as_slice() == complains.as_bytes(), "{scenario}");

@@ -5,8 +5,8 @@ use std::io;
 use std::io::{ErrorKind, Write};
 use std::process::Abort;
 use stm_commands::{
-    Format, Kept, Std, check_explained_to, explore_explained_to, outcomes_explained_to,
-    script_explained_to,
+    Budget, Format, Kept, Nobody, Std, check_explained_to, explore_explained_to,
+    outcomes_explained_to, script_explained_to,
 };
 
 /// A script of this text is refused, and says this.
@@ -32,6 +32,14 @@ fn says_of_report(rt: &impl Abort, alloc: Global, report: &str, said: &str) {
     assert!(rt; err.device.as_slice() == said.as_bytes(), "{said}");
 }
 
+/// So many events, of which nobody is told.
+fn no_more_than(events: u64) -> Budget<Nobody> {
+    Budget {
+        left: events,
+        observer: Nobody,
+    }
+}
+
 /// A search with this rule is refused, and says this.
 fn says_of_rule(rt: &impl Abort, alloc: Global, scenario: &str, rule: &str, said: &str) {
     let mut scenario = Kept::new(alloc, "s.json", Std::new(scenario.as_bytes()));
@@ -43,7 +51,7 @@ fn says_of_rule(rt: &impl Abort, alloc: Global, scenario: &str, rule: &str, said
         &mut scenario,
         &mut rule,
         None,
-        100,
+        &mut no_more_than(100),
         &mut out,
         &mut err,
     );
@@ -228,7 +236,14 @@ s.json:1:2: \"step\" has no place in a scenario that is searched, whose steps ar
     let mut scenario = Kept::new(alloc, "s.json", Std::new("[1]".as_bytes()));
     let mut out = Std::new(Vec::new(alloc));
     let mut err = Std::new(Vec::new(alloc));
-    let status = outcomes_explained_to(alloc, &mut scenario, None, 100, &mut out, &mut err);
+    let status = outcomes_explained_to(
+        alloc,
+        &mut scenario,
+        None,
+        &mut no_more_than(100),
+        &mut out,
+        &mut err,
+    );
     assert_eq!(rt; status, 2);
     assert!(rt;
         err.device.as_slice()

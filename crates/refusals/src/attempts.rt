@@ -2,7 +2,7 @@
 //! prefetched answer serves, else the key is fetched at the base. Each call is made again where it was refused.
 ghost use Rattle.std.specs.Prelude.{◌≡◌, ◌≤◌, [], ◌∷◌, Some, None, IfOk, OnOk, OnErr};
 ghost use Rattle.stm_history.specs.declared.revisions.TheConstants.{HIGHEST_NUMBER};
-ghost use Rattle.stm_txn.specs.Numbers.{ReadFits};
+ghost use Rattle.stm_outcome.specs.Numbers.{ReadFits};
 ghost use Rattle.stm_attempt.specs.AttemptState.{IsOf, advanced, awaited};
 ghost use Rattle.stm_attempt.specs.Next.{key_asked};
 

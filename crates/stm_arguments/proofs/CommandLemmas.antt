@@ -11,7 +11,7 @@ use Rattle.clap.specs.declared.error.Error.{Error}
 use Rattle.clap.specs.declared.parser.matches.ArgMatches.{ArgMatches}
 use Rattle.stm_arguments.specs.declared.arguments.Asked.{Asked}
 use Rattle.stm_arguments.specs.declared.arguments.Asked.TheVariants.{Script, Check, Threads, Recipe, Explore, Nothing}
-use Rattle.stm_arguments.specs.Asking.{Asks, AsksBy, HasFiles, HasName, HasSearch, HasWorkers, IsWhole}
+use Rattle.stm_arguments.specs.Asking.{Asks, AsksBy, HasFiles, HasName, HasSearch, HasNumbers, IsWhole}
 use Rattle.stm_arguments.specs.CommandLine.{IsStatusOf, IsToldBy, faults_of, stmrun_app}
 
 module _ (app : App) (is : app ≡ stmrun_app) (words : List Text) where
@@ -33,24 +33,24 @@ asks_something (Some named) status by = by
 pub asks : (words : List Text) (asked : Asked) → faults_of words ≡ [] → AsksBy (subcommand_of stmrun_app words) asked → Asks words asked
 asks words (Script file format explain) none by = (none, by)
 asks words (Check scenario report whole explain) none by = (none, by)
-asks words (Threads file workers ends explain) none by = (none, by)
+asks words (Threads file workers ends repeat explain) none by = (none, by)
 asks words (Recipe named) none by = (none, by)
 asks words (Explore scenario keeps level budget explain) none by = (none, by)
 asks words (Nothing status) none by = absurd (asks_something (subcommand_of stmrun_app words) status by)
 
--- ---- the number of threads
+-- ---- the number of threads, and that of runs
 
--- a text that spells no number of 64 bits spells none from 1 to 16
-pub no_number : (text : Text) → (IsNumeral 10 (without_leading_plus text) × (digits_value 10 (without_leading_plus text) < 2 ^ 64) → ⊥)
-    → IsUnsignedIn 1 16 text → ⊥
-no_number text not is = not (is.0, is.1)
+-- a text that spells no number of 64 bits spells none from 1 on
+pub no_number : (high : ℕ) (text : Text) → (IsNumeral 10 (without_leading_plus text) × (digits_value 10 (without_leading_plus text) < 2 ^ 64) → ⊥)
+    → IsUnsignedIn 1 high text → ⊥
+no_number high text not is = not (is.0, is.1)
 
--- one that spells a number spells none from 1 to 16 where that is none of workers
-pub none_in_range : (text : Text) (number : ℕ) (workers : Option ℕ) → number ≡ digits_value 10 (without_leading_plus text)
-    → IfNone workers ((1 ≤ number) × (number ≤ 16) → ⊥) → IfNone workers (IsUnsignedIn 1 16 text → ⊥)
-none_in_range text number (Some n) is told = tt
-none_in_range text number None is told = λ range.
-    told (subst (λ (n : ℕ). 1 ≤ n) (sym is) range.2, subst (λ (n : ℕ). n ≤ 16) (sym is) range.3)
+-- one that spells a number spells none from 1 to another where that number is none of these
+pub none_in_range : (high : ℕ) (text : Text) (number : ℕ) (taken : Option ℕ) → number ≡ digits_value 10 (without_leading_plus text)
+    → IfNone taken ((1 ≤ number) × (number ≤ high) → ⊥) → IfNone taken (IsUnsignedIn 1 high text → ⊥)
+none_in_range high text number (Some n) is told = tt
+none_in_range high text number None is told = λ range.
+    told (subst (λ (n : ℕ). 1 ≤ n) (sym is) range.2, subst (λ (n : ℕ). n ≤ high) (sym is) range.3)
 
 -- a parser of all numbers of 64 bits, narrowed to those from 1 to 16
 pub narrowed : (all parser : ValueParser) (low high : ℤ) → all ≡ Unsigned 0 18446744073709551615 → low ≡ pos 1 → high ≡ pos 16
@@ -62,9 +62,9 @@ narrowed all parser low high whole from to narrows =
 
 -- what stands in the place of the number of threads is none
 pub no_workers : (rows : List Row) (text : Text) (asked : Option Asked) → Some text ≡ first_of (codes "workers") rows → (IsUnsignedIn 1 16 text → ⊥)
-    → IfNone asked (HasWorkers rows → ⊥)
+    → IfNone asked (HasNumbers rows → ⊥)
 no_workers rows text (Some asked) is not = tt
-no_workers rows text None is not = λ there. not (subst (λ (p : Option Text). IsSomeAnd p (IsUnsignedIn 1 16)) (sym is) there)
+no_workers rows text None is not = λ there. not (subst (λ (p : Option Text). IsSomeAnd p (IsUnsignedIn 1 16)) (sym is) there.0)
 
 -- ---- the number of events
 
@@ -110,7 +110,7 @@ recipe_or_explore name = not_both name (codes "recipe") (codes "explore") (λ (s
 
 -- what is said of each command that is whole
 each : (name : Text) (rows : List Row) → (name ≡ codes "script" → ⊥) → (name ≡ codes "check" → HasFiles rows → ⊥)
-    → (name ≡ codes "threads" → HasWorkers rows → ⊥) → (name ≡ codes "recipe" → HasName rows → ⊥) → (name ≡ codes "explore" → HasSearch rows → ⊥)
+    → (name ≡ codes "threads" → HasNumbers rows → ⊥) → (name ≡ codes "recipe" → HasName rows → ⊥) → (name ≡ codes "explore" → HasSearch rows → ⊥)
     → IsWhole (Some (name, rows)) → ⊥
 each name rows script check threads recipe explore whole = ⊎_elim
     (λ is. script is)
@@ -130,7 +130,7 @@ whole_check name rows None is other missing =
 
 -- nor is a run without its number of threads
 pub whole_threads : (name : Text) (rows : List Row) (o : Option Asked) → name ≡ codes "threads" → (name ≡ codes "script" → ⊥)
-    → IfNone o (HasWorkers rows → ⊥) → IfNone o (IsWhole (Some (name, rows)) → ⊥)
+    → IfNone o (HasNumbers rows → ⊥) → IfNone o (IsWhole (Some (name, rows)) → ⊥)
 whole_threads name rows (Some asked) is other missing = tt
 whole_threads name rows None is other missing =
     each name rows other (λ check _. check_or_threads name check is) (λ _. missing) (λ recipe _. threads_or_recipe name is recipe)

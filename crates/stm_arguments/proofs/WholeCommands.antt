@@ -33,7 +33,8 @@ use Rattle.clap.specs.declared.error.kind.ErrorKind.{ErrorKind}
 use Rattle.clap.specs.declared.error.kind.ErrorKind.TheVariants as kind
 use Rattle.clap.specs.declared.parser.matches.ValueSource.{ValueSource}
 use Rattle.clap.specs.declared.parser.matches.ValueSource.TheVariants.{CommandLine, DefaultValue}
-use Rattle.stm_arguments.specs.Asking.{HasFiles, HasName, HasSearch, HasWorkers, IsWhole}
+use Rattle.stm_arguments.specs.declared.repeating.TheConstants.{MOST_RUNS}
+use Rattle.stm_arguments.specs.Asking.{HasFiles, HasName, HasSearch, HasNumbers, IsWhole}
 use Rattle.stm_arguments.specs.CommandLine.{stmrun_app}
 
 -- ---- kinds
@@ -621,41 +622,76 @@ files_given words none =
     let report = given_first AnyText (AnyText []) (codes "REPORT") rows (λ other v same may. tt) kept.0 both.1 in
     (is_there (first_of (codes "SCENARIO") rows) (AnyText []) scenario, is_there (first_of (codes "REPORT") rows) (AnyText []) report)
 
--- ---- the number of threads
+-- what is given, if anything is, has a first value
+first_if_there : (P : Text → Text → Type 0) (Q : Text → Type 0) (id : Text) (values : List Text) → ((v : Text) → P id v → Q v) → Starts P id values
+    → IfSome (slice_get values 0) Q
+first_if_there P Q id [] each starts = absurd starts
+first_if_there P Q id (v ∷ vs) each starts = each v starts
 
--- what stands in the place of the number of threads is a number from 1 to 16; of the other places nothing is said
-abbrev IsWorkersIfThere : Text → Text → Type 0
-IsWorkersIfThere id v = bytes_eq id (codes "workers") ≡ true → IsUnsignedIn 1 16 v
+row_if_there : (P : Text → Text → Type 0) (Q : Text → Type 0) (r : Row) (more : Option Row) (b : Bool) → (b ≡ true → (v : Text) → P r.id v → Q v)
+    → Starts P r.id r.values → IfSome (option_and_then (λ (x : Row). slice_get x.values 0) more) Q
+    → IfSome (option_and_then (λ (x : Row). slice_get x.values 0) (cond b (Some r) more)) Q
+row_if_there P Q r more true each starts rest = first_if_there P Q r.id r.values (each refl) starts
+row_if_there P Q r more false each starts rest = rest
+
+there_first : (P : Text → Text → Type 0) (Q : Text → Type 0) (id : Text) (rows : List Row) → ((other v : Text) → bytes_eq other id ≡ true → P other v → Q v)
+    → AllStart P rows → IfSome (first_of id rows) Q
+there_first P Q id [] each all = tt
+there_first P Q id (r ∷ rs) each all =
+    row_if_there P Q r (find (λ (x : Row). bytes_eq x.id id) rs) (bytes_eq r.id id) (λ same v. each r.id v same) all.0 (there_first P Q id rs each all.1)
+
+-- ---- the number of threads, and that of runs
+
+-- what stands in the place of the number of threads is a number from 1 to 16, and in that of the number of runs one from 1 to MOST_RUNS; of the other places
+-- nothing is said
+abbrev IsNumberIfThere : Text → Text → Type 0
+IsNumberIfThere id v = (bytes_eq id (codes "workers") ≡ true → IsUnsignedIn 1 16 v) × (bytes_eq id (codes "repeat") ≡ true → IsUnsignedIn 1 MOST_RUNS v)
 
 accepted : (b : Bool) (k : ErrorKind) → cond b [] (k ∷ []) ≡ [] → b ≡ true
 accepted true k none = refl
 accepted false k none = absurd (some_kind k [] none)
 
 -- a value without a fault passes the parser
-number_passes : (v : Text) (rest : Kinds) → or_else (value_kinds false (Unsigned 1 16) v) rest ≡ [] → IsUnsignedIn 1 16 v
-number_passes v rest none =
-    accepts-Accepts false (Unsigned 1 16) v (accepted (accepts false (Unsigned 1 16) v) kind.ValueValidation (neither _ rest none).0)
+number_passes : (high : ℕ) (v : Text) (rest : Kinds) → or_else (value_kinds false (Unsigned 1 high) v) rest ≡ [] → IsUnsignedIn 1 high v
+number_passes high v rest none =
+    accepts-Accepts false (Unsigned 1 high) v (accepted (accepts false (Unsigned 1 high) v) kind.ValueValidation (neither _ rest none).0)
 
-threads_sets : AllSet IsWorkersIfThere threads_shape.args_override_self threads_shape.rules
+threads_sets : AllSet IsNumberIfThere threads_shape.args_override_self threads_shape.rules
 threads_sets =
     let again = threads_shape.args_override_self in
-    let file = one_value IsWorkersIfThere again (first_of_rules threads_shape.rules) refl refl (λ v vs none same. absurd (true≢false (sym same))) in
-    let workers = one_value IsWorkersIfThere again (first_of_rules (drop 1 threads_shape.rules)) refl refl (λ v vs none same. number_passes v _ none) in
-    let ends = one_flag IsWorkersIfThere again (first_of_rules (drop 2 threads_shape.rules)) refl refl refl (λ same. absurd (true≢false (sym same))) in
-    let explain = one_flag IsWorkersIfThere again (first_of_rules (drop 3 threads_shape.rules)) refl refl refl (λ same. absurd (true≢false (sym same))) in
-    (file, (workers, (ends, (explain, (no_request IsWorkersIfThere again (first_of_rules (drop 4 threads_shape.rules)) refl, tt)))))
+    let file = one_value IsNumberIfThere again (first_of_rules threads_shape.rules) refl refl
+    (λ v vs none. ((λ same. absurd (true≢false (sym same))), (λ same. absurd (true≢false (sym same))))) in
+    let workers = one_value IsNumberIfThere again (first_of_rules (drop 1 threads_shape.rules)) refl refl
+    (λ v vs none. ((λ same. number_passes 16 v _ none), (λ same. absurd (true≢false (sym same))))) in
+    let ends = one_flag IsNumberIfThere again (first_of_rules (drop 2 threads_shape.rules)) refl refl refl
+    ((λ same. absurd (true≢false (sym same))), (λ same. absurd (true≢false (sym same)))) in
+    let repeat = one_value IsNumberIfThere again (first_of_rules (drop 3 threads_shape.rules)) refl refl
+    (λ v vs none. ((λ same. absurd (true≢false (sym same))), (λ same. number_passes MOST_RUNS v _ none))) in
+    let explain = one_flag IsNumberIfThere again (first_of_rules (drop 4 threads_shape.rules)) refl refl refl
+    ((λ same. absurd (true≢false (sym same))), (λ same. absurd (true≢false (sym same)))) in
+    (file, (workers, (ends, (repeat, (explain, (no_request IsNumberIfThere again (first_of_rules (drop 5 threads_shape.rules)) refl, tt))))))
 
 one_given : (one : Bool) → (not one || false) ≡ false → one ≡ true
 one_given true none = refl
 one_given false none = absurd (true≢false none)
 
-workers_given : (words : List Text) → level_fault threads_shape [] nothing_held words false [] ≡ [] → HasWorkers (rows_after threads_shape.rules [] words)
-workers_given words none =
+numbers_given : (words : List Text) → level_fault threads_shape [] nothing_held words false [] ≡ [] → HasNumbers (rows_after threads_shape.rules [] words)
+numbers_given words none =
     let rows = rows_after threads_shape.rules [] words in
-    let kept = level_starts IsWorkersIfThere threads_shape threads_sets words
-    (tt, (tt, ((λ same. absurd (true≢false (sym same))), ((λ same. absurd (true≢false (sym same))), (tt, tt))))) none in
-    let given = one_given (is_given (codes "workers") rows) (last_checks threads_shape rows false kept.1).1 in
-    given_first IsWorkersIfThere (IsUnsignedIn 1 16) (codes "workers") rows (λ other v same may. may same) kept.0 given
+    let kept = level_starts IsNumberIfThere threads_shape threads_sets words (
+      tt,
+      (
+        tt,
+        (
+          ((λ same. absurd (true≢false (sym same))), (λ same. absurd (true≢false (sym same)))),
+          (tt, (((λ same. absurd (true≢false (sym same))), (λ same. absurd (true≢false (sym same)))), (tt, tt))),
+        ),
+      ),
+    ) none in
+    let given = one_given (is_given (codes "workers") rows) (last_checks threads_shape rows false kept.1).1 in (
+      given_first IsNumberIfThere (IsUnsignedIn 1 16) (codes "workers") rows (λ other v same may. may.0 same) kept.0 given,
+      there_first IsNumberIfThere (IsUnsignedIn 1 MOST_RUNS) (codes "repeat") rows (λ other v same may. may.1 same) kept.0,
+    )
 
 -- ---- the name of a recipe
 
@@ -698,24 +734,6 @@ explore_sets =
     let explain = one_flag IsBudgetIfThere again (first_of_rules (drop 4 explore_shape.rules)) refl refl refl (λ same. absurd (true≢false (sym same))) in
     (scenario, (keeps, (level, (budget, (explain, (no_request IsBudgetIfThere again (first_of_rules (drop 5 explore_shape.rules)) refl, tt))))))
 
--- what is given, if anything is, has a first value
-first_if_there : (P : Text → Text → Type 0) (Q : Text → Type 0) (id : Text) (values : List Text) → ((v : Text) → P id v → Q v) → Starts P id values
-    → IfSome (slice_get values 0) Q
-first_if_there P Q id [] each starts = absurd starts
-first_if_there P Q id (v ∷ vs) each starts = each v starts
-
-row_if_there : (P : Text → Text → Type 0) (Q : Text → Type 0) (r : Row) (more : Option Row) (b : Bool) → (b ≡ true → (v : Text) → P r.id v → Q v)
-    → Starts P r.id r.values → IfSome (option_and_then (λ (x : Row). slice_get x.values 0) more) Q
-    → IfSome (option_and_then (λ (x : Row). slice_get x.values 0) (cond b (Some r) more)) Q
-row_if_there P Q r more true each starts rest = first_if_there P Q r.id r.values (each refl) starts
-row_if_there P Q r more false each starts rest = rest
-
-there_first : (P : Text → Text → Type 0) (Q : Text → Type 0) (id : Text) (rows : List Row) → ((other v : Text) → bytes_eq other id ≡ true → P other v → Q v)
-    → AllStart P rows → IfSome (first_of id rows) Q
-there_first P Q id [] each all = tt
-there_first P Q id (r ∷ rs) each all =
-    row_if_there P Q r (find (λ (x : Row). bytes_eq x.id id) rs) (bytes_eq r.id id) (λ same v. each r.id v same) all.0 (there_first P Q id rs each all.1)
-
 search_given : (words : List Text) → level_fault explore_shape [] nothing_held words false [] ≡ [] → HasSearch (rows_after explore_shape.rules [] words)
 search_given words none =
     let rows = rows_after explore_shape.rules [] words in
@@ -742,7 +760,7 @@ chosen : (one two three four five six : Bool) (words : List Text) → six ≡ fa
     → IsWhole (option_map (λ (s : Shape). rows_at s words) (picked_shape one two three four five six))
 chosen true two three four five six words no_help none entered_one = inl refl
 chosen false true three four five six words no_help none entered_one = inr (inl (refl, files_given words none))
-chosen false false true four five six words no_help none entered_one = inr (inr (inl (refl, workers_given words none)))
+chosen false false true four five six words no_help none entered_one = inr (inr (inl (refl, numbers_given words none)))
 chosen false false false true five six words no_help none entered_one = inr (inr (inr (inl (refl, name_given words none))))
 chosen false false false false true six words no_help none entered_one = inr (inr (inr (inr (refl, search_given words none))))
 chosen false false false false false true words no_help none entered_one = absurd (true≢false no_help)

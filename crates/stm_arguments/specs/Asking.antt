@@ -6,6 +6,7 @@ use Rattle.clap.specs.Words.{IsUnsignedIn, Text, Row, first_of, subcommand_of}
 use Rattle.stm_program.specs.declared.level.Level.{Level}
 use Rattle.stm_program.specs.declared.level.Level.TheVariants.{SerializableSnapshot, Serializable, RepeatableReads, ReadCommitted}
 use Rattle.stm_arguments.specs.declared.exploring.TheConstants.{USUAL_BUDGET}
+use Rattle.stm_arguments.specs.declared.repeating.TheConstants.{MOST_RUNS}
 use Rattle.stm_arguments.specs.declared.arguments.Asked.{Asked}
 use Rattle.stm_arguments.specs.declared.arguments.Asked.TheVariants.{Script, Check, Threads, Recipe, Explore, Nothing}
 use Rattle.stm_arguments.specs.CommandLine.{stmrun_app, faults_of, IsStatusOf}
@@ -43,10 +44,15 @@ abbrev pub BudgetAt : Option Text → ℕ → Type 0
 BudgetAt None n = n ≡ USUAL_BUDGET
 BudgetAt (Some text) n = NamesNumber text n
 
+-- the number of runs that the text at a place spells, from 1 to MOST_RUNS, and none where nothing stands there
+abbrev pub RunsAt : Option Text → Option ℕ → Type 0
+RunsAt None runs = runs ≡ None
+RunsAt (Some text) runs = IsSomeAnd runs (λ n. (1 ≤ n) × (n ≤ MOST_RUNS) × NamesNumber text n)
+
 -- a command of this name, with what stands in the places of its arguments, asks for a script of its file, or of standard
 -- input where it names none, in the format that it names, for a check of its files, a whole one where that flag is set, for a run of its file by so many
--- threads, from 1 to 16, with the ends of its jobs where that flag is set, for the recipe of its words, or for a search of its files, at the
--- level of a name, with so many events at most; each but a recipe with its fault explained, where that flag is set
+-- threads, from 1 to 16, with the ends of its jobs where that flag is set, or for so many runs where their number is named, for the recipe of its words, or for a
+-- search of its files, at the level of a name, with so many events at most; each but a recipe with its fault explained, where that flag is set
 abbrev pub AsksAt : Text → List Row → Asked → Type 0
 AsksAt name rows (Script file format explain) =
     (name ≡ codes "script") × (first_of (codes "FILE") rows ≡ option_map (λ path. path.now) file)
@@ -54,10 +60,11 @@ AsksAt name rows (Script file format explain) =
 AsksAt name rows (Check scenario report whole explain) =
     (name ≡ codes "check") × (first_of (codes "SCENARIO") rows ≡ Some scenario.now) × (first_of (codes "REPORT") rows ≡ Some report.now)
     × (whole ≡ is_set (first_of (codes "whole") rows)) × (explain ≡ is_set (first_of (codes "explain") rows))
-AsksAt name rows (Threads file workers ends explain) =
+AsksAt name rows (Threads file workers ends repeat explain) =
     (name ≡ codes "threads") × (first_of (codes "FILE") rows ≡ option_map (λ path. path.now) file)
     × NumberAt (first_of (codes "workers") rows) workers × (1 ≤ workers) × (workers ≤ 16)
-    × (ends ≡ is_set (first_of (codes "ends") rows)) × (explain ≡ is_set (first_of (codes "explain") rows))
+    × (ends ≡ is_set (first_of (codes "ends") rows)) × RunsAt (first_of (codes "repeat") rows) repeat
+    × (explain ≡ is_set (first_of (codes "explain") rows))
 AsksAt name rows (Recipe words) =
     (name ≡ codes "recipe") × (first_of (codes "NAME") rows ≡ Some words.name.now)
     × (first_of (codes "FIRST") rows ≡ option_map (λ word. word.now) words.first)
@@ -84,9 +91,10 @@ Asks words asked = (faults_of words ≡ []) × AsksBy (subcommand_of stmrun_app 
 abbrev pub HasFiles : List Row → Type 0
 HasFiles rows = IsSome (first_of (codes "SCENARIO") rows) × IsSome (first_of (codes "REPORT") rows)
 
--- a number from 1 to 16 stands in the place of the number of threads
-abbrev pub HasWorkers : List Row → Type 0
-HasWorkers rows = IsSomeAnd (first_of (codes "workers") rows) (IsUnsignedIn 1 16)
+-- a number from 1 to 16 stands in the place of the number of threads, and where a number of runs is named, it is one
+abbrev pub HasNumbers : List Row → Type 0
+HasNumbers rows =
+    IsSomeAnd (first_of (codes "workers") rows) (IsUnsignedIn 1 16) × IfSome (first_of (codes "repeat") rows) (IsUnsignedIn 1 MOST_RUNS)
 
 -- the name of a recipe stands in its place
 abbrev pub HasName : List Row → Type 0
@@ -103,5 +111,5 @@ IsWhole None = ⊥
 IsWhole (Some named) =
     (named.0 ≡ codes "script")
     ⊎ (((named.0 ≡ codes "check") × HasFiles named.1)
-    ⊎ (((named.0 ≡ codes "threads") × HasWorkers named.1)
+    ⊎ (((named.0 ≡ codes "threads") × HasNumbers named.1)
     ⊎ (((named.0 ≡ codes "recipe") × HasName named.1) ⊎ ((named.0 ≡ codes "explore") × HasSearch named.1))))

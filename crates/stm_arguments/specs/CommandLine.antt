@@ -6,6 +6,7 @@ use Rattle.clap.specs.declared.builder.command.Command.{Command}
 use Rattle.clap.specs.declared.builder.value_parser.ValueParser.{ValueParser}
 use Rattle.clap.specs.declared.builder.value_parser.ValueParser.TheVariants.{Unsigned, String as AnyText}
 use Rattle.clap.specs.Simple.{on_top}
+use Rattle.stm_arguments.specs.declared.repeating.TheConstants.{MOST_RUNS}
 use Rattle.clap.specs.declared.error.kind.ErrorKind.{ErrorKind}
 use Rattle.clap.specs.declared.error.kind.ErrorKind.TheVariants.{DisplayHelp, DisplayVersion, OutOfMemory}
 
@@ -38,10 +39,20 @@ check_app =
 abbrev pub workers_rule : Rule
 workers_rule = record (wanted (codes "workers")) { long = Some (codes "workers"); value_names = 1; parser = Some (Unsigned 1 16) }
 
+-- an option with a value that may be there, and what the value has to be
+abbrev pub option_rule : List ℕ → ValueParser → Rule
+option_rule name parser = record (new_rule name) { long = Some name; value_names = 1; parser = Some parser }
+
+-- an option that may be there, with a number from 1 to MOST_RUNS
+abbrev pub repeat_rule : Rule
+repeat_rule = option_rule (codes "repeat") (Unsigned 1 MOST_RUNS)
+
 abbrev pub threads_app : App
 threads_app =
     with_rule
+    (with_rule
     (with_rule (with_rule (with_rule (new_app (codes "threads")) (new_rule (codes "FILE"))) workers_rule) (flag_rule (codes "ends")))
+    repeat_rule)
     explain_rule
 
 abbrev pub recipe_app : App
@@ -49,10 +60,6 @@ recipe_app =
     with_rule
     (with_rule (with_rule (with_rule (new_app (codes "recipe")) (wanted (codes "NAME"))) (new_rule (codes "FIRST"))) (new_rule (codes "SECOND")))
     (new_rule (codes "THIRD"))
-
--- an option with a value that may be there, and what the value has to be
-abbrev pub option_rule : List ℕ → ValueParser → Rule
-option_rule name parser = record (new_rule name) { long = Some name; value_names = 1; parser = Some parser }
 
 abbrev pub explore_app : App
 explore_app =

@@ -1,10 +1,13 @@
 //! The command line.
-ghost use Rattle.std.specs.Prelude.{◌≡◌, ◌≤◌, ◌⊎◌, codes, false, IfOk, IfErr, IfNone, IfSome, Some, map, option_map, string_bytes};
-ghost use Rattle.clap.specs.Words.{IsUnsignedIn, app_of, first_of, found_of, kind_of, new_rule, rows_of, rule_of, subcommand_rows_of};
+ghost use Rattle.std.specs.Prelude.{◌≡◌, ◌≤◌, ◌⊎◌, codes, false, true, IfOk, IfErr, IfNone, IfSome, Some, map, option_map, string_bytes};
+ghost use Rattle.clap.specs.Simple.{on_top};
+ghost use Rattle.clap.specs.Words.{IsUnsignedIn, app_of, first_of, found_of, kind_of, new_app, new_rule, rows_of, rule_of, subcommand_rows_of};
 ghost use Rattle.stm_arguments.specs.CommandLine.{format_rule, script_app, check_app, threads_app, recipe_app, stmrun_app, explain_rule, flag_rule, wanted, workers_rule, IsAddedAs, IsToldBy};
-ghost use Rattle.stm_arguments.specs.Asking.{Asks, AsksAt, AsksBy, HasFiles, HasName, HasWorkers, IsWhole, NamesNumber, is_set};
+ghost use Rattle.stm_arguments.specs.Asking.{Asks, AsksAt, AsksBy, HasFiles, HasName, HasNumbers, IsWhole, NamesNumber, is_set};
 
-use crate::exploring::{explore_command, explore_of};
+use crate::exploring::{explore_command, explore_of, option};
+use crate::repeating::{MOST_RUNS, repeat_at};
+use clap::builder::ValueParser;
 use clap::error::ErrorKind;
 use clap::{Arg, ArgAction, ArgMatches, Command, Error};
 use std::alloc::{AllocError, Global};
@@ -37,6 +40,8 @@ pub enum Asked<'a> {
         scenario: Option<&'a str>,
         workers: usize,
         ends: bool,
+        /// How many runs are made in its place, of which is shown what they come to, where a number is named.
+        repeat: Option<u32>,
         /// Whether a fault is explained.
         explain: bool,
     },
@@ -169,9 +174,16 @@ then stmrun threads --workers 2 s.json prints
   [\"value\",\"b\",\"1\"]
   [\"end\",3]
 
-With --ends a line for each job stands behind the second, [\"job\",0,\"committed\",3] here: the job's number, how it
-ended, and the revision after its commit, its abort's text, its fault, why it was refused (ended), or the key
-of its last conflict (gaveup).
+With --ends a line for each job stands behind the second, [\"job\",0,\"committed\",3,1] here: the job's number, how it
+ended, the revision after its commit, its abort's text, its fault, why it was refused (ended), or the key of
+its last conflict (gaveup), and how many attempts of it were made.
+
+With --repeat RUNS so many runs are made, each on a store of its own, and printed is what they came to, as stmrun
+explore prints it, with how often each outcome came: the keys with their values, how each job ended, and the number
+of runs that came to that. The last line has the number of all. Of the same file, --repeat 1000 prints
+
+  [\"outcome\",[[\"a\",\"1\"],[\"b\",\"1\"]],[[\"committed\",[]]],1000]
+  [\"runs\",1000]
 
 Which job goes first is not said, nor that the run ends. Statuses: 0 done, 2 bad input or usage, 3 want of
 memory, a failed device, no thread, or a job whose end is not what the store says (audit JOB).";
@@ -267,40 +279,33 @@ fn format<'a>(alloc: Global) -> Arg<'a>
 fn script_command<'a>(alloc: Global) -> Result<Command<'a>, AllocError>
     ensures { IfOk result (IsAddedAs script_app) }
 {
-    let input = optional(
-        alloc,
-        "FILE",
-        "The file of the scenario, in the place of standard input",
-    );
-    let form = format(alloc);
-    let explained = explain(alloc);
     Command::new(alloc, "script")
         .about("Runs a scenario, and prints its report")
         .after_help(SCRIPT_EXAMPLE)
-        .arg(input)?
-        .arg(form)?
-        .arg(explained)
+        .arg(optional(
+            alloc,
+            "FILE",
+            "The file of the scenario, in the place of standard input",
+        ))?
+        .arg(format(alloc))?
+        .arg(explain(alloc))
 }
 
 /// The command `check`.
 fn check_command<'a>(alloc: Global) -> Result<Command<'a>, AllocError>
     ensures { IfOk result (IsAddedAs check_app) }
 {
-    let scenario = required(alloc, "SCENARIO", "The file of the scenario");
-    let report = required(alloc, "REPORT", "The file of the report");
-    let whole = flag(
-        alloc,
-        "whole",
-        "Whether REPORT is, line by line, what script prints for SCENARIO",
-    );
-    let explained = explain(alloc);
     Command::new(alloc, "check")
         .about("Says whether REPORT is a report of SCENARIO, and if not, which line is wrong first")
         .after_help(CHECK_EXAMPLE)
-        .arg(scenario)?
-        .arg(report)?
-        .arg(whole)?
-        .arg(explained)
+        .arg(required(alloc, "SCENARIO", "The file of the scenario"))?
+        .arg(required(alloc, "REPORT", "The file of the report"))?
+        .arg(flag(
+            alloc,
+            "whole",
+            "Whether REPORT is, line by line, what script prints for SCENARIO",
+        ))?
+        .arg(explain(alloc))
 }
 
 /// The number of threads, which has to be there.
@@ -321,63 +326,68 @@ fn workers<'a>(alloc: Global) -> Arg<'a>
 fn threads_command<'a>(alloc: Global) -> Result<Command<'a>, AllocError>
     ensures { IfOk result (IsAddedAs threads_app) }
 {
-    let input = optional(
-        alloc,
-        "FILE",
-        "The file of the scenario, in the place of standard input",
-    );
-    let count = workers(alloc);
-    let ends = flag(
-        alloc,
-        "ends",
-        "Whether a line is printed for the end of each job",
-    );
-    let explained = explain(alloc);
     Command::new(alloc, "threads")
         .about("Runs the starts of a scenario as jobs, by several threads on one store")
         .after_help(THREADS_EXAMPLE)
-        .arg(input)?
-        .arg(count)?
-        .arg(ends)?
-        .arg(explained)
+        .arg(optional(
+            alloc,
+            "FILE",
+            "The file of the scenario, in the place of standard input",
+        ))?
+        .arg(workers(alloc))?
+        .arg(flag(
+            alloc,
+            "ends",
+            "Whether a line is printed for the end of each job",
+        ))?
+        .arg(option(
+            alloc,
+            "repeat",
+            "RUNS",
+            ValueParser::Unsigned(1, MOST_RUNS),
+            "How many runs are made, from 1 to 1000000, of which is printed what they come to, and how often",
+        ))?
+        .arg(explain(alloc))
 }
 
 /// The command `recipe`.
 fn recipe_command<'a>(alloc: Global) -> Result<Command<'a>, AllocError>
     ensures { IfOk result (IsAddedAs recipe_app) }
 {
-    let name = required(alloc, "NAME", "The name of the recipe");
-    let first = optional(alloc, "FIRST", "Its first argument");
-    let second = optional(alloc, "SECOND", "Its second argument");
-    let third = optional(alloc, "THIRD", "Its third argument");
     Command::new(alloc, "recipe")
         .about("Prints the program of a recipe, as a scenario's start takes it")
         .after_help(RECIPE_EXAMPLE)
-        .arg(name)?
-        .arg(first)?
-        .arg(second)?
-        .arg(third)
+        .arg(required(alloc, "NAME", "The name of the recipe"))?
+        .arg(optional(alloc, "FIRST", "Its first argument"))?
+        .arg(optional(alloc, "SECOND", "Its second argument"))?
+        .arg(optional(alloc, "THIRD", "Its third argument"))
 }
 
-/// The command.
-fn command<'a>(alloc: Global) -> Result<Command<'a>, AllocError>
-    ensures { IfOk result (λ command. app_of command ≡ stmrun_app) }
+/// The command without its subcommands.
+fn bare_command<'a>(alloc: Global) -> Command<'a>
+    ensures { app_of result ≡ on_top (λ top. record top { subcommand_required = true; has_version = true }) (new_app (codes "stmrun")) }
 {
-    let script = script_command(alloc)?;
-    let check = check_command(alloc)?;
-    let threads = threads_command(alloc)?;
-    let recipe = recipe_command(alloc)?;
-    let explore = explore_command(alloc)?;
     Command::new(alloc, "stmrun")
         .about("Runs transactional programs over an etcd-like store, one event at a time")
         .after_help(EXAMPLE)
         .version(VERSION)
         .subcommand_required(true)
-        .subcommand(script)?
-        .subcommand(check)?
-        .subcommand(threads)?
-        .subcommand(recipe)?
-        .subcommand(explore)
+}
+
+/// The command. Each subcommand is added before the next one is made, so that two are never held at once.
+fn command<'a>(alloc: Global) -> Result<Command<'a>, AllocError>
+    ensures { IfOk result (λ command. app_of command ≡ stmrun_app) }
+{
+    let script = script_command(alloc)?;
+    let with_script = bare_command(alloc).subcommand(script)?;
+    let check = check_command(alloc)?;
+    let with_check = with_script.subcommand(check)?;
+    let threads = threads_command(alloc)?;
+    let with_threads = with_check.subcommand(threads)?;
+    let recipe = recipe_command(alloc)?;
+    let with_recipe = with_threads.subcommand(recipe)?;
+    let explore = explore_command(alloc)?;
+    with_recipe.subcommand(explore)
 }
 
 /// The status of a command line that is refused, or that asks for help or the version, once its text is printed: 0 for help and
@@ -478,20 +488,24 @@ fn workers_in(text: &str) -> Option<usize>
     }
 }
 
-/// What a run by threads with these arguments asks for; `None` where the number of threads is missing, or is no number of workers.
+/// What a run by threads with these arguments asks for; `None` where the number of threads is missing, or is no number of workers, or the number of
+/// runs is none.
 fn threads_of<'a>(found: &ArgMatches<'a>) -> Option<Asked<'a>>
     ensures asks { IfSome result (AsksAt (codes "threads") (rows_of (found_of found.now))) }
-    ensures missing { IfNone result (HasWorkers (rows_of (found_of found.now)) → ⊥) }
+    ensures missing { IfNone result (HasNumbers (rows_of (found_of found.now)) → ⊥) }
 {
     let scenario = word_of(found, "FILE");
     let text = word_of(found, "workers")?;
     let workers = workers_in(text)?;
     let ends = flag_of(found, "ends");
+    let named = word_of(found, "repeat");
+    let repeat = repeat_at(named)?;
     let explain = flag_of(found, "explain");
     Some(Asked::Threads {
         scenario,
         workers,
         ends,
+        repeat,
         explain,
     })
 }

@@ -54,7 +54,7 @@ Usage: stmrun explore [OPTIONS] <SCENARIO>
 For more information, try '--help'.";
 
 /// An option with a value that may be there.
-fn option<'a>(
+pub(crate) fn option<'a>(
     alloc: Global,
     name: &'a str,
     value: &'a str,
@@ -75,39 +75,34 @@ fn option<'a>(
 pub(crate) fn explore_command<'a>(alloc: Global) -> Result<Command<'a>, AllocError>
     ensures { IfOk result (IsAddedAs explore_app) }
 {
-    let scenario = required(alloc, "SCENARIO", "The file of the scenario");
-    let keeps = option(
-        alloc,
-        "keeps",
-        "PROGRAM",
-        ValueParser::String,
-        "The file of a program that is to come to its last statement after every schedule",
-    );
-    let level = option(
-        alloc,
-        "level",
-        "LEVEL",
-        ValueParser::String,
-        "The level of every start, in the place of its own: SerializableSnapshot, Serializable, RepeatableReads or ReadCommitted",
-    );
-    let budget = option(
-        alloc,
-        "budget",
-        "N",
-        ValueParser::Unsigned(0, u64::MAX),
-        "How many events are taken at most, 5000000 if not said",
-    );
-    let explained = explain(alloc);
     Command::new(alloc, "explore")
         .about(
             "Looks through every interleaving of a scenario, for one that breaks a rule or for what they come to",
         )
         .after_help(EXAMPLE)
-        .arg(scenario)?
-        .arg(keeps)?
-        .arg(level)?
-        .arg(budget)?
-        .arg(explained)
+        .arg(required(alloc, "SCENARIO", "The file of the scenario"))?
+        .arg(option(
+            alloc,
+            "keeps",
+            "PROGRAM",
+            ValueParser::String,
+            "The file of a program that is to come to its last statement after every schedule",
+        ))?
+        .arg(option(
+            alloc,
+            "level",
+            "LEVEL",
+            ValueParser::String,
+            "The level of every start, in the place of its own: SerializableSnapshot, Serializable, RepeatableReads or ReadCommitted",
+        ))?
+        .arg(option(
+            alloc,
+            "budget",
+            "N",
+            ValueParser::Unsigned(0, u64::MAX),
+            "How many events are taken at most, 5000000 if not said",
+        ))?
+        .arg(explain(alloc))
 }
 
 /// The level of a name.

@@ -3,6 +3,7 @@
 
 mod arguments;
 mod exploring;
+mod repeating;
 
 pub use arguments::{Asked, asked_of, read_words};
 pub use exploring::read_level;

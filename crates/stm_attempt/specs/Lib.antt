@@ -8,4 +8,4 @@ pub mod Progress
 pub mod Laws
 pub use Rattle.stm_compile.specs.Levels
 pub use Rattle.stm_compile.specs.Answers
-pub use Rattle.stm_txn.specs.Numbers
+pub use Rattle.stm_outcome.specs.Numbers

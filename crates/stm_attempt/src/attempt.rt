@@ -1,6 +1,6 @@
 //! Attempts.
 ghost use Rattle.std.specs.Prelude.{◌≡◌, true, None, Some, [], All, take, IfOk, OnOk, OnErr};
-ghost use Rattle.stm_txn.specs.Numbers.{ReadFits};
+ghost use Rattle.stm_outcome.specs.Numbers.{ReadFits};
 ghost use Rattle.stm_compile.specs.Levels.{is_serializable};
 ghost use Rattle.stm_attempt.specs.Known.{HaveDistinctKeys};
 ghost use Rattle.stm_attempt.specs.Fetches.{ShowOneRevision};

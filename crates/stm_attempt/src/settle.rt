@@ -1,6 +1,6 @@
 //! What an attempt takes of the answers that were prefetched for it.
 ghost use Rattle.std.specs.Prelude.{◌≡◌, IfOk, IfSome, option_copied};
-ghost use Rattle.stm_txn.specs.Numbers.{ReadFits};
+ghost use Rattle.stm_outcome.specs.Numbers.{ReadFits};
 ghost use Rattle.stm_compile.specs.Answers.{answer_in};
 ghost use Rattle.stm_attempt.specs.Known.{is_of_base, serving, HaveDistinctKeys};
 ghost use Rattle.stm_attempt.specs.Settled.{answer_for};

@@ -4,18 +4,18 @@ use Rattle.std.specs.Prelude.{◌||◌, nat_lt}
 use Rattle.std.proofs.lemmas.Bool.{ne_eqb, le-ltb}
 use Rattle.stm_history.specs.declared.key_state.ReadAnswer.{ReadAnswer}
 use Rattle.stm_history.specs.History.{now}
-use Rattle.stm_txn.specs.declared.txn.Txn.{Txn}
-use Rattle.stm_txn.specs.declared.answer.OpAnswer.{OpAnswer}
-use Rattle.stm_txn.specs.declared.answer.OpAnswer.TheVariants.{Get as GetAnswer}
-use Rattle.stm_txn.specs.declared.answer.TxnAnswer.{TxnAnswer}
-use Rattle.stm_txn.specs.declared.refusal.Refusal.{Refusal}
-use Rattle.stm_txn.specs.declared.refusal.Refusal.TheVariants.{OutOfMemory, EmptyKey, TooManyOps}
-use Rattle.stm_txn.specs.Terms.{most_operations}
-use Rattle.stm_txn.specs.Checks.{has_too_many, has_empty_key, fault_of}
-use Rattle.stm_txn.specs.Commits.{read_out}
+use Rattle.stm_outcome.specs.declared.txn.Txn.{Txn}
+use Rattle.stm_outcome.specs.declared.answer.OpAnswer.{OpAnswer}
+use Rattle.stm_outcome.specs.declared.answer.OpAnswer.TheVariants.{Get as GetAnswer}
+use Rattle.stm_outcome.specs.declared.answer.TxnAnswer.{TxnAnswer}
+use Rattle.stm_outcome.specs.declared.refusal.Refusal.{Refusal}
+use Rattle.stm_outcome.specs.declared.refusal.Refusal.TheVariants.{OutOfMemory, EmptyKey, TooManyOps}
+use Rattle.stm_outcome.specs.Terms.{most_operations}
+use Rattle.stm_outcome.specs.Checks.{has_too_many, has_empty_key, fault_of}
+use Rattle.stm_outcome.specs.Commits.{read_out}
 use Rattle.stm_txn.specs.Standing.{Standing, Step, IsRefusalOf, step_of, transacted, terms_of}
-use Rattle.stm_txn.specs.Numbers.{ReadFits, AnswerFits, OpsFit}
-use Rattle.stm_txn.proofs.Applying.{reads_change_nothing}
+use Rattle.stm_outcome.specs.Numbers.{ReadFits, AnswerFits, OpsFit}
+use Rattle.stm_outcome.proofs.Applying.{reads_change_nothing}
 use Rattle.stm_calls.specs.Reads.{IsOneRead}
 use Rattle.stm_calls.specs.Fetched.{fetched, read_at, fetch_of}
 

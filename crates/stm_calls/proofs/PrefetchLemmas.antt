@@ -6,8 +6,8 @@ use Rattle.stm_history.specs.declared.key_state.ReadAnswer.{ReadAnswer}
 use Rattle.stm_history.specs.History.{History, now}
 use Rattle.stm_program.specs.declared.level.Level.{Level}
 use Rattle.stm_program.proofs.WriteLemmas.{bytes_eq-flip}
-use Rattle.stm_txn.specs.declared.answer.OpAnswer.{OpAnswer}
-use Rattle.stm_txn.specs.Numbers.{OpsFit}
+use Rattle.stm_outcome.specs.declared.answer.OpAnswer.{OpAnswer}
+use Rattle.stm_outcome.specs.Numbers.{OpsFit}
 use Rattle.stm_compile.specs.Levels.{is_serializable}
 use Rattle.stm_compile.specs.Answers.{answer_in, answer_now}
 use Rattle.stm_compile.specs.CommitTxn.{reread_keys}

@@ -3,9 +3,9 @@ use Rattle.std.proofs.Common.{◌≡◌, List, [], ◌∷◌, ◌++◌, map, ref
 use Rattle.std.specs.List.{AllByRecursion}
 use Rattle.std.proofs.lemmas.List.Elements.{All-from_recursion}
 use Rattle.stm_history.specs.declared.key_state.ReadAnswer.{ReadAnswer}
-use Rattle.stm_txn.specs.declared.answer.OpAnswer.{OpAnswer}
-use Rattle.stm_txn.specs.declared.answer.OpAnswer.TheVariants.{Get, Put, Del}
-use Rattle.stm_txn.specs.Numbers.{ReadFits, OpsFit}
+use Rattle.stm_outcome.specs.declared.answer.OpAnswer.{OpAnswer}
+use Rattle.stm_outcome.specs.declared.answer.OpAnswer.TheVariants.{Get, Put, Del}
+use Rattle.stm_outcome.specs.Numbers.{ReadFits, OpsFit}
 use Rattle.stm_calls.specs.Reads.{reads_in, IsRead, IsOneRead}
 
 -- ---- one after another

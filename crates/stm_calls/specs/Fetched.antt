@@ -4,8 +4,8 @@
 use Rattle.std.specs.Prelude.{ℕ, List, [], ◌∷◌}
 use Rattle.stm_history.specs.declared.key_state.ReadAnswer.{ReadAnswer}
 use Rattle.stm_history.specs.History.{History, now, key_at}
-use Rattle.stm_txn.specs.declared.txn.Txn.{Txn}
-use Rattle.stm_txn.specs.Commits.{Read, read_op, revision_read}
+use Rattle.stm_outcome.specs.declared.txn.Txn.{Txn}
+use Rattle.stm_outcome.specs.Commits.{Read, read_op, revision_read}
 
 -- the key at the revision that the fetch names; the answer carries the store's revision
 abbrev pub fetched : History → List ℕ → ℕ → ReadAnswer

@@ -1,7 +1,7 @@
 -- What the next attempt may rely on of the answers that it is begun with.
 use Rattle.std.specs.Prelude.{List, All}
 use Rattle.stm_history.specs.declared.key_state.ReadAnswer.{ReadAnswer}
-use Rattle.stm_txn.specs.Numbers.{ReadFits}
+use Rattle.stm_outcome.specs.Numbers.{ReadFits}
 use Rattle.stm_attempt.specs.Known.{HaveDistinctKeys}
 use Rattle.stm_attempt.specs.Fetches.{ShowOneRevision}
 use Rattle.stm_calls.specs.declared.sent.Sent.{Sent}

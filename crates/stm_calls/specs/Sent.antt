@@ -10,10 +10,10 @@ use Rattle.stm_program.specs.declared.level.Level.{Level}
 use Rattle.stm_program.specs.declared.write.Write.{Write}
 use Rattle.stm_program.specs.Writes.{latest_writes}
 use Rattle.stm_meaning.specs.declared.run.Run.{Run}
-use Rattle.stm_txn.specs.declared.answer.FailedCompare.{FailedCompare}
-use Rattle.stm_txn.specs.declared.refusal.Refusal.{Refusal}
-use Rattle.stm_txn.specs.declared.refusal.Refusal.TheVariants.{OutOfMemory}
-use Rattle.stm_txn.specs.Outcome.{Done}
+use Rattle.stm_outcome.specs.declared.answer.FailedCompare.{FailedCompare}
+use Rattle.stm_outcome.specs.declared.refusal.Refusal.{Refusal}
+use Rattle.stm_outcome.specs.declared.refusal.Refusal.TheVariants.{OutOfMemory}
+use Rattle.stm_outcome.specs.Outcome.{Done}
 use Rattle.stm_txn.specs.Standing.{Standing, Step, with_history, terms_of}
 use Rattle.stm_compile.specs.Answers.{answer_now}
 use Rattle.stm_compile.specs.CommitTxn.{reread_keys}

@@ -1,6 +1,6 @@
 //! The answers of a transaction that reads.
 ghost use Rattle.std.specs.Prelude.{◌≡◌, [], ◌∷◌, ◌++◌, IfOk, OnOk};
-ghost use Rattle.stm_txn.specs.declared.answer.OpAnswer.TheVariants.{Get};
+ghost use Rattle.stm_outcome.specs.declared.answer.OpAnswer.TheVariants.{Get};
 ghost use Rattle.stm_calls.specs.Reads.{reads_in, IsRead, IsOneRead};
 
 use std::alloc::{AllocError, Global};

@@ -1,7 +1,7 @@
 //! The fetch of a key.
 ghost use Rattle.std.specs.Prelude.{◌≡◌, ◌<◌, ◌≤◌, length, IfOk};
 ghost use Rattle.stm_history.specs.History.{now};
-ghost use Rattle.stm_txn.specs.Numbers.{ReadFits};
+ghost use Rattle.stm_outcome.specs.Numbers.{ReadFits};
 ghost use Rattle.stm_calls.specs.Fetched.{fetched, fetch_of};
 
 use crate::answers::take_only_read;

@@ -5,7 +5,7 @@ ghost use Rattle.stm_history.specs.declared.revisions.TheConstants.{HIGHEST_NUMB
 ghost use Rattle.stm_history.specs.History.{mod_of};
 ghost use Rattle.stm_meaning.specs.declared.run.Run.{Run};
 ghost use Rattle.stm_meaning.specs.declared.run.Answered.TheVariants.{Ended};
-ghost use Rattle.stm_txn.specs.Numbers.{StateFits};
+ghost use Rattle.stm_outcome.specs.Numbers.{StateFits};
 ghost use Rattle.stm_compile.specs.Conflicts.{seen_by};
 ghost use Rattle.stm_attempt.specs.Settled.{run_on};
 ghost use Rattle.stm_calls.specs.Reads.{reads_in};

@@ -10,22 +10,22 @@ use Rattle.stm_leases.specs.Live.{grant_refusal, is_live_in}
 use Rattle.stm_leases.specs.LeaseLog.{Term}
 use Rattle.stm_leases.specs.DueFirst.{first_due}
 use Rattle.stm_leases.specs.declared.errors.GrantError.{GrantError}
-use Rattle.stm_txn.specs.declared.advance.Expired.{Expired}
-use Rattle.stm_txn.specs.declared.answer.FailedCompare.{FailedCompare}
-use Rattle.stm_txn.specs.declared.answer.OpAnswer.{OpAnswer}
-use Rattle.stm_txn.specs.declared.answer.TxnAnswer.{TxnAnswer}
-use Rattle.stm_txn.specs.declared.refusal.Refusal.{Refusal}
-use Rattle.stm_txn.specs.declared.refusal.Refusal.TheVariants.{OutOfMemory, LeaseNotFound, RevisionsUsedUp, TimeGoesBack}
-use Rattle.stm_txn.specs.declared.txn.Txn.{Txn}
-use Rattle.stm_txn.specs.Checks.{fault_of}
-use Rattle.stm_txn.specs.Compares.{first_failed}
-use Rattle.stm_txn.specs.Branches.{begun, changes_of_branch, answers_after, branch_refusal}
+use Rattle.stm_outcome.specs.declared.advance.Expired.{Expired}
+use Rattle.stm_outcome.specs.declared.answer.FailedCompare.{FailedCompare}
+use Rattle.stm_outcome.specs.declared.answer.OpAnswer.{OpAnswer}
+use Rattle.stm_outcome.specs.declared.answer.TxnAnswer.{TxnAnswer}
+use Rattle.stm_outcome.specs.declared.refusal.Refusal.{Refusal}
+use Rattle.stm_outcome.specs.declared.refusal.Refusal.TheVariants.{OutOfMemory, LeaseNotFound, RevisionsUsedUp, TimeGoesBack}
+use Rattle.stm_outcome.specs.declared.txn.Txn.{Txn}
+use Rattle.stm_outcome.specs.Checks.{fault_of}
+use Rattle.stm_outcome.specs.Compares.{first_failed}
+use Rattle.stm_outcome.specs.Branches.{begun, changes_of_branch, answers_after, branch_refusal}
 use Rattle.stm_txn.specs.Grants.{grant_refusal_of}
 use Rattle.stm_txn.specs.LeaseKeys.{deletions_of}
-use Rattle.stm_txn.specs.Outcome.{Done, outcome, chosen, unless, finished, is_used_up, with_changes, answer_of}
+use Rattle.stm_outcome.specs.Outcome.{Done, outcome, chosen, unless, finished, is_used_up, with_changes, answer_of}
 use Rattle.stm_txn.specs.Standing.{Standing, Step, Advance, IsRefusalOf, IsCutShort, step_of, transacted, granted, kept_alive, ended, revoked}
 use Rattle.stm_txn.specs.Standing.{with_lease, without_lease, with_revision, after, expired_in, expire_up_to, expire_all, at_moment, advanced}
-use Rattle.stm_txn.specs.Terms.{Terms}
+use Rattle.stm_outcome.specs.Terms.{Terms}
 use Rattle.stm_txn.specs.Standing.{terms_of}
 use Rattle.stm_reports.specs.declared.line.ReportLine.{ReportLine}
 use Rattle.stm_reports.specs.declared.line.ReportLine.TheVariants.{Refused}

@@ -8,8 +8,8 @@ use Rattle.std.specs.declared.alloc.AllocError.{AllocError}
 use Rattle.stm_history.specs.declared.change.Change.{Change}
 use Rattle.stm_program.specs.Writes.{latest_writes}
 use Rattle.stm_program.proofs.LatestLemmas.{latest_writes-distinct}
-use Rattle.stm_txn.specs.declared.refusal.Refusal.TheVariants.{OutOfMemory}
-use Rattle.stm_txn.proofs.Applying.{branch_applies}
+use Rattle.stm_outcome.specs.declared.refusal.Refusal.TheVariants.{OutOfMemory}
+use Rattle.stm_outcome.proofs.Applying.{branch_applies}
 use Rattle.stm_compile.specs.Now.{as_change}
 use Rattle.stm_compile.proofs.OutcomeLemmas.{changes_are_distinct}
 use Rattle.stm_check.proofs.Fronts.{left_at}
@@ -27,8 +27,8 @@ use Rattle.stm_meaning.specs.declared.run.Answered.{Answered}
 use Rattle.stm_meaning.specs.declared.run.Answered.TheVariants.{Ended, Wants}
 use Rattle.stm_meaning.specs.Answer.{Lookup}
 use Rattle.stm_meaning.specs.Meaning.{run_over}
-use Rattle.stm_txn.specs.declared.refusal.Refusal.{Refusal}
-use Rattle.stm_txn.specs.Outcome.{Done}
+use Rattle.stm_outcome.specs.declared.refusal.Refusal.{Refusal}
+use Rattle.stm_outcome.specs.Outcome.{Done}
 use Rattle.stm_txn.specs.Standing.{Standing, Step, IsRefusalOf, write_step, written, with_history as with_standing_history, terms_of}
 use Rattle.stm_compile.specs.Answers.{AreTrue, look_up, state_now}
 use Rattle.stm_compile.specs.Levels.{is_comparing}

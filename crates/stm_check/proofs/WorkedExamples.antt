@@ -7,7 +7,7 @@ use Rattle.stm_program.specs.declared.operator.Operator.TheVariants.{Add}
 use Rattle.stm_program.specs.declared.level.Level.TheVariants.{Serializable}
 use Rattle.stm_meaning.specs.declared.trace_item.TraceItem.{TraceItem}
 use Rattle.stm_meaning.specs.declared.trace_item.TraceItem.TheVariants as seen
-use Rattle.stm_txn.specs.declared.txn.Op.TheVariants.{Put}
+use Rattle.stm_outcome.specs.declared.txn.Op.TheVariants.{Put}
 use Rattle.stm_world.specs.declared.event.WorldEvent.{WorldEvent}
 use Rattle.stm_world.specs.declared.event.WorldEvent.TheVariants.{Start, Step, Txn, Poll, Cancel, WatchKey}
 use Rattle.stm_reports.specs.declared.causes.RefusalName.TheVariants.{NoWatcher, LeaseIdOutOfRange}

@@ -6,7 +6,7 @@ ghost use Rattle.stm_history.specs.History.{now};
 ghost use Rattle.stm_reports.specs.Told.{cause_told};
 ghost use Rattle.stm_reports.specs.declared.line.ReportLine.TheVariants.{Refused};
 ghost use Rattle.stm_txn.specs.Standing.{transacted, granted, kept_alive, revoked, advanced};
-ghost use Rattle.stm_txn.specs.declared.refusal.Refusal.TheVariants.{OutOfMemory};
+ghost use Rattle.stm_outcome.specs.declared.refusal.Refusal.TheVariants.{OutOfMemory};
 ghost use Rattle.stm_world.specs.Told.{reply_to, advance_reply};
 ghost use Rattle.stm_world.specs.declared.reply.Reply.TheVariants.{Txn as TxnDone, Granted, Kept, Revoked};
 ghost use Rattle.stm_world.specs.declared.event.WorldEvent.TheVariants.{Advance as AdvanceEvent};

@@ -1,10 +1,10 @@
 //! Whether a line tells the commit that the replay of a runner's program is.
 ghost use Rattle.std.specs.Prelude.{◌≡◌, ◌≢◌, ◌↔◌, ◌+◌, ◌≤◌, [], ◌∷◌, true, false, map, None, Some, IsTrue, IfOk, OnOk, MatchOption};
-ghost use Rattle.stm_txn.specs.declared.refusal.Refusal.TheVariants.{OutOfMemory};
+ghost use Rattle.stm_outcome.specs.declared.refusal.Refusal.TheVariants.{OutOfMemory};
 ghost use Rattle.stm_compile.specs.Answers.{look_up};
 ghost use Rattle.stm_compile.specs.Now.{as_change};
 ghost use Rattle.stm_meaning.specs.declared.run.End.TheVariants.{Done as DoneEnd};
-ghost use Rattle.stm_txn.specs.Numbers.{StatesFit};
+ghost use Rattle.stm_outcome.specs.Numbers.{StatesFit};
 ghost use Rattle.stm_compile.specs.Levels.{is_comparing};
 ghost use Rattle.stm_entries.specs.Alone.{applied_run};
 ghost use Rattle.stm_entries.specs.Replayed.{without_moment};

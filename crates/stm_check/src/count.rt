@@ -1,7 +1,7 @@
 //! How many entries a line tells.
 ghost use Rattle.std.specs.Prelude.{◌≡◌, ◌+◌, length, IfOk};
 ghost use Rattle.stm_history.specs.History.{History};
-ghost use Rattle.stm_txn.specs.declared.txn.Txn.{Txn as StoreTxn};
+ghost use Rattle.stm_outcome.specs.declared.txn.Txn.{Txn as StoreTxn};
 ghost use Rattle.stm_check.specs.Point.{commit_entries, txn_entries, advance_entries, entries_told};
 ghost use Rattle.stm_check.specs.Runners.{running};
 

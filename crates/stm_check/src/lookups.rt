@@ -3,7 +3,7 @@ ghost use Rattle.std.specs.Prelude.{◌≡◌, ◌↔◌, ◌≤◌, ◌++◌, �
 ghost use Rattle.stm_history.specs.declared.key_state.ReadAnswer.{ReadAnswer as Read};
 ghost use Rattle.stm_history.specs.declared.key_state.KeyState.{KeyState as State};
 ghost use Rattle.stm_history.specs.History.{now, key_at, mod_of};
-ghost use Rattle.stm_txn.specs.Numbers.{StatesFit, ReadFits};
+ghost use Rattle.stm_outcome.specs.Numbers.{StatesFit, ReadFits};
 ghost use Rattle.stm_compile.specs.Answers.{answer_in};
 ghost use Rattle.stm_check.specs.Point.{read_in, reads_in};
 ghost use Rattle.stm_check.specs.Replays.{IsTrulyTold, AreTrulyTold};

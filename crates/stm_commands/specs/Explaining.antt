@@ -1,5 +1,5 @@
 -- What the commands do that explain a bad input behind what they say of it: what they do otherwise, but for the explanation.
-use Rattle.std.specs.Prelude.{◌≡◌, ℕ, List, ◌++◌, Bool, false, Option, Result, Ok, Err}
+use Rattle.std.specs.Prelude.{◌≡◌, ℕ, List, Bool, false, Option, Result, Ok, Err}
 use Rattle.std.specs.Io.KnownBytes.{Keeps}
 use Rattle.stm_program.specs.declared.level.Level.{Level}
 use Rattle.stm_report.specs.declared.run_script.ScriptFault.{ScriptFault}
@@ -13,19 +13,11 @@ use Rattle.stm_exploring.specs.declared.printed.Printed.{Printed}
 use Rattle.stm_exploring.specs.declared.printed.Verdict.{Verdict}
 use Rattle.stm_exploring.specs.declared.reading.ExploreFault.{ExploreFault}
 use Rattle.stm_exploring.specs.Exploring.{Sources, Searches, Gathers}
-use Rattle.stm_explain.specs.Explaining.{ExplainsOrNothing}
-use Rattle.stm_commands.specs.Statuses.{Says, status_of, message_of}
+pub use Rattle.stm_messages.specs.Saying.{IsExplained, SaysMore}
+use Rattle.stm_commands.specs.Statuses.{status_of, message_of}
 use Rattle.stm_commands.specs.Checking.{Devices, DoesTo, answer_status, fault_status as check_status, fault_message as check_message}
 use Rattle.stm_commands.specs.WholeChecking.{DoesTo as WholeDoesTo, SaysOfAnswer}
 use Rattle.stm_commands.specs.Exploring.{Sunk, Writes, verdict_status, fault_status as explore_status, fault_message as explore_message}
-
--- an explanation of a fault of some text under some name, or nothing
-abbrev pub IsExplained : List ℕ → Type 0
-IsExplained more = (name text : List ℕ) × ExplainsOrNothing name text more
-
--- a message was written and its explanation behind it, or a front of the two where the sink then has failed
-abbrev pub SaysMore : Option (List ℕ) → Option (List ℕ) → Bool → List ℕ → Type 0
-SaysMore before after failed message = (more : List ℕ) × IsExplained more × Says before after failed (message ++ more)
 
 -- ---- script
 

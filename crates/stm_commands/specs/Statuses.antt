@@ -1,11 +1,9 @@
 -- The statuses of the program, and what it says of a fault.
-use Rattle.std.specs.Prelude.{◌≡◌, ℕ, List, ◌++◌, Bool, false, Option, Result, Ok, Err, codes}
-use Rattle.std.specs.Io.KnownBytes.{Appends, Keeps}
-use Rattle.stm_json.specs.declared.read_error.BadInput.{BadInput}
-use Rattle.stm_json.specs.CauseNames.{cause_name}
+use Rattle.std.specs.Prelude.{◌≡◌, ℕ, List, Bool, false, Option, Result, Ok, Err, codes}
+use Rattle.std.specs.Io.KnownBytes.{Keeps}
+pub use Rattle.stm_messages.specs.Saying.{bad_input, Says}
 use Rattle.stm_report.specs.declared.run_script.ScriptFault.{ScriptFault}
 use Rattle.stm_report.specs.declared.run_script.ScriptFault.TheVariants.{OutOfMemory, Bad, Read, Write}
-use Rattle.stm_devices.specs.Transfers.{WritesFront}
 use Rattle.stm_report.specs.Script.{Devices, Does}
 use Rattle.stm_commands.specs.declared.formats.TheConstants.{NO_FORMAT}
 use Rattle.stm_formats.specs.declared.format.Format.{Format}
@@ -18,19 +16,11 @@ status_of (Bad fault) = 2
 status_of Read = 3
 status_of Write = 3
 
--- place and cause of the first fault of an input, behind this
-abbrev pub bad_input : List ℕ → BadInput → List ℕ
-bad_input begin bad = begin ++ bad.place ++ codes ": " ++ cause_name bad.cause ++ codes "\n"
-
 abbrev pub message_of : ScriptFault → List ℕ
 message_of OutOfMemory = codes "stmrun: out of memory\n"
 message_of (Bad bad) = bad_input (codes "stmrun: bad scenario at ") bad
 message_of Read = codes "stmrun: device fault\n"
 message_of Write = codes "stmrun: device fault\n"
-
--- the text was written, or a front of it where the sink then has failed: what it held before and holds, and whether it has
-abbrev pub Says : Option (List ℕ) → Option (List ℕ) → Bool → List ℕ → Type 0
-Says before after failed text = WritesFront before after text × (failed ≡ false → Appends before after text)
 
 -- what is said and answered of a fault: its own message and status
 abbrev pub SaysOf : Option (List ℕ) → Option (List ℕ) → Bool → ScriptFault → ℕ → Type 0

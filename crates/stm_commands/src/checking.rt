@@ -5,9 +5,9 @@ ghost use Rattle.stm_devices.specs.Transfers.{HasWritten};
 ghost use Rattle.stm_check.specs.declared.checking.Checked.TheVariants.{No};
 ghost use Rattle.stm_commands.specs.Checking.{answer_status, answer_text, fault_status, fault_message, SaysOf, Prints, Does, Ends};
 
-use crate::messages::{write_bad, write_text};
 use std::alloc::{AllocError, Global};
 use stm_check::{CheckFault, Checked, WrongCause, check_sources};
+use stm_messages::{write_bad, write_text};
 use stm_report::{DeviceFault, Sink, Source};
 
 /// The status of an answer.

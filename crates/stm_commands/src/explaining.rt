@@ -11,14 +11,16 @@ use crate::checking::{answer, status as check_status, status_of, write_message a
 use crate::exploring::{
     status as explore_status, status_of as verdict_status, write, write_message as write_explore,
 };
-use crate::messages::write_text;
 use crate::scripting::{status as script_status, write_message as write_script};
 use crate::whole_checking::{answer as whole_answer, say};
 use std::alloc::Global;
 use stm_check::CheckFault;
 use stm_explain::{Input, Kept};
-use stm_exploring::{ExploreFault, Level, Printed, explore_sources, outcomes_of_source};
+use stm_exploring::{
+    Budget, ExploreFault, Level, Observer, Printed, explore_sources, outcomes_of_source,
+};
 use stm_formats::{Format, script_as};
+use stm_messages::write_text;
 use stm_report::{DeviceFault, ScriptFault, Sink, Source};
 
 // ---- explanations
@@ -251,12 +253,12 @@ pub fn check_whole_explained_to<S: Source, R: Source, W: Sink, E: Sink>(
 
 /// Does what `explore_to` does, with that status and that output. Behind what is said of a bad input stands its explanation, as a line
 /// `NAME:LINE:COLUMN: WORDS`, or nothing where a growth was refused for it.
-pub fn explore_explained_to<S: Source, R: Source, W: Sink, E: Sink>(
+pub fn explore_explained_to<S: Source, R: Source, W: Sink, E: Sink, O: Observer>(
     alloc: Global,
     scenario: &mut Kept<'_, S>,
     keeps: &mut Kept<'_, R>,
     level: Option<Level>,
-    budget: u64,
+    budget: &mut Budget<O>,
     out: &mut W,
     err: &mut E,
 ) -> u8
@@ -286,11 +288,11 @@ pub fn explore_explained_to<S: Source, R: Source, W: Sink, E: Sink>(
 
 /// Does what `outcomes_to` does, with that status and that output. Behind what is said of a bad scenario stands its explanation, as a line
 /// `NAME:LINE:COLUMN: WORDS`, or nothing where a growth was refused for it.
-pub fn outcomes_explained_to<S: Source, W: Sink, E: Sink>(
+pub fn outcomes_explained_to<S: Source, W: Sink, E: Sink, O: Observer>(
     alloc: Global,
     scenario: &mut Kept<'_, S>,
     level: Option<Level>,
-    budget: u64,
+    budget: &mut Budget<O>,
     out: &mut W,
     err: &mut E,
 ) -> u8

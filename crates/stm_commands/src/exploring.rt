@@ -4,9 +4,11 @@ ghost use Rattle.stm_devices.specs.declared.transfer.TheConstants.{MOST_READ};
 ghost use Rattle.stm_devices.specs.Transfers.{HasWritten};
 ghost use Rattle.stm_commands.specs.Exploring.{verdict_status, fault_status, fault_message, SaysOf, Writes, Finishes, Explores, GoesThrough};
 
-use crate::messages::{write_bad, write_text};
 use std::alloc::Global;
-use stm_exploring::{ExploreFault, Level, Printed, Verdict, explore_sources, outcomes_of_source};
+use stm_exploring::{
+    Budget, ExploreFault, Level, Observer, Printed, Verdict, explore_sources, outcomes_of_source,
+};
+use stm_messages::{write_bad, write_text};
 use stm_report::{DeviceFault, Sink, Source};
 
 /// The status of what a search came to.
@@ -88,20 +90,21 @@ fn finish<W: Sink, E: Sink>(searched: Result<Printed, ExploreFault>, out: &mut W
 ///
 /// `["always",LENGTH]` and status 0: after every schedule it does, and the longest has so many moves. `["broken",LENGTH,END]` and status 1:
 /// it does not after the schedule of so many moves that stands, as a scenario, on a second line, and does after each that is shorter, or that
-/// is as long and stands before it. `["open",LENGTH]` and status 4: `budget` events were taken before that was decided, and after every
-/// schedule of up to so many moves it does.
+/// is as long and stands before it. `["open",LENGTH]` and status 4: as many events were taken as `budget` had left, before that was decided,
+/// and after every schedule of up to so many moves it does. The observer of `budget` is told how far the search is, and that it has ended
+/// before anything is written.
 ///
 /// Each start is taken at `level`, where one is named. The scenario is read and judged first, then the program. Status 2 is for a bad scenario,
 /// which one with a step is, and for a bad program, 3 for a refused growth and for a failed device other than `err`: then nothing was written,
 /// but for a front where `out` has failed. On `err` it says what went wrong, and takes no memory for it: `stmrun: bad scenario at PLACE: CAUSE`,
 /// `stmrun: bad program at PLACE: CAUSE`, `stmrun: out of memory` or `stmrun: device fault`, whole where `err` then has not failed. That `err`
 /// fails changes no status. None of the devices has failed before. `scenario` and `keeps` are read at most 16777217 times each.
-pub fn explore_to<S: Source, R: Source, W: Sink, E: Sink>(
+pub fn explore_to<S: Source, R: Source, W: Sink, E: Sink, O: Observer>(
     alloc: Global,
     scenario: &mut S,
     keeps: &mut R,
     level: Option<Level>,
-    budget: u64,
+    budget: &mut Budget<O>,
     out: &mut W,
     err: &mut E,
 ) -> u8
@@ -129,15 +132,15 @@ pub fn explore_to<S: Source, R: Source, W: Sink, E: Sink>(
 /// Goes through the interleavings of the scenario of `scenario`, and writes to `out` what whole schedules, after which no move is left, come to.
 ///
 /// Status 0 and `["outcome",STATE,ENDS]`, the present keys with their values and how each runner ended, for each outcome of a whole schedule,
-/// once, ascending by the bytes of the line, and then `["outcomes",COUNT]`. Status 4 and `["open",LENGTH]`: `budget` events were taken before
-/// all were found, and every schedule of up to so many moves was gone through.
+/// once, ascending by the bytes of the line, and then `["outcomes",COUNT]`. Status 4 and `["open",LENGTH]`: as many events were taken as `budget`
+/// had left, before all were found, and every schedule of up to so many moves was gone through.
 ///
 /// All else is as with `explore_to`, for which there is a rule.
-pub fn outcomes_to<S: Source, W: Sink, E: Sink>(
+pub fn outcomes_to<S: Source, W: Sink, E: Sink, O: Observer>(
     alloc: Global,
     scenario: &mut S,
     level: Option<Level>,
-    budget: u64,
+    budget: &mut Budget<O>,
     out: &mut W,
     err: &mut E,
 ) -> u8

@@ -3,10 +3,10 @@ ghost use Rattle.std.specs.Prelude.{◌≡◌, ◌≤◌, ◌+◌, false};
 ghost use Rattle.stm_devices.specs.declared.transfer.TheConstants.{MOST_READ};
 ghost use Rattle.stm_commands.specs.Statuses.{EndsAs, SaysNoFormat};
 
-use crate::messages::write_text;
 use crate::scripting::tell;
 use std::alloc::Global;
 use stm_formats::{Format, script_as};
+use stm_messages::write_text;
 use stm_report::{Sink, Source};
 
 /// What is said of a word that names no format, in the manner of the other usage faults.

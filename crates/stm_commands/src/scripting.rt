@@ -4,8 +4,8 @@ ghost use Rattle.stm_devices.specs.declared.transfer.TheConstants.{MOST_READ};
 ghost use Rattle.stm_devices.specs.Transfers.{HasWritten};
 ghost use Rattle.stm_commands.specs.Statuses.{status_of, message_of, SaysOf, Ends};
 
-use crate::messages::{write_bad, write_text};
 use std::alloc::Global;
+use stm_messages::{write_bad, write_text};
 use stm_report::{DeviceFault, ScriptFault, Sink, Source, script};
 
 /// The status of a fault.

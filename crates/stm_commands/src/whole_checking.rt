@@ -5,9 +5,9 @@ ghost use Rattle.stm_devices.specs.Transfers.{HasWritten};
 ghost use Rattle.stm_commands.specs.WholeChecking.{no_text, answer_text, expected_text, Prints, SaysExpected, SaysOfAnswer, Does, Ends};
 
 use crate::checking::tell;
-use crate::messages::write_text;
 use std::alloc::{AllocError, Global};
 use stm_check::CheckFault;
+use stm_messages::write_text;
 use stm_report::{DeviceFault, Sink, Source, write_all};
 use stm_whole::{WholeChecked, check_whole};
 

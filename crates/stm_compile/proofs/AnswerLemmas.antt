@@ -10,7 +10,7 @@ use Rattle.std.proofs.lemmas.Option.{slice_get-get_or, none-some, same_Some}
 use Rattle.std.proofs.Math.Seq.{get_or-append_seam}
 use Rattle.stm_history.specs.declared.key_state.ReadAnswer.{ReadAnswer}
 use Rattle.stm_program.proofs.WriteLemmas.{bytes_eq-self, bytes_eq-same}
-use Rattle.stm_txn.specs.Numbers.{ReadFits}
+use Rattle.stm_outcome.specs.Numbers.{ReadFits}
 use Rattle.stm_compile.specs.Answers.{answer_in}
 use Rattle.stm_compile.specs.Places.{answer_at, AreAnswerPlaces}
 

@@ -12,11 +12,11 @@ use Rattle.stm_history.proofs.HistoryLaws.{one_more, last_revision_is_now, numbe
 use Rattle.stm_program.specs.declared.level.Level.TheVariants.{SerializableSnapshot, Serializable, RepeatableReads, ReadCommitted}
 use Rattle.stm_program.specs.declared.write.Write.{Write}
 use Rattle.stm_program.specs.Writes.{key_of}
-use Rattle.stm_txn.specs.declared.txn.Compare.{Compare}
-use Rattle.stm_txn.specs.declared.answer.FailedCompare.{FailedCompare}
-use Rattle.stm_txn.specs.Compares.{holds}
-use Rattle.stm_txn.specs.Laws.{FailsAt}
-use Rattle.stm_txn.proofs.Applying.{mod_compares, failed_has_its_place}
+use Rattle.stm_outcome.specs.declared.txn.Compare.{Compare}
+use Rattle.stm_outcome.specs.declared.answer.FailedCompare.{FailedCompare}
+use Rattle.stm_outcome.specs.Compares.{holds}
+use Rattle.stm_outcome.specs.Laws.{FailsAt}
+use Rattle.stm_outcome.proofs.Applying.{mod_compares, failed_has_its_place}
 use Rattle.stm_compile.specs.Answers.{AreTrue}
 use Rattle.stm_compile.specs.CommitTxn.{first_carried, is_as_read, is_unmodified, compares_of}
 use Rattle.stm_compile.specs.Conflicts.{changes_above, IsChangedAbove, Seen, seen_of_read, seen_of_write, seen_by, IsConflict}

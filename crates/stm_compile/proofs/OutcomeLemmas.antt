@@ -19,18 +19,18 @@ use Rattle.stm_program.proofs.WriteLemmas.{bytes_eq-flip}
 use Rattle.stm_program.proofs.LatestLemmas.{latest_writes-distinct}
 use Rattle.stm_meaning.specs.Writes.{changes, effect}
 use Rattle.stm_meaning.specs.declared.run.Run.{Run}
-use Rattle.stm_txn.specs.declared.txn.Compare.{Compare}
-use Rattle.stm_txn.specs.declared.answer.FailedCompare.{FailedCompare}
-use Rattle.stm_txn.specs.declared.answer.OpAnswer.TheVariants.{Get as GetAnswer}
-use Rattle.stm_txn.specs.declared.refusal.Refusal.{Refusal}
-use Rattle.stm_txn.specs.declared.refusal.Refusal.TheVariants.{TooManyOps}
-use Rattle.stm_txn.specs.Checks.{has_too_many, fault_of}
-use Rattle.stm_txn.specs.Effect.{op_of, changes_something}
-use Rattle.stm_txn.specs.Outcome.{outcome, chosen, unless, branch_outcome}
-use Rattle.stm_txn.specs.Compares.{first_failed}
-use Rattle.stm_txn.specs.Commits.{read_now, AreNamed, effective, shown, reads_now}
-use Rattle.stm_txn.specs.Terms.{Terms}
-use Rattle.stm_txn.proofs.Applying.{writes_apply, failed_compare_reads, number_alone_is_wrong}
+use Rattle.stm_outcome.specs.declared.txn.Compare.{Compare}
+use Rattle.stm_outcome.specs.declared.answer.FailedCompare.{FailedCompare}
+use Rattle.stm_outcome.specs.declared.answer.OpAnswer.TheVariants.{Get as GetAnswer}
+use Rattle.stm_outcome.specs.declared.refusal.Refusal.{Refusal}
+use Rattle.stm_outcome.specs.declared.refusal.Refusal.TheVariants.{TooManyOps}
+use Rattle.stm_outcome.specs.Checks.{has_too_many, fault_of}
+use Rattle.stm_outcome.specs.Effect.{op_of, changes_something}
+use Rattle.stm_outcome.specs.Outcome.{outcome, chosen, unless, branch_outcome}
+use Rattle.stm_outcome.specs.Compares.{first_failed}
+use Rattle.stm_outcome.specs.Commits.{read_now, AreNamed, effective, shown, reads_now}
+use Rattle.stm_outcome.specs.Terms.{Terms}
+use Rattle.stm_outcome.proofs.Applying.{writes_apply, failed_compare_reads, number_alone_is_wrong}
 use Rattle.stm_compile.specs.Answers.{answer_now}
 use Rattle.stm_compile.specs.Now.{as_change, is_present}
 use Rattle.stm_compile.specs.CommitTxn.{first_carried, is_as_read, is_unmodified, compares_of, write_op, reread_keys, commit_of}

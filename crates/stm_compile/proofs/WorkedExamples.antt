@@ -6,9 +6,9 @@ use Rattle.stm_history.specs.History.{History}
 use Rattle.stm_program.specs.declared.level.Level.TheVariants.{SerializableSnapshot, Serializable, RepeatableReads, ReadCommitted}
 use Rattle.stm_program.specs.declared.write.Write.{Write}
 use Rattle.stm_program.specs.declared.write.Write.TheVariants.{Put, Del}
-use Rattle.stm_txn.specs.declared.txn.Op.{Op}
-use Rattle.stm_txn.specs.declared.txn.Op.TheVariants.{Get, Put as PutOp, Del as DelOp}
-use Rattle.stm_txn.specs.Commits.{mod_is, mod_is_below}
+use Rattle.stm_outcome.specs.declared.txn.Op.{Op}
+use Rattle.stm_outcome.specs.declared.txn.Op.TheVariants.{Get, Put as PutOp, Del as DelOp}
+use Rattle.stm_outcome.specs.Commits.{mod_is, mod_is_below}
 use Rattle.stm_compile.specs.CommitTxn.{compares_of, commit_of}
 use Rattle.stm_compile.specs.Committed.{conflict_now}
 use Rattle.stm_compile.specs.Conflicts.{IsChangedAbove, seen_by}

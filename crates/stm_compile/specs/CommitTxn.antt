@@ -14,11 +14,11 @@ use Rattle.stm_program.specs.declared.level.Level.TheVariants.{SerializableSnaps
 use Rattle.stm_program.specs.declared.write.Write.{Write}
 use Rattle.stm_program.specs.declared.write.Write.TheVariants.{Put, Del}
 use Rattle.stm_program.specs.Writes.{key_of}
-use Rattle.stm_txn.specs.declared.txn.Txn.{Txn}
-use Rattle.stm_txn.specs.declared.txn.Compare.{Compare}
-use Rattle.stm_txn.specs.declared.txn.Op.{Op}
-use Rattle.stm_txn.specs.declared.txn.Op.TheVariants.{Put as PutOp, Del as DelOp}
-use Rattle.stm_txn.specs.Commits.{mod_is, mod_is_below, read_now}
+use Rattle.stm_outcome.specs.declared.txn.Txn.{Txn}
+use Rattle.stm_outcome.specs.declared.txn.Compare.{Compare}
+use Rattle.stm_outcome.specs.declared.txn.Op.{Op}
+use Rattle.stm_outcome.specs.declared.txn.Op.TheVariants.{Put as PutOp, Del as DelOp}
+use Rattle.stm_outcome.specs.Commits.{mod_is, mod_is_below, read_now}
 use Rattle.stm_compile.specs.Levels.{is_serializable}
 
 -- the least store revision that the answers carry; the highest one where nothing was read

@@ -12,13 +12,13 @@ use Rattle.stm_meaning.specs.declared.run.Run.{Run}
 use Rattle.stm_meaning.specs.declared.run.Answered.TheVariants.{Ended}
 use Rattle.stm_meaning.specs.Meaning.{run_over}
 use Rattle.stm_meaning.specs.Laws.{IsContinuedBy}
-use Rattle.stm_txn.specs.declared.answer.FailedCompare.{FailedCompare}
-use Rattle.stm_txn.specs.Outcome.{outcome, with_changes}
-use Rattle.stm_txn.specs.Commits.{effective, turned_down}
+use Rattle.stm_outcome.specs.declared.answer.FailedCompare.{FailedCompare}
+use Rattle.stm_outcome.specs.Outcome.{outcome, with_changes}
+use Rattle.stm_outcome.specs.Commits.{effective, turned_down}
 use Rattle.stm_compile.specs.Now.{as_change, changes_of_writes}
 use Rattle.stm_compile.specs.Levels.{is_comparing}
-use Rattle.stm_txn.specs.declared.answer.OpAnswer.TheVariants.{Get as GetAnswer}
-use Rattle.stm_txn.specs.Terms.{Terms}
+use Rattle.stm_outcome.specs.declared.answer.OpAnswer.TheVariants.{Get as GetAnswer}
+use Rattle.stm_outcome.specs.Terms.{Terms}
 use Rattle.stm_compile.specs.Answers.{seen_of, said, look_up, state_now, state_as_of, AreTrue, answer_now}
 use Rattle.stm_compile.specs.CommitTxn.{first_carried, commit_of, reread_keys}
 use Rattle.stm_compile.specs.Committed.{conflict_now, committed}

@@ -2,15 +2,15 @@
 ghost use Rattle.std.specs.Prelude.{◌≡◌, ◌≤◌, ◌++◌, ◌∷◌, [], map, IfOk, OnOk};
 ghost use Rattle.stm_history.specs.declared.key_state.ReadAnswer.{ReadAnswer as Answer};
 ghost use Rattle.stm_history.specs.declared.revisions.TheConstants.{HIGHEST_NUMBER};
-ghost use Rattle.stm_txn.specs.Commits.{read_now};
+ghost use Rattle.stm_outcome.specs.Commits.{read_now};
 ghost use Rattle.stm_compile.specs.CommitTxn.{first_carried, is_as_read, is_unmodified, compares_of, write_op, reread_keys, commit_of};
 
 use crate::read_set::{ReadSet, mod_rev_in};
 use crate::write_buffer::WriteBuffer;
 use std::alloc::{AllocError, Global};
 use stm_history::{ReadAnswer, Text};
+use stm_outcome::{Compare, Op, Order, ShortList, Target, Txn};
 use stm_program::{Level, Write};
-use stm_txn::{Compare, Op, Order, ShortList, Target, Txn};
 
 /// "The key is as it was read", an absent one too: by its modification revision.
 fn as_read(answer: &ReadAnswer) -> Result<Compare, AllocError>

@@ -12,6 +12,6 @@ mod write_buffer;
 pub use commit::compile;
 pub use read_set::ReadSet;
 pub use stm_history::{ReadAnswer, Sequence, Text};
+pub use stm_outcome::Txn;
 pub use stm_program::{Level, Write};
-pub use stm_txn::Txn;
 pub use write_buffer::WriteBuffer;

@@ -5,7 +5,7 @@ ghost use Rattle.indexmap.specs.IndexMap.{get_by_text};
 ghost use Rattle.stm_history.specs.History.{value_of, mod_of};
 ghost use Rattle.stm_history.specs.declared.key_state.ReadAnswer.{ReadAnswer as Answer};
 ghost use Rattle.stm_history.specs.declared.revisions.TheConstants.{HIGHEST_NUMBER};
-ghost use Rattle.stm_txn.specs.Numbers.{ReadFits};
+ghost use Rattle.stm_outcome.specs.Numbers.{ReadFits};
 ghost use Rattle.stm_compile.specs.Answers.{answer_in, look_up};
 ghost use Rattle.stm_compile.specs.CommitTxn.{first_carried as first_of};
 
@@ -30,7 +30,7 @@ impl Model for ReadSet {
     ghost use Rattle.std.specs.Prelude.{List, All};
     ghost use Rattle.indexmap.specs.IndexMap.{get_by_text};
     ghost use Rattle.stm_history.specs.declared.key_state.ReadAnswer.{ReadAnswer};
-    ghost use Rattle.stm_txn.specs.Numbers.{ReadFits};
+    ghost use Rattle.stm_outcome.specs.Numbers.{ReadFits};
     ghost use Rattle.stm_compile.specs.Places.{AreAnswerPlaces};
 
     ghost Value = { List ReadAnswer };

@@ -7,7 +7,7 @@ use Rattle.stm_program.specs.declared.write.Write.{Write}
 use Rattle.stm_program.specs.declared.write.Write.TheVariants.{Put, Del}
 use Rattle.stm_program.specs.Writes.{key_of, latest_writes}
 use Rattle.stm_program.proofs.LatestLemmas.{latest_writes-distinct}
-use Rattle.stm_txn.proofs.Branching.{apart_case, apart_back}
+use Rattle.stm_outcome.proofs.Branching.{apart_case, apart_back}
 use Rattle.stm_compile.specs.Now.{as_change}
 
 key_of-as_change : (w : Write) → changed_key (as_change w) ≡ key_of w

@@ -14,9 +14,9 @@ use Rattle.stm_meaning.specs.declared.run.Run.{Run}
 use Rattle.stm_meaning.specs.declared.run.Answered.{Answered}
 use Rattle.stm_meaning.specs.declared.run.Answered.TheVariants.{Ended, Wants}
 use Rattle.stm_meaning.specs.Answer.{Lookup}
-use Rattle.stm_txn.specs.declared.refusal.Refusal.{Refusal}
-use Rattle.stm_txn.specs.Outcome.{Done}
-use Rattle.stm_txn.specs.Commits.{applied}
+use Rattle.stm_outcome.specs.declared.refusal.Refusal.{Refusal}
+use Rattle.stm_outcome.specs.Outcome.{Done}
+use Rattle.stm_outcome.specs.Commits.{applied}
 use Rattle.stm_compile.specs.Levels.{is_comparing}
 use Rattle.stm_compile.specs.Answers.{look_up, state_now}
 use Rattle.stm_compile.specs.Now.{as_change}

@@ -11,8 +11,8 @@ use Rattle.stm_meaning.specs.declared.run.End.TheVariants.{Done as DoneEnd}
 use Rattle.stm_meaning.specs.declared.run.Run.{Run}
 use Rattle.stm_meaning.specs.declared.run.Answered.TheVariants.{Ended}
 use Rattle.stm_meaning.specs.Meaning.{run_over}
-use Rattle.stm_txn.specs.declared.txn.Txn.{Txn}
-use Rattle.stm_txn.specs.Outcome.{Done, outcome, is_used_up}
+use Rattle.stm_outcome.specs.declared.txn.Txn.{Txn}
+use Rattle.stm_outcome.specs.Outcome.{Done, outcome, is_used_up}
 use Rattle.stm_txn.specs.LeaseKeys.{deletions_of}
 use Rattle.stm_compile.specs.Levels.{is_comparing}
 use Rattle.stm_compile.specs.Answers.{AreTrue}

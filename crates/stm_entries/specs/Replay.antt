@@ -7,7 +7,7 @@ use Rattle.std.specs.FinMap as finmap
 use Rattle.stm_leases.specs.LeaseLog.{Term}
 use Rattle.stm_leases.specs.Live.{Live}
 use Rattle.stm_meaning.specs.Meaning.{run_over}
-use Rattle.stm_txn.specs.Outcome.{outcome, with_changes}
+use Rattle.stm_outcome.specs.Outcome.{outcome, with_changes}
 use Rattle.stm_txn.specs.LeaseKeys.{deletions_of}
 use Rattle.stm_entries.specs.declared.entry.Entry.{Entry}
 use Rattle.stm_entries.specs.declared.entry.Entry.TheVariants.{Program, Foreign, Grant, Renew, Revoke, Expire}

@@ -5,7 +5,7 @@ use Rattle.std.specs.Prelude.{ℕ}
 use Rattle.std.specs.FinMap as finmap
 use Rattle.stm_history.specs.History.{History, opened_at}
 use Rattle.stm_leases.specs.Live.{Live}
-use Rattle.stm_txn.specs.Terms.{Terms, widest_terms}
+use Rattle.stm_outcome.specs.Terms.{Terms, widest_terms}
 use Rattle.stm_txn.specs.Standing.{Standing}
 
 -- a history and the live leases with their terms

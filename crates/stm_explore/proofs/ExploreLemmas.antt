@@ -1,18 +1,16 @@
 -- What looks at places of greater and greater depth answer.
-use Rattle.std.proofs.Common.{◌≡◌, ◌∙◌, ◌⊎◌, inl, inr, ℕ, suc, ◌+◌, ◌<◌, ◌≤◌, Bool, true, false, List, length, Option, None, Some, refl, sym, ap, subst, arith}
+use Rattle.std.proofs.Common.{◌≡◌, ◌∙◌, inl, ℕ, suc, Bool, true, false, List, Option, None, Some, refl, sym, ap, subst, arith}
 use Rattle.std.specs.Option.{option_or}
 use Rattle.stm_program.specs.Syntax.{ProgramTree}
 use Rattle.stm_meaning.specs.declared.run.End.{End}
-use Rattle.stm_world.specs.declared.event.WorldEvent.{WorldEvent}
-use Rattle.stm_world.specs.World.{World, world_after}
+use Rattle.stm_world.specs.World.{World}
 use Rattle.stm_schedules.specs.declared.moves.Move.{Move}
 use Rattle.stm_schedules.specs.Places.{Place}
 use Rattle.stm_schedules.specs.Schedules.{place_after, IsLongest}
 use Rattle.stm_schedules.specs.Keeping.{end_alone, keeps, bad_at, first_bad, goes_on, FirstBadIsFirst, LongestIsAll}
-use Rattle.stm_schedules.specs.Merges.{IsMerge, MergesKeep}
+use Rattle.stm_schedules.specs.Merges.{MergesKeep}
 use Rattle.stm_explore.specs.declared.exploring.Explored.{Explored}
 use Rattle.stm_explore.specs.declared.exploring.Explored.TheVariants.{Always, Broken, Open}
-use Rattle.stm_explore.specs.declared.looked.Looked.{Looked}
 use Rattle.stm_explore.specs.declared.looked.Looked.TheVariants.{Kept as KeptAt, Broken as BrokenAt}
 use Rattle.stm_schedules.specs.Fewer.{FewerAreEnough}
 use Rattle.stm_explore.specs.Seen.{IsSeen}

@@ -1,11 +1,10 @@
 -- What is seen where fewer schedules are looked at is what is so of all.
-use Rattle.std.proofs.Common.{◌≡◌, ◌∙◌, ℕ, zero, suc, ◌||◌, Bool, true, false, cond, List, [], ◌∷◌, ◌++◌, Option, None, Some, refl, sym, ap}
+use Rattle.std.proofs.Common.{◌≡◌, ◌∙◌, ℕ, zero, suc, ◌||◌, Bool, true, false, cond, List, [], ◌∷◌, ◌++◌, Option, None, refl, sym, ap}
 use Rattle.std.specs.Prelude.{filter, option_map}
 use Rattle.std.specs.Option.{option_or}
 use Rattle.std.specs.List.{list_any, flat_map}
 use Rattle.stm_world.specs.World.{World}
 use Rattle.stm_schedules.specs.declared.moves.Move.{Move}
-use Rattle.stm_schedules.specs.declared.outcome.Outcome.{Outcome}
 use Rattle.stm_schedules.specs.Places.{Place, moves, moved}
 use Rattle.stm_schedules.specs.Keeping.{first_of, goes_on}
 use Rattle.stm_schedules.specs.Outcomes.{Ends, ends_moved}

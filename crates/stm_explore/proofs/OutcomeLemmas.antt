@@ -1,12 +1,12 @@
 -- The outcomes that were found among schedules of greater and greater length.
-use Rattle.std.proofs.Common.{◌≡◌, ◌∙◌, ◌↔◌, ◌⊎◌, inl, inr, ℕ, suc, Bool, true, false, List, [], ◌++◌, length, refl, sym, ap, subst, arith}
-use Rattle.std.specs.Prelude.{Contains, Option, None, Some}
+use Rattle.std.proofs.Common.{◌≡◌, ◌∙◌, ◌↔◌, ◌⊎◌, inl, inr, ℕ, suc, true, false, List, [], sym, ap, subst}
+use Rattle.std.specs.Prelude.{Contains}
 use Rattle.stm_schedules.specs.declared.outcome.Outcome.{Outcome}
 use Rattle.stm_schedules.specs.Places.{Place}
 use Rattle.stm_schedules.specs.Schedules.{IsLongest}
 use Rattle.stm_schedules.specs.Keeping.{goes_on, LongestIsAll}
-use Rattle.stm_schedules.specs.Outcomes.{Ends, IsOutcome, outcomes_at, outcomes_up_to, OutcomesAreThose}
-use Rattle.stm_explore.specs.Gathering.{AreDistinct, Gathers}
+use Rattle.stm_schedules.specs.Outcomes.{Ends, outcomes_at, outcomes_up_to, OutcomesAreThose}
+use Rattle.stm_explore.specs.Gathering.{Gathers}
 use Rattle.stm_explore.specs.Explored.{AreAllOutcomes}
 use Rattle.stm_explore.proofs.GatherLemmas.{gathers_then, none_in_nothing}
 

@@ -1,5 +1,5 @@
 -- Two lists, compared element by element.
-use Rattle.std.proofs.Common.{◌≡◌, ◌≢◌, ◌∙◌, ◌↔◌, IsTrue, ℕ, ◌+◌, ◌<◌, Bool, true, false, List, length, refl, sym, ap, get_or, arith}
+use Rattle.std.proofs.Common.{◌≡◌, ◌≢◌, ◌∙◌, ◌↔◌, IsTrue, ℕ, ◌+◌, ◌<◌, Bool, true, false, List, length, refl, sym, ap, get_or}
 use Rattle.std.proofs.lemmas.List.{get_or_read, same_lists}
 use borrow.Author.Count.{below_more}
 

@@ -1,5 +1,5 @@
 -- Outcomes that are gathered, each once.
-use Rattle.std.specs.Prelude.{◌≡◌, ◌≢◌, ◌↔◌, ◌⊎◌, List, [], ◌∷◌, Contains}
+use Rattle.std.specs.Prelude.{◌≢◌, ◌↔◌, ◌⊎◌, List, [], ◌∷◌, Contains}
 use Rattle.std.specs.List.{AllByRecursion}
 use Rattle.stm_schedules.specs.declared.outcome.Outcome.{Outcome}
 

@@ -9,9 +9,10 @@ ghost use Rattle.stm_schedules.specs.Places.{moves};
 ghost use Rattle.stm_explore.specs.Gathering.{Gathers};
 ghost use Rattle.stm_explore.specs.Seen.{seen_go_on, goes_on_behind, outcomes_behind};
 
+use crate::budget::{Budget, Observer};
 use crate::ends::copy_of_ends;
 use crate::found::add;
-use crate::halt::{Halt, spend};
+use crate::halt::Halt;
 use crate::looked::is_either;
 use crate::moving::{can_move, is_looked_at, left_after, moves_at};
 use crate::shown::outcome_of;
@@ -43,7 +44,7 @@ pub(crate) fn collect_here(
 /// Adds the outcomes of whole schedules of so many moves. The answer is whether a schedule has one move more. The last move was a quiet
 /// step of the runner `last`, if there is one. World and ends are used up: where they are left is not told.
 #[cycle(collect)]
-fn collect(
+fn collect<O: Observer>(
     alloc: Global,
     world: &mut World,
     others: &[WorldEvent],
@@ -51,7 +52,7 @@ fn collect(
     last: Option<u64>,
     depth: u64,
     found: &mut Vec<Outcome>,
-    budget: &mut u64,
+    budget: &mut Budget<O>,
 ) -> Result<bool, Halt>
     ensures more { IfOk result (λ more. more ≡ seen_go_on depth last (record { world = world.old; others = others.now })) }
     ensures found { OnOk result (Gathers (fewer_outcomes_at depth last (record { world = world.old; others = others.now }) ends.old.items) found.old.items found.new.items) }
@@ -85,7 +86,7 @@ fn collect(
 /// Adds the outcomes of whole schedules that have so many moves behind this one, if one more event may be taken. It is made on copies of the
 /// world and of the ends, while other moves are left to be gone through from there, and else in these themselves.
 #[cycle(collect)]
-fn collect_behind(
+fn collect_behind<O: Observer>(
     alloc: Global,
     world: &mut World,
     others: &[WorldEvent],
@@ -95,14 +96,14 @@ fn collect_behind(
     left: usize,
     depth: u64,
     found: &mut Vec<Outcome>,
-    budget: &mut u64,
+    budget: &mut Budget<O>,
 ) -> Result<bool, Halt>
     ensures more { IfOk result (λ more. more ≡ goes_on_behind depth last (record { world = world.old; others = others.now }) chosen) }
     ensures found { OnOk result (Gathers (outcomes_behind depth last (record { world = world.old; others = others.now }) ends.old.items chosen) found.old.items found.new.items) }
     ensures same_world { 0 < left → world.new ≡ world.old }
     ensures same_ends { 0 < left → ends.new.items ≡ ends.old.items }
 {
-    spend(budget)?;
+    budget.spend()?;
     if left == 0 {
         let more = collect_moved(
             alloc, world, others, ends, last, chosen, depth, found, budget,
@@ -125,7 +126,7 @@ fn collect_behind(
 
 /// Adds the outcomes of whole schedules that have so many moves behind this one, on copies of the world and of the ends.
 #[cycle(collect)]
-fn collect_aside(
+fn collect_aside<O: Observer>(
     alloc: Global,
     world: &World,
     others: &[WorldEvent],
@@ -134,7 +135,7 @@ fn collect_aside(
     chosen: Move,
     depth: u64,
     found: &mut Vec<Outcome>,
-    budget: &mut u64,
+    budget: &mut Budget<O>,
 ) -> Result<bool, Halt>
     ensures more { IfOk result (λ more. more ≡ goes_on_behind depth last (record { world = world.now; others = others.now }) chosen) }
     ensures found { OnOk result (Gathers (outcomes_behind depth last (record { world = world.now; others = others.now }) ends.now chosen) found.old.items found.new.items) }
@@ -151,7 +152,7 @@ fn collect_aside(
 
 /// Makes a move, and adds the outcomes of whole schedules that have so many moves behind it, unless it is one not to be looked at.
 #[cycle(collect)]
-fn collect_moved(
+fn collect_moved<O: Observer>(
     alloc: Global,
     world: &mut World,
     others: &[WorldEvent],
@@ -160,7 +161,7 @@ fn collect_moved(
     chosen: Move,
     depth: u64,
     found: &mut Vec<Outcome>,
-    budget: &mut u64,
+    budget: &mut Budget<O>,
 ) -> Result<bool, Halt>
     ensures more { IfOk result (λ more. more ≡ goes_on_behind depth last (record { world = world.old; others = others.now }) chosen) }
     ensures found { OnOk result (Gathers (outcomes_behind depth last (record { world = world.old; others = others.now }) ends.old.items chosen) found.old.items found.new.items) }
@@ -183,14 +184,14 @@ fn collect_moved(
 }
 
 /// Adds the outcomes of whole schedules of so many moves from a world. The answer is whether a schedule has one move more.
-pub(crate) fn collect_from(
+pub(crate) fn collect_from<O: Observer>(
     alloc: Global,
     world: &World,
     others: &[WorldEvent],
     ends: &[Option<RunnerEnd>],
     depth: u64,
     found: &mut Vec<Outcome>,
-    budget: &mut u64,
+    budget: &mut Budget<O>,
 ) -> Result<bool, Halt>
     ensures more { IfOk result (λ more. more ≡ seen_go_on depth None (record { world = world.now; others = others.now })) }
     ensures found { OnOk result (Gathers (fewer_outcomes_at depth None (record { world = world.now; others = others.now }) ends.now) found.old.items found.new.items) }

@@ -4,6 +4,7 @@ ghost use Rattle.stm_schedules.specs.Keeping.{keeps, first_bad, goes_on};
 ghost use Rattle.stm_explore.specs.Explored.{IsExplored, MergesAreKept};
 ghost use Rattle.stm_explore.specs.Seen.{IsSeen};
 
+use crate::budget::{Budget, Observer};
 use crate::halt::Halt;
 use crate::looked::Looked;
 use crate::looking::{look_from, look_here};
@@ -38,20 +39,21 @@ pub enum Explored {
 }
 
 /// Goes on behind the place itself, where the rule is kept and a move can be made. No schedule has more moves than events may be taken.
-fn look_deeper(
+fn look_deeper<O: Observer>(
     alloc: Global,
     rule: &Program,
     world: &World,
     others: &[WorldEvent],
-    budget: u64,
+    budget: &mut Budget<O>,
 ) -> Result<Explored, AllocError>
     requires kept { first_bad (keeps rule.now) 0 (record { world = world.now; others = others.now }) ≡ None }
     requires more { goes_on 1 (record { world = world.now; others = others.now }) ≡ true }
     ensures { IfOk result (IsExplored rule.now (record { world = world.now; others = others.now })) }
 {
-    let mut left = budget;
-    for kept in 0..budget {
-        match look_from(alloc, rule, world, others, kept + 1, &mut left) {
+    let most = budget.left;
+    for kept in 0..most {
+        budget.observer.passed(kept, budget.left);
+        match look_from(alloc, rule, world, others, kept + 1, budget) {
             Ok(Looked::Kept { goes_on: true }) => {}
             Ok(Looked::Kept { goes_on: false }) => return Ok(Explored::Always {
                 longest: kept + 1,
@@ -61,16 +63,16 @@ fn look_deeper(
             Err(Halt::OutOfMemory) => return Err(AllocError),
         }
     }
-    Ok(Explored::Open { kept: budget })
+    Ok(Explored::Open { kept: most })
 }
 
 /// Whether a rule is kept after every schedule.
-fn explore_schedules(
+fn explore_schedules<O: Observer>(
     alloc: Global,
     rule: &Program,
     world: &World,
     others: &[WorldEvent],
-    budget: u64,
+    budget: &mut Budget<O>,
 ) -> Result<Explored, AllocError>
     ensures { IfOk result (IsExplored rule.now (record { world = world.now; others = others.now })) }
 {
@@ -84,20 +86,23 @@ fn explore_schedules(
 /// Whether a rule is kept after every schedule: the moves of this world's runners, and of others that have these events yet to bring.
 ///
 /// The rule is a program, which is run alone on the state behind each schedule: the schedule keeps it where the run comes to its last
-/// statement. Schedules are looked at by length, those of one length in the order of their moves, and at most `budget` events are
-/// taken. The answer is told also of steps of any runners, merged in any way with a front of what the others bring.
+/// statement. Schedules are looked at by length, those of one length in the order of their moves, and at most as many events are taken as
+/// `budget` has left; its observer is told how far the search is. The answer is told also of steps of any runners, merged in any way with
+/// a front of what the others bring.
 ///
 /// Want of memory is the only refusal. The world is left as it was.
-pub fn explore(
+pub fn explore<O: Observer>(
     alloc: Global,
     world: &World,
     others: &[WorldEvent],
     rule: &Program,
-    budget: u64,
+    budget: &mut Budget<O>,
 ) -> Result<Explored, AllocError>
     ensures explored { IfOk result (IsExplored rule.now (record { world = world.now; others = others.now })) }
     ensures merges { IfOk result (MergesAreKept rule.now (record { world = world.now; others = others.now })) }
 {
-    let explored = explore_schedules(alloc, rule, world, others, budget)?;
+    let explored = explore_schedules(alloc, rule, world, others, budget);
+    budget.observer.ended();
+    let explored = explored?;
     Ok(explored)
 }

@@ -5,6 +5,7 @@ ghost use Rattle.stm_schedules.specs.Outcomes.{outcomes_at};
 ghost use Rattle.stm_explore.specs.Explored.{IsCollected, AreOutcomes};
 ghost use Rattle.stm_explore.specs.Gathering.{Gathers};
 
+use crate::budget::{Budget, Observer};
 use crate::collecting::{collect_from, collect_here};
 use crate::halt::Halt;
 use std::alloc::{AllocError, Global};
@@ -32,45 +33,38 @@ pub enum Outcomes {
 /// moves than events may be taken.
 ///
 /// The answer is None once all are found, and else up to which length every schedule was gone through.
-fn collect_deeper(
+fn collect_deeper<O: Observer>(
     alloc: Global,
     world: &World,
     others: &[WorldEvent],
     ends: &[Option<RunnerEnd>],
-    budget: u64,
+    budget: &mut Budget<O>,
     found: &mut Vec<Outcome>,
 ) -> Result<Option<u64>, AllocError>
     requires found { Gathers (outcomes_at 0 (record { world = world.now; others = others.now }) ends.now) [] found.old.items }
     requires more { goes_on 1 (record { world = world.now; others = others.now }) ≡ true }
     ensures { IfOk result (IsCollected (record { world = world.now; others = others.now }) ends.now found.new.items) }
 {
-    let mut left = budget;
-    for gone_through in 0..budget {
-        match collect_from(
-            alloc,
-            world,
-            others,
-            ends,
-            gone_through + 1,
-            found,
-            &mut left,
-        ) {
+    let most = budget.left;
+    for gone_through in 0..most {
+        budget.observer.passed(gone_through, budget.left);
+        match collect_from(alloc, world, others, ends, gone_through + 1, found, budget) {
             Ok(true) => {}
             Ok(false) => return Ok(None),
             Err(Halt::Spent) => return Ok(Some(gone_through)),
             Err(Halt::OutOfMemory) => return Err(AllocError),
         }
     }
-    Ok(Some(budget))
+    Ok(Some(most))
 }
 
 /// Adds the outcomes of all whole schedules. The answer is as for those that have some move.
-fn collect_all(
+fn collect_all<O: Observer>(
     alloc: Global,
     world: &World,
     others: &[WorldEvent],
     ends: &[Option<RunnerEnd>],
-    budget: u64,
+    budget: &mut Budget<O>,
     found: &mut Vec<Outcome>,
 ) -> Result<Option<u64>, AllocError>
     requires { found.old.items ≡ [] }
@@ -85,20 +79,23 @@ fn collect_all(
 /// What whole schedules come to: those of the moves of this world's runners, and of others that have these events yet to bring.
 ///
 /// In `ends` stands what is known of the runners' ends before, by the runners' numbers, as `ends_told` tells it. Schedules are gone
-/// through by length, and at most `budget` events are taken.
+/// through by length, and at most as many events are taken as `budget` has left; its observer is told how far the search is.
 ///
 /// Want of memory is the only refusal. The world is left as it was.
-pub fn find_outcomes(
+pub fn find_outcomes<O: Observer>(
     alloc: Global,
     world: &World,
     others: &[WorldEvent],
     ends: &[Option<RunnerEnd>],
-    budget: u64,
+    budget: &mut Budget<O>,
 ) -> Result<Outcomes, AllocError>
     ensures { IfOk result (AreOutcomes (record { world = world.now; others = others.now }) ends.now) }
 {
     let mut found = Vec::new(alloc);
-    match collect_all(alloc, world, others, ends, budget, &mut found)? {
+    let stopped = collect_all(alloc, world, others, ends, budget, &mut found);
+    budget.observer.ended();
+    let stopped = stopped?;
+    match stopped {
         None => Ok(Outcomes::Found {
             outcomes: Sequence::of(found),
         }),

@@ -1,6 +1,5 @@
 //! What stops a search.
-ghost use Rattle.std.specs.Prelude.{◌≡◌, ◌≢◌, ◌+◌, IsOk, IfErr, OnOk, OnErr};
-ghost use Rattle.stm_explore.specs.declared.halt.Halt.TheVariants.{Spent};
+ghost use Rattle.std.specs.Prelude.{◌≡◌};
 
 use std::alloc::AllocError;
 
@@ -21,17 +20,4 @@ impl From<AllocError> for Halt {
     fn from(_error: AllocError) -> Halt {
         Halt::OutOfMemory
     }
-}
-
-/// Counts one event more, where one may still be taken.
-pub(crate) fn spend(budget: &mut u64) -> Result<(), Halt>
-    ensures ok { OnOk result (budget.new + 1 ≡ budget.old) }
-    ensures spent { IfErr result (λ halt. halt ≡ Spent) }
-    ensures err { OnErr result (budget.old ≡ 0) }
-{
-    if *budget == 0 {
-        return Err(Halt::Spent);
-    }
-    *budget -= 1;
-    Ok(())
 }

@@ -1,11 +1,15 @@
 //! A search that judges every interleaving: whether a rule is kept after each schedule of a world's runners and of what others do, and
 //! what whole schedules come to.
 //!
-//! Of schedules that differ by exchanges of steps which enter nothing one is looked at, the first, and what is told is so of all. They are
-//! looked at by their length, those of one length in the order of their moves. On the way to a place the world after each move is kept,
-//! so that schedules that begin alike share the moves of that beginning.
+//! Schedules are gone through by length, those of one length in the order of their moves. Of those that differ by exchanges of steps which
+//! enter nothing only the first is gone through, and what is told holds of all of them. For each length the moves are made anew from the
+//! beginning; schedules of one length that begin alike share the moves of that beginning. Each move from a place is made on a copy of its
+//! world, but the last one, which is made in the world itself, so that no more worlds are kept than a schedule has moves.
+//!
+//! An observer is told meanwhile how far the search is.
 #![tactic(auto)]
 
+mod budget;
 mod collecting;
 mod ends;
 mod exploring;
@@ -20,6 +24,7 @@ mod same;
 mod shown;
 mod telling;
 
+pub use budget::{Budget, Nobody, Observer};
 pub use ends::ends_told;
 pub use exploring::{Explored, explore};
 pub use finding::{Outcomes, find_outcomes};

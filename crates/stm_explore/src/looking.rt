@@ -7,7 +7,8 @@
 ghost use Rattle.std.specs.Prelude.{◌≡◌, ◌<◌, None, IfOk};
 ghost use Rattle.stm_explore.specs.Seen.{IsSeen, IsSeenBehind, KeptBefore, KeptBehind};
 
-use crate::halt::{Halt, spend};
+use crate::budget::{Budget, Observer};
+use crate::halt::Halt;
 use crate::keeping::end_alone;
 use crate::looked::{Looked, is_either};
 use crate::moving::{can_move, is_looked_at, left_after, make_move, moves_at};
@@ -49,14 +50,14 @@ pub(crate) fn look_here(
 /// Looks at all places after so many moves, in the order of the schedules to them, up to the first where the rule is not kept. The last
 /// move was a quiet step of the runner `last`, if there is one. The world is used up: where it is left is not told.
 #[cycle(look)]
-fn look(
+fn look<O: Observer>(
     alloc: Global,
     rule: &Program,
     world: &mut World,
     others: &[WorldEvent],
     last: Option<u64>,
     depth: u64,
-    budget: &mut u64,
+    budget: &mut Budget<O>,
 ) -> Result<Looked, Halt>
     requires { KeptBefore rule.now depth last (record { world = world.old; others = others.now }) }
     ensures { IfOk result (IsSeen rule.now depth last (record { world = world.old; others = others.now })) }
@@ -91,7 +92,7 @@ fn look(
 /// Looks at all places so many moves behind a move, if one more event may be taken. The move is made on a copy of the world, while other
 /// moves are left to be looked at from there, and else in the world itself.
 #[cycle(look)]
-fn look_behind(
+fn look_behind<O: Observer>(
     alloc: Global,
     rule: &Program,
     world: &mut World,
@@ -100,13 +101,13 @@ fn look_behind(
     chosen: Move,
     left: usize,
     depth: u64,
-    budget: &mut u64,
+    budget: &mut Budget<O>,
 ) -> Result<Looked, Halt>
     requires { KeptBehind rule.now depth last (record { world = world.old; others = others.now }) chosen }
     ensures seen { IfOk result (IsSeenBehind rule.now depth last chosen (record { world = world.old; others = others.now })) }
     ensures same { 0 < left → world.new ≡ world.old }
 {
-    spend(budget)?;
+    budget.spend()?;
     if left == 0 {
         let looked = look_moved(alloc, rule, world, others, last, chosen, depth, budget)?;
         return Ok(looked);
@@ -117,7 +118,7 @@ fn look_behind(
 
 /// Looks at all places so many moves behind a move, on a copy of the world.
 #[cycle(look)]
-fn look_aside(
+fn look_aside<O: Observer>(
     alloc: Global,
     rule: &Program,
     world: &World,
@@ -125,7 +126,7 @@ fn look_aside(
     last: Option<u64>,
     chosen: Move,
     depth: u64,
-    budget: &mut u64,
+    budget: &mut Budget<O>,
 ) -> Result<Looked, Halt>
     requires { KeptBehind rule.now depth last (record { world = world.now; others = others.now }) chosen }
     ensures { IfOk result (IsSeenBehind rule.now depth last chosen (record { world = world.now; others = others.now })) }
@@ -139,7 +140,7 @@ fn look_aside(
 
 /// Makes a move, and looks at all places so many moves behind it, unless it is one not to be looked at.
 #[cycle(look)]
-fn look_moved(
+fn look_moved<O: Observer>(
     alloc: Global,
     rule: &Program,
     world: &mut World,
@@ -147,7 +148,7 @@ fn look_moved(
     last: Option<u64>,
     chosen: Move,
     depth: u64,
-    budget: &mut u64,
+    budget: &mut Budget<O>,
 ) -> Result<Looked, Halt>
     requires { KeptBehind rule.now depth last (record { world = world.old; others = others.now }) chosen }
     ensures { IfOk result (IsSeenBehind rule.now depth last chosen (record { world = world.old; others = others.now })) }
@@ -171,13 +172,13 @@ fn look_moved(
 
 /// Looks at all places after so many moves from a world, in the order of the schedules to them, up to the first where the rule is not
 /// kept.
-pub(crate) fn look_from(
+pub(crate) fn look_from<O: Observer>(
     alloc: Global,
     rule: &Program,
     world: &World,
     others: &[WorldEvent],
     depth: u64,
-    budget: &mut u64,
+    budget: &mut Budget<O>,
 ) -> Result<Looked, Halt>
     requires { KeptBefore rule.now depth None (record { world = world.now; others = others.now }) }
     ensures { IfOk result (IsSeen rule.now depth None (record { world = world.now; others = others.now })) }

@@ -11,7 +11,7 @@ use Rattle.stm_reports.specs.LineData.{list, whole, value_data}
 use Rattle.stm_meaning.specs.declared.run.End.{End}
 use Rattle.stm_meaning.specs.declared.run.End.TheVariants.{Done, Aborted as ByAbort, Faulted as ByFault}
 use Rattle.stm_meaning.specs.Faults.{fault_name}
-use Rattle.stm_txn.specs.Names.{refusal_name}
+use Rattle.stm_outcome.specs.Names.{refusal_name}
 use Rattle.stm_reports.specs.Text.{line_text, lines_text}
 use Rattle.stm_schedules.specs.declared.outcome.KeyValue.{KeyValue}
 use Rattle.stm_schedules.specs.declared.outcome.Outcome.{Outcome}

@@ -8,21 +8,22 @@ use crate::reading::{ExploreFault, program_of, scenario_of};
 use crate::searching::search;
 use std::alloc::Global;
 use stm_devices::Source;
+use stm_explore::{Budget, Observer};
 use stm_program::Level;
 
 /// Reads a scenario from its source to the end, then the program of a rule from its own, and looks after which schedules of the scenario the
 /// rule is kept: the first by length, and then by the order of their moves, after which it is not, or that there is none.
 ///
-/// Each start is taken at the level that is named, where one is. At most so many events are taken as `budget` says. Neither source has failed
-/// before. It fails as `BadScenario` with the scenario's first fault, or with its first step, as `Shape`, and then the program is not read; as
-/// `BadProgram` with the program's first fault; as `OutOfMemory` where a growth was refused; and as `Device` exactly where a source has failed.
-/// At most 16777217 bytes of each are read, in at most so many reads of each.
-pub fn explore_sources<S: Source, R: Source>(
+/// Each start is taken at the level that is named, where one is. At most so many events are taken as `budget` has left, and its observer is told
+/// how far the search is. Neither source has failed before. It fails as `BadScenario` with the scenario's first fault, or with its first step,
+/// as `Shape`, and then the program is not read; as `BadProgram` with the program's first fault; as `OutOfMemory` where a growth was refused;
+/// and as `Device` exactly where a source has failed. At most 16777217 bytes of each are read, in at most so many reads of each.
+pub fn explore_sources<S: Source, R: Source, O: Observer>(
     alloc: Global,
     scenario: &mut S,
     keeps: &mut R,
     level: Option<Level>,
-    budget: u64,
+    budget: &mut Budget<O>,
 ) -> Result<Printed, ExploreFault>
     requires scenario_works { S.failed scenario.old ≡ false }
     requires keeps_works { R.failed keeps.old ≡ false }

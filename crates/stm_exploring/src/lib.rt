@@ -22,5 +22,6 @@ pub use outcomes::outcomes_of_source;
 pub use printed::{Printed, Verdict};
 pub use reading::ExploreFault;
 pub use stm_devices::Source;
+pub use stm_explore::{Budget, Nobody, Observer};
 pub use stm_json::BadInput;
 pub use stm_program::Level;

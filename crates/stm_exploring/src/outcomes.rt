@@ -15,7 +15,7 @@ use crate::reading::{ExploreFault, scenario_of};
 use crate::setup::{run_setup, setup_and_others};
 use std::alloc::{AllocError, Global};
 use stm_devices::Source;
-use stm_explore::{Outcomes, find_outcomes};
+use stm_explore::{Budget, Observer, Outcomes, find_outcomes};
 use stm_history::Text;
 use stm_program::Level;
 use stm_retry::World;
@@ -53,12 +53,12 @@ fn print(alloc: Global, gathered: &Outcomes) -> Result<Printed, AllocError>
 }
 
 /// What whole schedules come to, once these events were run in a world.
-fn gather_from(
+fn gather_from<O: Observer>(
     alloc: Global,
     world: &mut World,
     setup: &[WorldEvent],
     others: &[WorldEvent],
-    budget: u64,
+    budget: &mut Budget<O>,
 ) -> Result<Outcomes, AllocError>
     ensures { IfOk result (AreOutcomes (record { world = world_after setup.now world.old; others = others.now })
         (after_replies (replies_to setup.now world.old) [])) }
@@ -68,7 +68,11 @@ fn gather_from(
 }
 
 /// What the whole schedules of a scenario come to.
-fn gather_scenario(alloc: Global, scenario: &Scenario, budget: u64) -> Result<Outcomes, AllocError>
+fn gather_scenario<O: Observer>(
+    alloc: Global,
+    scenario: &Scenario,
+    budget: &mut Budget<O>,
+) -> Result<Outcomes, AllocError>
     requires { IsOpening scenario.now.opening }
     ensures { IfOk result (AreOutcomes (place_of scenario.now) (ends_of scenario.now)) }
 {
@@ -80,7 +84,11 @@ fn gather_scenario(alloc: Global, scenario: &Scenario, budget: u64) -> Result<Ou
 }
 
 /// What is printed of what the whole schedules of a scenario come to.
-fn gather(alloc: Global, scenario: &Scenario, budget: u64) -> Result<Printed, AllocError>
+fn gather<O: Observer>(
+    alloc: Global,
+    scenario: &Scenario,
+    budget: &mut Budget<O>,
+) -> Result<Printed, AllocError>
     requires { IsOpening scenario.now.opening }
     ensures { IfOk result (ArePrinted scenario.now) }
 {
@@ -90,14 +98,15 @@ fn gather(alloc: Global, scenario: &Scenario, budget: u64) -> Result<Printed, Al
 
 /// Reads a scenario from its source to the end, and looks what its whole schedules come to: the state, and how each runner ended.
 ///
-/// Each start is taken at the level that is named, where one is. At most so many events are taken as `budget` says. The source has not failed
-/// before. It fails as `BadScenario` with the scenario's first fault, or with its first step, as `Shape`; as `OutOfMemory` where a growth was
-/// refused; and as `Device` exactly where the source has failed. At most 16777217 bytes are read, in at most so many reads.
-pub fn outcomes_of_source<S: Source>(
+/// Each start is taken at the level that is named, where one is. At most so many events are taken as `budget` has left, and its observer is told
+/// how far the search is. The source has not failed before. It fails as `BadScenario` with the scenario's first fault, or with its first step,
+/// as `Shape`; as `OutOfMemory` where a growth was refused; and as `Device` exactly where the source has failed. At most 16777217 bytes are
+/// read, in at most so many reads.
+pub fn outcomes_of_source<S: Source, O: Observer>(
     alloc: Global,
     scenario: &mut S,
     level: Option<Level>,
-    budget: u64,
+    budget: &mut Budget<O>,
 ) -> Result<Printed, ExploreFault>
     requires { S.failed scenario.old ≡ false }
     ensures gathered { Gathers level (S.left scenario.old) (S.failed scenario.new) result }

@@ -13,7 +13,7 @@ use crate::printed::{Printed, Verdict};
 use crate::schedule_lines::push_scheduled;
 use crate::setup::{run_setup, setup_and_others};
 use std::alloc::{AllocError, Global};
-use stm_explore::{Explored, explore};
+use stm_explore::{Budget, Explored, Observer, explore};
 use stm_history::Text;
 use stm_meaning::End;
 use stm_program::Program;
@@ -75,13 +75,13 @@ fn print(alloc: Global, scenario: &Scenario, explored: &Explored) -> Result<Prin
 }
 
 /// Whether a program keeps its rule after every schedule, once these events were run in a world.
-fn explore_from(
+fn explore_from<O: Observer>(
     alloc: Global,
     world: &mut World,
     setup: &[WorldEvent],
     others: &[WorldEvent],
     keeps: &Program,
-    budget: u64,
+    budget: &mut Budget<O>,
 ) -> Result<Explored, AllocError>
     ensures { IfOk result (IsAnswer keeps.now (record { world = world_after setup.now world.old; others = others.now })) }
 {
@@ -91,11 +91,11 @@ fn explore_from(
 }
 
 /// Whether a program keeps its rule after every schedule of a scenario.
-fn explore_scenario(
+fn explore_scenario<O: Observer>(
     alloc: Global,
     scenario: &Scenario,
     keeps: &Program,
-    budget: u64,
+    budget: &mut Budget<O>,
 ) -> Result<Explored, AllocError>
     requires { IsOpening scenario.now.opening }
     ensures { IfOk result (IsAnswer keeps.now (place_of scenario.now)) }
@@ -108,11 +108,11 @@ fn explore_scenario(
 }
 
 /// What is printed of a search about a scenario.
-pub(crate) fn search(
+pub(crate) fn search<O: Observer>(
     alloc: Global,
     scenario: &Scenario,
     keeps: &Program,
-    budget: u64,
+    budget: &mut Budget<O>,
 ) -> Result<Printed, AllocError>
     requires { IsOpening scenario.now.opening }
     ensures { IfOk result (IsPrinted scenario.now keeps.now) }

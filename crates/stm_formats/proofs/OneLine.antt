@@ -15,7 +15,7 @@ use Rattle.stm_world.specs.declared.refusal.Denied.{Denied}
 use Rattle.stm_world.specs.declared.refusal.Refusal.{Refusal}
 use Rattle.stm_world.specs.Names.{refusal_name}
 use Rattle.stm_meaning.specs.Faults.{fault_name}
-use Rattle.stm_txn.specs.Names.{refusal_name as store_refusal_name}
+use Rattle.stm_outcome.specs.Names.{refusal_name as store_refusal_name}
 use Rattle.stm_formats.specs.declared.row.Lane.{Lane}
 use Rattle.stm_formats.specs.declared.row.Lane.TheVariants.{Store, Runner}
 use Rattle.stm_formats.specs.declared.pieces.TheConstants.{MOST_SHOWN, KEPT, MOST_COLUMNS}

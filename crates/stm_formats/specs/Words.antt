@@ -2,7 +2,7 @@
 use Rattle.std.specs.Prelude.{ℕ, List, [], ◌∷◌, length, Bool, if◌then◌else◌, Result, Ok, Err, codes, decimal}
 use Rattle.stm_program.specs.declared.level.Level.{Level}
 use Rattle.stm_meaning.specs.Faults.{fault_name}
-use Rattle.stm_txn.specs.Names.{refusal_name as store_refusal_name}
+use Rattle.stm_outcome.specs.Names.{refusal_name as store_refusal_name}
 use Rattle.stm_world.specs.declared.event.WorldEvent.{WorldEvent}
 use Rattle.stm_world.specs.declared.event.WorldEvent.TheVariants as event
 use Rattle.stm_world.specs.declared.reply.Reply.{Reply}

@@ -9,17 +9,17 @@ use Rattle.stm_history.specs.declared.change.Change.{Change}
 use Rattle.stm_history.specs.History.{History, now, HasDistinctKeys}
 use Rattle.stm_leases.specs.Live.{is_live_in}
 use Rattle.stm_leases.specs.DueFirst.{first_due}
-use Rattle.stm_txn.specs.declared.txn.Txn.{Txn}
-use Rattle.stm_txn.specs.declared.answer.TxnAnswer.{TxnAnswer}
-use Rattle.stm_txn.specs.declared.advance.Expired.{Expired}
-use Rattle.stm_txn.specs.declared.refusal.Refusal.{Refusal}
-use Rattle.stm_txn.specs.declared.refusal.Refusal.TheVariants.{OutOfMemory, RevisionsUsedUp, TimeGoesBack}
-use Rattle.stm_txn.specs.Outcome.{Done, outcome, with_changes, is_used_up}
+use Rattle.stm_outcome.specs.declared.txn.Txn.{Txn}
+use Rattle.stm_outcome.specs.declared.answer.TxnAnswer.{TxnAnswer}
+use Rattle.stm_outcome.specs.declared.advance.Expired.{Expired}
+use Rattle.stm_outcome.specs.declared.refusal.Refusal.{Refusal}
+use Rattle.stm_outcome.specs.declared.refusal.Refusal.TheVariants.{OutOfMemory, RevisionsUsedUp, TimeGoesBack}
+use Rattle.stm_outcome.specs.Outcome.{Done, outcome, with_changes, is_used_up}
 use Rattle.stm_txn.specs.LeaseKeys.{deletions_of}
 use Rattle.stm_txn.specs.Standing.{Standing, Step, Advance, IsRefusalOf, refusal_of, with_history, transacted, without_lease, ended}
 use Rattle.stm_txn.specs.Standing.{at_moment, after, expired_in, expire_up_to, expire_all, advanced, HasCome, IsCutShort as StoreCutShort}
 use Rattle.stm_txn.specs.Standing.{terms_of}
-use Rattle.stm_txn.proofs.Applying.{history_grows}
+use Rattle.stm_outcome.proofs.Applying.{history_grows}
 use Rattle.stm_txn.proofs.Ending.{ended_is, due_lives}
 use Rattle.stm_entries.specs.declared.entry.Entry.{Entry}
 use Rattle.stm_entries.specs.declared.entry.Entry.TheVariants.{Foreign, Expire}

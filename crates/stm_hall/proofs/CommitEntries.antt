@@ -13,13 +13,13 @@ use Rattle.stm_meaning.specs.declared.run.End.TheVariants.{Done as DoneEnd}
 use Rattle.stm_meaning.specs.declared.run.Run.{Run}
 use Rattle.stm_meaning.specs.declared.run.Answered.TheVariants.{Ended}
 use Rattle.stm_meaning.specs.Meaning.{run_over}
-use Rattle.stm_txn.specs.Checks.{fault_of}
-use Rattle.stm_txn.specs.Effect.{op_of}
-use Rattle.stm_txn.specs.Outcome.{Done, outcome}
-use Rattle.stm_txn.specs.Commits.{applied}
+use Rattle.stm_outcome.specs.Checks.{fault_of}
+use Rattle.stm_outcome.specs.Effect.{op_of}
+use Rattle.stm_outcome.specs.Outcome.{Done, outcome}
+use Rattle.stm_outcome.specs.Commits.{applied}
 use Rattle.stm_txn.specs.Standing.{Standing, with_history, terms_of}
-use Rattle.stm_txn.specs.Terms.{Terms}
-use Rattle.stm_txn.proofs.Applying.{writes_apply}
+use Rattle.stm_outcome.specs.Terms.{Terms}
+use Rattle.stm_outcome.proofs.Applying.{writes_apply}
 use Rattle.stm_compile.specs.Levels.{is_comparing}
 use Rattle.stm_compile.specs.Answers.{look_up, state_now}
 use Rattle.stm_compile.specs.Now.{as_change}

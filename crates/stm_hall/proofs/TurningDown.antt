@@ -14,22 +14,22 @@ use Rattle.stm_program.specs.declared.write.Write.TheVariants.{Put, Del}
 use Rattle.stm_program.specs.Writes.{key_of, latest_writes}
 use Rattle.stm_program.proofs.LatestLemmas.{latest_writes-distinct}
 use Rattle.stm_meaning.proofs.RunKeyLaws.{keys_are_not_empty}
-use Rattle.stm_txn.specs.declared.txn.Txn.{Txn}
-use Rattle.stm_txn.specs.declared.txn.Op.{Op}
-use Rattle.stm_txn.specs.declared.answer.TxnAnswer.{TxnAnswer}
-use Rattle.stm_txn.specs.declared.answer.FailedCompare.{FailedCompare}
-use Rattle.stm_txn.specs.declared.refusal.Refusal.{Refusal}
-use Rattle.stm_txn.specs.declared.refusal.Refusal.TheVariants.{OutOfMemory, TooManyOps, EmptyKey, DuplicateKey}
-use Rattle.stm_txn.specs.Operations.{key_of_op, clash}
-use Rattle.stm_txn.specs.Checks.{is_empty_key, has_too_many, has_empty_key, has_clash, fault_of}
-use Rattle.stm_txn.specs.Compares.{first_failed}
-use Rattle.stm_txn.specs.Effect.{op_of}
-use Rattle.stm_txn.specs.Branches.{changes_of_branch}
-use Rattle.stm_txn.specs.Outcome.{Done, outcome, with_changes, unless, branch_outcome, chosen}
-use Rattle.stm_txn.specs.Commits.{turned_down}
+use Rattle.stm_outcome.specs.declared.txn.Txn.{Txn}
+use Rattle.stm_outcome.specs.declared.txn.Op.{Op}
+use Rattle.stm_outcome.specs.declared.answer.TxnAnswer.{TxnAnswer}
+use Rattle.stm_outcome.specs.declared.answer.FailedCompare.{FailedCompare}
+use Rattle.stm_outcome.specs.declared.refusal.Refusal.{Refusal}
+use Rattle.stm_outcome.specs.declared.refusal.Refusal.TheVariants.{OutOfMemory, TooManyOps, EmptyKey, DuplicateKey}
+use Rattle.stm_outcome.specs.Operations.{key_of_op, clash}
+use Rattle.stm_outcome.specs.Checks.{is_empty_key, has_too_many, has_empty_key, has_clash, fault_of}
+use Rattle.stm_outcome.specs.Compares.{first_failed}
+use Rattle.stm_outcome.specs.Effect.{op_of}
+use Rattle.stm_outcome.specs.Branches.{changes_of_branch}
+use Rattle.stm_outcome.specs.Outcome.{Done, outcome, with_changes, unless, branch_outcome, chosen}
+use Rattle.stm_outcome.specs.Commits.{turned_down}
 use Rattle.stm_txn.specs.Standing.{Standing, IsRefusalOf, with_history, step_of, transacted, terms_of}
-use Rattle.stm_txn.proofs.Applying.{failed_compare_reads, done_by, is_done}
-use Rattle.stm_txn.proofs.Branching.{apart_case, apart_back}
+use Rattle.stm_outcome.proofs.Applying.{failed_compare_reads, done_by, is_done}
+use Rattle.stm_outcome.proofs.Branching.{apart_case, apart_back}
 use Rattle.stm_compile.specs.Answers.{look_up}
 use Rattle.stm_compile.specs.Now.{as_change}
 use Rattle.stm_compile.specs.CommitTxn.{write_op, reread_keys}

@@ -1,6 +1,6 @@
 -- The names of refusals, as they print.
 use Rattle.std.specs.Prelude.{ℕ, List, codes}
-use Rattle.stm_txn.specs.Names.{refusal_name}
+use Rattle.stm_outcome.specs.Names.{refusal_name}
 use Rattle.stm_hall.specs.declared.refusal.FetchRefusal.{FetchRefusal}
 use Rattle.stm_hall.specs.declared.refusal.FetchRefusal.TheVariants.{Behind, Store as StoreRefuses}
 use Rattle.stm_hall.specs.declared.refusal.CommitRefusal.{CommitRefusal}

@@ -4,8 +4,8 @@
 ghost use Rattle.std.specs.Prelude.{◌≡◌, ◌+◌, ◌≤◌, ◌<◌, ◌++◌, ◌∷◌, [], if◌then◌else◌, length, vec_len, vec_capacity, false, Some, None, IfSome, IsOk, IfOk, IfErr};
 ghost use Rattle.std.specs.Option.{option_map_or};
 ghost use Rattle.stm_entries.specs.declared.entry.Entry.TheVariants.{Foreign};
-ghost use Rattle.stm_txn.specs.Numbers.{AnswerFits};
-ghost use Rattle.stm_txn.specs.Outcome.{would_change};
+ghost use Rattle.stm_outcome.specs.Numbers.{AnswerFits};
+ghost use Rattle.stm_outcome.specs.Outcome.{would_change};
 ghost use Rattle.stm_hall.specs.Fetching.{OnlyReads, fetched, FetchTells};
 ghost use Rattle.stm_hall.specs.Entering.{MakesOf, or_want, expiries, AdvancesTo, StopsAt};
 

@@ -1,7 +1,7 @@
 //! The hall.
 ghost use Rattle.std.specs.Prelude.{◌≡◌, ◌≤◌, ◌↔◌, None, IfOk, IfErr, IsTrue};
 ghost use Rattle.stm_history.specs.History.{now};
-ghost use Rattle.stm_txn.specs.Numbers.{AnswerFits};
+ghost use Rattle.stm_outcome.specs.Numbers.{AnswerFits};
 ghost use Rattle.stm_calls.specs.StateOf.{IsStateOf};
 ghost use Rattle.stm_compile.specs.Conflicts.{changes_above};
 ghost use Rattle.stm_hall.specs.HallState.{made_over};

@@ -101,7 +101,7 @@ impl From<Refusal> for CommitRefusal {
 
 impl From<AllocError> for CommitRefusal {
     ghost use Rattle.std.specs.Prelude.{◌≡◌};
-    ghost use Rattle.stm_txn.specs.declared.refusal.Refusal.TheVariants.{OutOfMemory};
+    ghost use Rattle.stm_outcome.specs.declared.refusal.Refusal.TheVariants.{OutOfMemory};
     ghost use Rattle.stm_hall.specs.declared.refusal.CommitRefusal.TheVariants.{Store};
 
     ghost from_gives = { λ error refusal. refusal ≡ Store OutOfMemory };

@@ -1,3 +1,5 @@
 pub mod AcceptLemmas
 pub mod LineLemmas
+pub mod NoFloats
 pub mod RunLemmas
+pub mod TallyLemmas

@@ -5,7 +5,9 @@ use Rattle.std.proofs.lemmas.List.{drop_all}
 use Rattle.stm_meaning.specs.declared.state.StateEntry.{StateEntry}
 use Rattle.stm_meaning.specs.States as states
 use Rattle.stm_reports.specs.Text.{line_text, lines_text}
+use Rattle.serde_json.specs.Data.{Data}
 use Rattle.stm_jobs.specs.Lines.{value_line, value_lines}
+use Rattle.stm_jobs.specs.Outcomes.{pair_data, pairs}
 
 next_entry : (es : List StateEntry) (i : ℕ) (e : StateEntry) → slice_get es i ≡ Some e → drop i es ≡ e ∷ drop (suc i) es
 next_entry [] i e h = absurd (cc)
@@ -29,6 +31,20 @@ pub all_values : (before text : List ℕ) (es : List StateEntry) (i : ℕ) → l
     → text ++ lines_text (value_lines (drop i es)) ≡ before ++ lines_text (value_lines es) → text ≡ before ++ lines_text (value_lines es)
 all_values before text es i end so_far =
     sym (append-nil text) ∙ ap (λ (fs : List StateEntry). text ++ lines_text (value_lines fs)) (sym (drop_all i es end)) ∙ so_far
+
+-- the same of the pairs of an outcome
+pub next_pair : (so_far total : List Data) (es : List StateEntry) (i : ℕ) (e : StateEntry) → slice_get es i ≡ Some e →
+    so_far ++ pairs (drop i es) ≡ total → (so_far ++ pair_data e.key e.value ∷ []) ++ pairs (drop (i + 1) es) ≡ total
+next_pair so_far total es i e at told =
+    let k : i + 1 ≡ suc i = omega arith in
+    let one : so_far ++ pairs (drop i es) ≡ (so_far ++ pair_data e.key e.value ∷ []) ++ pairs (drop (i + 1) es) =
+    ap (λ (fs : List StateEntry). so_far ++ pairs fs) (next_entry es i e at)
+    ∙ sym (append_assoc so_far (pair_data e.key e.value ∷ []) (pairs (drop (suc i) es))) ∙ rw k refl in
+    sym one ∙ told
+
+pub all_pairs : (so_far : List Data) (es : List StateEntry) (i : ℕ) → length es ≤ i → so_far ++ pairs (drop i es) ≡ pairs es → so_far ≡ pairs es
+all_pairs so_far es i end told =
+    sym (append-nil so_far) ∙ ap (λ (fs : List StateEntry). so_far ++ pairs fs) (sym (drop_all i es end)) ∙ told
 
 -- a state of which an entry was looked at ascends, and so does one without entries
 pub ascends : (es : List StateEntry) (i : ℕ) → length es ≤ i → (0 < i → states.IsAscending es) → states.IsAscending es

@@ -6,7 +6,7 @@ use Rattle.stm_devices.specs.Transfers.{WritesFront}
 use Rattle.stm_devices.specs.declared.transfer.TheConstants.{MOST_READ}
 use Rattle.stm_json.specs.declared.read_error.ReadError.{ReadError}
 use Rattle.stm_json.specs.declared.read_error.ReadError.TheVariants as error
-use Rattle.stm_json.specs.Outcome.{Outcome}
+use Rattle.stm_json.specs.Outcome.{Outcome as Reading}
 use Rattle.stm_json.specs.Tells.{TellsFault}
 use Rattle.stm_texts.specs.declared.scenario.Scenario.{Scenario}
 use Rattle.stm_texts.specs.Reading.{scenario_in}
@@ -24,23 +24,25 @@ use Rattle.stm_workers.specs.Gathered.{RanTo, BrokeOff}
 use Rattle.stm_jobs.specs.declared.running.JobsFault.{JobsFault}
 use Rattle.stm_jobs.specs.declared.running.JobsFault.TheVariants.{OutOfMemory, Bad, Read, Write, Spawn, Audit}
 use Rattle.stm_jobs.specs.Accepting.{Sorted, task_of, accepted, opening_of}
-use Rattle.stm_jobs.specs.Lines.{AreLinesOf}
-use Rattle.stm_jobs.specs.Running.{AreLinesOfRun, IsBrokenOffFor, IsBrokenOff, IsBrokenOffOf, IsPrintedOf, fault_told, fault_read, judged, Answers, Writes, Does}
+use Rattle.stm_jobs.specs.declared.shown.Printing.{Printing}
+use Rattle.stm_jobs.specs.declared.shown.Shown.{Shown}
+use Rattle.stm_jobs.specs.Running.{IsTextOf, IsOfRun, IsPrintedOfJobs, IsBrokenOffFor, IsBrokenOff, IsBrokenOffOf, IsPrintedOf}
+use Rattle.stm_jobs.specs.Running.{fault_told, fault_read, judged, Answers, Writes, Does}
 
 -- ---- the run
 
--- the lines are of the hall that the jobs were run to, from the one over this store
-pub are_of_run : (shown : Bool) (start : ℕ) (calls : List WorldEvent) (jobs : List Job) (text : List ℕ) (standing : Standing) (ends : List JobEnd)
+-- the text is of the hall that the jobs were run to, from the one over this store
+pub is_of_run : (shown : Shown) (start : ℕ) (calls : List WorldEvent) (jobs : List Job) (text : List ℕ) (standing : Standing) (ends : List JobEnd)
     (attempts : List ℕ) (committed : ℕ) (before after : HallState) → standing ≡ (world_after calls (opened start)).standing → before ≡ made_over standing
-    → RanTo before jobs ends attempts committed after → AreLinesOf shown ends attempts (length jobs) committed after.standing.history text
-    → AreLinesOfRun shown start calls jobs text
-are_of_run shown start calls jobs text standing ends attempts committed before after stands made ran lines = record {
+    → RanTo before jobs ends attempts committed after → IsTextOf shown ends attempts (length jobs) committed after text
+    → IsOfRun shown start calls jobs text
+is_of_run shown start calls jobs text standing ends attempts committed before after stands made ran shows = record {
   ends = ends;
   attempts = attempts;
   committed = committed;
   after = after;
   ran = subst (λ (hall : HallState). RanTo hall jobs ends attempts committed after) (made ∙ ap made_over stands) ran;
-  lines = lines;
+  shows = shows;
 }
 
 -- a run from the hall over this store that was broken off is told by its cause
@@ -81,13 +83,13 @@ broken_at s sorted start calls jobs cause is_accepted opens called are_its broke
   },
 )
 
-module _ {X : Type 0} (shown : Bool) where
+module _ {X : Type 0} (printing : Printing) where
   -- of a scenario that was accepted: the lines of a run of its jobs, or a run that was broken off
   pub answers_of : (view : X → List ℕ) (s : Scenario) (sorted : Sorted) (start : ℕ) (calls : List WorldEvent) (jobs : List Job) (result : Result X JobsFault)
       → accepted s ≡ Ok sorted → start ≡ opening_of s → calls ≡ sorted.calls → map task_of jobs ≡ sorted.tasks
-      → IfOk result (λ x. AreLinesOfRun shown start calls jobs (view x)) → IfErr result (IsBrokenOff start calls jobs) → Answers shown view (Ok s) result
+      → IfOk result (λ x. IsPrintedOfJobs printing start calls jobs (view x)) → IfErr result (IsBrokenOff start calls jobs) → Answers printing view (Ok s) result
   answers_of view s sorted start calls jobs (Ok x) is_accepted opens called are_its printed broken =
-      let from_there : AreLinesOfRun shown (opening_of s) calls jobs (view x) = subst (λ n. AreLinesOfRun shown n calls jobs (view x)) opens printed in (
+      let from_there : IsPrintedOfJobs printing (opening_of s) calls jobs (view x) = subst (λ n. IsPrintedOfJobs printing n calls jobs (view x)) opens printed in (
         s,
         refl,
         record {
@@ -95,7 +97,7 @@ module _ {X : Type 0} (shown : Bool) where
           is_accepted = is_accepted;
           jobs = jobs;
           are_its = are_its;
-          of_run = subst (λ (cs : List WorldEvent). AreLinesOfRun shown (opening_of s) cs jobs (view x)) called from_there;
+          of_jobs = subst (λ (cs : List WorldEvent). IsPrintedOfJobs printing (opening_of s) cs jobs (view x)) called from_there;
         },
       )
   answers_of view s sorted start calls jobs (Err OutOfMemory) is_accepted opens called are_its printed broken = tt
@@ -108,37 +110,37 @@ module _ {X : Type 0} (shown : Bool) where
   answers_of view s sorted start calls jobs (Err Write) is_accepted opens called are_its printed broken = absurd broken
 
   -- of one that was not accepted, and of an input that is none: its first fault
-  of_fault : (view : X → List ℕ) (reading : Outcome Scenario) (e : ReadError) → TellsFault e (judged reading) → Answers shown view reading (Err (fault_read e))
+  of_fault : (view : X → List ℕ) (reading : Reading Scenario) (e : ReadError) → TellsFault e (judged reading) → Answers printing view reading (Err (fault_read e))
   of_fault view reading error.OutOfMemory told = tt
   of_fault view reading (error.Bad fault) told = told
 
-  pub answers_fault : (view : X → List ℕ) (reading : Outcome Scenario) (e : ReadError) (result : Result X JobsFault) → TellsFault e (judged reading)
-      → result ≡ Err (fault_read e) → Answers shown view reading result
-  answers_fault view reading e result told is = subst (λ (r : Result X JobsFault). Answers shown view reading r) (sym is) (of_fault view reading e told)
+  pub answers_fault : (view : X → List ℕ) (reading : Reading Scenario) (e : ReadError) (result : Result X JobsFault) → TellsFault e (judged reading)
+      → result ≡ Err (fault_read e) → Answers printing view reading result
+  answers_fault view reading e result told is = subst (λ (r : Result X JobsFault). Answers printing view reading r) (sym is) (of_fault view reading e told)
 
 -- the fault of reading is that of what was read
-pub judged_unread : (reading : Outcome Scenario) (e : ReadError) → TellsFault e reading → TellsFault e (judged reading)
+pub judged_unread : (reading : Reading Scenario) (e : ReadError) → TellsFault e reading → TellsFault e (judged reading)
 judged_unread reading error.OutOfMemory told = tt
 judged_unread reading (error.Bad fault) told = ap judged told
 
 -- ---- the devices
 
-told_at : (bytes : List ℕ) (known : Option (List ℕ)) (P : Outcome Scenario → Type 0) → IfSome known (λ all. bytes ≡ take MOST_READ all)
+told_at : (bytes : List ℕ) (known : Option (List ℕ)) (P : Reading Scenario → Type 0) → IfSome known (λ all. bytes ≡ take MOST_READ all)
     → P (scenario_in bytes) → IfSome known (λ all. P (scenario_in all))
 told_at bytes None P read holds = tt
 told_at bytes (Some all) P read holds = subst P (ap scenario_in read ∙ scenario_in-front all) holds
 
 -- what was done for the bytes that were read was done for the input
-pub does_of : {A : Type 0} (shown : Bool) (d : Devices) (bytes : List ℕ) (result : Result A JobsFault) → IfSome d.input (λ all. bytes ≡ take MOST_READ all)
-    → d.source_failed ≡ false → Writes shown bytes d.before d.after d.sink_failed result → Does shown d result
-does_of shown d bytes (Ok u) read works did =
-    (works, did.0, told_at bytes d.input (λ outcome. (text : List ℕ) × IsPrintedOf shown outcome text × Appends d.before d.after text) read (did.1, did.2, did.3))
-does_of shown d bytes (Err (Bad fault)) read works did = ((works, did.0, did.1), told_at bytes d.input (λ outcome. judged outcome ≡ Err fault) read did.2)
-does_of shown d bytes (Err Read) read works did = absurd did
-does_of shown d bytes (Err Write) read works did =
-    (works, did.0, told_at bytes d.input (λ outcome. (text : List ℕ) × IsPrintedOf shown outcome text × WritesFront d.before d.after text) read (did.1, did.2, did.3))
-does_of shown d bytes (Err OutOfMemory) read works did = (works, did.0, did.1)
-does_of shown d bytes (Err Spawn) read works did =
+pub does_of : {A : Type 0} (printing : Printing) (d : Devices) (bytes : List ℕ) (result : Result A JobsFault) → IfSome d.input (λ all. bytes ≡ take MOST_READ all)
+    → d.source_failed ≡ false → Writes printing bytes d.before d.after d.sink_failed result → Does printing d result
+does_of printing d bytes (Ok u) read works did =
+    (works, did.0, told_at bytes d.input (λ outcome. (text : List ℕ) × IsPrintedOf printing outcome text × Appends d.before d.after text) read (did.1, did.2, did.3))
+does_of printing d bytes (Err (Bad fault)) read works did = ((works, did.0, did.1), told_at bytes d.input (λ outcome. judged outcome ≡ Err fault) read did.2)
+does_of printing d bytes (Err Read) read works did = absurd did
+does_of printing d bytes (Err Write) read works did =
+    (works, did.0, told_at bytes d.input (λ outcome. (text : List ℕ) × IsPrintedOf printing outcome text × WritesFront d.before d.after text) read (did.1, did.2, did.3))
+does_of printing d bytes (Err OutOfMemory) read works did = (works, did.0, did.1)
+does_of printing d bytes (Err Spawn) read works did =
     ((works, did.0, did.1), told_at bytes d.input (λ outcome. IsBrokenOffOf outcome NoThread) read did.2)
-does_of shown d bytes (Err (Audit job)) read works did =
+does_of printing d bytes (Err (Audit job)) read works did =
     ((works, did.0, did.1), told_at bytes d.input (λ outcome. IsBrokenOffOf outcome (AtFault job)) read did.2)

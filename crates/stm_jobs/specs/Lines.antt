@@ -6,7 +6,7 @@ use Rattle.serde_json.specs.Data.{Data, string}
 use Rattle.stm_history.specs.History.{History, now}
 use Rattle.stm_meaning.specs.declared.state.StateEntry.{StateEntry}
 use Rattle.stm_meaning.specs.Faults.{fault_name}
-use Rattle.stm_txn.specs.Names.{refusal_name}
+use Rattle.stm_outcome.specs.Names.{refusal_name}
 use Rattle.stm_worker.specs.declared.job_end.JobEnd.{JobEnd}
 use Rattle.stm_worker.specs.declared.job_end.JobEnd.TheVariants.{Committed, Aborted, Faulted, Refused, GaveUp}
 use Rattle.stm_worker.specs.declared.job_end.JobRefusal.{JobRefusal}

@@ -1,10 +1,10 @@
 -- What a run of a scenario's jobs does: from the bytes of a source to what is printed in a sink.
-use Rattle.std.specs.Prelude.{◌≡◌, ℕ, List, length, map, Bool, true, false, Option, Result, Ok, Err, IfSome}
+use Rattle.std.specs.Prelude.{◌≡◌, ℕ, List, [], ◌∷◌, ◌++◌, All, length, map, Bool, true, false, Option, Result, Ok, Err, IfSome}
 use Rattle.std.specs.Io.KnownBytes.{Appends, Keeps}
 use Rattle.stm_devices.specs.Transfers.{WritesFront}
 use Rattle.stm_json.specs.declared.read_error.ReadError.{ReadError}
 use Rattle.stm_json.specs.declared.read_error.ReadError.TheVariants.{OutOfMemory as NoRoom, Bad as BadText}
-use Rattle.stm_json.specs.Outcome.{Outcome, ◌>>=◌}
+use Rattle.stm_json.specs.Outcome.{Outcome as Reading, ◌>>=◌}
 use Rattle.stm_texts.specs.declared.scenario.Scenario.{Scenario}
 use Rattle.stm_texts.specs.Reading.{scenario_in}
 use Rattle.stm_report.specs.Script.{Devices, IsUntouched}
@@ -20,18 +20,48 @@ use Rattle.stm_jobs.specs.declared.running.JobsFault.{JobsFault}
 use Rattle.stm_jobs.specs.declared.running.JobsFault.TheVariants.{OutOfMemory, Bad, Read, Write, Spawn, Audit}
 use Rattle.stm_jobs.specs.Accepting.{Sorted, task_of, accepted, opening_of}
 use Rattle.stm_jobs.specs.Lines.{AreLinesOf}
+use Rattle.stm_jobs.specs.Outcomes.{IsFrontOf, Tally, Counts, tally_text}
+use Rattle.stm_jobs.specs.declared.shown.Shown.{Shown}
+use Rattle.stm_jobs.specs.declared.shown.Shown.TheVariants.{Values, Ends, Outcome}
+use Rattle.stm_jobs.specs.declared.shown.Printing.{Printing}
+use Rattle.stm_jobs.specs.declared.shown.Printing.TheVariants.{Values as PrintValues, Ends as PrintEnds, Outcomes as PrintOutcomes}
 
 -- ---- the run
 
--- The text is printed of a run of these jobs, with their ends where these are shown, from a hall over the store that opens at a revision
--- and has taken these calls: what stands in it is the hall that the run came to, and each job has its end there.
-pub record AreLinesOfRun (shown : Bool) (start : ℕ) (calls : List WorldEvent) (jobs : List Job) (text : List ℕ) : Type 0 where
+-- what is printed of a run, with the ends of the jobs or without; or the front of the line of its outcome
+abbrev pub IsTextOf : Shown → List JobEnd → List ℕ → ℕ → ℕ → HallState → List ℕ → Type 0
+IsTextOf Values ends attempts jobs committed after text = AreLinesOf false ends attempts jobs committed after.standing.history text
+IsTextOf Ends ends attempts jobs committed after text = AreLinesOf true ends attempts jobs committed after.standing.history text
+IsTextOf Outcome ends attempts jobs committed after text = IsFrontOf ends after text
+
+-- The text is that of a run of these jobs from a hall over the store that opens at a revision and has taken these calls: what stands in it is the hall that
+-- the run came to, and each job has its end there.
+pub record IsOfRun (shown : Shown) (start : ℕ) (calls : List WorldEvent) (jobs : List Job) (text : List ℕ) : Type 0 where
   pub ends : List JobEnd
   pub attempts : List ℕ
   pub committed : ℕ
   pub after : HallState
   pub ran : RanTo (made_over (world_after calls (opened start)).standing) jobs ends attempts committed after
-  pub lines : AreLinesOf shown ends attempts (length jobs) committed after.standing.history text
+  pub shows : IsTextOf shown ends attempts (length jobs) committed after text
+
+-- one more run was made, whose text is counted
+abbrev pub HasCounted : ℕ → List WorldEvent → List Job → Tally → Tally → Type 0
+HasCounted start calls jobs before after =
+    (text : List ℕ) × IsOfRun Outcome start calls jobs text
+    × ((texts : List (List ℕ)) → Counts texts before → Counts (texts ++ text ∷ []) after)
+
+-- so many runs were made, each from such a hall, and the tally is that of their texts
+pub record AreCounted (runs start : ℕ) (calls : List WorldEvent) (jobs : List Job) (tally : Tally) : Type 0 where
+  pub texts : List (List ℕ)
+  pub many : length texts ≡ runs
+  pub each : All (IsOfRun Outcome start calls jobs) texts
+  pub counted : Counts texts tally
+
+-- what is printed of these jobs: of a run of them, or what so many runs came to
+abbrev pub IsPrintedOfJobs : Printing → ℕ → List WorldEvent → List Job → List ℕ → Type 0
+IsPrintedOfJobs PrintValues start calls jobs text = IsOfRun Values start calls jobs text
+IsPrintedOfJobs PrintEnds start calls jobs text = IsOfRun Ends start calls jobs text
+IsPrintedOfJobs (PrintOutcomes runs) start calls jobs text = (tally : Tally) × AreCounted runs start calls jobs tally × (text ≡ tally_text tally runs)
 
 -- the run of these jobs, from such a hall, was broken off for this cause
 pub record IsBrokenOffFor (start : ℕ) (calls : List WorldEvent) (jobs : List Job) (cause : FaultCause) : Type 0 where
@@ -60,13 +90,13 @@ abbrev pub fault_read : ReadError → JobsFault
 fault_read NoRoom = OutOfMemory
 fault_read (BadText fault) = Bad fault
 
--- a scenario of jobs was accepted, and the text is printed of a run of them
-pub record AreLinesOfScenario (shown : Bool) (s : Scenario) (text : List ℕ) : Type 0 where
+-- a scenario of jobs was accepted, and the text is printed of them
+pub record IsPrintedOfScenario (printing : Printing) (s : Scenario) (text : List ℕ) : Type 0 where
   pub sorted : Sorted
   pub is_accepted : accepted s ≡ Ok sorted
   pub jobs : List Job
   pub are_its : map task_of jobs ≡ sorted.tasks
-  pub of_run : AreLinesOfRun shown (opening_of s) sorted.calls jobs text
+  pub of_jobs : IsPrintedOfJobs printing (opening_of s) sorted.calls jobs text
 
 -- a scenario of jobs was accepted, and the run of them was broken off for this cause
 pub record IsBrokenOffAt (s : Scenario) (cause : FaultCause) : Type 0 where
@@ -77,49 +107,49 @@ pub record IsBrokenOffAt (s : Scenario) (cause : FaultCause) : Type 0 where
   pub of_run : IsBrokenOffFor (opening_of s) sorted.calls jobs cause
 
 -- the first fault of a scenario that was read, or of reading it
-abbrev pub judged : Outcome Scenario → Outcome Sorted
+abbrev pub judged : Reading Scenario → Reading Sorted
 judged reading = reading >>= accepted
 
-abbrev pub IsPrintedOf : Bool → Outcome Scenario → List ℕ → Type 0
-IsPrintedOf shown reading text = (s : Scenario) × (reading ≡ Ok s) × AreLinesOfScenario shown s text
+abbrev pub IsPrintedOf : Printing → Reading Scenario → List ℕ → Type 0
+IsPrintedOf printing reading text = (s : Scenario) × (reading ≡ Ok s) × IsPrintedOfScenario printing s text
 
-abbrev pub IsBrokenOffOf : Outcome Scenario → FaultCause → Type 0
+abbrev pub IsBrokenOffOf : Reading Scenario → FaultCause → Type 0
 IsBrokenOffOf reading cause = (s : Scenario) × (reading ≡ Ok s) × IsBrokenOffAt s cause
 
 -- what making the lines answers, seen by view: those of a run, or the first fault, or the cause for which the run was broken off
-abbrev pub Answers : {X : Type 0} → Bool → (X → List ℕ) → Outcome Scenario → Result X JobsFault → Type 0
-Answers shown view reading (Ok x) = IsPrintedOf shown reading (view x)
-Answers shown view reading (Err (Bad fault)) = judged reading ≡ Err fault
-Answers shown view reading (Err Read) = ⊥
-Answers shown view reading (Err Write) = ⊥
-Answers shown view reading (Err OutOfMemory) = Unit {0}
-Answers shown view reading (Err Spawn) = IsBrokenOffOf reading NoThread
-Answers shown view reading (Err (Audit job)) = IsBrokenOffOf reading (AtFault job)
+abbrev pub Answers : {X : Type 0} → Printing → (X → List ℕ) → Reading Scenario → Result X JobsFault → Type 0
+Answers printing view reading (Ok x) = IsPrintedOf printing reading (view x)
+Answers printing view reading (Err (Bad fault)) = judged reading ≡ Err fault
+Answers printing view reading (Err Read) = ⊥
+Answers printing view reading (Err Write) = ⊥
+Answers printing view reading (Err OutOfMemory) = Unit {0}
+Answers printing view reading (Err Spawn) = IsBrokenOffOf reading NoThread
+Answers printing view reading (Err (Audit job)) = IsBrokenOffOf reading (AtFault job)
 
 -- what writing them does: what the sink held before and holds, whether it has failed then, and the answer
-abbrev pub Writes : {A : Type 0} → Bool → List ℕ → Option (List ℕ) → Option (List ℕ) → Bool → Result A JobsFault → Type 0
-Writes shown bytes before after failed (Ok u) = (failed ≡ false) × (text : List ℕ) × IsPrintedOf shown (scenario_in bytes) text × Appends before after text
-Writes shown bytes before after failed (Err (Bad fault)) = (failed ≡ false) × Keeps before after × (judged (scenario_in bytes) ≡ Err fault)
-Writes shown bytes before after failed (Err Read) = ⊥
-Writes shown bytes before after failed (Err Write) =
-    (failed ≡ true) × (text : List ℕ) × IsPrintedOf shown (scenario_in bytes) text × WritesFront before after text
-Writes shown bytes before after failed (Err OutOfMemory) = (failed ≡ false) × Keeps before after
-Writes shown bytes before after failed (Err Spawn) = (failed ≡ false) × Keeps before after × IsBrokenOffOf (scenario_in bytes) NoThread
-Writes shown bytes before after failed (Err (Audit job)) = (failed ≡ false) × Keeps before after × IsBrokenOffOf (scenario_in bytes) (AtFault job)
+abbrev pub Writes : {A : Type 0} → Printing → List ℕ → Option (List ℕ) → Option (List ℕ) → Bool → Result A JobsFault → Type 0
+Writes printing bytes before after failed (Ok u) = (failed ≡ false) × (text : List ℕ) × IsPrintedOf printing (scenario_in bytes) text × Appends before after text
+Writes printing bytes before after failed (Err (Bad fault)) = (failed ≡ false) × Keeps before after × (judged (scenario_in bytes) ≡ Err fault)
+Writes printing bytes before after failed (Err Read) = ⊥
+Writes printing bytes before after failed (Err Write) =
+    (failed ≡ true) × (text : List ℕ) × IsPrintedOf printing (scenario_in bytes) text × WritesFront before after text
+Writes printing bytes before after failed (Err OutOfMemory) = (failed ≡ false) × Keeps before after
+Writes printing bytes before after failed (Err Spawn) = (failed ≡ false) × Keeps before after × IsBrokenOffOf (scenario_in bytes) NoThread
+Writes printing bytes before after failed (Err (Audit job)) = (failed ≡ false) × Keeps before after × IsBrokenOffOf (scenario_in bytes) (AtFault job)
 
 -- ---- the devices
 
 -- What a run did, by its answer. At the end of a good one exactly what is printed of it was written; at a bad scenario, a run that was
 -- broken off, which is told by its cause, and a failed source nothing was; at a failed sink a front of the lines was.
-abbrev pub Does : {A : Type 0} → Bool → Devices → Result A JobsFault → Type 0
-Does shown d (Ok u) =
+abbrev pub Does : {A : Type 0} → Printing → Devices → Result A JobsFault → Type 0
+Does printing d (Ok u) =
     (d.source_failed ≡ false) × (d.sink_failed ≡ false)
-    × IfSome d.input (λ input. (text : List ℕ) × IsPrintedOf shown (scenario_in input) text × Appends d.before d.after text)
-Does shown d (Err (Bad fault)) = IsUntouched d × IfSome d.input (λ input. judged (scenario_in input) ≡ Err fault)
-Does shown d (Err Read) = (d.source_failed ≡ true) × (d.sink_failed ≡ false) × Keeps d.before d.after
-Does shown d (Err Write) =
+    × IfSome d.input (λ input. (text : List ℕ) × IsPrintedOf printing (scenario_in input) text × Appends d.before d.after text)
+Does printing d (Err (Bad fault)) = IsUntouched d × IfSome d.input (λ input. judged (scenario_in input) ≡ Err fault)
+Does printing d (Err Read) = (d.source_failed ≡ true) × (d.sink_failed ≡ false) × Keeps d.before d.after
+Does printing d (Err Write) =
     (d.source_failed ≡ false) × (d.sink_failed ≡ true)
-    × IfSome d.input (λ input. (text : List ℕ) × IsPrintedOf shown (scenario_in input) text × WritesFront d.before d.after text)
-Does shown d (Err OutOfMemory) = IsUntouched d
-Does shown d (Err Spawn) = IsUntouched d × IfSome d.input (λ input. IsBrokenOffOf (scenario_in input) NoThread)
-Does shown d (Err (Audit job)) = IsUntouched d × IfSome d.input (λ input. IsBrokenOffOf (scenario_in input) (AtFault job))
+    × IfSome d.input (λ input. (text : List ℕ) × IsPrintedOf printing (scenario_in input) text × WritesFront d.before d.after text)
+Does printing d (Err OutOfMemory) = IsUntouched d
+Does printing d (Err Spawn) = IsUntouched d × IfSome d.input (λ input. IsBrokenOffOf (scenario_in input) NoThread)
+Does printing d (Err (Audit job)) = IsUntouched d × IfSome d.input (λ input. IsBrokenOffOf (scenario_in input) (AtFault job))

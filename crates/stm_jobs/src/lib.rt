@@ -7,13 +7,17 @@
 
 mod accepting;
 mod opening;
+mod outcome;
 mod printing;
 mod running;
+mod shown;
+mod tally;
 
 pub use accepting::{JobScenario, accept};
 pub use opening::open_store;
 pub use printing::lines;
 pub use running::{JobsFault, run_jobs};
+pub use shown::Printing;
 pub use stm_devices::{Sink, Source};
 pub use stm_hall::Hall;
 pub use stm_history::Sequence;

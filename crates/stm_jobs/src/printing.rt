@@ -28,7 +28,12 @@ fn value_json(alloc: Global, key: &str, value: &str) -> Result<Json, AllocError>
 }
 
 /// Adds the line of a count.
-fn push_count(alloc: Global, text: &mut String, word: &str, count: u64) -> Result<(), AllocError>
+pub(crate) fn push_count(
+    alloc: Global,
+    text: &mut String,
+    word: &str,
+    count: u64,
+) -> Result<(), AllocError>
     ensures { OnOk result (string_bytes text.new ≡ string_bytes text.old ++ line_text (count_line word.now count)) }
 {
     let line = count_json(alloc, word, count)?;
@@ -100,7 +105,7 @@ fn push_text(
 }
 
 /// The name of the refusal that ended a job.
-fn refusal_name(refusal: &JobRefusal) -> &'static str
+pub(crate) fn refusal_name(refusal: &JobRefusal) -> &'static str
     ensures { result.now ≡ job_refusal_name refusal.now }
 {
     match refusal {

@@ -1,5 +1,5 @@
 //! From the bytes of a source to what is printed of its jobs in a sink.
-ghost use Rattle.std.specs.Prelude.{◌≡◌, ◌≤◌, ◌+◌, ℕ, List, false, length, string_bytes, Ok, IfOk, IfErr};
+ghost use Rattle.std.specs.Prelude.{◌≡◌, ◌≤◌, ◌+◌, ℕ, List, false, length, sum, string_bytes, Ok, IfOk, IfErr, OnOk};
 ghost use Rattle.stm_devices.specs.declared.transfer.TheConstants.{MOST_READ};
 ghost use Rattle.stm_history.specs.declared.revisions.TheConstants.{HIGHEST_REVISION};
 ghost use Rattle.stm_texts.specs.Reading.{IsOpening, scenario_in};
@@ -7,17 +7,23 @@ ghost use Rattle.stm_world.specs.declared.event.WorldEvent.{WorldEvent};
 ghost use Rattle.stm_world.specs.World.{opened, world_after};
 ghost use Rattle.stm_jobs.specs.declared.running.JobsFault.TheVariants.{OutOfMemory};
 ghost use Rattle.stm_workers.specs.declared.run.TheConstants.{MOST_WORKERS};
-ghost use Rattle.stm_jobs.specs.Lines.{AreLinesOf};
-ghost use Rattle.stm_jobs.specs.Running.{AreLinesOfRun, IsBrokenOff, fault_told, Answers, Writes, Does};
+ghost use Rattle.std.specs.Map.{values_of};
+ghost use Rattle.stm_jobs.specs.declared.shown.Printing.TheVariants.{Outcomes as OfRuns};
+ghost use Rattle.stm_jobs.specs.Running.{AreCounted, HasCounted, IsOfRun, IsPrintedOfJobs, IsTextOf, IsBrokenOff, fault_told, Answers, Writes, Does};
 
 use crate::accepting::accept;
 use crate::opening::open_store;
+use crate::outcome::front_of;
 use crate::printing::lines;
-use std::alloc::Global;
+use crate::shown::{Printing, Shown};
+use crate::tally::{count_one, tally_text};
+use std::alloc::{AllocError, Global};
+use std::collections::BTreeMap;
 use std::sync::Wait;
 use std::thread::Threads;
 use stm_devices::{ReadFault, Sink, Source, read_all, write_all};
 use stm_hall::Hall;
+use stm_history::Text;
 use stm_json::{BadInput, ReadError};
 use stm_texts::{Scenario, read_scenario};
 use stm_txn::Store;
@@ -82,119 +88,231 @@ fn fault_of_run(broken: RunFault) -> JobsFault
     fault_of(cause)
 }
 
-/// What is printed of a run of so many jobs.
-fn lines_of_run(
+/// What is to be shown of a run of so many jobs.
+fn shown_of(
+    alloc: Global,
+    jobs: usize,
+    gathered: &Gathered,
+    shown: Shown,
+) -> Result<String, AllocError>
+    requires { length gathered.now.attempts.items ≡ length gathered.now.ends.items }
+    ensures { IfOk result (λ text. IsTextOf shown gathered.now.ends.items gathered.now.attempts.items jobs gathered.now.committed gathered.now.hall
+        (string_bytes text)) }
+{
+    match shown {
+        Shown::Values => lines(alloc, jobs, gathered, false),
+        Shown::Ends => lines(alloc, jobs, gathered, true),
+        Shown::Outcome => front_of(alloc, gathered),
+    }
+}
+
+/// What is to be shown of a run of so many jobs, which is let go.
+fn text_of_run(
     alloc: Global,
     jobs: usize,
     gathered: Gathered,
-    with_ends: bool,
+    shown: Shown,
 ) -> Result<String, JobsFault>
     requires { length gathered.attempts.items ≡ length gathered.ends.items }
-    ensures lines { IfOk result (λ text. AreLinesOf with_ends gathered.ends.items gathered.attempts.items jobs gathered.committed
-        gathered.hall.standing.history (string_bytes text)) }
+    ensures shows { IfOk result (λ text. IsTextOf shown gathered.ends.items gathered.attempts.items jobs gathered.committed gathered.hall (string_bytes text)) }
     ensures fault { IfErr result (λ fault. fault ≡ OutOfMemory) }
 {
-    match lines(alloc, jobs, &gathered, with_ends) {
+    match shown_of(alloc, jobs, &gathered, shown) {
         Ok(text) => Ok(text),
         Err(_) => Err(JobsFault::OutOfMemory),
     }
 }
 
-/// What is printed of these jobs, run on this store.
-fn lines_on<R: Threads + Wait + Sync>(
+/// What is to be shown of a run of these jobs on this store.
+fn text_on<R: Threads + Wait + Sync>(
     rt: &R,
     alloc: Global,
     store: Store,
     jobs: &[Job],
     workers: usize,
-    with_ends: bool,
+    shown: Shown,
 ) -> Result<String, JobsFault>
     requires { (1 ≤ workers) × (workers ≤ MOST_WORKERS) }
-    ensures lines { IfOk result (λ text. (start : ℕ) (calls : List WorldEvent) → store.standing ≡ (world_after calls (opened start)).standing
-        → AreLinesOfRun with_ends start calls jobs.now (string_bytes text)) }
+    ensures shows { IfOk result (λ text. (start : ℕ) (calls : List WorldEvent) → store.standing ≡ (world_after calls (opened start)).standing
+        → IsOfRun shown start calls jobs.now (string_bytes text)) }
     ensures fault { IfErr result (λ fault. (start : ℕ) (calls : List WorldEvent) → store.standing ≡ (world_after calls (opened start)).standing
         → IsBrokenOff start calls jobs.now fault) }
 {
     match run_workers(rt, alloc, jobs, workers, Hall::new(alloc, store), &NoGate) {
-        Ok(gathered) => lines_of_run(alloc, jobs.len(), gathered, with_ends),
+        Ok(gathered) => text_of_run(alloc, jobs.len(), gathered, shown),
         Err(broken) => Err(fault_of_run(broken)),
     }
 }
 
-/// What is printed of these jobs, run on an empty store at this revision once these calls of it were made.
-fn lines_of<R: Threads + Wait + Sync>(
+/// What is to be shown of a run of these jobs on an empty store at this revision, once these calls of it were made.
+fn run_once<R: Threads + Wait + Sync>(
     rt: &R,
     alloc: Global,
     start: u64,
     calls: &[WorldEvent],
     jobs: &[Job],
     workers: usize,
-    with_ends: bool,
+    shown: Shown,
 ) -> Result<String, JobsFault>
     requires { (1 ≤ workers) × (workers ≤ MOST_WORKERS) × (1 ≤ start) × (start ≤ HIGHEST_REVISION) }
-    ensures lines { IfOk result (λ text. AreLinesOfRun with_ends start calls.now jobs.now (string_bytes text)) }
+    ensures shows { IfOk result (λ text. IsOfRun shown start calls.now jobs.now (string_bytes text)) }
     ensures fault { IfErr result (IsBrokenOff start calls.now jobs.now) }
 {
     match open_store(alloc, start, calls) {
-        Ok(store) => lines_on(rt, alloc, store, jobs, workers, with_ends),
+        Ok(store) => text_on(rt, alloc, store, jobs, workers, shown),
         Err(_) => Err(JobsFault::OutOfMemory),
     }
 }
 
+/// Makes one more run of these jobs, and counts what it came to. So many were made before.
+fn count_run<R: Threads + Wait + Sync>(
+    rt: &R,
+    alloc: Global,
+    start: u64,
+    calls: &[WorldEvent],
+    jobs: &[Job],
+    workers: usize,
+    tally: &mut BTreeMap<Text, u64>,
+    made: u32,
+) -> Result<(), JobsFault>
+    requires workers { (1 ≤ workers) × (workers ≤ MOST_WORKERS) × (1 ≤ start) × (start ≤ HIGHEST_REVISION) }
+    requires made { sum (values_of tally.old.entries) ≡ made }
+    ensures counted { OnOk result (HasCounted start calls.now jobs.now tally.old.entries tally.new.entries) }
+    ensures fault { IfErr result (IsBrokenOff start calls.now jobs.now) }
+{
+    let front = match run_once(rt, alloc, start, calls, jobs, workers, Shown::Outcome) {
+        Ok(front) => front,
+        Err(fault) => return Err(fault),
+    };
+    match count_one(tally, Text::new(front), made) {
+        Ok(()) => Ok(()),
+        Err(_) => Err(JobsFault::OutOfMemory),
+    }
+}
+
+/// Makes so many runs of these jobs, and counts what they came to.
+fn count_runs<R: Threads + Wait + Sync>(
+    rt: &R,
+    alloc: Global,
+    start: u64,
+    calls: &[WorldEvent],
+    jobs: &[Job],
+    workers: usize,
+    runs: u32,
+) -> Result<BTreeMap<Text, u64>, JobsFault>
+    requires { (1 ≤ workers) × (workers ≤ MOST_WORKERS) × (1 ≤ start) × (start ≤ HIGHEST_REVISION) }
+    ensures counted { IfOk result (λ tally. AreCounted runs start calls.now jobs.now tally.entries) }
+    ensures fault { IfErr result (IsBrokenOff start calls.now jobs.now) }
+{
+    let mut tally = BTreeMap::new(alloc);
+    for made in 0..runs {
+        match count_run(rt, alloc, start, calls, jobs, workers, &mut tally, made) {
+            Ok(()) => {}
+            Err(fault) => return Err(fault),
+        }
+    }
+    Ok(tally)
+}
+
+/// What is printed of so many runs of these jobs.
+fn run_often<R: Threads + Wait + Sync>(
+    rt: &R,
+    alloc: Global,
+    start: u64,
+    calls: &[WorldEvent],
+    jobs: &[Job],
+    workers: usize,
+    runs: u32,
+) -> Result<String, JobsFault>
+    requires { (1 ≤ workers) × (workers ≤ MOST_WORKERS) × (1 ≤ start) × (start ≤ HIGHEST_REVISION) }
+    ensures printed { IfOk result (λ text. IsPrintedOfJobs (OfRuns runs) start calls.now jobs.now (string_bytes text)) }
+    ensures fault { IfErr result (IsBrokenOff start calls.now jobs.now) }
+{
+    let tally = match count_runs(rt, alloc, start, calls, jobs, workers, runs) {
+        Ok(tally) => tally,
+        Err(fault) => return Err(fault),
+    };
+    match tally_text(alloc, &tally, runs) {
+        Ok(text) => Ok(text),
+        Err(_) => Err(JobsFault::OutOfMemory),
+    }
+}
+
+/// What is printed of these jobs, each run of which is made on an empty store at this revision, once these calls of it were made.
+fn text_of<R: Threads + Wait + Sync>(
+    rt: &R,
+    alloc: Global,
+    start: u64,
+    calls: &[WorldEvent],
+    jobs: &[Job],
+    workers: usize,
+    printing: Printing,
+) -> Result<String, JobsFault>
+    requires { (1 ≤ workers) × (workers ≤ MOST_WORKERS) × (1 ≤ start) × (start ≤ HIGHEST_REVISION) }
+    ensures printed { IfOk result (λ text. IsPrintedOfJobs printing start calls.now jobs.now (string_bytes text)) }
+    ensures fault { IfErr result (IsBrokenOff start calls.now jobs.now) }
+{
+    match printing {
+        Printing::Values => run_once(rt, alloc, start, calls, jobs, workers, Shown::Values),
+        Printing::Ends => run_once(rt, alloc, start, calls, jobs, workers, Shown::Ends),
+        Printing::Outcomes(runs) => run_often(rt, alloc, start, calls, jobs, workers, runs),
+    }
+}
+
 /// What is printed of a scenario's jobs.
-fn lines_of_scenario<R: Threads + Wait + Sync>(
+fn text_of_scenario<R: Threads + Wait + Sync>(
     rt: &R,
     alloc: Global,
     scenario: Scenario,
     workers: usize,
-    with_ends: bool,
+    printing: Printing,
 ) -> Result<String, JobsFault>
     requires workers { (1 ≤ workers) × (workers ≤ MOST_WORKERS) }
     requires opening { IsOpening scenario.opening }
-    ensures { Answers with_ends string_bytes (Ok scenario) result }
+    ensures { Answers printing string_bytes (Ok scenario) result }
 {
     let start = scenario.opening.unwrap_or(1);
     let sorted = accept(alloc, scenario)?;
-    lines_of(
+    text_of(
         rt,
         alloc,
         start,
         sorted.calls.as_slice(),
         sorted.jobs.as_slice(),
         workers,
-        with_ends,
+        printing,
     )
 }
 
 /// What is printed of the jobs of the scenario that bytes spell.
-fn lines_of_bytes<R: Threads + Wait + Sync>(
+fn text_of_bytes<R: Threads + Wait + Sync>(
     rt: &R,
     alloc: Global,
     bytes: &[u8],
     workers: usize,
-    with_ends: bool,
+    printing: Printing,
 ) -> Result<String, JobsFault>
     requires { (1 ≤ workers) × (workers ≤ MOST_WORKERS) }
-    ensures { Answers with_ends string_bytes (scenario_in bytes.now) result }
+    ensures { Answers printing string_bytes (scenario_in bytes.now) result }
 {
     let scenario = read_scenario(alloc, bytes)?;
-    lines_of_scenario(rt, alloc, scenario, workers, with_ends)
+    text_of_scenario(rt, alloc, scenario, workers, printing)
 }
 
 /// Writes what is printed of the jobs of the scenario that bytes spell, once it is whole.
-fn write_lines<R: Threads + Wait + Sync, W: Sink>(
+fn write_text<R: Threads + Wait + Sync, W: Sink>(
     rt: &R,
     alloc: Global,
     bytes: &[u8],
     workers: usize,
-    with_ends: bool,
+    printing: Printing,
     sink: &mut W,
 ) -> Result<(), JobsFault>
     requires workers { (1 ≤ workers) × (workers ≤ MOST_WORKERS) }
     requires sink_works { W.failed sink.old ≡ false }
-    ensures { Writes with_ends bytes.now (W.held sink.old) (W.held sink.new) (W.failed sink.new) result }
+    ensures { Writes printing bytes.now (W.held sink.old) (W.held sink.new) (W.failed sink.new) result }
 {
-    let text = match lines_of_bytes(rt, alloc, bytes, workers, with_ends) {
+    let text = match text_of_bytes(rt, alloc, bytes, workers, printing) {
         Ok(text) => text,
         Err(fault) => return Err(fault),
     };
@@ -204,26 +322,26 @@ fn write_lines<R: Threads + Wait + Sync, W: Sink>(
     }
 }
 
-/// Reads a scenario of jobs from a source to its end, runs the jobs by so many threads, and writes what is printed of the run to a sink: with a line
-/// for the end of each job, where these are to be shown.
+/// Reads a scenario of jobs from a source to its end, runs the jobs by so many threads, and writes to a sink what is to be printed of the run, or of so
+/// many runs, one after another, each of them on a store of its own.
 ///
-/// The scenario is read whole, and then judged as one of jobs, before anything runs. Nothing is written before the run has ended.
+/// The scenario is read whole, and then judged as one of jobs, before anything runs. Nothing is written before the last run has ended.
 /// Neither device has failed before. It fails as `Bad` with the first fault, as `OutOfMemory` where a growth was refused, as `Read` where the
 /// source has failed, as `Spawn` where a thread could not be started, and as `Audit` where the end of a job does not stand: then nothing was
-/// written. A run that was broken off is told by its cause. It fails as `Write` where the sink has failed: then a front of the lines was written.
-/// The source is read at most 16777217 times. Nothing is said of whether it returns.
+/// written. A run that was broken off is told by its cause, and none is made after it. It fails as `Write` where the sink has failed: then a front
+/// of the lines was written. The source is read at most 16777217 times. Nothing is said of whether it returns.
 pub fn run_jobs<R: Threads + Wait + Sync, S: Source, W: Sink>(
     rt: &R,
     alloc: Global,
     source: &mut S,
     workers: usize,
-    with_ends: bool,
+    printing: Printing,
     sink: &mut W,
 ) -> Result<(), JobsFault>
     requires workers { (1 ≤ workers) × (workers ≤ MOST_WORKERS) }
     requires source_works { S.failed source.old ≡ false }
     requires sink_works { W.failed sink.old ≡ false }
-    ensures done { Does with_ends (record {
+    ensures done { Does printing (record {
       input = S.left source.old;
       before = W.held sink.old;
       after = W.held sink.new;
@@ -233,7 +351,7 @@ pub fn run_jobs<R: Threads + Wait + Sync, S: Source, W: Sink>(
     ensures bounded { S.reads source.new ≤ S.reads source.old + MOST_READ }
 {
     match read_all(alloc, source) {
-        Ok(bytes) => write_lines(rt, alloc, bytes.as_slice(), workers, with_ends, sink),
+        Ok(bytes) => write_text(rt, alloc, bytes.as_slice(), workers, printing, sink),
         Err(ReadFault::OutOfMemory) => Err(JobsFault::OutOfMemory),
         Err(ReadFault::Device) => Err(JobsFault::Read),
     }

@@ -20,7 +20,7 @@ use Rattle.stm_reports.specs.declared.line.ToldEvent.{ToldEvent}
 use Rattle.stm_reports.specs.declared.line.ToldEvent.TheVariants as told
 use Rattle.stm_reports.specs.LineData.{text_or_null, answer_data, op_data, event_data, line_data}
 use Rattle.stm_reports.specs.Told.{cause_told, op_told, txn_line}
-use Rattle.stm_txn.specs.declared.answer.OpAnswer.{OpAnswer}
+use Rattle.stm_outcome.specs.declared.answer.OpAnswer.{OpAnswer}
 use Rattle.stm_world.specs.declared.reply.Reply.{Reply}
 use Rattle.stm_world.specs.declared.reply.Reply.TheVariants.{Started, Fetched, Committed, Conflict, GaveUp, Aborted, Faulted, Ended}
 use Rattle.stm_world.specs.declared.reply.Reply.TheVariants.{Txn, Granted, Kept, Revoked, Advanced, Watching, Batch, Cancelled}

@@ -14,8 +14,8 @@ use crate::spelled::{with_events, with_list};
 use serde_json::Value as Json;
 use std::alloc::{AllocError, Global};
 use stm_keys::Event;
+use stm_outcome::{Expired, TxnAnswer};
 use stm_reports::{RefusalName, told_cause};
-use stm_txn::{Expired, TxnAnswer};
 use stm_world::{Denied, Refusal, Reply};
 
 /// The line of a runner, a lease or a watcher that is named and no more.

@@ -1,7 +1,7 @@
 //! What a transaction's operations answered, as JSON.
 ghost use Rattle.std.specs.Prelude.{◌≡◌, ◌++◌, [], ◌∷◌, map, IfOk};
 ghost use Rattle.serde_json.specs.View.{view};
-ghost use Rattle.stm_txn.specs.declared.answer.OpAnswer.TheVariants.{Get, Del};
+ghost use Rattle.stm_outcome.specs.declared.answer.OpAnswer.TheVariants.{Get, Del};
 ghost use Rattle.stm_reports.specs.LineData.{list, op_data};
 ghost use Rattle.stm_reports.specs.Told.{op_told};
 ghost use Rattle.stm_lines.specs.Lines.{op_answer_data};
@@ -11,7 +11,7 @@ use crate::spelled::{Spelled, with_list};
 use serde_json::Value as Json;
 use std::alloc::{AllocError, Global};
 use stm_history::ReadAnswer;
-use stm_txn::OpAnswer;
+use stm_outcome::OpAnswer;
 
 /// The answer to a read.
 fn get_json(alloc: Global, answer: &ReadAnswer) -> Result<Json, AllocError>

@@ -14,7 +14,7 @@ use std::alloc::{AllocError, Global};
 use stm_history::{KeyState, ReadAnswer};
 use stm_keys::Event;
 use stm_meaning::{TraceItem, Value};
-use stm_txn::Expired;
+use stm_outcome::Expired;
 
 /// A value that a line spells.
 pub(crate) trait Spelled {

@@ -12,10 +12,10 @@ use Rattle.stm_meaning.specs.declared.run.Answered.TheVariants.{Ended}
 use Rattle.stm_meaning.specs.Answer.{Lookup}
 use Rattle.stm_meaning.specs.Laws.{KnowsEachKey}
 use Rattle.stm_meaning.specs.Meaning.{run_over}
-use Rattle.stm_txn.specs.declared.refusal.Refusal.TheVariants.{LeaseNotFound, RevisionsUsedUp}
-use Rattle.stm_txn.specs.Outcome.{Done, with_changes, is_used_up}
-use Rattle.stm_txn.specs.Commits.{applied, effective, is_on_dead_lease}
-use Rattle.stm_txn.specs.Terms.{Terms}
+use Rattle.stm_outcome.specs.declared.refusal.Refusal.TheVariants.{LeaseNotFound, RevisionsUsedUp}
+use Rattle.stm_outcome.specs.Outcome.{Done, with_changes, is_used_up}
+use Rattle.stm_outcome.specs.Commits.{applied, effective, is_on_dead_lease}
+use Rattle.stm_outcome.specs.Terms.{Terms}
 use Rattle.stm_compile.specs.Answers.{state_now, look_up}
 use Rattle.stm_compile.specs.Levels.{is_comparing}
 use Rattle.stm_compile.specs.Now.{as_change}

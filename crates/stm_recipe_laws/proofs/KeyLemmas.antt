@@ -11,9 +11,9 @@ use Rattle.stm_program.proofs.WriteLemmas.{bytes_eq-same, or_else, last_write-no
 use Rattle.stm_meaning.specs.Writes.{changes, effect}
 use Rattle.stm_meaning.specs.EffectLaw.{kept_by}
 use Rattle.stm_meaning.proofs.EffectLemmas.{effect_leaves_last_writes}
-use Rattle.stm_txn.specs.Outcome.{with_changes}
-use Rattle.stm_txn.specs.Commits.{effective}
-use Rattle.stm_txn.specs.Effect.{changes_something}
+use Rattle.stm_outcome.specs.Outcome.{with_changes}
+use Rattle.stm_outcome.specs.Commits.{effective}
+use Rattle.stm_outcome.specs.Effect.{changes_something}
 use Rattle.stm_compile.specs.Now.{as_change, is_present}
 use Rattle.stm_compile.proofs.OutcomeLemmas.{applied_is_effect}
 use Rattle.stm_entries.proofs.EffectLemmas.{latest_are_distinct}

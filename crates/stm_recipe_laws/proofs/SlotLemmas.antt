@@ -14,8 +14,8 @@ use Rattle.stm_program.proofs.WriteLemmas.{bytes_eq-self}
 use Rattle.stm_meaning.specs.declared.run.Run.{Run}
 use Rattle.stm_meaning.specs.declared.run.End.TheVariants.{Done as DoneEnd, Aborted as AbortedEnd}
 use Rattle.stm_meaning.specs.Leaves.{mod_rev_in}
-use Rattle.stm_txn.specs.Outcome.{with_changes}
-use Rattle.stm_txn.specs.Commits.{effective}
+use Rattle.stm_outcome.specs.Outcome.{with_changes}
+use Rattle.stm_outcome.specs.Commits.{effective}
 use Rattle.stm_compile.specs.Answers.{state_now}
 use Rattle.stm_compile.specs.Now.{as_change}
 use Rattle.stm_entries.specs.declared.entry.Entry.{Entry}

@@ -22,17 +22,17 @@ use Rattle.stm_meaning.specs.declared.trace_item.TraceItem.TheVariants as seen
 use Rattle.stm_meaning.specs.declared.value.Value.{Value}
 use Rattle.stm_meaning.specs.declared.value.Value.TheVariants.{Text}
 use Rattle.stm_meaning.specs.Meaning.{evaluate, holds, run_block, run_over}
-use Rattle.stm_txn.specs.declared.answer.OpAnswer.TheVariants.{Put as PutAnswer, Del as DelAnswer}
-use Rattle.stm_txn.specs.declared.refusal.Refusal.{Refusal}
-use Rattle.stm_txn.specs.declared.refusal.Refusal.TheVariants.{LeaseNotFound}
-use Rattle.stm_txn.specs.Outcome.{Done}
-use Rattle.stm_txn.specs.Commits.{applied}
+use Rattle.stm_outcome.specs.declared.answer.OpAnswer.TheVariants.{Put as PutAnswer, Del as DelAnswer}
+use Rattle.stm_outcome.specs.declared.refusal.Refusal.{Refusal}
+use Rattle.stm_outcome.specs.declared.refusal.Refusal.TheVariants.{LeaseNotFound}
+use Rattle.stm_outcome.specs.Outcome.{Done}
+use Rattle.stm_outcome.specs.Commits.{applied}
 use Rattle.stm_entries.specs.declared.entry.Entry.{Entry}
 use Rattle.stm_entries.specs.declared.entry.Entry.TheVariants.{Program, Expire}
 use Rattle.stm_entries.specs.Alone.{history_left}
 use Rattle.stm_entries.specs.Legal.{IsLegal, AreLegal}
 use Rattle.stm_entries.specs.Replay.{replay, replay_entry}
-use Rattle.stm_txn.specs.Terms.{widest_terms}
+use Rattle.stm_outcome.specs.Terms.{widest_terms}
 use Rattle.stm_entries.specs.Replayed.{Replayed, opening, with_history}
 use Rattle.stm_recipes.specs.Accounts.{transfer_program, deposit_program}
 use Rattle.stm_recipes.specs.Queues.{enqueue_program, dequeue_program, queue_items_of}

@@ -14,9 +14,9 @@ use Rattle.stm_meaning.specs.declared.trace_item.TraceItem.{TraceItem}
 use Rattle.stm_meaning.specs.declared.trace_item.TraceItem.TheVariants as seen
 use Rattle.stm_meaning.specs.declared.value.Value.TheVariants.{Text}
 use Rattle.stm_meaning.specs.Meaning.{evaluate, holds, run_block, run_over}
-use Rattle.stm_txn.specs.declared.txn.Txn.{Txn}
-use Rattle.stm_txn.specs.declared.txn.Op.TheVariants.{Put}
-use Rattle.stm_txn.specs.declared.answer.OpAnswer.TheVariants.{Put as PutAnswer}
+use Rattle.stm_outcome.specs.declared.txn.Txn.{Txn}
+use Rattle.stm_outcome.specs.declared.txn.Op.TheVariants.{Put}
+use Rattle.stm_outcome.specs.declared.answer.OpAnswer.TheVariants.{Put as PutAnswer}
 use Rattle.stm_attempt.specs.Settled.{settle}
 use Rattle.stm_entries.specs.declared.entry.Entry.{Entry}
 use Rattle.stm_entries.specs.declared.entry.Entry.TheVariants.{Program, Foreign}

@@ -16,14 +16,14 @@ use Rattle.stm_watch.specs.declared.watchers.Batch.{Batch}
 use Rattle.stm_watch.specs.declared.refusal.WatchRefusal.{WatchRefusal}
 use Rattle.stm_watch.specs.declared.refusal.PollRefusal.{PollRefusal}
 use Rattle.stm_watch.specs.Calls.{Step as WatchStep}
-use Rattle.stm_txn.specs.declared.advance.Expired.{Expired}
-use Rattle.stm_txn.specs.declared.answer.TxnAnswer.{TxnAnswer}
-use Rattle.stm_txn.specs.declared.refusal.Refusal.{Refusal as StoreRefusal}
-use Rattle.stm_txn.specs.declared.refusal.Refusal.TheVariants.{RevisionsUsedUp, LeaseNotFound, TimeGoesBack}
-use Rattle.stm_txn.specs.declared.txn.Txn.{Txn as StoreTxn}
+use Rattle.stm_outcome.specs.declared.advance.Expired.{Expired}
+use Rattle.stm_outcome.specs.declared.answer.TxnAnswer.{TxnAnswer}
+use Rattle.stm_outcome.specs.declared.refusal.Refusal.{Refusal as StoreRefusal}
+use Rattle.stm_outcome.specs.declared.refusal.Refusal.TheVariants.{RevisionsUsedUp, LeaseNotFound, TimeGoesBack}
+use Rattle.stm_outcome.specs.declared.txn.Txn.{Txn as StoreTxn}
 use Rattle.stm_txn.specs.Grants.{grant_refusal_of}
 use Rattle.stm_txn.specs.LeaseKeys.{deletions_of}
-use Rattle.stm_txn.specs.Outcome.{Done, outcome, is_used_up}
+use Rattle.stm_outcome.specs.Outcome.{Done, outcome, is_used_up}
 use Rattle.stm_txn.specs.Standing.{Standing, Step, Advance, step_of, transacted, granted, kept_alive, ended, revoked, with_revision, with_lease, without_lease}
 use Rattle.stm_txn.specs.Standing.{after, expired_in, expire_up_to, expire_all, at_moment, advanced, watch_step, poll_step, cancel_step}
 use Rattle.stm_txn.specs.Standing.{terms_of}

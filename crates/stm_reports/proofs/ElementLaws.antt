@@ -12,7 +12,7 @@ use Rattle.stm_json.proofs.ElementLemmas.{worded-is}
 use Rattle.stm_json.proofs.OutcomeLemmas.{bind_ok}
 use Rattle.stm_meaning.specs.declared.trace_item.TraceItem.{TraceItem}
 use Rattle.stm_meaning.specs.declared.trace_item.TraceItem.TheVariants as trace
-use Rattle.stm_txn.specs.declared.advance.Expired.{Expired}
+use Rattle.stm_outcome.specs.declared.advance.Expired.{Expired}
 use Rattle.stm_json.specs.Faults.{AnyText, NumberIn, By, first_of, faults_by, sorted_faults, worded_faults, any_number}
 use Rattle.stm_json.specs.Parts.{SpellsEach, same}
 use Rattle.stm_json.proofs.FaultLemmas.{fault_of, wrong_is, made}

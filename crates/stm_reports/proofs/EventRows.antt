@@ -10,7 +10,7 @@ use Rattle.stm_meaning.specs.declared.fault.Fault.{Fault}
 use Rattle.stm_meaning.specs.declared.trace_item.TraceItem.{TraceItem}
 use Rattle.stm_meaning.specs.declared.value.Value.{Value}
 use Rattle.stm_meaning.specs.Faults.{fault_name}
-use Rattle.stm_txn.specs.declared.advance.Expired.{Expired}
+use Rattle.stm_outcome.specs.declared.advance.Expired.{Expired}
 use Rattle.stm_json.specs.Faults.{Sort, AnyText, WordOf, By, first_of, at, faults_by, worded_faults, is_count, parts_faults, any_number}
 use Rattle.stm_json.proofs.FaultLemmas.{fault_of, part_then, number_told}
 use Rattle.stm_reports.specs.declared.causes.RefusalName.{RefusalName}

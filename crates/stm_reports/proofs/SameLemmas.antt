@@ -9,7 +9,7 @@ use Rattle.stm_steps.specs.contracts.value.ValuePartialEq.TheImpl.{eq-value}
 use Rattle.stm_steps.specs.declared.trace_item.TraceItem.{TraceItem}
 use Rattle.stm_steps.specs.declared.trace_item.TraceItem.TheVariants as trace
 use Rattle.stm_steps.specs.contracts.trace_item.TraceItemPartialEq.TheImpl.{eq-value as eq-item}
-use Rattle.stm_txn.specs.declared.advance.Expired.{Expired}
+use Rattle.stm_outcome.specs.declared.advance.Expired.{Expired}
 
 pub expired_decides : (a b : Expired) → Decides (nat_eq a.id b.id && nat_eq a.revision b.revision) (a ≡ b)
 expired_decides a b =

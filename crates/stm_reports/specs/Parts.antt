@@ -12,7 +12,7 @@ use Rattle.stm_meaning.specs.declared.value.Value.{Value}
 use Rattle.stm_meaning.specs.declared.value.Value.TheVariants.{Text, Number}
 use Rattle.stm_meaning.specs.declared.trace_item.TraceItem.{TraceItem}
 use Rattle.stm_meaning.specs.declared.trace_item.TraceItem.TheVariants as trace
-use Rattle.stm_txn.specs.declared.advance.Expired.{Expired}
+use Rattle.stm_outcome.specs.declared.advance.Expired.{Expired}
 use Rattle.stm_json.specs.Parts.{on_text, text_of, same}
 use Rattle.stm_reports.specs.declared.causes.RefusalName.{RefusalName}
 use Rattle.stm_reports.specs.declared.line.ToldAnswer.{ToldAnswer}

@@ -6,7 +6,7 @@ ghost use Rattle.stm_reports.specs.Told.{cause_told, txn_line};
 use crate::causes::RefusalName;
 use crate::line::ReportLine;
 use crate::same::{are_ops, are_same_expired};
-use stm_txn::{Expired, Refusal, TxnAnswer};
+use stm_outcome::{Expired, Refusal, TxnAnswer};
 
 /// The name under which a line tells a refusal of the store.
 pub fn told_cause(cause: Refusal) -> RefusalName

@@ -28,5 +28,5 @@ pub use standing::{is_end, is_key, is_lease};
 pub use stm_history::{KeyState, Sequence, Text};
 pub use stm_json::{BadInput, Cause, MOST_BYTES, ReadError};
 pub use stm_meaning::{Fault, TraceItem, Value};
-pub use stm_txn::Expired;
+pub use stm_outcome::Expired;
 pub use text::push_line;

@@ -2,7 +2,7 @@
 use crate::causes::RefusalName;
 use stm_history::{KeyState, Sequence, Text};
 use stm_meaning::{Fault, TraceItem, Value};
-use stm_txn::Expired;
+use stm_outcome::Expired;
 
 /// An answer that a commit at ReadCommitted was made on, as its line tells it.
 #[derive(Debug, Drop)]

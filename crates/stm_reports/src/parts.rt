@@ -24,7 +24,7 @@ use stm_json::{
     within, worded_array,
 };
 use stm_meaning::{Fault, TraceItem, Value};
-use stm_txn::Expired;
+use stm_outcome::Expired;
 
 #[tactic(auto, unfolding(crate::specs::Parts::flag_of))]
 fn flag(alloc: Global, value: &Json) -> Result<bool, ReadError>

@@ -5,7 +5,7 @@ ghost use Rattle.stm_reports.specs.Told.{op_told};
 use crate::line::ToldOp;
 use stm_history::KeyState;
 use stm_meaning::{TraceItem, Value};
-use stm_txn::{Expired, OpAnswer};
+use stm_outcome::{Expired, OpAnswer};
 
 /// Whether two states of a key are the same.
 pub(crate) fn are_same_states(left: &KeyState, right: &KeyState) -> bool

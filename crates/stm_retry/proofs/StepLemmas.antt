@@ -18,11 +18,11 @@ use Rattle.stm_meaning.specs.declared.run.Run.{Run}
 use Rattle.stm_meaning.specs.declared.run.Answered.{Answered}
 use Rattle.stm_meaning.specs.declared.run.Answered.TheVariants.{Ended as EndedRun, Wants}
 use Rattle.stm_meaning.proofs.RunLaws.{wanted_keys_are_unknown}
-use Rattle.stm_txn.specs.declared.answer.FailedCompare.{FailedCompare}
-use Rattle.stm_txn.specs.declared.refusal.Refusal.{Refusal as StoreRefusal}
-use Rattle.stm_txn.specs.declared.refusal.Refusal.TheVariants.{OutOfMemory}
-use Rattle.stm_txn.specs.Outcome.{Done}
-use Rattle.stm_txn.specs.Commits.{revision_read}
+use Rattle.stm_outcome.specs.declared.answer.FailedCompare.{FailedCompare}
+use Rattle.stm_outcome.specs.declared.refusal.Refusal.{Refusal as StoreRefusal}
+use Rattle.stm_outcome.specs.declared.refusal.Refusal.TheVariants.{OutOfMemory}
+use Rattle.stm_outcome.specs.Outcome.{Done}
+use Rattle.stm_outcome.specs.Commits.{revision_read}
 use Rattle.stm_txn.specs.Standing.{Standing, with_history, terms_of}
 use Rattle.stm_compile.specs.Levels.{is_serializable}
 use Rattle.stm_compile.specs.Answers.{look_up, answer_now}

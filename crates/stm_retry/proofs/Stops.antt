@@ -4,9 +4,9 @@ use Rattle.std.proofs.Common.{Option, Some, None, Result, Ok, Err, refl, sym, ap
 use Rattle.std.specs.Prelude.{slice_get, IfErr}
 use Rattle.std.proofs.lemmas.Bool.{le-ltb}
 use Rattle.stm_leases.specs.DueFirst.{first_due}
-use Rattle.stm_txn.specs.declared.advance.Expired.{Expired}
-use Rattle.stm_txn.specs.declared.refusal.Refusal.{Refusal}
-use Rattle.stm_txn.specs.declared.refusal.Refusal.TheVariants.{TimeGoesBack}
+use Rattle.stm_outcome.specs.declared.advance.Expired.{Expired}
+use Rattle.stm_outcome.specs.declared.refusal.Refusal.{Refusal}
+use Rattle.stm_outcome.specs.declared.refusal.Refusal.TheVariants.{TimeGoesBack}
 use Rattle.stm_txn.specs.Standing.{Standing, Advance as StoreAdvance, ended, after, expired_in, expire_up_to, expire_all, at_moment, advanced, HasCome}
 use Rattle.stm_txn.proofs.Ending.{ended_is, next_ended}
 use Rattle.stm_entries.specs.declared.entry.Entry.{Entry}

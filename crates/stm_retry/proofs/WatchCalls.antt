@@ -1,7 +1,7 @@
 -- What the events about watchers tell and leave.
 use Rattle.std.proofs.Common.{◌≡◌, ◌∙◌, List, [], Result, Ok, Err, refl, sym, ap, subst}
 use Rattle.std.specs.Prelude.{IsOk}
-use Rattle.stm_txn.specs.declared.refusal.Refusal.{Refusal as StoreRefusal}
+use Rattle.stm_outcome.specs.declared.refusal.Refusal.{Refusal as StoreRefusal}
 use Rattle.stm_txn.specs.Standing.{Standing, Step as StoreStep, IsRefusalOf}
 use Rattle.stm_entries.specs.declared.entry.Entry.{Entry}
 use Rattle.stm_world.specs.declared.event.WorldEvent.{WorldEvent}

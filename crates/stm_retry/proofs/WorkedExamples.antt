@@ -12,7 +12,7 @@ use Rattle.stm_history.specs.History.{History}
 use Rattle.stm_leases.specs.LeaseLog.{Term}
 use Rattle.stm_leases.specs.Live.{Live}
 use Rattle.stm_leases.specs.DueFirst.{DueLease, due_lease, earlier, first_among, first_due}
-use Rattle.stm_txn.specs.declared.advance.Expired.{Expired}
+use Rattle.stm_outcome.specs.declared.advance.Expired.{Expired}
 use Rattle.stm_txn.specs.Standing.{Standing, Advance as StoreAdvance, after, expire_all, at_moment, without_lease, HasCome}
 use Rattle.stm_txn.proofs.Ending.{one_ended, next_ended, done}
 use Rattle.stm_entries.specs.declared.entry.Entry.TheVariants.{Expire}

@@ -3,7 +3,7 @@ use Rattle.std.specs.Prelude.{◌≡◌, Result, Ok, Err, IsOk}
 use Rattle.std.specs.declared.alloc.AllocError.{AllocError}
 use Rattle.stm_world.specs.declared.reply.Reply.{Reply}
 use Rattle.stm_world.specs.declared.refusal.Denied.{Denied}
-use Rattle.stm_txn.specs.declared.refusal.Refusal.TheVariants.{OutOfMemory}
+use Rattle.stm_outcome.specs.declared.refusal.Refusal.TheVariants.{OutOfMemory}
 use Rattle.stm_world.specs.declared.refusal.Refusal.TheVariants.{Store}
 use Rattle.stm_world.specs.Told.{denied}
 use Rattle.stm_world.specs.World.{World, Stepped}

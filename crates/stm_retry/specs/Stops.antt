@@ -2,7 +2,7 @@
 --
 -- What each event comes to is the step of the world. That a list of events can be taken up where a run of it stopped is our own.
 use Rattle.std.specs.Prelude.{◌≡◌, ◌≢◌, ℕ, ◌≤◌, List, [], ◌∷◌, ◌++◌, take, drop, Result, Ok, Err}
-use Rattle.stm_txn.specs.declared.advance.Expired.{Expired}
+use Rattle.stm_outcome.specs.declared.advance.Expired.{Expired}
 use Rattle.stm_txn.specs.Standing.{Standing, HasCome, at_moment, after, advanced}
 use Rattle.stm_world.specs.declared.event.WorldEvent.{WorldEvent}
 use Rattle.stm_world.specs.declared.reply.Reply.{Reply}

@@ -3,9 +3,9 @@ ghost use Rattle.std.specs.Prelude.{◌≡◌, ◌≢◌, ◌<◌, ◌≤◌, �
 ghost use Rattle.stm_history.specs.History.{now, key_at, mod_of};
 ghost use Rattle.stm_meaning.specs.declared.run.End.TheVariants.{Done};
 ghost use Rattle.stm_meaning.specs.declared.run.Run.{Run as ARun};
-ghost use Rattle.stm_txn.specs.declared.refusal.Refusal.TheVariants.{OutOfMemory};
-ghost use Rattle.stm_txn.specs.Numbers.{ReadFits};
-ghost use Rattle.stm_txn.specs.Commits.{revision_read};
+ghost use Rattle.stm_outcome.specs.declared.refusal.Refusal.TheVariants.{OutOfMemory};
+ghost use Rattle.stm_outcome.specs.Numbers.{ReadFits};
+ghost use Rattle.stm_outcome.specs.Commits.{revision_read};
 ghost use Rattle.stm_compile.specs.Levels.{is_serializable};
 ghost use Rattle.stm_compile.specs.Answers.{AreTrue};
 ghost use Rattle.stm_attempt.specs.Known.{HaveDistinctKeys};

@@ -3,7 +3,7 @@
 //! Room for the entries is made before the call, so that a call that the store took is never without them.
 ghost use Rattle.std.specs.Prelude.{◌≡◌, ◌+◌, ◌<◌, ◌≤◌, ◌++◌, ◌∷◌, [], if◌then◌else◌, length, vec_len, vec_capacity, false, Some, None, IfSome, IsOk, IfOk};
 ghost use Rattle.std.specs.Option.{option_map_or};
-ghost use Rattle.stm_txn.specs.Outcome.{would_change};
+ghost use Rattle.stm_outcome.specs.Outcome.{would_change};
 ghost use Rattle.stm_txn.specs.Standing.{kept_alive, refusal_of};
 ghost use Rattle.stm_entries.specs.declared.entry.Entry.TheVariants.{Foreign};
 ghost use Rattle.stm_world.specs.declared.event.WorldEvent.TheVariants.{Txn as TxnEvent, Grant as GrantEvent, Keep as KeepEvent, Revoke as RevokeEvent, Advance as AdvanceEvent};

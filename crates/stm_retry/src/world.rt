@@ -2,7 +2,7 @@
 ghost use Rattle.std.specs.Prelude.{◌≡◌, ◌≢◌, ◌≤◌, ℕ, false, List, [], ◌∷◌, ◌++◌, length, is_some, Result, Ok, Err, IfOk, IfErr, OnOk, OnErr};
 ghost use Rattle.stm_history.specs.declared.revisions.TheConstants.{HIGHEST_REVISION};
 ghost use Rattle.stm_history.specs.History.{AreRevisions};
-ghost use Rattle.stm_txn.specs.declared.refusal.Refusal.TheVariants.{OutOfMemory};
+ghost use Rattle.stm_outcome.specs.declared.refusal.Refusal.TheVariants.{OutOfMemory};
 ghost use Rattle.stm_entries.specs.Replayed.{opening, without_moment};
 ghost use Rattle.stm_entries.specs.Replay.{replay};
 ghost use Rattle.stm_entries.specs.Legal.{AreLegal};

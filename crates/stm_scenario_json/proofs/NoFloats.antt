@@ -8,12 +8,12 @@ use Rattle.stm_program.specs.Syntax.{Expression, Text, Number, Variable, Get, Re
 use Rattle.stm_program.specs.Syntax.{Statement, Set, Put, Del, If, For, Emit, Abort, Block, End, Then, ProgramTree}
 use Rattle.stm_program_json.specs.Writing.{written_expression, written_condition, written_statement, written_statements, written_program}
 use Rattle.stm_texts.specs.declared.scenario.Scenario.{Scenario}
-use Rattle.stm_txn.specs.declared.txn.Compare.{Compare}
-use Rattle.stm_txn.specs.declared.txn.Op.{Op}
-use Rattle.stm_txn.specs.declared.txn.Op.TheVariants as operation
-use Rattle.stm_txn.specs.declared.txn.Target.{Target}
-use Rattle.stm_txn.specs.declared.txn.Target.TheVariants as target
-use Rattle.stm_txn.specs.declared.txn.Txn.{Txn}
+use Rattle.stm_outcome.specs.declared.txn.Compare.{Compare}
+use Rattle.stm_outcome.specs.declared.txn.Op.{Op}
+use Rattle.stm_outcome.specs.declared.txn.Op.TheVariants as operation
+use Rattle.stm_outcome.specs.declared.txn.Target.{Target}
+use Rattle.stm_outcome.specs.declared.txn.Target.TheVariants as target
+use Rattle.stm_outcome.specs.declared.txn.Txn.{Txn}
 use Rattle.stm_world.specs.declared.event.WorldEvent.{WorldEvent}
 use Rattle.stm_world.specs.declared.event.WorldEvent.TheVariants as event
 use Rattle.stm_scenario_json.specs.Writing.{written_side, written_compare, written_operation, written_txn, written_event, opening_elements, written_scenario}

@@ -6,12 +6,12 @@ use Rattle.stm_history.specs.declared.revisions.TheConstants.{HIGHEST_NUMBER}
 use Rattle.stm_program_json.specs.Writing.{written_number, written_program}
 use Rattle.stm_program_json.proofs.WrittenLemmas.{written_program-spells}
 use Rattle.stm_texts.specs.Grammar.{level_text, SpellsNumbered, SpellsEvent}
-use Rattle.stm_txn.specs.declared.txn.Compare.{Compare}
-use Rattle.stm_txn.specs.declared.txn.Op.{Op}
-use Rattle.stm_txn.specs.declared.txn.Op.TheVariants.{Get, Put, Del}
-use Rattle.stm_txn.specs.declared.txn.Target.{Target}
-use Rattle.stm_txn.specs.declared.txn.Target.TheVariants.{Version, Create, Mod, Lease, Value}
-use Rattle.stm_txn.specs.declared.txn.Txn.{Txn}
+use Rattle.stm_outcome.specs.declared.txn.Compare.{Compare}
+use Rattle.stm_outcome.specs.declared.txn.Op.{Op}
+use Rattle.stm_outcome.specs.declared.txn.Op.TheVariants.{Get, Put, Del}
+use Rattle.stm_outcome.specs.declared.txn.Target.{Target}
+use Rattle.stm_outcome.specs.declared.txn.Target.TheVariants.{Version, Create, Mod, Lease, Value}
+use Rattle.stm_outcome.specs.declared.txn.Txn.{Txn}
 use Rattle.stm_json.specs.Parts.{spelled, SpellsNumberIn, SpellsEach}
 use Rattle.stm_txn_json.specs.Grammar.{SpellsTarget, SpellsCompare, SpellsOperation, SpellsTxn}
 use Rattle.stm_world.specs.declared.event.WorldEvent.{WorldEvent}

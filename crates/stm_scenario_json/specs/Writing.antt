@@ -5,12 +5,12 @@ use Rattle.serde_json.specs.View.{items_of}
 use Rattle.stm_program_json.specs.Writing.{written_number, written_program}
 use Rattle.stm_texts.specs.Grammar.{level_text}
 use Rattle.stm_texts.specs.declared.scenario.Scenario.{Scenario}
-use Rattle.stm_txn.specs.declared.txn.Compare.{Compare}
-use Rattle.stm_txn.specs.declared.txn.Op.{Op}
-use Rattle.stm_txn.specs.declared.txn.Op.TheVariants.{Get, Put, Del}
-use Rattle.stm_txn.specs.declared.txn.Target.{Target}
-use Rattle.stm_txn.specs.declared.txn.Target.TheVariants.{Version, Create, Mod, Lease, Value}
-use Rattle.stm_txn.specs.declared.txn.Txn.{Txn}
+use Rattle.stm_outcome.specs.declared.txn.Compare.{Compare}
+use Rattle.stm_outcome.specs.declared.txn.Op.{Op}
+use Rattle.stm_outcome.specs.declared.txn.Op.TheVariants.{Get, Put, Del}
+use Rattle.stm_outcome.specs.declared.txn.Target.{Target}
+use Rattle.stm_outcome.specs.declared.txn.Target.TheVariants.{Version, Create, Mod, Lease, Value}
+use Rattle.stm_outcome.specs.declared.txn.Txn.{Txn}
 use Rattle.stm_json.specs.Parts.{spelled}
 use Rattle.stm_txn_json.specs.Grammar.{order_text}
 use Rattle.stm_world.specs.declared.event.WorldEvent.{WorldEvent}

@@ -1,7 +1,7 @@
 //! Writing transactions.
 ghost use Rattle.std.specs.Prelude.{◌≡◌, [], ◌∷◌, codes, IfOk};
 ghost use Rattle.serde_json.specs.View.{view};
-ghost use Rattle.stm_txn.specs.declared.txn.Op.TheVariants.{Get, Put};
+ghost use Rattle.stm_outcome.specs.declared.txn.Op.TheVariants.{Get, Put};
 ghost use Rattle.stm_json.specs.Parts.{spelled};
 ghost use Rattle.stm_txn_json.specs.Grammar.{order_text};
 ghost use Rattle.stm_scenario_json.specs.Writing.{target_text, written_side, written_compare, written_operation, written_txn};
@@ -9,7 +9,7 @@ ghost use Rattle.stm_scenario_json.specs.Writing.{target_text, written_side, wri
 use crate::lists::{Written, list_json};
 use serde_json::{Value as Json, json};
 use std::alloc::{AllocError, Global};
-use stm_txn::{Compare, Op, Order, Target, Txn};
+use stm_outcome::{Compare, Op, Order, Target, Txn};
 
 /// The word of what a compare looks at.
 fn target_word(target: &Target) -> &'static str

@@ -10,7 +10,7 @@ use Rattle.stm_steps.specs.Values.{key_in, text_in, less, put_of, del_of}
 use Rattle.stm_meaning.specs.declared.run.End.TheVariants.{Aborted as AbortedEnd}
 use Rattle.stm_meaning.specs.Meaning.{evaluate, holds, run_block, run_over}
 use Rattle.stm_attempt.specs.Settled.{settle}
-use Rattle.stm_txn.specs.declared.txn.Op.TheVariants.{Put}
+use Rattle.stm_outcome.specs.declared.txn.Op.TheVariants.{Put}
 use Rattle.stm_world.specs.declared.event.WorldEvent.{WorldEvent}
 use Rattle.stm_world.specs.declared.event.WorldEvent.TheVariants.{Start, Step, Txn, Grant}
 use Rattle.stm_world.specs.World.{start_runner, fetch, commit, step_live}

@@ -5,8 +5,8 @@ use Rattle.std.specs.FinMap as finmap
 use Rattle.std.proofs.lemmas.Bool.{le-ltb}
 use Rattle.stm_leases.specs.DueFirst.{first_due}
 use Rattle.stm_leases.proofs.DueLaws.{first_due_is_next}
-use Rattle.stm_txn.specs.declared.refusal.Refusal.{Refusal}
-use Rattle.stm_txn.specs.declared.refusal.Refusal.TheVariants.{TimeGoesBack}
+use Rattle.stm_outcome.specs.declared.refusal.Refusal.{Refusal}
+use Rattle.stm_outcome.specs.declared.refusal.Refusal.TheVariants.{TimeGoesBack}
 use Rattle.stm_txn.specs.Standing.{Standing, ended, Advance, expire_all, at_moment, advanced}
 use Rattle.stm_txn.specs.Advances.{Expiries, none, more, StopsFor, AdvanceExpires}
 use Rattle.stm_txn.proofs.Ending.{done, next_ended, next_refused, ended_fewer}

@@ -12,14 +12,14 @@ use Rattle.stm_history.proofs.HistoryLaws.{one_more}
 use Rattle.stm_leases.specs.declared.bounds.TheConstants.{HIGHEST_ID}
 use Rattle.stm_leases.specs.LeaseLog.{Term}
 use Rattle.stm_leases.specs.Live.{Live, is_live_in, AreInRange}
-use Rattle.stm_txn.specs.declared.txn.Op.{Op}
-use Rattle.stm_txn.specs.declared.txn.Op.TheVariants.{Get, Put, Del}
-use Rattle.stm_txn.specs.declared.refusal.Refusal.TheVariants.{LeaseNotFound}
-use Rattle.stm_txn.specs.Branches.{op_refusal, branch_refusal, deletion_of}
-use Rattle.stm_txn.specs.LookUps.{copy, with_copied}
+use Rattle.stm_outcome.specs.declared.txn.Op.{Op}
+use Rattle.stm_outcome.specs.declared.txn.Op.TheVariants.{Get, Put, Del}
+use Rattle.stm_outcome.specs.declared.refusal.Refusal.TheVariants.{LeaseNotFound}
+use Rattle.stm_outcome.specs.Branches.{op_refusal, branch_refusal, deletion_of}
+use Rattle.stm_outcome.specs.LookUps.{copy, with_copied}
 use Rattle.stm_txn.specs.Leasing.{hangs_of, HangOnLive, with_hang}
 use Rattle.stm_txn.specs.Standing.{Standing, terms_of}
-use Rattle.stm_txn.specs.Numbers.{LeaseFits, ChangeFits, ChangesFit, RevisionsFit, LeasesFit}
+use Rattle.stm_outcome.specs.Numbers.{LeaseFits, ChangeFits, ChangesFit, RevisionsFit, LeasesFit}
 use Rattle.stm_txn.proofs.Running.{both_none}
 
 pub both : (a b : Bool) → (a && b) ≡ true → (a ≡ true) × (b ≡ true)

@@ -5,7 +5,7 @@ use Rattle.stm_leases.specs.Leases.{Leases, lease_of}
 use Rattle.stm_watch.specs.declared.watched.Watcher.{Watcher}
 use Rattle.stm_watch.specs.Calls.{watchings, StandFor}
 use Rattle.stm_txn.specs.Leasing.{HangAsStored}
-use Rattle.stm_txn.specs.Numbers.{LeasesFit}
+use Rattle.stm_outcome.specs.Numbers.{LeasesFit}
 use Rattle.stm_txn.specs.Store.{StoreView}
 
 -- what a store keeps true of its parts

@@ -4,22 +4,22 @@ use Rattle.std.specs.Prelude.{IfOk}
 use Rattle.stm_history.specs.declared.change.Change.{Change}
 use Rattle.stm_history.specs.declared.change.Change.TheVariants.{Put as PutChange, Del as DelChange}
 use Rattle.stm_history.specs.History.{History, now, key_now}
-use Rattle.stm_txn.specs.declared.answer.FailedCompare.{FailedCompare}
-use Rattle.stm_txn.specs.declared.answer.OpAnswer.{OpAnswer}
-use Rattle.stm_txn.specs.declared.refusal.Refusal.{Refusal}
-use Rattle.stm_txn.specs.declared.refusal.Refusal.TheVariants.{RevisionsUsedUp}
-use Rattle.stm_txn.specs.declared.txn.Op.{Op}
-use Rattle.stm_txn.specs.declared.txn.Op.TheVariants.{Get, Put, Del}
-use Rattle.stm_txn.specs.declared.txn.Txn.{Txn}
-use Rattle.stm_txn.specs.Compares.{first_failed}
-use Rattle.stm_txn.specs.Checks.{fault_of}
-use Rattle.stm_txn.specs.Branches.{Progress, begun, with_change, with_change_made, change_made, deletion_of, progress_after, changes_of_branch}
-use Rattle.stm_txn.specs.Branches.{answers_after, branch_refusal, has_changes}
-use Rattle.stm_txn.specs.LookUps.{with_copied, changes_copied}
-use Rattle.stm_txn.specs.Outcome.{Done, chosen, with_changes, is_used_up, answer_of, unless, outcome, would_change}
+use Rattle.stm_outcome.specs.declared.answer.FailedCompare.{FailedCompare}
+use Rattle.stm_outcome.specs.declared.answer.OpAnswer.{OpAnswer}
+use Rattle.stm_outcome.specs.declared.refusal.Refusal.{Refusal}
+use Rattle.stm_outcome.specs.declared.refusal.Refusal.TheVariants.{RevisionsUsedUp}
+use Rattle.stm_outcome.specs.declared.txn.Op.{Op}
+use Rattle.stm_outcome.specs.declared.txn.Op.TheVariants.{Get, Put, Del}
+use Rattle.stm_outcome.specs.declared.txn.Txn.{Txn}
+use Rattle.stm_outcome.specs.Compares.{first_failed}
+use Rattle.stm_outcome.specs.Checks.{fault_of}
+use Rattle.stm_outcome.specs.Branches.{Progress, begun, with_change, with_change_made, change_made, deletion_of, progress_after, changes_of_branch}
+use Rattle.stm_outcome.specs.Branches.{answers_after, branch_refusal, has_changes}
+use Rattle.stm_outcome.specs.LookUps.{with_copied, changes_copied}
+use Rattle.stm_outcome.specs.Outcome.{Done, chosen, with_changes, is_used_up, answer_of, unless, outcome, would_change}
 use Rattle.stm_txn.specs.Standing.{Standing, step_of, transacted, terms_of}
-use Rattle.stm_txn.specs.Terms.{Terms}
-use Rattle.stm_txn.proofs.Branching.{stays_changed}
+use Rattle.stm_outcome.specs.Terms.{Terms}
+use Rattle.stm_outcome.proofs.Branching.{stays_changed}
 
 -- ---- by the look-up, also where operations clash: the first change decides
 

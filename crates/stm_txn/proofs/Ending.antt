@@ -27,15 +27,15 @@ use Rattle.stm_leases.specs.Leases.{Leases, IsLive, StandsFor}
 use Rattle.stm_leases.specs.declared.errors.LeaseNotFound.{LeaseNotFound}
 use Rattle.stm_leases.proofs.DueLaws.{first_due_is_next}
 use Rattle.stm_leases.proofs.Tables.{test_number}
-use Rattle.stm_txn.specs.declared.advance.Expired.{Expired}
-use Rattle.stm_txn.specs.declared.refusal.Refusal.{Refusal}
-use Rattle.stm_txn.specs.declared.refusal.Refusal.TheVariants.{RevisionsUsedUp}
+use Rattle.stm_outcome.specs.declared.advance.Expired.{Expired}
+use Rattle.stm_outcome.specs.declared.refusal.Refusal.{Refusal}
+use Rattle.stm_outcome.specs.declared.refusal.Refusal.TheVariants.{RevisionsUsedUp}
 use Rattle.stm_txn.specs.Leasing.{hanging, hung_after, hangs_of, lease_now}
 use Rattle.stm_txn.specs.LeaseKeys.{keys_of_lease, deletions_of}
-use Rattle.stm_txn.specs.Outcome.{with_changes, is_used_up}
+use Rattle.stm_outcome.specs.Outcome.{with_changes, is_used_up}
 use Rattle.stm_txn.specs.Standing.{Standing, IsRefusalOf, without_lease, ended, Advance, after, expired_in, expire_up_to, expire_all, IsCutShort}
 use Rattle.stm_txn.specs.Standing.{with_expiries}
-use Rattle.stm_txn.proofs.Branching.{equal_text, apart_case, apart_back}
+use Rattle.stm_outcome.proofs.Branching.{equal_text, apart_case, apart_back}
 use Rattle.stm_txn.proofs.Running.{none_used, all_used}
 use Rattle.stm_txn.proofs.Naming.{skipped, rest_ascending, are_keys}
 

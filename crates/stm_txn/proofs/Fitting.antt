@@ -11,26 +11,27 @@ use Rattle.stm_history.proofs.HistoryLaws.{numbers_stay_small, last_revision_is_
 use Rattle.stm_keys.specs.Keys.{HasSmallNumbers}
 use Rattle.stm_keys.proofs.Numbers.{at_small}
 use Rattle.stm_leases.specs.Live.{is_live_in, AreInRange}
-use Rattle.stm_txn.specs.declared.txn.Op.{Op}
-use Rattle.stm_txn.specs.declared.txn.Op.TheVariants.{Get, Put, Del}
-use Rattle.stm_txn.specs.declared.txn.Txn.{Txn}
-use Rattle.stm_txn.specs.declared.txn.Compare.{Compare}
-use Rattle.stm_txn.specs.declared.answer.FailedCompare.{FailedCompare}
-use Rattle.stm_txn.specs.declared.answer.TxnAnswer.{TxnAnswer}
-use Rattle.stm_txn.specs.Compares.{first_failed}
-use Rattle.stm_txn.specs.Branches.{carried, deletion_of, count_of, are_readable, changes_of_branch}
-use Rattle.stm_txn.specs.LookUps.{copy, read_copied, with_copied, answers_copied}
-use Rattle.stm_txn.specs.Outcome.{Done, with_changes, outcome}
+use Rattle.stm_outcome.specs.declared.txn.Op.{Op}
+use Rattle.stm_outcome.specs.declared.txn.Op.TheVariants.{Get, Put, Del}
+use Rattle.stm_outcome.specs.declared.txn.Txn.{Txn}
+use Rattle.stm_outcome.specs.declared.txn.Compare.{Compare}
+use Rattle.stm_outcome.specs.declared.answer.FailedCompare.{FailedCompare}
+use Rattle.stm_outcome.specs.declared.answer.TxnAnswer.{TxnAnswer}
+use Rattle.stm_outcome.specs.Compares.{first_failed}
+use Rattle.stm_outcome.specs.Branches.{carried, deletion_of, count_of, are_readable, changes_of_branch}
+use Rattle.stm_outcome.specs.LookUps.{copy, read_copied, with_copied, answers_copied}
+use Rattle.stm_outcome.specs.Outcome.{Done, with_changes, outcome}
 use Rattle.stm_txn.specs.Standing.{Standing, transacted, ended, expired_in, terms_of}
 use Rattle.stm_txn.specs.LeaseKeys.{deletions_of}
-use Rattle.stm_txn.specs.declared.advance.Expired.{Expired}
+use Rattle.stm_outcome.specs.declared.advance.Expired.{Expired}
 use Rattle.stm_txn.proofs.Ending.{ended_is}
-use Rattle.stm_txn.specs.Numbers.{LeaseFits, ChangesFit, LeasesFit, StateFits, StatesFit, ExpiredFits, AllExpiredFit, ReadFits, OpsFit, AnswerFits}
-use Rattle.stm_txn.specs.Laws.{FailsAt}
-use Rattle.stm_txn.proofs.Folding.{answers_agree}
+use Rattle.stm_outcome.specs.Numbers.{LeaseFits, ChangesFit, LeasesFit, StateFits, StatesFit, ExpiredFits, AllExpiredFit, ReadFits, OpsFit, AnswerFits}
+use Rattle.stm_outcome.specs.Laws.{FailsAt}
+use Rattle.stm_outcome.proofs.Folding.{answers_agree}
 use Rattle.stm_txn.proofs.Running.{all_readable}
 use Rattle.stm_txn.proofs.Bounding.{both, live_fits, NamesFit, names_fit, fits-push, deleted_fits, lease_at_fits, lease_copied_fits}
-use Rattle.stm_txn.proofs.Applying.{failed_has_its_place, chosen_apart, failed_case, branch_run, IsDone, is_done}
+use Rattle.stm_outcome.proofs.Applying.{failed_has_its_place, chosen_apart, branch_run, IsDone, is_done}
+use Rattle.stm_txn.proofs.Transacting.{failed_case}
 
 -- the state of a key once the changes so far are made
 pub changed_small : (h : History) (o : Option Change) (s : Option KeyState) → now h ≤ HIGHEST_REVISION →

@@ -1,5 +1,3 @@
-pub mod Branching
-pub mod Folding
 pub mod Moving
 pub mod Running
 pub mod Bounding
@@ -9,7 +7,7 @@ pub mod Coming
 pub mod Refusing
 pub mod Counting
 pub mod Advancing
-pub mod Applying
+pub mod Transacting
 pub mod Writing
 pub mod Fitting
 pub mod Touching

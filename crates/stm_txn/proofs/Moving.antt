@@ -16,7 +16,7 @@ use Rattle.stm_keys.proofs.Recorded.{changes_shown}
 use Rattle.stm_leases.specs.Live.{Live}
 use Rattle.stm_txn.specs.Leasing.{hung_by, hung_after, with_hang, hangs_of, HangOnLive}
 use Rattle.stm_txn.specs.Moves.{detached_all, attached_one, attached_all, IsLoose, CanHang}
-use Rattle.stm_txn.proofs.Branching.{same_text, equal_text, apart_case, apart_back}
+use Rattle.stm_outcome.proofs.Branching.{same_text, equal_text, apart_case, apart_back}
 
 bytes_eq_comm : (a b : List ℕ) → bytes_eq a b ≡ bytes_eq b a
 bytes_eq_comm a b =

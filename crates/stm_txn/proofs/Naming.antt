@@ -17,7 +17,7 @@ use Rattle.stm_leases.proofs.KeyLaws.{keys_on_are_keys, one_list_of_keys, ascend
 use Rattle.stm_txn.specs.Leasing.{hanging, HangAsStored, lease_now}
 use Rattle.stm_txn.specs.PresentKeys.{keys_present, PresentKeysAreListed}
 use Rattle.stm_txn.specs.LeaseKeys.{with_key, with_changed, keys_changed, keys_named, keys_of_lease}
-use Rattle.stm_txn.proofs.Branching.{same_text}
+use Rattle.stm_outcome.proofs.Branching.{same_text}
 
 -- Ascending keys stay so, one more among them.
 turned : (a b : List ℕ) → slice_cmp nat_cmp a b ≡ Greater → slice_cmp nat_cmp b a ≡ Less

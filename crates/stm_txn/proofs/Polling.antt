@@ -16,9 +16,9 @@ use Rattle.stm_watch.specs.declared.watchers.Batch.{Batch}
 use Rattle.stm_watch.specs.Keys.{is_watched}
 use Rattle.stm_watch.specs.Pending.{matching, told_at, told_above, pending, events_told, batch_of}
 use Rattle.stm_watch.specs.Calls.{watcher_at, poll_found}
-use Rattle.stm_txn.specs.declared.refusal.Refusal.{Refusal}
+use Rattle.stm_outcome.specs.declared.refusal.Refusal.{Refusal}
 use Rattle.stm_txn.specs.Standing.{Standing, Step, polled, poll_step}
-use Rattle.stm_txn.specs.Numbers.{LeaseFits, ChangesFit, RevisionsFit, LeasesFit, EventsFit}
+use Rattle.stm_outcome.specs.Numbers.{LeaseFits, ChangesFit, RevisionsFit, LeasesFit, EventsFit}
 use Rattle.stm_txn.proofs.Fitting.{IsSmallFor, changed_small}
 
 -- ---- the events of a revision

@@ -2,17 +2,17 @@
 use Rattle.std.proofs.Common.{◌≡◌, ◌∙◌, List, [], Option, None, sym, ap}
 use Rattle.stm_history.specs.History.{History, key_now}
 use Rattle.stm_leases.specs.Live.{Live}
-use Rattle.stm_txn.specs.declared.txn.Op.{Op}
-use Rattle.stm_txn.specs.declared.txn.Txn.{Txn}
-use Rattle.stm_txn.specs.declared.answer.FailedCompare.{FailedCompare}
-use Rattle.stm_txn.specs.declared.refusal.Refusal.{Refusal}
-use Rattle.stm_txn.specs.Terms.{most_operations, widest_terms}
-use Rattle.stm_txn.specs.Checks.{fault_of}
-use Rattle.stm_txn.specs.Compares.{first_failed}
-use Rattle.stm_txn.specs.LookUps.{outcome_copied}
-use Rattle.stm_txn.specs.Outcome.{outcome, chosen}
+use Rattle.stm_outcome.specs.declared.txn.Op.{Op}
+use Rattle.stm_outcome.specs.declared.txn.Txn.{Txn}
+use Rattle.stm_outcome.specs.declared.answer.FailedCompare.{FailedCompare}
+use Rattle.stm_outcome.specs.declared.refusal.Refusal.{Refusal}
+use Rattle.stm_outcome.specs.Terms.{most_operations, widest_terms}
+use Rattle.stm_outcome.specs.Checks.{fault_of}
+use Rattle.stm_outcome.specs.Compares.{first_failed}
+use Rattle.stm_outcome.specs.LookUps.{outcome_copied}
+use Rattle.stm_outcome.specs.Outcome.{outcome, chosen}
 use Rattle.stm_txn.specs.Standing.{refusal_of}
-use Rattle.stm_txn.proofs.Applying.{as_run}
+use Rattle.stm_txn.proofs.Transacting.{as_run}
 
 -- a transaction with no fault of the whole is refused as the branch that its compares pick
 pub chosen_refused : (h : History) (live : Live) (txn : Txn) (failed : Option FailedCompare) (ops : List Op) (told : Option Refusal) →

@@ -11,19 +11,19 @@ use Rattle.std.specs.List.{list_any}
 use Rattle.stm_history.specs.declared.key_state.KeyState.{KeyState}
 use Rattle.stm_history.specs.History.{History, now, key_now, key_of, change_of, after_change, HasDistinctKeys}
 use Rattle.stm_keys.specs.Keys.{DeletePresent}
-use Rattle.stm_txn.specs.Operations.{clash}
-use Rattle.stm_txn.specs.Checks.{has_clash}
-use Rattle.stm_txn.proofs.Branching.{neither, all_fit, HasDistinctKeys-push, puts_fit, dels_fit, first_deletion, nothing_before}
-use Rattle.stm_txn.specs.declared.txn.Op.{Op}
-use Rattle.stm_txn.specs.declared.txn.Op.TheVariants.{Get, Put, Del}
-use Rattle.stm_txn.specs.declared.refusal.Refusal.{Refusal}
-use Rattle.stm_txn.specs.declared.refusal.Refusal.TheVariants.{FutureRevision, LeaseNotFound}
-use Rattle.stm_txn.specs.Branches.{deletion_of, is_readable, are_readable, op_refusal}
-use Rattle.stm_txn.specs.LookUps.{copy, with_copied, changes_copied}
-use Rattle.stm_txn.specs.Branches.{branch_refusal}
+use Rattle.stm_outcome.specs.Operations.{clash}
+use Rattle.stm_outcome.specs.Checks.{has_clash}
+use Rattle.stm_outcome.proofs.Branching.{neither, all_fit, HasDistinctKeys-push, puts_fit, dels_fit, first_deletion, nothing_before}
+use Rattle.stm_outcome.specs.declared.txn.Op.{Op}
+use Rattle.stm_outcome.specs.declared.txn.Op.TheVariants.{Get, Put, Del}
+use Rattle.stm_outcome.specs.declared.refusal.Refusal.{Refusal}
+use Rattle.stm_outcome.specs.declared.refusal.Refusal.TheVariants.{FutureRevision, LeaseNotFound}
+use Rattle.stm_outcome.specs.Branches.{deletion_of, is_readable, are_readable, op_refusal}
+use Rattle.stm_outcome.specs.LookUps.{copy, with_copied, changes_copied}
+use Rattle.stm_outcome.specs.Branches.{branch_refusal}
 use Rattle.stm_leases.specs.Live.{Live}
 use Rattle.stm_txn.specs.Leasing.{hung_by, with_hang, hangs_of, HangOnLive}
-use Rattle.stm_txn.specs.Terms.{Terms}
+use Rattle.stm_outcome.specs.Terms.{Terms}
 use Rattle.stm_txn.specs.Standing.{Standing, terms_of}
 
 -- where no refusal comes first, neither part has one

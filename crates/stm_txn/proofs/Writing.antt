@@ -6,16 +6,16 @@ use Rattle.stm_history.specs.declared.change.Change.{Change}
 use Rattle.stm_history.specs.History.{History, HasDistinctKeys}
 use Rattle.stm_keys.specs.Keys.{DeletePresent}
 use Rattle.stm_leases.specs.Live.{is_live_in}
-use Rattle.stm_txn.specs.declared.refusal.Refusal.{Refusal}
-use Rattle.stm_txn.specs.declared.refusal.Refusal.TheVariants.{LeaseNotFound}
-use Rattle.stm_txn.specs.Branches.{branch_refusal}
-use Rattle.stm_txn.specs.Commits.{is_on_dead_lease, effective}
-use Rattle.stm_txn.specs.Effect.{op_of}
+use Rattle.stm_outcome.specs.declared.refusal.Refusal.{Refusal}
+use Rattle.stm_outcome.specs.declared.refusal.Refusal.TheVariants.{LeaseNotFound}
+use Rattle.stm_outcome.specs.Branches.{branch_refusal}
+use Rattle.stm_outcome.specs.Commits.{is_on_dead_lease, effective}
+use Rattle.stm_outcome.specs.Effect.{op_of}
 use Rattle.stm_txn.specs.Leasing.{hangs_of, HangOnLive}
 use Rattle.stm_txn.specs.Standing.{Standing, Step, IsRefusalOf, Tells, write_step, written, made, terms_of}
-use Rattle.stm_txn.specs.Terms.{Terms}
-use Rattle.stm_txn.proofs.Applying.{branch_applies, writes_apart, dead_refusal}
-use Rattle.stm_txn.proofs.Branching.{changes_are_distinct, effect_copied}
+use Rattle.stm_outcome.specs.Terms.{Terms}
+use Rattle.stm_outcome.proofs.Applying.{branch_applies, writes_apart, dead_refusal}
+use Rattle.stm_outcome.proofs.Branching.{changes_are_distinct, effect_copied}
 use Rattle.stm_txn.proofs.Running.{hangs_live, deletes_present}
 
 -- ---- what a revision of the writes wants

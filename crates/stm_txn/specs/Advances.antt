@@ -3,8 +3,8 @@ use Rattle.std.specs.Prelude.{◌≡◌, ℕ, ◌≤◌, List, [], ◌∷◌, Op
 use Rattle.stm_leases.specs.DueFirst.{NoneIsDue, IsNextDue}
 use Rattle.stm_leases.specs.AttachedKeys.{AreKeysOf}
 use Rattle.stm_history.specs.History.{History}
-use Rattle.stm_txn.specs.declared.advance.Expired.{Expired}
-use Rattle.stm_txn.specs.declared.refusal.Refusal.{Refusal}
+use Rattle.stm_outcome.specs.declared.advance.Expired.{Expired}
+use Rattle.stm_outcome.specs.declared.refusal.Refusal.{Refusal}
 use Rattle.stm_txn.specs.Leasing.{lease_now}
 use Rattle.stm_txn.specs.LeaseKeys.{keys_of_lease}
 use Rattle.stm_txn.specs.Standing.{Standing, ended, expired_in, at_moment, advanced}

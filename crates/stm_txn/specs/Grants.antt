@@ -2,9 +2,9 @@
 use Rattle.std.specs.Prelude.{Option, Some, None, Result, Ok, Err}
 use Rattle.stm_leases.specs.declared.errors.GrantError.{GrantError}
 use Rattle.stm_leases.specs.declared.errors.GrantError.TheVariants.{LeaseIdOutOfRange, TtlOutOfRange, LeaseExists, OutOfMemory}
-use Rattle.stm_txn.specs.declared.refusal.Refusal.{Refusal}
-use Rattle.stm_txn.specs.declared.refusal.Refusal.TheVariants.{LeaseIdOutOfRange as IdRefusal, TtlOutOfRange as TtlRefusal, LeaseExists as ExistsRefusal}
-use Rattle.stm_txn.specs.declared.refusal.Refusal.TheVariants.{OutOfMemory as MemoryRefusal}
+use Rattle.stm_outcome.specs.declared.refusal.Refusal.{Refusal}
+use Rattle.stm_outcome.specs.declared.refusal.Refusal.TheVariants.{LeaseIdOutOfRange as IdRefusal, TtlOutOfRange as TtlRefusal, LeaseExists as ExistsRefusal}
+use Rattle.stm_outcome.specs.declared.refusal.Refusal.TheVariants.{OutOfMemory as MemoryRefusal}
 
 abbrev pub grant_refusal_of : GrantError → Refusal
 grant_refusal_of LeaseIdOutOfRange = IdRefusal

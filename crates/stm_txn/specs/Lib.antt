@@ -1,13 +1,3 @@
-pub mod Terms
-pub mod Operations
-pub mod Compares
-pub mod Checks
-pub mod Branches
-pub mod Outcome
-pub mod LookUps
-pub mod Effect
-pub mod Commits
-pub mod Laws
 pub mod Leasing
 pub mod LeaseKeys
 pub mod PresentKeys
@@ -16,6 +6,4 @@ pub mod Grants
 pub mod Standing
 pub mod WatchTold
 pub mod Advances
-pub mod Numbers
 pub mod Store
-pub mod Names

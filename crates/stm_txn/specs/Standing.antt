@@ -19,15 +19,15 @@ use Rattle.stm_watch.specs.declared.refusal.WatchRefusal.TheVariants.{EmptyKey a
 use Rattle.stm_watch.specs.declared.refusal.PollRefusal.{PollRefusal}
 use Rattle.stm_watch.specs.declared.refusal.PollRefusal.TheVariants.{NoWatcher as NoneToPoll, OutOfMemory as NoMemoryToPoll}
 use Rattle.stm_watch.specs.Calls.{watch, poll, watcher_at, Step as WatchStep, cancelled as without_watcher}
-use Rattle.stm_txn.specs.declared.txn.Txn.{Txn}
-use Rattle.stm_txn.specs.declared.answer.TxnAnswer.{TxnAnswer}
-use Rattle.stm_txn.specs.declared.advance.Expired.{Expired}
-use Rattle.stm_txn.specs.declared.refusal.Refusal.{Refusal}
-use Rattle.stm_txn.specs.declared.refusal.Refusal.TheVariants.{OutOfMemory, EmptyKey, LeaseNotFound, NoWatcher, RevisionsUsedUp, TimeGoesBack}
-use Rattle.stm_txn.specs.Terms.{Terms, widest_terms}
-use Rattle.stm_txn.specs.Commits.{applied}
-use Rattle.stm_txn.specs.Effect.{op_of}
-use Rattle.stm_txn.specs.Outcome.{Done, outcome, branch_outcome, with_changes, is_used_up}
+use Rattle.stm_outcome.specs.declared.txn.Txn.{Txn}
+use Rattle.stm_outcome.specs.declared.answer.TxnAnswer.{TxnAnswer}
+use Rattle.stm_outcome.specs.declared.advance.Expired.{Expired}
+use Rattle.stm_outcome.specs.declared.refusal.Refusal.{Refusal}
+use Rattle.stm_outcome.specs.declared.refusal.Refusal.TheVariants.{OutOfMemory, EmptyKey, LeaseNotFound, NoWatcher, RevisionsUsedUp, TimeGoesBack}
+use Rattle.stm_outcome.specs.Terms.{Terms, widest_terms}
+use Rattle.stm_outcome.specs.Commits.{applied}
+use Rattle.stm_outcome.specs.Effect.{op_of}
+use Rattle.stm_outcome.specs.Outcome.{Done, outcome, branch_outcome, with_changes, is_used_up}
 use Rattle.stm_txn.specs.Grants.{grant_refusal_of}
 use Rattle.stm_txn.specs.LeaseKeys.{deletions_of}
 

@@ -3,7 +3,7 @@ use Rattle.std.specs.Prelude.{ℕ, Result, Ok, Err}
 use Rattle.stm_watch.specs.declared.watchers.Batch.{Batch}
 use Rattle.stm_watch.specs.declared.refusal.WatchRefusal.{WatchRefusal}
 use Rattle.stm_watch.specs.declared.refusal.PollRefusal.{PollRefusal}
-use Rattle.stm_txn.specs.declared.refusal.Refusal.{Refusal}
+use Rattle.stm_outcome.specs.declared.refusal.Refusal.{Refusal}
 use Rattle.stm_txn.specs.Standing.{watch_cause, poll_cause}
 
 abbrev pub watch_told : Result ℕ WatchRefusal → Result ℕ Refusal

@@ -2,15 +2,13 @@
 ghost use Rattle.std.specs.Prelude.{◌≡◌, ◌+◌, ◌<◌, ◌≤◌, ◌++◌, ◌∷◌, IfOk, OnOk, IsTrue, [], option_copied, is_some, Some, None};
 ghost use Rattle.stm_history.specs.History.{now, key_at, key_now};
 ghost use Rattle.stm_history.specs.declared.change.Change.TheVariants.{Put, Del};
-ghost use Rattle.stm_txn.specs.Branches.{carried, count_of, is_readable, are_readable, has_changes};
-ghost use Rattle.stm_txn.specs.LookUps.{copy, read_copied, change_copied, with_copied, answer_copied, changes_copied, answers_copied};
+ghost use Rattle.stm_outcome.specs.Branches.{carried, count_of, is_readable, are_readable, has_changes};
+ghost use Rattle.stm_outcome.specs.LookUps.{copy, read_copied, change_copied, with_copied, answer_copied, changes_copied, answers_copied};
 
-use crate::answer::OpAnswer;
-use crate::short_list::ShortList;
-use crate::txn::Op;
 use std::alloc::{AllocError, Global};
 use stm_history::{Change, KeyState, ReadAnswer, Text, find_change};
 use stm_keys::{Keys, ReadRefusal};
+use stm_outcome::{Op, OpAnswer, ShortList};
 
 /// What a branch answers, and what it changes.
 #[derive(Drop)]

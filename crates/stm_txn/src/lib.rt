@@ -4,28 +4,19 @@
 //! nothing but where it says so.
 #![tactic(auto)]
 
-mod advance;
-mod answer;
 mod branch;
-mod check;
-mod compare;
 mod hang;
 pub mod laws;
-mod refusal;
 mod refuse;
 mod refused;
-mod short_list;
 mod store;
-mod txn;
 mod writes;
 
-pub use advance::{AdvanceRefused, Expired};
-pub use answer::{FailedCompare, OpAnswer, TxnAnswer};
-pub use check::MOST_OPERATIONS;
-pub use refusal::Refusal;
-pub use short_list::ShortList;
 pub use stm_history::ReadAnswer;
 pub use stm_keys::{Change, Event, HIGHEST_REVISION, KeyState, Keys, Sequence, Text};
+pub use stm_outcome::{
+    AdvanceRefused, Compare, Expired, FailedCompare, MOST_OPERATIONS, Op, OpAnswer, Order, Refusal,
+    ShortList, Target, Txn, TxnAnswer,
+};
 pub use stm_watch::{Batch, Told, Watched, Watching};
 pub use store::Store;
-pub use txn::{Compare, Op, Order, Target, Txn};

@@ -1,12 +1,11 @@
 //! Why an operation of a branch is refused.
 ghost use Rattle.std.specs.Prelude.{◌≡◌};
-ghost use Rattle.stm_txn.specs.Branches.{op_refusal, branch_refusal};
-ghost use Rattle.stm_txn.specs.Terms.{widest_terms};
+ghost use Rattle.stm_outcome.specs.Branches.{op_refusal, branch_refusal};
+ghost use Rattle.stm_outcome.specs.Terms.{widest_terms};
 
-use crate::refusal::Refusal;
-use crate::txn::Op;
 use stm_keys::Keys;
 use stm_leases::Leases;
+use stm_outcome::{Op, Refusal};
 
 /// Why an operation is refused, `None` where it is not.
 fn find_op_refusal(op: &Op, keys: &Keys, leases: &Leases) -> Option<Refusal>

@@ -1,22 +1,19 @@
 //! Why a call would be refused, found without changing anything.
 ghost use Rattle.std.specs.Prelude.{◌≡◌, Option, None};
-ghost use Rattle.stm_txn.specs.Terms.{most_operations, widest_terms};
+ghost use Rattle.stm_outcome.specs.Terms.{most_operations, widest_terms};
 ghost use Rattle.stm_leases.specs.Live.{is_id, is_ttl, grant_refusal};
-ghost use Rattle.stm_txn.specs.declared.answer.FailedCompare.{FailedCompare as AFailedCompare};
-ghost use Rattle.stm_txn.specs.Checks.{fault_of, has_clash};
-ghost use Rattle.stm_txn.specs.LookUps.{outcome_copied};
-ghost use Rattle.stm_txn.specs.Outcome.{outcome};
+ghost use Rattle.stm_outcome.specs.declared.answer.FailedCompare.{FailedCompare as AFailedCompare};
+ghost use Rattle.stm_outcome.specs.Checks.{fault_of, has_clash};
+ghost use Rattle.stm_outcome.specs.LookUps.{outcome_copied};
+ghost use Rattle.stm_outcome.specs.Outcome.{outcome};
 ghost use Rattle.stm_txn.specs.Grants.{told_refusal};
 ghost use Rattle.stm_txn.specs.Standing.{refusal_of};
 
-use crate::check::find_fault;
-use crate::compare::find_failed;
-use crate::refusal::Refusal;
 use crate::refuse::find_refusal;
 use crate::store::{choose, uses_up};
-use crate::txn::{Op, Txn};
 use stm_keys::Keys;
 use stm_leases::{HIGHEST_ID, HIGHEST_TTL, Leases};
+use stm_outcome::{Op, Refusal, Txn, find_failed, find_fault};
 
 /// Why a branch would be refused, whose first failed compare does not matter for that.
 fn find_run_refusal(keys: &Keys, leases: &Leases, ops: &[Op]) -> Option<Refusal>

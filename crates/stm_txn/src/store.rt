@@ -11,28 +11,25 @@ ghost use Rattle.stm_leases.specs.LeaseLog.{LogItem, Grant, Renew, Revoke};
 ghost use Rattle.stm_leases.specs.Leases.{StandsFor};
 ghost use Rattle.stm_leases.specs.Live.{is_live_in, AreInRange};
 ghost use Rattle.stm_leases.specs.DueFirst.{first_due};
-ghost use Rattle.stm_txn.specs.Branches.{branch_refusal};
-ghost use Rattle.stm_txn.specs.LookUps.{changes_copied, answers_copied, outcome_copied};
-ghost use Rattle.stm_txn.specs.Outcome.{is_used_up, chosen, would_change};
+ghost use Rattle.stm_outcome.specs.Branches.{branch_refusal};
+ghost use Rattle.stm_outcome.specs.LookUps.{changes_copied, answers_copied, outcome_copied};
+ghost use Rattle.stm_outcome.specs.Outcome.{is_used_up, chosen, would_change};
 ghost use Rattle.stm_txn.specs.Grants.{grant_refusal_of, grant_told};
 ghost use Rattle.stm_txn.specs.WatchTold.{watch_told, poll_told};
 
-use crate::advance::{AdvanceRefused, Expired};
-use crate::answer::{FailedCompare, TxnAnswer};
 use crate::branch::{makes_changes, run_branch};
-use crate::check::find_fault;
-use crate::compare::find_failed;
 use crate::hang::{move_keys, prepare_hangs};
-use crate::refusal::Refusal;
 use crate::refuse::find_refusal;
 use crate::refused::{find_grant_refusal, find_txn_refusal};
-use crate::txn::{Op, Txn};
 use crate::writes::{any_names_dead_lease, are_used_up, only_effective};
 use std::alloc::{AllocError, Global};
 use std::marker::Model;
 use stm_history::{Change, Sequence, Text};
 use stm_keys::{ApplyRefusal, HIGHEST_REVISION, Keys};
 use stm_leases::{GrantError, KeysError, Leases};
+use stm_outcome::{
+    AdvanceRefused, Expired, FailedCompare, Op, Refusal, Txn, TxnAnswer, find_failed, find_fault,
+};
 use stm_watch::{Batch, PollRefusal, WatchRefusal, Watchers};
 
 /// A store: its keys at every revision, its leases, its moment in whole seconds, and its watchers.
@@ -53,7 +50,7 @@ impl Model for Store {
     ghost use Rattle.stm_leases.specs.Leases.{lease_of};
     ghost use Rattle.stm_watch.specs.Calls.{watchings, StandFor};
     ghost use Rattle.stm_txn.specs.Leasing.{HangAsStored};
-    ghost use Rattle.stm_txn.specs.Numbers.{LeasesFit};
+    ghost use Rattle.stm_outcome.specs.Numbers.{LeasesFit};
     ghost use Rattle.stm_txn.specs.Store.{StoreView, store_code};
     ghost use Rattle.stm_keys.specs.contracts.keys.Keys as key_store;
 
@@ -160,11 +157,11 @@ fn deletions(alloc: Global, keys: Vec<String>) -> Result<Vec<Change>, AllocError
 }
 
 impl Store {
-    ghost use Rattle.stm_txn.specs.Checks.{has_clash, fault_of};
+    ghost use Rattle.stm_outcome.specs.Checks.{has_clash, fault_of};
     ghost use Rattle.stm_txn.specs.Leasing.{hangs_of, HangOnLive, lease_now};
     ghost use Rattle.stm_txn.specs.LeaseKeys.{deletions_of};
-    ghost use Rattle.stm_txn.specs.Outcome.{with_changes, answer_of};
-    ghost use Rattle.stm_txn.specs.Numbers.{AnswerFits, StatesFit, ExpiredFits, AllExpiredFit, EventsFit};
+    ghost use Rattle.stm_outcome.specs.Outcome.{with_changes, answer_of};
+    ghost use Rattle.stm_outcome.specs.Numbers.{AnswerFits, StatesFit, ExpiredFits, AllExpiredFit, EventsFit};
     ghost use Rattle.stm_txn.specs.Standing.{opening, IsRefusalOf, Tells, refusal_of, transacted, made, written, granted, kept_alive, told, ended, revoked};
     ghost use Rattle.stm_txn.specs.Standing.{terms_of, watched, polled, cancelled};
     ghost use Rattle.stm_watch.specs.declared.watched.Watched.TheVariants.{Key, Range};

@@ -3,9 +3,9 @@ ghost use Rattle.std.specs.Prelude.{◌≡◌};
 ghost use Rattle.std.specs.List.{list_any};
 ghost use Rattle.stm_history.specs.History.{key_now};
 ghost use Rattle.stm_leases.specs.Live.{is_live_in};
-ghost use Rattle.stm_txn.specs.Commits.{is_on_dead_lease, effective};
-ghost use Rattle.stm_txn.specs.Effect.{changes_something};
-ghost use Rattle.stm_txn.specs.Outcome.{is_used_up};
+ghost use Rattle.stm_outcome.specs.Commits.{is_on_dead_lease, effective};
+ghost use Rattle.stm_outcome.specs.Effect.{changes_something};
+ghost use Rattle.stm_outcome.specs.Outcome.{is_used_up};
 
 use stm_history::Change;
 use stm_keys::{HIGHEST_REVISION, Keys};

@@ -2,12 +2,12 @@
 use Rattle.std.proofs.Common.{◌≡◌, ℕ, List, Ok, refl, ap, ◌∙◌, arith}
 use Rattle.serde_json.specs.Data.{Data, string}
 use Rattle.stm_history.specs.declared.revisions.TheConstants.{HIGHEST_NUMBER}
-use Rattle.stm_txn.specs.declared.txn.Compare.{Compare}
-use Rattle.stm_txn.specs.declared.txn.Op.{Op}
-use Rattle.stm_txn.specs.declared.txn.Op.TheVariants.{Get, Put, Del}
-use Rattle.stm_txn.specs.declared.txn.Target.{Target}
-use Rattle.stm_txn.specs.declared.txn.Target.TheVariants.{Version, Create, Mod, Lease, Value}
-use Rattle.stm_txn.specs.declared.txn.Txn.{Txn}
+use Rattle.stm_outcome.specs.declared.txn.Compare.{Compare}
+use Rattle.stm_outcome.specs.declared.txn.Op.{Op}
+use Rattle.stm_outcome.specs.declared.txn.Op.TheVariants.{Get, Put, Del}
+use Rattle.stm_outcome.specs.declared.txn.Target.{Target}
+use Rattle.stm_outcome.specs.declared.txn.Target.TheVariants.{Version, Create, Mod, Lease, Value}
+use Rattle.stm_outcome.specs.declared.txn.Txn.{Txn}
 use Rattle.stm_txn_json.specs.declared.words.TargetWord.{TargetWord}
 use Rattle.stm_txn_json.specs.declared.words.TargetWord.TheVariants as word
 use Rattle.stm_txn_json.specs.Words.{target_named}

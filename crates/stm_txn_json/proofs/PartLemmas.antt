@@ -1,7 +1,7 @@
 -- Parts of arrays: what was read of them is spelled, and what is spelled is read.
 use Rattle.std.proofs.Common.{◌≡◌, Ok, ap, ◌∙◌}
 use Rattle.serde_json.specs.Data.{Data, string}
-use Rattle.stm_txn.specs.declared.txn.Order.{Order}
+use Rattle.stm_outcome.specs.declared.txn.Order.{Order}
 use Rattle.stm_txn_json.specs.Grammar.{order_text}
 use Rattle.stm_txn_json.specs.Reading.{order_of}
 use Rattle.stm_txn_json.specs.Words.{order_named}

@@ -3,8 +3,8 @@ use Rattle.std.proofs.Common.{◌≡◌, ℕ, List, Bool, true, false, cond, Ok,
 use Rattle.std.proofs.lemmas.Slice.Eq.{bytes_eq-Decides}
 use Rattle.stm_json.specs.declared.cause.Cause.TheVariants.{Shape}
 use Rattle.stm_json.specs.Outcome.{Outcome, bad}
-use Rattle.stm_txn.specs.declared.txn.Order.{Order}
-use Rattle.stm_txn.specs.declared.txn.Order.TheVariants.{Equal, NotEqual, Greater, Less}
+use Rattle.stm_outcome.specs.declared.txn.Order.{Order}
+use Rattle.stm_outcome.specs.declared.txn.Order.TheVariants.{Equal, NotEqual, Greater, Less}
 use Rattle.stm_txn_json.specs.declared.words.TargetWord.{TargetWord}
 use Rattle.stm_txn_json.specs.declared.words.TargetWord.TheVariants as word
 use Rattle.stm_txn_json.specs.Grammar.{order_text}

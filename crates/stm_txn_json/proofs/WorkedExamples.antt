@@ -4,10 +4,10 @@ use Rattle.std.specs.Fmt.{digits}
 use Rattle.serde_json.specs.Data.{Data, number, unsigned, negative, string, array, no_items}
 use Rattle.serde_json.specs.View.{items_of}
 use Rattle.stm_json.specs.declared.cause.Cause.TheVariants.{Shape, Range}
-use Rattle.stm_txn.specs.declared.txn.Op.TheVariants.{Get, Put}
-use Rattle.stm_txn.specs.declared.txn.Order.TheVariants.{Equal}
-use Rattle.stm_txn.specs.declared.txn.Target.TheVariants.{Mod}
-use Rattle.stm_txn.specs.declared.txn.Txn.{Txn}
+use Rattle.stm_outcome.specs.declared.txn.Op.TheVariants.{Get, Put}
+use Rattle.stm_outcome.specs.declared.txn.Order.TheVariants.{Equal}
+use Rattle.stm_outcome.specs.declared.txn.Target.TheVariants.{Mod}
+use Rattle.stm_outcome.specs.declared.txn.Txn.{Txn}
 use Rattle.stm_json.specs.Parts.{spelled}
 use Rattle.stm_txn_json.specs.Grammar.{SpellsTxn}
 use Rattle.stm_txn_json.specs.FirstFault.{first_fault}

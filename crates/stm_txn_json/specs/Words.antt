@@ -2,8 +2,8 @@
 use Rattle.std.specs.Prelude.{ℕ, List, Ok, if◌then◌else◌, codes}
 use Rattle.stm_json.specs.declared.cause.Cause.TheVariants.{Shape}
 use Rattle.stm_json.specs.Outcome.{Outcome, bad}
-use Rattle.stm_txn.specs.declared.txn.Order.{Order}
-use Rattle.stm_txn.specs.declared.txn.Order.TheVariants.{Equal, NotEqual, Greater, Less}
+use Rattle.stm_outcome.specs.declared.txn.Order.{Order}
+use Rattle.stm_outcome.specs.declared.txn.Order.TheVariants.{Equal, NotEqual, Greater, Less}
 use Rattle.stm_txn_json.specs.declared.words.TargetWord.{TargetWord}
 use Rattle.stm_txn_json.specs.declared.words.TargetWord.TheVariants.{Version, Create, Mod, Lease, Value}
 use Rattle.stm_json.specs.Parts.{same}

@@ -13,7 +13,7 @@ use stm_history::HIGHEST_NUMBER;
 use stm_json::{
     Cause, ReadError, fault, number_within, text, text_part, three, within, worded_array,
 };
-use stm_txn::{Compare, Order, ShortList, Target};
+use stm_outcome::{Compare, Order, ShortList, Target};
 
 #[tactic(auto, unfolding(crate::specs::Reading::order_of))]
 fn order(alloc: Global, value: &Value) -> Result<Order, ReadError>

@@ -9,4 +9,4 @@ mod words;
 pub use read::read_txn;
 pub use stm_history::Text;
 pub use stm_json::{BadInput, Cause, ReadError};
-pub use stm_txn::Txn;
+pub use stm_outcome::Txn;

@@ -11,7 +11,7 @@ use std::alloc::Global;
 use stm_json::{
     Cause, ReadError, fault, number_part, one, text_part, three, two, within, worded_array,
 };
-use stm_txn::{Op, ShortList};
+use stm_outcome::{Op, ShortList};
 
 fn get(alloc: Global, elements: &[Value]) -> Result<Op, ReadError>
     ensures { Tells (λ o. o) result (get_of (two_of (items_view elements.now))) }

@@ -13,7 +13,7 @@ use crate::operations::operations;
 use serde_json::Value;
 use std::alloc::Global;
 use stm_json::{Cause, ReadError, fault, three, within, worded_array};
-use stm_txn::Txn;
+use stm_outcome::Txn;
 
 /// A transaction, from the elements behind its word.
 fn txn_parts(alloc: Global, elements: &[Value]) -> Result<Txn, ReadError>

@@ -4,7 +4,7 @@ ghost use Rattle.stm_txn_json.specs.Words.{order_named, target_named};
 
 use std::alloc::Global;
 use stm_json::{Cause, ReadError, fault};
-use stm_txn::Order;
+use stm_outcome::Order;
 
 /// The first word of a compare: what it looks at.
 #[derive(Clone, Copy, Debug, PartialEq, Eq)]

@@ -3,16 +3,16 @@ use Rattle.std.proofs.Common.{◌≡◌, ℕ, List, [], ◌∷◌, Bool, true, f
 use Rattle.std.specs.Prelude.{nat_eq, nat_lt}
 use Rattle.stm_history.specs.declared.key_state.ReadAnswer.{ReadAnswer}
 use Rattle.stm_history.specs.History.{History, now, key_at}
-use Rattle.stm_txn.specs.declared.txn.Txn.{Txn}
-use Rattle.stm_txn.specs.declared.answer.OpAnswer.TheVariants.{Get as GetAnswer}
-use Rattle.stm_txn.specs.declared.answer.TxnAnswer.{TxnAnswer}
-use Rattle.stm_txn.specs.declared.refusal.Refusal.{Refusal}
-use Rattle.stm_txn.specs.Branches.{begun, read_answer}
-use Rattle.stm_txn.specs.Outcome.{Done, outcome}
+use Rattle.stm_outcome.specs.declared.txn.Txn.{Txn}
+use Rattle.stm_outcome.specs.declared.answer.OpAnswer.TheVariants.{Get as GetAnswer}
+use Rattle.stm_outcome.specs.declared.answer.TxnAnswer.{TxnAnswer}
+use Rattle.stm_outcome.specs.declared.refusal.Refusal.{Refusal}
+use Rattle.stm_outcome.specs.Branches.{begun, read_answer}
+use Rattle.stm_outcome.specs.Outcome.{Done, outcome}
 use Rattle.stm_txn.specs.Standing.{Standing, terms_of}
-use Rattle.stm_txn.specs.Numbers.{AnswerFits, ReadFits}
-use Rattle.stm_txn.specs.Terms.{Terms}
-use Rattle.stm_txn.proofs.Applying.{done_by, is_done}
+use Rattle.stm_outcome.specs.Numbers.{AnswerFits, ReadFits}
+use Rattle.stm_outcome.specs.Terms.{Terms}
+use Rattle.stm_outcome.proofs.Applying.{done_by, is_done}
 use Rattle.stm_compile.specs.Answers.{answer_now}
 use Rattle.stm_calls.specs.Fetched.{fetch_of}
 use Rattle.stm_calls.specs.Reads.{IsOneRead}

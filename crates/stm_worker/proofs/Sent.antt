@@ -20,7 +20,7 @@ use Rattle.stm_history.proofs.sequence.Sequence.TheSendSync as sequence
 use Rattle.stm_history.proofs.key_state.ReadAnswer.TheSendSync as answer
 use Rattle.stm_steps.proofs.value.Value.TheSendSync as value
 use Rattle.stm_steps.proofs.trace_item.TraceItem.TheSendSync as item
-use Rattle.stm_txn.proofs.txn.Txn.TheSendSync as txn
+use Rattle.stm_outcome.proofs.txn.Txn.TheSendSync as txn
 use Rattle.stm_txn.proofs.store.Store.TheSendSync as store
 use Rattle.std.proofs.alloc.Global.TheSendSync as heap
 use Rattle.stm_entries.specs.contracts.entry.Entry as Entry

@@ -9,9 +9,9 @@ use Rattle.stm_meaning.specs.declared.run.End.{End}
 use Rattle.stm_meaning.specs.declared.run.End.TheVariants.{Aborted as AbortedEnd, Faulted as FaultedEnd}
 use Rattle.stm_meaning.specs.declared.run.Run.{Run}
 use Rattle.stm_meaning.specs.declared.run.Answered.TheVariants.{Ended as EndedRun}
-use Rattle.stm_txn.specs.declared.answer.OpAnswer.TheVariants.{Get as GetAnswer}
-use Rattle.stm_txn.specs.declared.answer.TxnAnswer.{TxnAnswer}
-use Rattle.stm_txn.specs.declared.refusal.Refusal.TheVariants.{OutOfMemory as Want}
+use Rattle.stm_outcome.specs.declared.answer.OpAnswer.TheVariants.{Get as GetAnswer}
+use Rattle.stm_outcome.specs.declared.answer.TxnAnswer.{TxnAnswer}
+use Rattle.stm_outcome.specs.declared.refusal.Refusal.TheVariants.{OutOfMemory as Want}
 use Rattle.stm_compile.specs.Levels.{is_serializable}
 use Rattle.stm_attempt.specs.declared.next.Next.TheVariants.{Fetch, Ready}
 use Rattle.stm_attempt.specs.AttemptState.{AttemptState, begun, advanced, supplied}

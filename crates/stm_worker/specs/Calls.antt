@@ -7,8 +7,8 @@ use Rattle.stm_program.specs.Syntax.{ProgramTree}
 use Rattle.stm_program.specs.SameProgram.{same_program}
 use Rattle.stm_program.specs.declared.level.Level.{Level}
 use Rattle.stm_program.specs.declared.level.Level.TheVariants.{SerializableSnapshot, Serializable, RepeatableReads, ReadCommitted}
-use Rattle.stm_txn.specs.declared.txn.Txn.{Txn}
-use Rattle.stm_txn.specs.declared.answer.TxnAnswer.{TxnAnswer}
+use Rattle.stm_outcome.specs.declared.txn.Txn.{Txn}
+use Rattle.stm_outcome.specs.declared.answer.TxnAnswer.{TxnAnswer}
 use Rattle.stm_txn.specs.Standing.{Standing, opening, with_history}
 use Rattle.stm_attempt.specs.AttemptState.{AttemptState, IsOf}
 use Rattle.stm_attempt.specs.ReadyRun.{ReadyRun}

@@ -1,6 +1,6 @@
 //! What each worker of a run calls the hall with.
 ghost use Rattle.std.specs.Prelude.{◌≡◌, ◌⊎◌, ◌+◌, ◌<◌, ◌≤◌, true, Ok, IfOk, IfErr, OnErr};
-ghost use Rattle.stm_txn.specs.Numbers.{ReadFits};
+ghost use Rattle.stm_outcome.specs.Numbers.{ReadFits};
 ghost use Rattle.stm_hall.specs.Verdicts.{CanGoOn};
 ghost use Rattle.stm_worker.specs.declared.stop.Stop.TheVariants.{OutOfMemory};
 ghost use Rattle.stm_worker.specs.Attempts.{IsAnswered, IsUnanswered, IsTurnedAway};

@@ -2,7 +2,7 @@
 
 ghost use Rattle.stm_worker.specs.Codes.{entries_set, halls_set, histories_set, numbers_set, truths_set};
 ghost use Rattle.std.specs.Prelude.{◌≡◌, ◌+◌, ◌<◌, ◌≤◌, true, OnErr, IfOk};
-ghost use Rattle.stm_txn.specs.Numbers.{AnswerFits};
+ghost use Rattle.stm_outcome.specs.Numbers.{AnswerFits};
 ghost use Rattle.stm_hall.specs.Fetching.{OnlyReads, FetchTells, fetched};
 ghost use Rattle.stm_hall.specs.Prepared.{IsPreparedFor};
 ghost use Rattle.stm_hall.specs.Verdicts.{CanGoOn, CommitTells, verdict_of};

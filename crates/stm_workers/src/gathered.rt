@@ -22,7 +22,7 @@ pub struct Gathered {
 #[derive(Drop)]
 pub struct RunFault {
     pub cause: FaultCause,
-    /// The end of each job, at its place, where an audit found one that does not stand; none at another cause.
+    /// The end of each job, at its place, where an audit found one that does not stand, or had no memory to look; none where the run was broken off before.
     pub ends: Vec<JobEnd>,
     /// The hall that was handed in, with what was committed until then.
     pub hall: Hall,

@@ -10,17 +10,17 @@ use Rattle.stm_leases.specs.LeaseLog.{Term}
 use Rattle.stm_leases.specs.Live.{is_live_in, grant_refusal}
 use Rattle.stm_leases.specs.declared.errors.GrantError.{GrantError}
 use Rattle.stm_leases.specs.DueFirst.{first_due}
-use Rattle.stm_txn.specs.declared.txn.Txn.{Txn}
-use Rattle.stm_txn.specs.declared.advance.Expired.{Expired}
-use Rattle.stm_txn.specs.declared.refusal.Refusal.{Refusal}
-use Rattle.stm_txn.specs.declared.refusal.Refusal.TheVariants.{LeaseNotFound, RevisionsUsedUp, TimeGoesBack}
-use Rattle.stm_txn.specs.Outcome.{Done, outcome, with_changes, is_used_up}
+use Rattle.stm_outcome.specs.declared.txn.Txn.{Txn}
+use Rattle.stm_outcome.specs.declared.advance.Expired.{Expired}
+use Rattle.stm_outcome.specs.declared.refusal.Refusal.{Refusal}
+use Rattle.stm_outcome.specs.declared.refusal.Refusal.TheVariants.{LeaseNotFound, RevisionsUsedUp, TimeGoesBack}
+use Rattle.stm_outcome.specs.Outcome.{Done, outcome, with_changes, is_used_up}
 use Rattle.stm_txn.specs.Grants.{grant_refusal_of}
 use Rattle.stm_txn.specs.LeaseKeys.{deletions_of}
 use Rattle.stm_txn.specs.Standing.{Standing, Step, Advance, step_of, transacted, granted, with_lease, kept_alive, without_lease, ended, with_revision, revoked}
 use Rattle.stm_txn.specs.Standing.{at_moment, after, expired_in, expire_up_to, expire_all, advanced}
 use Rattle.stm_txn.specs.Standing.{terms_of}
-use Rattle.stm_txn.proofs.Applying.{history_grows}
+use Rattle.stm_outcome.proofs.Applying.{history_grows}
 use Rattle.stm_txn.proofs.Ending.{ended_is, due_lives}
 use Rattle.stm_entries.specs.declared.entry.Entry.TheVariants.{Foreign, Grant as GrantEntry, Renew, Revoke as RevokeEntry, Expire}
 use Rattle.stm_entries.specs.Replayed.{with_history, with_live, without_moment}

@@ -7,11 +7,11 @@ use Rattle.stm_history.specs.History.{History}
 use Rattle.stm_program.specs.declared.level.Level.{Level}
 use Rattle.stm_program.specs.Writes.{latest_writes}
 use Rattle.stm_meaning.specs.declared.run.Run.{Run}
-use Rattle.stm_txn.specs.declared.answer.FailedCompare.{FailedCompare}
-use Rattle.stm_txn.specs.declared.refusal.Refusal.TheVariants.{TooManyOps, LeaseNotFound, RevisionsUsedUp}
-use Rattle.stm_txn.specs.Outcome.{Done, is_used_up, with_changes}
-use Rattle.stm_txn.specs.Commits.{applied, effective, is_on_dead_lease, turned_down}
-use Rattle.stm_txn.specs.Terms.{Terms}
+use Rattle.stm_outcome.specs.declared.answer.FailedCompare.{FailedCompare}
+use Rattle.stm_outcome.specs.declared.refusal.Refusal.TheVariants.{TooManyOps, LeaseNotFound, RevisionsUsedUp}
+use Rattle.stm_outcome.specs.Outcome.{Done, is_used_up, with_changes}
+use Rattle.stm_outcome.specs.Commits.{applied, effective, is_on_dead_lease, turned_down}
+use Rattle.stm_outcome.specs.Terms.{Terms}
 use Rattle.stm_compile.specs.Now.{as_change}
 use Rattle.stm_compile.specs.CommitTxn.{reread_keys}
 use Rattle.stm_compile.specs.Committed.{sends_too_many, conflict_now, judged, committed}

@@ -18,11 +18,11 @@ use Rattle.stm_history.specs.declared.change.Change.{Change}
 use Rattle.stm_history.specs.History.{now}
 use Rattle.stm_program.specs.declared.level.Level.{Level}
 use Rattle.stm_meaning.specs.declared.run.Run.{Run}
-use Rattle.stm_txn.specs.declared.answer.FailedCompare.{FailedCompare}
-use Rattle.stm_txn.specs.declared.refusal.Refusal.TheVariants.{LeaseNotFound, RevisionsUsedUp, TooManyOps}
-use Rattle.stm_txn.specs.Outcome.{Done, is_used_up}
-use Rattle.stm_txn.specs.Commits.{revision_read, turned_down, effective, is_on_dead_lease}
-use Rattle.stm_txn.specs.Terms.{Terms}
+use Rattle.stm_outcome.specs.declared.answer.FailedCompare.{FailedCompare}
+use Rattle.stm_outcome.specs.declared.refusal.Refusal.TheVariants.{LeaseNotFound, RevisionsUsedUp, TooManyOps}
+use Rattle.stm_outcome.specs.Outcome.{Done, is_used_up}
+use Rattle.stm_outcome.specs.Commits.{revision_read, turned_down, effective, is_on_dead_lease}
+use Rattle.stm_outcome.specs.Terms.{Terms}
 use Rattle.stm_txn.specs.Standing.{terms_of}
 use Rattle.stm_compile.specs.Answers.{AreTrue}
 use Rattle.stm_compile.specs.Now.{as_change}

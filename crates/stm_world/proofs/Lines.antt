@@ -1,8 +1,8 @@
 -- Line by line over a log that a world follows, and by what a line tells.
 use Rattle.std.proofs.Common.{◌≡◌, ℕ, ◌+◌, List, [], ◌∷◌, Option, Some, None, Ok, Err, refl, sym, subst}
 use Rattle.std.specs.Prelude.{Result}
-use Rattle.stm_txn.specs.declared.advance.Expired.{Expired}
-use Rattle.stm_txn.specs.declared.refusal.Refusal.{Refusal as StoreRefusal}
+use Rattle.stm_outcome.specs.declared.advance.Expired.{Expired}
+use Rattle.stm_outcome.specs.declared.refusal.Refusal.{Refusal as StoreRefusal}
 use Rattle.stm_txn.specs.Standing.{Step as StoreStep, Advance as StoreAdvance, transacted, granted, kept_alive, revoked, advanced}
 use Rattle.stm_txn.specs.Standing.{watched, polled, cancelled}
 use Rattle.stm_watch.specs.declared.watched.Watched.TheVariants.{Key, Range}

@@ -10,7 +10,7 @@ use Rattle.stm_history.specs.declared.revisions.TheConstants.{HIGHEST_REVISION}
 use Rattle.stm_history.specs.History.{History, now, number_of_last, change_of}
 use Rattle.stm_program.specs.declared.level.Level.{Level}
 use Rattle.stm_program.specs.declared.write.Write.{Write}
-use Rattle.stm_txn.specs.Commits.{revision_read}
+use Rattle.stm_outcome.specs.Commits.{revision_read}
 use Rattle.stm_compile.specs.Levels.{is_serializable}
 use Rattle.stm_compile.specs.Answers.{answer_now}
 use Rattle.stm_compile.specs.CommitTxn.{first_carried, reread_keys}

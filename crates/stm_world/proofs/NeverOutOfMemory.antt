@@ -18,16 +18,16 @@ use Rattle.stm_watch.specs.declared.watched.Watching.{Watching}
 use Rattle.stm_watch.specs.declared.refusal.WatchRefusal.TheVariants.{EmptyKey as EmptyKeyWatched}
 use Rattle.stm_watch.specs.Keys.{first_key}
 use Rattle.stm_watch.specs.Calls.{Step as WatchStep, watcher_at, poll_found}
-use Rattle.stm_txn.specs.declared.answer.FailedCompare.{FailedCompare}
-use Rattle.stm_txn.specs.declared.advance.Expired.{Expired}
-use Rattle.stm_txn.specs.declared.refusal.Refusal.{Refusal}
-use Rattle.stm_txn.specs.declared.refusal.Refusal.TheVariants.{OutOfMemory, LeaseNotFound, RevisionsUsedUp, TooManyOps}
+use Rattle.stm_outcome.specs.declared.answer.FailedCompare.{FailedCompare}
+use Rattle.stm_outcome.specs.declared.advance.Expired.{Expired}
+use Rattle.stm_outcome.specs.declared.refusal.Refusal.{Refusal}
+use Rattle.stm_outcome.specs.declared.refusal.Refusal.TheVariants.{OutOfMemory, LeaseNotFound, RevisionsUsedUp, TooManyOps}
 use Rattle.stm_txn.specs.LeaseKeys.{deletions_of}
-use Rattle.stm_txn.specs.Outcome.{Done, is_used_up}
-use Rattle.stm_txn.specs.Commits.{is_on_dead_lease, effective}
+use Rattle.stm_outcome.specs.Outcome.{Done, is_used_up}
+use Rattle.stm_outcome.specs.Commits.{is_on_dead_lease, effective}
 use Rattle.stm_txn.specs.Standing.{Standing, Step as StoreStep, watch_step, poll_step, cancel_step, terms_of}
 use Rattle.stm_txn.specs.Standing.{transacted, granted, kept_alive, revoked, advanced, watched, polled, cancelled}
-use Rattle.stm_txn.specs.Terms.{Terms}
+use Rattle.stm_outcome.specs.Terms.{Terms}
 use Rattle.stm_compile.specs.Now.{as_change}
 use Rattle.stm_compile.specs.Committed.{sends_too_many, conflict_now, judged, committed}
 use Rattle.stm_world.specs.declared.event.WorldEvent.{WorldEvent}

@@ -9,7 +9,7 @@ use Rattle.stm_history.specs.declared.change.Change.{Change}
 use Rattle.stm_history.specs.History.{History, number_of_last, now, add_revision}
 use Rattle.stm_keys.specs.declared.event.Event.{Event}
 use Rattle.stm_keys.specs.Events.{events_above}
-use Rattle.stm_txn.specs.Outcome.{with_changes}
+use Rattle.stm_outcome.specs.Outcome.{with_changes}
 use Rattle.stm_watch.specs.declared.told.Told.{Told}
 use Rattle.stm_watch.specs.declared.watched.Watched.{Watched}
 use Rattle.stm_watch.specs.declared.watched.Watching.{Watching}

@@ -27,8 +27,8 @@ use Rattle.stm_watch.specs.declared.watchers.Batch.{Batch}
 use Rattle.stm_watch.specs.declared.refusal.WatchRefusal.{WatchRefusal}
 use Rattle.stm_watch.specs.declared.refusal.WatchRefusal.TheVariants.{EmptyKey}
 use Rattle.stm_watch.specs.Calls.{watcher_at, poll_found, Step as WatchStep}
-use Rattle.stm_txn.specs.declared.refusal.Refusal.{Refusal as StoreRefusal}
-use Rattle.stm_txn.specs.Outcome.{Done, outcome, is_used_up}
+use Rattle.stm_outcome.specs.declared.refusal.Refusal.{Refusal as StoreRefusal}
+use Rattle.stm_outcome.specs.Outcome.{Done, outcome, is_used_up}
 use Rattle.stm_txn.specs.LeaseKeys.{deletions_of}
 use Rattle.stm_txn.specs.Standing.{Standing, Step as StoreStep, step_of, ended, expire_up_to, at_moment, with_watchers, terms_of}
 use Rattle.stm_txn.specs.Standing.{watch_step, poll_step, cancel_step}

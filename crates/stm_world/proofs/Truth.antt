@@ -7,8 +7,8 @@ use Rattle.stm_history.specs.declared.key_state.ReadAnswer.{ReadAnswer}
 use Rattle.stm_history.specs.History.{History, now, IsTrueAnswer}
 use Rattle.stm_program.specs.Syntax.{ProgramTree}
 use Rattle.stm_program.specs.declared.level.Level.{Level}
-use Rattle.stm_txn.specs.Outcome.{with_changes}
-use Rattle.stm_txn.specs.Commits.{revision_read}
+use Rattle.stm_outcome.specs.Outcome.{with_changes}
+use Rattle.stm_outcome.specs.Commits.{revision_read}
 use Rattle.stm_compile.specs.Levels.{is_serializable}
 use Rattle.stm_compile.specs.Answers.{AreTrue, answer_in, answer_now}
 use Rattle.stm_compile.specs.CommitTxn.{reread_keys}

@@ -2,8 +2,8 @@
 use Rattle.std.proofs.Common.{◌≡◌, ℕ, ◌+◌, List, [], ◌∷◌, Option, Some, None, Ok, Err, false, cond, refl, ◌∙◌, ap}
 use Rattle.std.specs.Prelude.{option_map, Result, ◌||◌}
 use Rattle.stm_history.specs.History.{History}
-use Rattle.stm_txn.specs.declared.advance.Expired.{Expired}
-use Rattle.stm_txn.specs.declared.refusal.Refusal.{Refusal as StoreRefusal}
+use Rattle.stm_outcome.specs.declared.advance.Expired.{Expired}
+use Rattle.stm_outcome.specs.declared.refusal.Refusal.{Refusal as StoreRefusal}
 use Rattle.stm_txn.specs.Standing.{Step as StoreStep}
 use Rattle.stm_attempt.specs.Known.{Known}
 use Rattle.stm_world.specs.declared.reply.Reply.{Reply}

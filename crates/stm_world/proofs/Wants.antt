@@ -6,21 +6,21 @@ use Rattle.std.specs.Option.{option_or}
 use Rattle.std.specs.FinMap as finmap
 use Rattle.stm_leases.specs.DueFirst.{first_due}
 use Rattle.stm_history.specs.History.{History, now, key_now}
-use Rattle.stm_txn.specs.declared.txn.Op.{Op}
-use Rattle.stm_txn.specs.declared.txn.Op.TheVariants.{Get, Put, Del}
-use Rattle.stm_txn.specs.declared.txn.Txn.{Txn}
-use Rattle.stm_txn.specs.declared.advance.Expired.{Expired}
-use Rattle.stm_txn.specs.declared.refusal.Refusal.{Refusal}
-use Rattle.stm_txn.specs.declared.refusal.Refusal.TheVariants.{OutOfMemory, TooManyOps, EmptyKey, DuplicateKey, FutureRevision, LeaseNotFound}
-use Rattle.stm_txn.specs.declared.refusal.Refusal.TheVariants.{RevisionsUsedUp, TimeGoesBack}
-use Rattle.stm_txn.specs.Checks.{fault_of, has_too_many, has_empty_key, has_clash}
-use Rattle.stm_txn.specs.Branches.{op_refusal, branch_refusal, changes_of_branch, answers_after, begun}
-use Rattle.stm_txn.specs.Compares.{first_failed}
+use Rattle.stm_outcome.specs.declared.txn.Op.{Op}
+use Rattle.stm_outcome.specs.declared.txn.Op.TheVariants.{Get, Put, Del}
+use Rattle.stm_outcome.specs.declared.txn.Txn.{Txn}
+use Rattle.stm_outcome.specs.declared.advance.Expired.{Expired}
+use Rattle.stm_outcome.specs.declared.refusal.Refusal.{Refusal}
+use Rattle.stm_outcome.specs.declared.refusal.Refusal.TheVariants.{OutOfMemory, TooManyOps, EmptyKey, DuplicateKey, FutureRevision, LeaseNotFound}
+use Rattle.stm_outcome.specs.declared.refusal.Refusal.TheVariants.{RevisionsUsedUp, TimeGoesBack}
+use Rattle.stm_outcome.specs.Checks.{fault_of, has_too_many, has_empty_key, has_clash}
+use Rattle.stm_outcome.specs.Branches.{op_refusal, branch_refusal, changes_of_branch, answers_after, begun}
+use Rattle.stm_outcome.specs.Compares.{first_failed}
 use Rattle.stm_txn.specs.LeaseKeys.{deletions_of}
-use Rattle.stm_txn.specs.Outcome.{Done, outcome, unless, finished, branch_outcome, chosen, is_used_up}
+use Rattle.stm_outcome.specs.Outcome.{Done, outcome, unless, finished, branch_outcome, chosen, is_used_up}
 use Rattle.stm_txn.specs.Standing.{Standing, Advance, step_of, transacted, ended, without_lease, terms_of}
 use Rattle.stm_txn.specs.Standing.{after, expired_in, expire_up_to, expire_all, at_moment, advanced, IsCutShort}
-use Rattle.stm_txn.specs.Terms.{Terms}
+use Rattle.stm_outcome.specs.Terms.{Terms}
 
 abbrev pub NoWant : Option Refusal → Type 0
 NoWant None = Unit {0}

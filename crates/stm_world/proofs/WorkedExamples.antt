@@ -26,10 +26,10 @@ use Rattle.stm_meaning.specs.declared.run.Answered.TheVariants.{Ended as EndedRu
 use Rattle.stm_meaning.specs.Meaning.{evaluate, run_block, run_over}
 use Rattle.stm_compile.specs.Answers.{state_now}
 use Rattle.stm_attempt.specs.Settled.{settle}
-use Rattle.stm_txn.specs.declared.txn.Op.{Op}
-use Rattle.stm_txn.specs.declared.txn.Op.TheVariants.{Put}
-use Rattle.stm_txn.specs.declared.answer.OpAnswer.TheVariants.{Put as PutAnswer}
-use Rattle.stm_txn.specs.declared.refusal.Refusal.TheVariants.{NoWatcher, EmptyKey}
+use Rattle.stm_outcome.specs.declared.txn.Op.{Op}
+use Rattle.stm_outcome.specs.declared.txn.Op.TheVariants.{Put}
+use Rattle.stm_outcome.specs.declared.answer.OpAnswer.TheVariants.{Put as PutAnswer}
+use Rattle.stm_outcome.specs.declared.refusal.Refusal.TheVariants.{NoWatcher, EmptyKey}
 use Rattle.stm_entries.specs.declared.entry.Entry.{Entry}
 use Rattle.stm_entries.specs.declared.entry.Entry.TheVariants.{Program}
 use Rattle.stm_world.specs.declared.event.WorldEvent.{WorldEvent}

@@ -22,12 +22,12 @@ use Rattle.stm_meaning.specs.declared.run.Run.{Run}
 use Rattle.stm_meaning.specs.declared.trace_item.TraceItem.{TraceItem}
 use Rattle.stm_meaning.specs.declared.run.Answered.TheVariants.{Ended as EndedRun, Wants}
 use Rattle.stm_meaning.specs.Meaning.{run_over}
-use Rattle.stm_txn.specs.declared.txn.Compare.{Compare}
-use Rattle.stm_txn.specs.declared.answer.FailedCompare.{FailedCompare}
-use Rattle.stm_txn.specs.Compares.{holds}
-use Rattle.stm_txn.specs.Commits.{revision_read}
-use Rattle.stm_txn.specs.Laws.{FailsAt}
-use Rattle.stm_txn.proofs.Applying.{mod_compares, failed_has_its_place}
+use Rattle.stm_outcome.specs.declared.txn.Compare.{Compare}
+use Rattle.stm_outcome.specs.declared.answer.FailedCompare.{FailedCompare}
+use Rattle.stm_outcome.specs.Compares.{holds}
+use Rattle.stm_outcome.specs.Commits.{revision_read}
+use Rattle.stm_outcome.specs.Laws.{FailsAt}
+use Rattle.stm_outcome.proofs.Applying.{mod_compares, failed_has_its_place}
 use Rattle.stm_compile.specs.Levels.{is_serializable}
 use Rattle.stm_compile.specs.Answers.{answer_in, answer_now, state_as_of}
 use Rattle.stm_compile.specs.CommitTxn.{first_carried, is_as_read, is_unmodified, compares_of, reread_keys}

@@ -1,6 +1,6 @@
 -- The names of refusals, as the report spells them.
 use Rattle.std.specs.Prelude.{ℕ, List, codes}
-use Rattle.stm_txn.specs.Names.{refusal_name as store_refusal_name}
+use Rattle.stm_outcome.specs.Names.{refusal_name as store_refusal_name}
 use Rattle.stm_world.specs.declared.refusal.Refusal.{Refusal}
 use Rattle.stm_world.specs.declared.refusal.Refusal.TheVariants.{Store, BadLimit, NoRunner}
 

@@ -4,11 +4,11 @@ use Rattle.stm_history.specs.declared.key_state.ReadAnswer.{ReadAnswer}
 use Rattle.stm_program.specs.declared.level.Level.{Level}
 use Rattle.stm_meaning.specs.declared.run.Run.{Run}
 use Rattle.stm_watch.specs.declared.watched.Watched.{Watched}
-use Rattle.stm_txn.specs.declared.txn.Txn.{Txn}
-use Rattle.stm_txn.specs.declared.advance.Expired.{Expired}
-use Rattle.stm_txn.specs.declared.refusal.Refusal.TheVariants.{OutOfMemory}
+use Rattle.stm_outcome.specs.declared.txn.Txn.{Txn}
+use Rattle.stm_outcome.specs.declared.advance.Expired.{Expired}
+use Rattle.stm_outcome.specs.declared.refusal.Refusal.TheVariants.{OutOfMemory}
 use Rattle.stm_txn.specs.Standing.{Standing, transacted, granted, kept_alive, revoked, advanced, watched, polled, cancelled}
-use Rattle.stm_txn.specs.Terms.{Terms}
+use Rattle.stm_outcome.specs.Terms.{Terms}
 use Rattle.stm_compile.specs.Committed.{committed}
 use Rattle.stm_world.specs.declared.event.WorldEvent.{WorldEvent}
 use Rattle.stm_world.specs.declared.event.WorldEvent.TheVariants.{Step}

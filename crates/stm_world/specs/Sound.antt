@@ -4,8 +4,8 @@
 -- own.
 use Rattle.std.specs.Prelude.{◌≡◌, ◌≤◌, ℕ, List, ◌++◌, Option, Some}
 use Rattle.stm_history.specs.History.{History, now}
-use Rattle.stm_txn.specs.declared.advance.Expired.{Expired}
-use Rattle.stm_txn.specs.declared.refusal.Refusal.{Refusal as StoreRefusal}
+use Rattle.stm_outcome.specs.declared.advance.Expired.{Expired}
+use Rattle.stm_outcome.specs.declared.refusal.Refusal.{Refusal as StoreRefusal}
 use Rattle.stm_txn.specs.Standing.{Standing, at_moment, expire_up_to}
 use Rattle.stm_compile.specs.Answers.{AreTrue}
 use Rattle.stm_attempt.specs.Known.{Known}

@@ -11,7 +11,7 @@ use Rattle.stm_meaning.specs.declared.run.Run.{Run}
 use Rattle.stm_meaning.specs.declared.trace_item.TraceItem.{TraceItem}
 use Rattle.stm_meaning.specs.declared.run.Answered.TheVariants.{Ended, Wants}
 use Rattle.stm_meaning.specs.Meaning.{run_over}
-use Rattle.stm_txn.specs.Commits.{revision_read}
+use Rattle.stm_outcome.specs.Commits.{revision_read}
 use Rattle.stm_compile.specs.Levels.{is_serializable}
 use Rattle.stm_compile.specs.Answers.{answer_in, state_as_of}
 use Rattle.stm_attempt.specs.Settled.{run_on}

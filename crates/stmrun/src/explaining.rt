@@ -1,8 +1,8 @@
 //! The commands with their faults explained: where a bad input is bad, and which file the system refused and why.
 ghost use Rattle.std.specs.Prelude.{◌≡◌, ◌≤◌, false};
+ghost use Rattle.stm_workers.specs.declared.run.TheConstants.{MOST_WORKERS};
 
-use crate::explained_threads::threads_explained_to;
-use crate::files::{Noting, Opened, open};
+use crate::terminals::shown_budget;
 use std::io;
 use std::io::Input;
 use std::rt::Files;
@@ -12,6 +12,8 @@ use stm_commands::{
     Format, Kept, Level, Std, check_explained_to, check_whole_explained_to, explore_explained_to,
     outcomes_explained_to, script_explained_to,
 };
+use stm_files::{Noting, Opened, open};
+use stm_threading::{ThreadsOptions, threads_as_to};
 
 /// The name of an input, as people know it.
 fn name_of(path: &str) -> &str {
@@ -88,7 +90,7 @@ pub(crate) fn run_rule(
         &mut scenario,
         &mut keeps,
         level,
-        budget,
+        &mut shown_budget(rt, budget),
         &mut out,
         &mut err,
     );
@@ -112,7 +114,7 @@ pub(crate) fn run_outcomes(
         rt.alloc(),
         &mut scenario,
         level,
-        budget,
+        &mut shown_budget(rt, budget),
         &mut out,
         &mut err,
     );
@@ -121,29 +123,22 @@ pub(crate) fn run_outcomes(
     status
 }
 
-/// Runs the jobs of a path's scenario by so many threads. The ends of the jobs are printed too, or are not.
+/// Runs the jobs of a path's scenario. A fault is explained where the options say so.
 pub(crate) fn run_threads<T: Threads + Wait + Sync>(
     rt: &HostRuntime,
     threads: &T,
     path: &str,
-    workers: usize,
-    ends: bool,
+    options: ThreadsOptions,
 ) -> u8
-    requires { (1 ≤ workers) × (workers ≤ 16) }
+    requires { (1 ≤ options.workers) × (options.workers ≤ MOST_WORKERS) }
 {
     let mut input = kept(rt, path);
     let mut out = Std::new(Noting::new(rt.stdout()));
     let mut err = Std::new(rt.stderr());
-    let status = threads_explained_to(
-        threads,
-        rt.alloc(),
-        &mut input,
-        workers,
-        ends,
-        &mut out,
-        &mut err,
-    );
-    say_unread(rt, input.name, input.source.device.failure);
-    say_unwritten(rt, out.device.failure);
+    let status = threads_as_to(threads, rt.alloc(), options, &mut input, &mut out, &mut err);
+    if options.explain {
+        say_unread(rt, input.name, input.source.device.failure);
+        say_unwritten(rt, out.device.failure);
+    }
     status
 }

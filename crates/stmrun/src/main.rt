@@ -2,22 +2,9 @@
 //! reports, looks through the interleavings of a scenario, and prints the programs of recipes.
 #![tactic(auto)]
 
-ghost use Rattle.std.specs.Prelude.{◌≤◌};
-ghost use Rattle.stm_workers.specs.declared.run.TheConstants.{MOST_WORKERS};
-
-#[cfg(test)]
-mod device_tests;
-mod explained_threads;
 mod explaining;
-#[cfg(test)]
-mod file_tests;
-mod files;
-mod threading;
-#[cfg(test)]
-mod threading_tests;
+mod terminals;
 
-pub use explained_threads::threads_explained_to;
-use files::open;
 use std::process::ExitCode;
 use std::sync::Wait;
 use std::thread::Threads;
@@ -28,7 +15,10 @@ pub use stm_commands::{
     explore_to, outcomes_explained_to, outcomes_to, recipe_to, script_as_to, script_explained_to,
     script_to,
 };
-pub use threading::{threads_to, threads_with_ends_to};
+use stm_files::open;
+use stm_threading::{Printing, ThreadsOptions};
+pub use stm_threading::{threads_as_to, threads_to};
+use terminals::shown_budget;
 
 /// The path of an input that may be named: that of standard input where it is not.
 fn path_of(named: Option<&str>) -> &str {
@@ -111,7 +101,7 @@ fn run_rule(
         &mut scenario,
         &mut keeps,
         level,
-        budget,
+        &mut shown_budget(rt, budget),
         &mut out,
         &mut err,
     )
@@ -131,7 +121,14 @@ fn run_outcomes(
     let mut scenario = Std::new(open(rt, scenario));
     let mut out = Std::new(rt.stdout());
     let mut err = Std::new(rt.stderr());
-    outcomes_to(rt.alloc(), &mut scenario, level, budget, &mut out, &mut err)
+    outcomes_to(
+        rt.alloc(),
+        &mut scenario,
+        level,
+        &mut shown_budget(rt, budget),
+        &mut out,
+        &mut err,
+    )
 }
 
 /// Looks through the interleavings of a path's scenario, for one that breaks a rule or for what they come to.
@@ -149,28 +146,13 @@ fn run_explore(
     }
 }
 
-/// Runs the jobs of the scenario of a path, or of that on standard input, by so many threads. The ends of the jobs are printed too, or are not, and
-/// a fault is explained, or is not.
-fn run_threads<T: Threads + Wait + Sync>(
-    rt: &HostRuntime,
-    threads: &T,
-    scenario: Option<&str>,
-    workers: usize,
-    ends: bool,
-    explain: bool,
-) -> u8
-    requires { (1 ≤ workers) × (workers ≤ MOST_WORKERS) }
-{
-    if explain {
-        return explaining::run_threads(rt, threads, path_of(scenario), workers, ends);
+/// What is printed of jobs: what so many runs of them come to, or one run, with the ends of the jobs or without.
+fn printing_of(ends: bool, repeat: Option<u32>) -> Printing {
+    match repeat {
+        Some(runs) => Printing::Outcomes(runs),
+        None if ends => Printing::Ends,
+        None => Printing::Values,
     }
-    let mut input = Std::new(open(rt, path_of(scenario)));
-    let mut out = Std::new(rt.stdout());
-    let mut err = Std::new(rt.stderr());
-    if ends {
-        return threads_with_ends_to(threads, rt.alloc(), &mut input, workers, &mut out, &mut err);
-    }
-    threads_to(threads, rt.alloc(), &mut input, workers, &mut out, &mut err)
 }
 
 /// Prints the program of the recipe that these words name.
@@ -202,8 +184,17 @@ fn run<T: Threads + Wait + Sync>(rt: &HostRuntime, threads: &T) -> u8 {
             scenario,
             workers,
             ends,
+            repeat,
             explain,
-        } => run_threads(rt, threads, scenario, workers, ends, explain),
+        } => {
+            let printing = printing_of(ends, repeat);
+            let options = ThreadsOptions {
+                workers,
+                printing,
+                explain,
+            };
+            explaining::run_threads(rt, threads, path_of(scenario), options)
+        }
         Asked::Recipe(words) => run_recipe(rt, &words),
         Asked::Explore {
             scenario,

@@ -1,6 +1,6 @@
 //! Attempts of the program that emits "a", which are told some answer of it.
 ghost use Rattle.std.specs.Prelude.{◌≡◌, ◌≤◌, IfOk};
-ghost use Rattle.stm_txn.specs.Numbers.{ReadFits};
+ghost use Rattle.stm_outcome.specs.Numbers.{ReadFits};
 ghost use Rattle.stm_attempt.specs.AttemptState.{IsOf, awaited};
 ghost use Rattle.stm_attempt.specs.Next.{key_asked};
 

@@ -1,7 +1,7 @@
 //! What is told of an attempt for which an answer was prefetched.
 ghost use Rattle.std.specs.Prelude.{◌≡◌, ◌≤◌, All, None, Some, IfOk};
 ghost use Rattle.stm_history.specs.declared.revisions.TheConstants.{HIGHEST_NUMBER};
-ghost use Rattle.stm_txn.specs.Numbers.{ReadFits};
+ghost use Rattle.stm_outcome.specs.Numbers.{ReadFits};
 ghost use Rattle.stm_attempt.specs.Known.{HaveDistinctKeys};
 ghost use Rattle.stm_attempt.specs.Fetches.{ShowOneRevision};
 ghost use Rattle.stm_attempt.specs.AttemptState.{IsOf, awaited};

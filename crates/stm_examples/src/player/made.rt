@@ -1,7 +1,7 @@
 //! What examples are made of: programs, states, and an answer.
 ghost use Rattle.std.specs.Prelude.{◌≤◌, IfOk};
 ghost use Rattle.stm_history.specs.declared.revisions.TheConstants.{HIGHEST_NUMBER};
-ghost use Rattle.stm_txn.specs.Numbers.{ReadFits};
+ghost use Rattle.stm_outcome.specs.Numbers.{ReadFits};
 
 use serde_json::Value;
 use std::alloc::{AllocError, Global};

@@ -11,14 +11,14 @@ pub returns : goal.returns
 returns c =
     let bare_is : app_of c.after_help.result ≡ new_app (codes "check") = search rules in
     let alone_is = (λ i. (c.after_help.ensures i).has_globals) ∙ ((λ i. (c.about.ensures i).has_globals) ∙ c.new.ensures.local) in
-    let one_is = neither _ _ alone_is c.required-scenario.ensures.local in
-    let two_are = neither _ _ (c.in_ok-arg.ensures.globals ∙ one_is) c.required-report.ensures.local in
-    let with_scenario = c.in_ok-arg.ensures.shape c.required-scenario.ensures.local ∙ ap₂ with_rule bare_is c.required-scenario.ensures.rule in
-    let with_report = c.in_ok-arg-2.ensures.shape c.required-report.ensures.local ∙ ap₂ with_rule with_scenario c.required-report.ensures.rule in
-    let three_are = neither _ _ (c.in_ok-arg-2.ensures.globals ∙ two_are) c.flag-whole.ensures.local in
-    let with_whole = c.in_ok-arg-3.ensures.shape c.flag-whole.ensures.local ∙ ap₂ with_rule with_report c.flag-whole.ensures.rule in
+    let one_is = neither _ _ alone_is c.required.ensures.local in
+    let two_are = neither _ _ (c.in_ok-arg.ensures.globals ∙ one_is) c.required-2.ensures.local in
+    let with_scenario = c.in_ok-arg.ensures.shape c.required.ensures.local ∙ ap₂ with_rule bare_is c.required.ensures.rule in
+    let with_report = c.in_ok-arg-2.ensures.shape c.required-2.ensures.local ∙ ap₂ with_rule with_scenario c.required-2.ensures.rule in
+    let three_are = neither _ _ (c.in_ok-arg-2.ensures.globals ∙ two_are) c.flag.ensures.local in
+    let with_whole = c.in_ok-arg-3.ensures.shape c.flag.ensures.local ∙ ap₂ with_rule with_report c.flag.ensures.rule in
     IfOk-weaker c.arg-4.result _ _ (λ m adds. λ (old new : Command). λ (h : AddsSubcommand old m new).
-    h.shape (adds.globals ∙ neither _ _ (c.in_ok-arg-3.ensures.globals ∙ three_are) c.explain-explained.ensures.local)
+    h.shape (adds.globals ∙ neither _ _ (c.in_ok-arg-3.ensures.globals ∙ three_are) c.explain.ensures.local)
     ∙ ap (λ (a : App). with_subcommand (app_of old) a.top)
-    (adds.shape c.explain-explained.ensures.local ∙ ap₂ with_rule with_whole c.explain-explained.ensures.rule))
+    (adds.shape c.explain.ensures.local ∙ ap₂ with_rule with_whole c.explain.ensures.rule))
     c.arg-4.ensures

@@ -1,21 +1,19 @@
-use Rattle.std.proofs.Common.{rules, ◌≡◌, ◌∙◌, ap, codes, true}
+use Rattle.std.proofs.Common.{◌≡◌, ◌∙◌, ap}
 use Rattle.std.proofs.lemmas.Result.{IfOk-weaker}
-use Rattle.clap.specs.Simple.{on_top}
-use Rattle.clap.specs.Words.{AddsSubcommand, App, app_of, new_app, with_subcommand}
+use Rattle.clap.specs.Words.{AddsSubcommand, App, with_subcommand}
 use Rattle.stm_arguments.specs.CommandLine.{check_app, explore_app, recipe_app, script_app, threads_app}
 use Rattle.stm_arguments.proofs.arguments.command.Goals as goal
 
 pub returns : goal.returns
 returns c =
-    let top_is : app_of c.subcommand_required.result ≡ on_top (λ top. record top { subcommand_required = true; has_version = true }) (new_app (codes "stmrun")) = search rules in
-    IfOk-weaker c.subcommand-5.result _ _ (λ m. λ (h : AddsSubcommand c.in_ok-subcommand-4.field-0 c.in_ok-explore.explore m).
-    c.in_ok-explore.ensures c.in_ok-subcommand-4.field-0 m h
+    IfOk-weaker c.subcommand-5.result _ _ (λ m. λ (h : AddsSubcommand c.in_ok-with_recipe.with_recipe c.in_ok-explore.explore m).
+    c.in_ok-explore.ensures c.in_ok-with_recipe.with_recipe m h
     ∙ ap (λ (a : App). with_subcommand a explore_app.top)
-    (c.in_ok-recipe.ensures c.in_ok-subcommand-3.field-0 c.in_ok-subcommand-4.field-0 c.in_ok-subcommand-4.ensures
+    (c.in_ok-recipe.ensures c.in_ok-with_threads.with_threads c.in_ok-with_recipe.with_recipe c.in_ok-with_recipe.ensures
     ∙ ap (λ (a : App). with_subcommand a recipe_app.top)
-    (c.in_ok-threads.ensures c.in_ok-subcommand-2.field-0 c.in_ok-subcommand-3.field-0 c.in_ok-subcommand-3.ensures
+    (c.in_ok-threads.ensures c.in_ok-with_check.with_check c.in_ok-with_threads.with_threads c.in_ok-with_threads.ensures
     ∙ ap (λ (a : App). with_subcommand a threads_app.top)
-    (c.in_ok-check.ensures c.in_ok-subcommand.field-0 c.in_ok-subcommand-2.field-0 c.in_ok-subcommand-2.ensures
+    (c.in_ok-check.ensures c.in_ok-with_script.with_script c.in_ok-with_check.with_check c.in_ok-with_check.ensures
     ∙ ap (λ (a : App). with_subcommand a check_app.top)
-    (c.in_ok-script.ensures c.subcommand_required.result c.in_ok-subcommand.field-0 c.in_ok-subcommand.ensures
-    ∙ ap (λ (a : App). with_subcommand a script_app.top) top_is))))) c.subcommand-5.ensures
+    (c.in_ok-script.ensures c.bare_command.result c.in_ok-with_script.with_script c.in_ok-with_script.ensures
+    ∙ ap (λ (a : App). with_subcommand a script_app.top) c.bare_command.ensures))))) c.subcommand-5.ensures

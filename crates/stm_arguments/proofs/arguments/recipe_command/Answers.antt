@@ -11,14 +11,14 @@ pub returns : goal.returns
 returns c =
     let bare_is : app_of c.after_help.result ≡ new_app (codes "recipe") = search rules in
     let alone_is = (λ i. (c.after_help.ensures i).has_globals) ∙ ((λ i. (c.about.ensures i).has_globals) ∙ c.new.ensures.local) in
-    let one_is = neither _ _ alone_is c.required-name.ensures.local in
-    let two_are = neither _ _ (c.in_ok-arg.ensures.globals ∙ one_is) c.optional-first.ensures.local in
-    let three_are = neither _ _ (c.in_ok-arg-2.ensures.globals ∙ two_are) c.optional-second.ensures.local in
-    let named = c.in_ok-arg.ensures.shape c.required-name.ensures.local ∙ ap₂ with_rule bare_is c.required-name.ensures.rule in
-    let with_first = c.in_ok-arg-2.ensures.shape c.optional-first.ensures.local ∙ ap₂ with_rule named c.optional-first.ensures.rule in
-    let with_second = c.in_ok-arg-3.ensures.shape c.optional-second.ensures.local ∙ ap₂ with_rule with_first c.optional-second.ensures.rule in
+    let one_is = neither _ _ alone_is c.required.ensures.local in
+    let two_are = neither _ _ (c.in_ok-arg.ensures.globals ∙ one_is) c.optional.ensures.local in
+    let three_are = neither _ _ (c.in_ok-arg-2.ensures.globals ∙ two_are) c.optional-2.ensures.local in
+    let named = c.in_ok-arg.ensures.shape c.required.ensures.local ∙ ap₂ with_rule bare_is c.required.ensures.rule in
+    let with_first = c.in_ok-arg-2.ensures.shape c.optional.ensures.local ∙ ap₂ with_rule named c.optional.ensures.rule in
+    let with_second = c.in_ok-arg-3.ensures.shape c.optional-2.ensures.local ∙ ap₂ with_rule with_first c.optional-2.ensures.rule in
     IfOk-weaker c.arg-4.result _ _ (λ m adds. λ (old new : Command). λ (h : AddsSubcommand old m new).
-    h.shape (adds.globals ∙ neither _ _ (c.in_ok-arg-3.ensures.globals ∙ three_are) c.optional-third.ensures.local)
+    h.shape (adds.globals ∙ neither _ _ (c.in_ok-arg-3.ensures.globals ∙ three_are) c.optional-3.ensures.local)
     ∙ ap (λ (a : App). with_subcommand (app_of old) a.top)
-    (adds.shape c.optional-third.ensures.local ∙ ap₂ with_rule with_second c.optional-third.ensures.rule))
+    (adds.shape c.optional-3.ensures.local ∙ ap₂ with_rule with_second c.optional-3.ensures.rule))
     c.arg-4.ensures

@@ -11,12 +11,12 @@ pub returns : goal.returns
 returns c =
     let bare_is : app_of c.after_help.result ≡ new_app (codes "script") = search rules in
     let alone_is = (λ i. (c.after_help.ensures i).has_globals) ∙ ((λ i. (c.about.ensures i).has_globals) ∙ c.new.ensures.local) in
-    let one_is = neither _ _ alone_is c.optional-input.ensures.local in
-    let two_are = neither _ _ (c.in_ok-arg.ensures.globals ∙ one_is) c.format-form.ensures.local in
-    let with_file = c.in_ok-arg.ensures.shape c.optional-input.ensures.local ∙ ap₂ with_rule bare_is c.optional-input.ensures.rule in
-    let with_format = c.in_ok-arg-2.ensures.shape c.format-form.ensures.local ∙ ap₂ with_rule with_file c.format-form.ensures.rule in
+    let one_is = neither _ _ alone_is c.optional.ensures.local in
+    let two_are = neither _ _ (c.in_ok-arg.ensures.globals ∙ one_is) c.format.ensures.local in
+    let with_file = c.in_ok-arg.ensures.shape c.optional.ensures.local ∙ ap₂ with_rule bare_is c.optional.ensures.rule in
+    let with_format = c.in_ok-arg-2.ensures.shape c.format.ensures.local ∙ ap₂ with_rule with_file c.format.ensures.rule in
     IfOk-weaker c.arg-3.result _ _ (λ m adds. λ (old new : Command). λ (h : AddsSubcommand old m new).
-    h.shape (adds.globals ∙ neither _ _ (c.in_ok-arg-2.ensures.globals ∙ two_are) c.explain-explained.ensures.local)
+    h.shape (adds.globals ∙ neither _ _ (c.in_ok-arg-2.ensures.globals ∙ two_are) c.explain.ensures.local)
     ∙ ap (λ (a : App). with_subcommand (app_of old) a.top)
-    (adds.shape c.explain-explained.ensures.local ∙ ap₂ with_rule with_format c.explain-explained.ensures.rule))
+    (adds.shape c.explain.ensures.local ∙ ap₂ with_rule with_format c.explain.ensures.rule))
     c.arg-3.ensures

@@ -1,6 +1,6 @@
 use Rattle.std.proofs.Common.{refl, sym, subst}
 use Rattle.clap.specs.Words.{found_of, rows_of}
-use Rattle.stm_arguments.specs.Asking.{NumberAt}
+use Rattle.stm_arguments.specs.Asking.{NumberAt, RunsAt}
 use Rattle.stm_arguments.proofs.CommandLemmas.{no_workers}
 use Rattle.stm_arguments.proofs.arguments.threads_of.Goals as goal
 
@@ -12,6 +12,7 @@ returns-clause-asks c = (
   c.in_ok-workers.ensures.number.0,
   c.in_ok-workers.ensures.number.1,
   c.flag_of-ends.ensures,
+  subst (λ o. RunsAt o c.in_ok-repeat.repeat) c.word_of-named.ensures c.in_ok-repeat.ensures.repeat,
   c.flag_of-explain.ensures,
 )
 

@@ -11,16 +11,16 @@ pub returns : goal.returns
 returns c =
     let bare_is : app_of c.after_help.result ≡ new_app (codes "explore") = search rules in
     let alone_is = (λ i. (c.after_help.ensures i).has_globals) ∙ ((λ i. (c.about.ensures i).has_globals) ∙ c.new.ensures.local) in
-    let one_is = neither _ _ alone_is c.required-scenario.ensures.local in
-    let two_are = neither _ _ (c.in_ok-arg.ensures.globals ∙ one_is) c.option-keeps.ensures.local in
-    let three_are = neither _ _ (c.in_ok-arg-2.ensures.globals ∙ two_are) c.option-level.ensures.local in
-    let named = c.in_ok-arg.ensures.shape c.required-scenario.ensures.local ∙ ap₂ with_rule bare_is c.required-scenario.ensures.rule in
-    let with_keeps = c.in_ok-arg-2.ensures.shape c.option-keeps.ensures.local ∙ ap₂ with_rule named c.option-keeps.ensures.rule in
-    let with_level = c.in_ok-arg-3.ensures.shape c.option-level.ensures.local ∙ ap₂ with_rule with_keeps c.option-level.ensures.rule in
-    let four_are = neither _ _ (c.in_ok-arg-3.ensures.globals ∙ three_are) c.option-budget.ensures.local in
-    let with_budget = c.in_ok-arg-4.ensures.shape c.option-budget.ensures.local ∙ ap₂ with_rule with_level c.option-budget.ensures.rule in
+    let one_is = neither _ _ alone_is c.required.ensures.local in
+    let two_are = neither _ _ (c.in_ok-arg.ensures.globals ∙ one_is) c.option.ensures.local in
+    let three_are = neither _ _ (c.in_ok-arg-2.ensures.globals ∙ two_are) c.option-2.ensures.local in
+    let named = c.in_ok-arg.ensures.shape c.required.ensures.local ∙ ap₂ with_rule bare_is c.required.ensures.rule in
+    let with_keeps = c.in_ok-arg-2.ensures.shape c.option.ensures.local ∙ ap₂ with_rule named c.option.ensures.rule in
+    let with_level = c.in_ok-arg-3.ensures.shape c.option-2.ensures.local ∙ ap₂ with_rule with_keeps c.option-2.ensures.rule in
+    let four_are = neither _ _ (c.in_ok-arg-3.ensures.globals ∙ three_are) c.option-3.ensures.local in
+    let with_budget = c.in_ok-arg-4.ensures.shape c.option-3.ensures.local ∙ ap₂ with_rule with_level c.option-3.ensures.rule in
     IfOk-weaker c.arg-5.result _ _ (λ m adds. λ (old new : Command). λ (h : AddsSubcommand old m new).
-    h.shape (adds.globals ∙ neither _ _ (c.in_ok-arg-4.ensures.globals ∙ four_are) c.explain-explained.ensures.local)
+    h.shape (adds.globals ∙ neither _ _ (c.in_ok-arg-4.ensures.globals ∙ four_are) c.explain.ensures.local)
     ∙ ap (λ (a : App). with_subcommand (app_of old) a.top)
-    (adds.shape c.explain-explained.ensures.local ∙ ap₂ with_rule with_budget c.explain-explained.ensures.rule))
+    (adds.shape c.explain.ensures.local ∙ ap₂ with_rule with_budget c.explain.ensures.rule))
     c.arg-5.ensures

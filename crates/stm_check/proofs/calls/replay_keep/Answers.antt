@@ -1,6 +1,6 @@
 use Rattle.std.proofs.Common.{ap, refl, sym, subst}
 use Rattle.std.specs.Prelude.{Result, []}
-use Rattle.stm_txn.specs.declared.refusal.Refusal.{Refusal as Cause}
+use Rattle.stm_outcome.specs.declared.refusal.Refusal.{Refusal as Cause}
 use Rattle.stm_txn.specs.Standing.{Standing, Step, IsRefusalOf, kept_alive}
 use Rattle.stm_txn.specs.Store.{StoreView}
 use Rattle.stm_reports.specs.Told.{cause_told}

@@ -1,5 +1,5 @@
 use Rattle.std.proofs.Common.{List, take, subst}
-use Rattle.stm_txn.specs.declared.advance.Expired.{Expired}
+use Rattle.stm_outcome.specs.declared.advance.Expired.{Expired}
 use Rattle.stm_entries.specs.Replay.{replay}
 use Rattle.stm_entries.specs.LiveLeases.{HasLeases}
 use Rattle.stm_check.specs.Point.{expiries}

@@ -1,7 +1,7 @@
 use Rattle.std.proofs.Common.{◌≤◌, ◌∙◌, Option, IfSome, sym, subst, arith}
 use Rattle.stm_history.specs.declared.key_state.KeyState.{KeyState}
 use Rattle.stm_history.specs.declared.revisions.TheConstants.{HIGHEST_NUMBER}
-use Rattle.stm_txn.specs.Numbers.{StateFits}
+use Rattle.stm_outcome.specs.Numbers.{StateFits}
 use Rattle.stm_check.proofs.lookups.read_told.Goals as goal
 
 pub returns-clause-in_range : goal.returns-clause-in_range

@@ -1,4 +1,4 @@
-use Rattle.stm_commands.proofs.ExplainLemmas.{says_more}
+use Rattle.stm_messages.proofs.ExplainLemmas.{says_more}
 use Rattle.stm_commands.specs.Exploring.{fault_message}
 use Rattle.stm_commands.proofs.explaining.tell_explore.Goals as goal
 

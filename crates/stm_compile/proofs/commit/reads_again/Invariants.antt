@@ -1,6 +1,6 @@
 use Rattle.std.proofs.Common.{◌≡◌, map, take}
 use Rattle.stm_history.specs.declared.key_state.ReadAnswer.{ReadAnswer}
-use Rattle.stm_txn.specs.Commits.{read_now}
+use Rattle.stm_outcome.specs.Commits.{read_now}
 use Rattle.stm_compile.proofs.commit.reads_again.Given as goal
 
 -- a read for each answer so far

@@ -11,7 +11,7 @@ use Rattle.stm_explore.proofs.GatherLemmas.{going_behind, gathers_behind, not_go
 use Rattle.stm_explore.proofs.collecting.+collect.Goals as goal
 
 pub collect-loop-chosen-init : goal.collect-loop-chosen-init
-collect-loop-chosen-init t c =
+collect-loop-chosen-init g t c =
     let p : Place = record { world = c.args.world.now; others = c.args.others.now } in
     record {
       collected = collected_none c.args.depth c.args.last p c.args.ends.now.items c.as_slice-choices.result.now c.args.found.now.items c.if-depth-eq0.false
@@ -22,7 +22,7 @@ collect-loop-chosen-init t c =
     }
 
 pub collect-loop-chosen-preserved : goal.collect-loop-chosen-preserved
-collect-loop-chosen-preserved t c =
+collect-loop-chosen-preserved g t c =
     let p : Place = record { world = c.args.world.now; others = c.args.others.now } in
     let ms : List Move = c.as_slice-choices.result.now in
     let same : c.loop-chosen.world ≡ c.args.world.now = c.loop-chosen.invariant.world (omega arith) in
@@ -38,33 +38,33 @@ collect-loop-chosen-preserved t c =
     }
 
 pub collect-returns-clause-found : goal.collect-returns-clause-found
-collect-returns-clause-found t c =
+collect-returns-clause-found g t c =
     let p : Place = record { world = c.args.world.now; others = c.args.others.now } in
     let all = collected_all c.args.depth c.args.last p c.args.ends.now.items c.as_slice-choices.result.now c.loop-chosen.chosen-index c.loop-chosen.goes_on
     c.loop-chosen.found.items c.args.found.now.items (omega arith) c.loop-chosen.invariant.collected in
     all.1
 
 pub collect-returns-clause-more : goal.collect-returns-clause-more
-collect-returns-clause-more t c =
+collect-returns-clause-more g t c =
     let p : Place = record { world = c.args.world.now; others = c.args.others.now } in
     let all = collected_all c.args.depth c.args.last p c.args.ends.now.items c.as_slice-choices.result.now c.loop-chosen.chosen-index c.loop-chosen.goes_on
     c.loop-chosen.found.items c.args.found.now.items (omega arith) c.loop-chosen.invariant.collected in
     all.0
 
 pub collect_aside-returns-clause-more : goal.collect_aside-returns-clause-more
-collect_aside-returns-clause-more t c =
+collect_aside-returns-clause-more g t c =
     subst (λ (w : World). c.in_ok-more.more ≡ goes_on_behind c.args.depth c.args.last (record { world = w; others = c.args.others.now }) c.args.chosen)
     c.in_ok-next.ensures c.in_ok-more.ensures.more
 
 pub collect_aside-returns-clause-found : goal.collect_aside-returns-clause-found
-collect_aside-returns-clause-found t c =
+collect_aside-returns-clause-found g t c =
     subst (λ (w : World). Gathers (outcomes_behind c.args.depth c.args.last (record { world = w; others = c.args.others.now }) c.args.ends.now c.args.chosen)
     c.args.found.now.items c.collect_moved-more.new.found.items) c.in_ok-next.ensures
     (subst (λ (e : Ends). Gathers (outcomes_behind c.args.depth c.args.last (record { world = c.in_ok-next.next; others = c.args.others.now }) e c.args.chosen)
     c.args.found.now.items c.collect_moved-more.new.found.items) c.in_ok-ends.ensures c.in_ok-more.ensures.found)
 
 pub collect_moved-returns-then-is_looked_at-clause-more : goal.collect_moved-returns-then-is_looked_at-clause-more
-collect_moved-returns-then-is_looked_at-clause-more t c =
+collect_moved-returns-then-is_looked_at-clause-more g t c =
     let p : Place = record { world = c.args.world.now; others = c.args.others.now } in
     going_behind c.args.depth c.args.last c.args.chosen p c.in_ok-more.more
     (ap (is_looked_at c.args.last) (sym c.in_ok-quiet.ensures.quiet) ∙ sym c.is_looked_at.ensures ∙ c.if-is_looked_at.true)
@@ -72,7 +72,7 @@ collect_moved-returns-then-is_looked_at-clause-more t c =
     c.in_ok-quiet.ensures.quiet c.in_ok-quiet.ensures.next c.left_after.ensures c.in_ok-more.ensures.more)
 
 pub collect_moved-returns-then-is_looked_at-clause-found : goal.collect_moved-returns-then-is_looked_at-clause-found
-collect_moved-returns-then-is_looked_at-clause-found t c =
+collect_moved-returns-then-is_looked_at-clause-found g t c =
     let p : Place = record { world = c.args.world.now; others = c.args.others.now } in
     gathers_behind c.args.depth c.args.last c.args.chosen p c.args.ends.now.items c.args.found.now.items c.collect.new.found.items
     (ap (is_looked_at c.args.last) (sym c.in_ok-quiet.ensures.quiet) ∙ sym c.is_looked_at.ensures ∙ c.if-is_looked_at.true)
@@ -81,13 +81,13 @@ collect_moved-returns-then-is_looked_at-clause-found t c =
     c.in_ok-quiet.ensures.next c.left_after.ensures c.in_ok-quiet.ensures.ends c.in_ok-more.ensures.found)
 
 pub collect_moved-returns-clause-more : goal.collect_moved-returns-clause-more
-collect_moved-returns-clause-more t c =
+collect_moved-returns-clause-more g t c =
     let p : Place = record { world = c.args.world.now; others = c.args.others.now } in
     not_going_behind c.args.depth c.args.last c.args.chosen p
     (ap (is_looked_at c.args.last) (sym c.in_ok-quiet.ensures.quiet) ∙ sym c.is_looked_at.ensures ∙ c.if-is_looked_at.false)
 
 pub collect_moved-returns-clause-found : goal.collect_moved-returns-clause-found
-collect_moved-returns-clause-found t c =
+collect_moved-returns-clause-found g t c =
     let p : Place = record { world = c.args.world.now; others = c.args.others.now } in
     nothing_behind c.args.depth c.args.last c.args.chosen p c.args.ends.now.items c.args.found.now.items
     (ap (is_looked_at c.args.last) (sym c.in_ok-quiet.ensures.quiet) ∙ sym c.is_looked_at.ensures ∙ c.if-is_looked_at.false)

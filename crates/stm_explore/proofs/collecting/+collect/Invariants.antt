@@ -4,20 +4,20 @@ use Rattle.stm_explore.proofs.GatherLemmas.{CollectedSoFar}
 use Rattle.stm_explore.proofs.collecting.+collect.Given as goal
 
 abbrev pub decreases-collect : goal.decreases-collect
-decreases-collect l = 4 * l.depth
+decreases-collect g l = 4 * l.depth
 
 abbrev pub decreases-collect_behind : goal.decreases-collect_behind
-decreases-collect_behind l = 4 * l.depth + 3
+decreases-collect_behind g l = 4 * l.depth + 3
 
 abbrev pub decreases-collect_aside : goal.decreases-collect_aside
-decreases-collect_aside l = 4 * l.depth + 2
+decreases-collect_aside g l = 4 * l.depth + 2
 
 abbrev pub decreases-collect_moved : goal.decreases-collect_moved
-decreases-collect_moved l = 4 * l.depth + 1
+decreases-collect_moved g l = 4 * l.depth + 1
 
 -- what was gathered so far; and world and ends are as they were, while moves are left
 abbrev pub invariant-collect-loop-chosen : goal.invariant-collect-loop-chosen
-invariant-collect-loop-chosen l =
+invariant-collect-loop-chosen g l =
     let p : Place = record { world = l.fn.world; others = l.others } in
     record {
       collected : CollectedSoFar l.depth l.last p l.fn.ends.items l.goes_on (drop l.chosen-index l.choices) l.found.items l.fn.found.items;

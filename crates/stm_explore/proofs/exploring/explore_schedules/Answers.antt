@@ -1,4 +1,4 @@
-use Rattle.std.proofs.Common.{◌≡◌, ◌∙◌, Bool, true, false, None, ap, subst}
+use Rattle.std.proofs.Common.{◌∙◌, Bool, true, false, None, ap, subst}
 use Rattle.stm_schedules.specs.Places.{Place}
 use Rattle.stm_schedules.proofs.BadSchedules.{first_bad_is_first}
 use Rattle.stm_schedules.proofs.FewerLemmas.{fewer_are_enough}
@@ -10,7 +10,7 @@ use Rattle.stm_explore.proofs.ExploreLemmas.{kept_at_once, more_at_once}
 use Rattle.stm_explore.proofs.exploring.explore_schedules.Goals as goal
 
 pub look_deeper-requires : goal.look_deeper-requires
-look_deeper-requires c =
+look_deeper-requires g c =
     let p : Place = record { world = c.args.world.now; others = c.args.others.now } in
     let seen : IsSeen c.args.rule.now 0 None p (Kept true) =
     subst (λ (l : Looked). IsSeen c.args.rule.now 0 None p l) (c.in-Kept-true.is ∙ ap (λ (b : Bool). Kept b) c.in-Kept-true.goes_on-test)
@@ -19,7 +19,7 @@ look_deeper-requires c =
     record { kept = both.0; more = both.1 }
 
 pub returns-in-Kept-false : goal.returns-in-Kept-false
-returns-in-Kept-false c =
+returns-in-Kept-false g c =
     let p : Place = record { world = c.args.world.now; others = c.args.others.now } in
     let seen : IsSeen c.args.rule.now 0 None p (Kept false) =
     subst (λ (l : Looked). IsSeen c.args.rule.now 0 None p l) (c.in-Kept-false.is ∙ ap (λ (b : Bool). Kept b) c.in-Kept-false.goes_on-test)

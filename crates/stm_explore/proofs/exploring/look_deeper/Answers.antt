@@ -13,12 +13,12 @@ use Rattle.stm_explore.proofs.KeptLemmas.{kept_up_to}
 use Rattle.stm_explore.proofs.exploring.look_deeper.Goals as goal
 
 pub look_from-requires : goal.look_from-requires
-look_from-requires c =
+look_from-requires g c =
     kept_up_to fewer_are_enough c.args.rule.now c.loop-kept.kept (c.loop-kept.kept + 1) (record { world = c.args.world.now; others = c.args.others.now })
     (omega arith) c.loop-kept.invariant.none
 
 pub loop-kept-preserved : goal.loop-kept-preserved
-loop-kept-preserved c =
+loop-kept-preserved g c =
     let p : Place = record { world = c.args.world.now; others = c.args.others.now } in
     let n : ℕ = c.loop-kept.kept in
     let seen : IsSeen c.args.rule.now (n + 1) None p (Kept true) =
@@ -29,7 +29,7 @@ loop-kept-preserved c =
     record { none = both.0; more = both.1 }
 
 pub returns-in-Ok-Kept-false : goal.returns-in-Ok-Kept-false
-returns-in-Ok-Kept-false c =
+returns-in-Ok-Kept-false g c =
     let p : Place = record { world = c.args.world.now; others = c.args.others.now } in
     let n : ℕ = c.loop-kept.kept in
     let seen : IsSeen c.args.rule.now (n + 1) None p (Kept false) =
@@ -40,7 +40,7 @@ returns-in-Ok-Kept-false c =
     c.loop-kept.invariant.more seen
 
 pub returns-in-Ok-Broken : goal.returns-in-Ok-Broken
-returns-in-Ok-Broken c =
+returns-in-Ok-Broken g c =
     let p : Place = record { world = c.args.world.now; others = c.args.others.now } in
     let n : ℕ = c.loop-kept.kept in
     let seen : IsSeen c.args.rule.now (n + 1) None p (Broken c.in-Ok-Broken.moves c.in-Ok-Broken.end) =
@@ -49,13 +49,13 @@ returns-in-Ok-Broken c =
     c.loop-kept.invariant.none seen
 
 pub returns-in-Err-Spent : goal.returns-in-Err-Spent
-returns-in-Err-Spent c =
+returns-in-Err-Spent g c =
     let p : Place = record { world = c.args.world.now; others = c.args.others.now } in
     still_open first_bad_is_first c.args.rule.now c.loop-kept.kept p c.loop-kept.invariant.none c.loop-kept.invariant.more
 
 pub returns : goal.returns
-returns c =
+returns g c =
     let p : Place = record { world = c.args.world.now; others = c.args.others.now } in
-    let all : c.loop-kept.kept ≡ c.args.budget = omega arith in
+    let all : c.loop-kept.kept ≡ c.args.budget.now.left = omega arith in
     subst (λ (n : ℕ). IsExplored c.args.rule.now p (Open n)) all
     (still_open first_bad_is_first c.args.rule.now c.loop-kept.kept p c.loop-kept.invariant.none c.loop-kept.invariant.more)

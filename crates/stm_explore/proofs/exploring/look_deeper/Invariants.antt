@@ -5,7 +5,7 @@ use Rattle.stm_explore.proofs.exploring.look_deeper.Given as goal
 
 -- every schedule of up to so many moves keeps the rule, and some schedule has more
 abbrev pub invariant-loop-kept : goal.invariant-loop-kept
-invariant-loop-kept l =
+invariant-loop-kept g l =
     let p : Place = record { world = l.world; others = l.others } in
     record {
       none : first_bad (keeps l.rule) l.kept p ≡ None;

@@ -1,4 +1,4 @@
-use Rattle.std.proofs.Common.{◌∙◌, List, [], sym, subst, refl}
+use Rattle.std.proofs.Common.{◌∙◌, List, sym, subst, refl}
 use Rattle.stm_schedules.specs.declared.outcome.Outcome.{Outcome}
 use Rattle.stm_schedules.specs.Places.{Place}
 use Rattle.stm_schedules.specs.Outcomes.{outcomes_at}
@@ -9,7 +9,7 @@ use Rattle.stm_explore.proofs.OutcomeLemmas.{found_all}
 use Rattle.stm_explore.proofs.finding.collect_all.Goals as goal
 
 pub returns : goal.returns
-returns c =
+returns g c =
     let p : Place = record { world = c.args.world.now; others = c.args.others.now } in
     let found : List Outcome = c.collect_here.new.found.items in
     found_all outcomes_are_those longest_is_all 0 p c.args.ends.now found

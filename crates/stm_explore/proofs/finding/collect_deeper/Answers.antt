@@ -10,7 +10,7 @@ use Rattle.stm_explore.proofs.OutcomeLemmas.{found_next, all_found}
 use Rattle.stm_explore.proofs.finding.collect_deeper.Goals as goal
 
 pub returns-in-Ok-false : goal.returns-in-Ok-false
-returns-in-Ok-false c =
+returns-in-Ok-false g c =
     let p : Place = record { world = c.args.world.now; others = c.args.others.now } in
     let n : ℕ = c.loop-gone_through.gone_through in
     all_found outcomes_are_those longest_is_all n (n + 1) p c.args.ends.now c.loop-gone_through.found.items c.collect_from.new.found.items (omega arith)
@@ -19,7 +19,7 @@ returns-in-Ok-false c =
     (sym (seen_goes_on fewer_are_enough (n + 1) p) ∙ sym c.in-Ok-false.ensures.more ∙ c.in-Ok-false.field-0-test)
 
 pub loop-gone_through-preserved : goal.loop-gone_through-preserved
-loop-gone_through-preserved c =
+loop-gone_through-preserved g c =
     let p : Place = record { world = c.args.world.now; others = c.args.others.now } in
     let n : ℕ = c.loop-gone_through.gone_through in
     record {
@@ -30,7 +30,7 @@ loop-gone_through-preserved c =
     }
 
 pub returns : goal.returns
-returns c =
+returns g c =
     let p : Place = record { world = c.args.world.now; others = c.args.others.now } in
-    let all : c.loop-gone_through.gone_through ≡ c.args.budget = omega arith in
+    let all : c.loop-gone_through.gone_through ≡ c.args.budget.now.left = omega arith in
     subst (λ (n : ℕ). goes_on (suc n) p ≡ true) all c.loop-gone_through.invariant.more

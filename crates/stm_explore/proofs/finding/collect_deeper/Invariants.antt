@@ -7,7 +7,7 @@ use Rattle.stm_explore.proofs.finding.collect_deeper.Given as goal
 
 -- all outcomes of whole schedules of up to so many moves are found, and some schedule has more
 abbrev pub invariant-loop-gone_through : goal.invariant-loop-gone_through
-invariant-loop-gone_through l =
+invariant-loop-gone_through g l =
     let p : Place = record { world = l.world; others = l.others } in
     record {
       found : Gathers (outcomes_up_to l.gone_through p l.ends) [] l.found.items;

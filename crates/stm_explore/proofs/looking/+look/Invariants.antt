@@ -4,20 +4,20 @@ use Rattle.stm_explore.proofs.LookLemmas.{SeenSoFar}
 use Rattle.stm_explore.proofs.looking.+look.Given as goal
 
 abbrev pub decreases-look : goal.decreases-look
-decreases-look l = 4 * l.depth
+decreases-look g l = 4 * l.depth
 
 abbrev pub decreases-look_behind : goal.decreases-look_behind
-decreases-look_behind l = 4 * l.depth + 3
+decreases-look_behind g l = 4 * l.depth + 3
 
 abbrev pub decreases-look_aside : goal.decreases-look_aside
-decreases-look_aside l = 4 * l.depth + 2
+decreases-look_aside g l = 4 * l.depth + 2
 
 abbrev pub decreases-look_moved : goal.decreases-look_moved
-decreases-look_moved l = 4 * l.depth + 1
+decreases-look_moved g l = 4 * l.depth + 1
 
 -- what was seen so far; and the world is as it was, while moves are left
 abbrev pub invariant-look-loop-chosen : goal.invariant-look-loop-chosen
-invariant-look-loop-chosen l =
+invariant-look-loop-chosen g l =
     let p : Place = record { world = l.fn.world; others = l.others } in
     record {
       seen : SeenSoFar l.rule l.depth l.last p l.goes_on (drop l.chosen-index l.choices);

@@ -1,6 +1,5 @@
 use Rattle.std.proofs.Common.{◌≡◌, take, map}
 use Rattle.std.specs.Prelude.{string_bytes}
-use Rattle.stm_history.specs.History.{key_now, value_of}
 use Rattle.stm_explore.proofs.ShownLemmas.{shown_of}
 use Rattle.stm_explore.proofs.shown.state_shown.Given as goal
 

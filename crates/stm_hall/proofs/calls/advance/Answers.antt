@@ -1,8 +1,8 @@
 use Rattle.std.proofs.Common.{◌≡◌, ◌<◌, ◌≤◌, ◌∙◌, List, ◌++◌, length, None, refl, sym, ap, subst, arith}
 use Rattle.std.specs.FinMap as finmap
 use Rattle.stm_leases.proofs.Timed.{on_ok}
-use Rattle.stm_txn.specs.declared.advance.Expired.{Expired}
-use Rattle.stm_txn.specs.declared.advance.AdvanceRefused.{AdvanceRefused}
+use Rattle.stm_outcome.specs.declared.advance.Expired.{Expired}
+use Rattle.stm_outcome.specs.declared.advance.AdvanceRefused.{AdvanceRefused}
 use Rattle.stm_txn.specs.Standing.{Standing}
 use Rattle.stm_entries.specs.declared.entry.Entry.{Entry}
 use Rattle.stm_hall.specs.HallState.{HallState, hall_of}

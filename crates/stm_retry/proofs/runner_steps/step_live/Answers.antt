@@ -1,6 +1,6 @@
 use Rattle.std.proofs.Common.{◌≡◌, List, ℕ, Ok, sym, ◌∙◌, ap}
 use Rattle.stm_txn.specs.Standing.{Standing}
-use Rattle.stm_txn.specs.Commits.{revision_read}
+use Rattle.stm_outcome.specs.Commits.{revision_read}
 use Rattle.stm_attempt.specs.declared.next.Next.TheVariants.{Fetch, Ready, Aborted, Faulted}
 use Rattle.stm_world.specs.Task.{answer_at}
 use Rattle.stm_world.specs.World.{Runner}

@@ -1,7 +1,7 @@
 use Rattle.std.proofs.Common.{◌≡◌, ◌≤◌, ◌∙◌, List, ◌++◌, length, None, sym, ap, subst, arith}
 use Rattle.std.specs.FinMap as finmap
 use Rattle.stm_leases.proofs.Timed.{on_ok}
-use Rattle.stm_txn.specs.declared.advance.Expired.{Expired}
+use Rattle.stm_outcome.specs.declared.advance.Expired.{Expired}
 use Rattle.stm_txn.specs.Standing.{Standing}
 use Rattle.stm_entries.specs.declared.entry.Entry.{Entry}
 use Rattle.stm_world.specs.World.{expiries}

@@ -1,5 +1,5 @@
 use Rattle.std.proofs.Common.{ap, refl, sym, subst, Result}
-use Rattle.stm_txn.specs.declared.refusal.Refusal.{Refusal}
+use Rattle.stm_outcome.specs.declared.refusal.Refusal.{Refusal}
 use Rattle.stm_txn.specs.Standing.{Standing, Step, IsRefusalOf, cancelled}
 use Rattle.stm_txn.specs.Store.{StoreView}
 use Rattle.stm_world.specs.declared.event.WorldEvent.TheVariants.{Cancel}

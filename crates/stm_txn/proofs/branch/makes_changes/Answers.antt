@@ -1,8 +1,8 @@
 use Rattle.std.proofs.Common.{◌∙◌, sym, ap, drop, suc, [], ◌∷◌}
 use Rattle.std.proofs.Math.Seq.{drop-cons}
-use Rattle.stm_txn.specs.Branches.{has_changes}
-use Rattle.stm_txn.specs.LookUps.{changes_copied}
-use Rattle.stm_txn.proofs.Branching.{changed_at_first}
+use Rattle.stm_outcome.specs.Branches.{has_changes}
+use Rattle.stm_outcome.specs.LookUps.{changes_copied}
+use Rattle.stm_outcome.proofs.Branching.{changed_at_first}
 use Rattle.stm_txn.proofs.branch.makes_changes.Goals as goal
 
 pub returns-then-makes_change : goal.returns-then-makes_change

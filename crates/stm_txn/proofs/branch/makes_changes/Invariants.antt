@@ -1,5 +1,5 @@
 use Rattle.std.proofs.Common.{◌≡◌, [], drop}
-use Rattle.stm_txn.specs.LookUps.{changes_copied}
+use Rattle.stm_outcome.specs.LookUps.{changes_copied}
 use Rattle.stm_txn.proofs.branch.makes_changes.Given as goal
 
 -- the operations so far changed nothing

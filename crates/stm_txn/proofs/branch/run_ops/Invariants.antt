@@ -1,8 +1,8 @@
 use Rattle.std.proofs.Common.{◌≡◌, ◌++◌, drop}
 use Rattle.std.specs.Prelude.{IsTrue}
 use Rattle.stm_history.specs.History.{now}
-use Rattle.stm_txn.specs.Branches.{are_readable}
-use Rattle.stm_txn.specs.LookUps.{changes_copied, answers_copied}
+use Rattle.stm_outcome.specs.Branches.{are_readable}
+use Rattle.stm_outcome.specs.LookUps.{changes_copied, answers_copied}
 use Rattle.stm_txn.proofs.branch.run_ops.Given as goal
 
 -- the operations that are left make the rest of the answers and of the changes

@@ -1,6 +1,6 @@
 use Rattle.std.proofs.Common.{◌≡◌, drop}
-use Rattle.stm_txn.specs.Branches.{branch_refusal}
-use Rattle.stm_txn.specs.Terms.{widest_terms}
+use Rattle.stm_outcome.specs.Branches.{branch_refusal}
+use Rattle.stm_outcome.specs.Terms.{widest_terms}
 use Rattle.stm_txn.proofs.refuse.find_refusal.Given as goal
 
 -- the first refusal is looked for in the rest

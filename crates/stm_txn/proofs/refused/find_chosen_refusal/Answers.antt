@@ -1,6 +1,6 @@
 use Rattle.std.proofs.Common.{sym, ap, ◌∙◌}
 use Rattle.stm_history.specs.History.{History, key_now}
-use Rattle.stm_txn.specs.Compares.{first_failed}
+use Rattle.stm_outcome.specs.Compares.{first_failed}
 use Rattle.stm_txn.proofs.Refusing.{chosen_refused}
 use Rattle.stm_txn.proofs.refused.find_chosen_refusal.Goals as goal
 

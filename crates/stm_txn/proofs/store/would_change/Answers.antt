@@ -1,8 +1,8 @@
 use Rattle.std.proofs.Common.{◌∙◌, ap}
 use Rattle.stm_history.specs.History.{History, key_now}
-use Rattle.stm_txn.specs.Branches.{changes_of_branch, has_changes}
-use Rattle.stm_txn.specs.Compares.{first_failed}
-use Rattle.stm_txn.specs.Outcome.{chosen}
+use Rattle.stm_outcome.specs.Branches.{changes_of_branch, has_changes}
+use Rattle.stm_outcome.specs.Compares.{first_failed}
+use Rattle.stm_outcome.specs.Outcome.{chosen}
 use Rattle.stm_txn.proofs.Counting.{changes_alike}
 use Rattle.stm_txn.proofs.store.would_change.Goals as goal
 

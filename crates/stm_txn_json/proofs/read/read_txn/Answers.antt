@@ -2,7 +2,7 @@ use Rattle.serde_json.specs.View.{view}
 use Rattle.stm_json.proofs.FaultLemmas.{told_faults}
 use Rattle.stm_json.proofs.OutcomeLemmas.{told_means, told_reads}
 use Rattle.std.specs.Prelude.{Ok}
-use Rattle.stm_txn.specs.declared.txn.Txn.{Txn}
+use Rattle.stm_outcome.specs.declared.txn.Txn.{Txn}
 use Rattle.stm_txn_json.specs.FirstFault.{first_fault}
 use Rattle.stm_txn_json.specs.Grammar.{SpellsTxn}
 use Rattle.stm_txn_json.specs.Reading.{txn_of}

@@ -5,7 +5,7 @@ use Rattle.std.proofs.lemmas.List.Elements.{All-push}
 use Rattle.std.proofs.lemmas.Map.Text.{hash_map_updates_text}
 use Rattle.indexmap.specs.IndexMap.{get_by_text}
 use Rattle.stm_history.specs.declared.key_state.ReadAnswer.{ReadAnswer}
-use Rattle.stm_txn.specs.Numbers.{ReadFits}
+use Rattle.stm_outcome.specs.Numbers.{ReadFits}
 use Rattle.stm_compile.specs.Answers.{answer_in}
 use Rattle.stm_compile.specs.Places.{AreAnswerPlaces}
 use Rattle.stm_compile.proofs.AnswerLemmas.{place_added}

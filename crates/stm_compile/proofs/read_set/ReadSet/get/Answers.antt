@@ -1,7 +1,7 @@
 use Rattle.std.proofs.Common.{◌≡◌, ◌<◌, length, List, Option, Some, IfSome, refl, sym, ap, ◌∙◌, subst, arith}
 use Rattle.std.proofs.lemmas.Option.{slice_get_read}
 use Rattle.stm_history.specs.declared.key_state.ReadAnswer.{ReadAnswer}
-use Rattle.stm_txn.specs.Numbers.{ReadFits}
+use Rattle.stm_outcome.specs.Numbers.{ReadFits}
 use Rattle.stm_compile.specs.Places.{answer_at}
 use Rattle.stm_compile.specs.Answers.{answer_in}
 use Rattle.stm_compile.proofs.AnswerLemmas.{answer_fits}

@@ -1,7 +1,7 @@
 use Rattle.std.proofs.Common.{List, sym, ◌∙◌, subst, All}
 use Rattle.indexmap.specs.IndexMap.{get_by_text}
 use Rattle.stm_history.specs.declared.key_state.ReadAnswer.{ReadAnswer}
-use Rattle.stm_txn.specs.Numbers.{ReadFits}
+use Rattle.stm_outcome.specs.Numbers.{ReadFits}
 use Rattle.stm_compile.specs.Places.{AreAnswerPlaces}
 use Rattle.stm_compile.proofs.AnswerLemmas.{places_copied}
 use Rattle.stm_compile.proofs.read_set.ReadSetClone.clone.Goals as goal

@@ -5,7 +5,7 @@ use Rattle.stm_keys.specs.Events.{change_of_event, events_of}
 use Rattle.stm_leases.specs.Leases.{Leases, lease_of}
 use Rattle.stm_watch.specs.Calls.{StandFor}
 use Rattle.stm_txn.specs.Leasing.{hanging, hung_after, hangs_of, HangOnLive}
-use Rattle.stm_txn.specs.Numbers.{LeasesFit}
+use Rattle.stm_outcome.specs.Numbers.{LeasesFit}
 use Rattle.stm_txn.specs.Store.{StoreView}
 use Rattle.stm_txn.proofs.Bounding.{hung_fit}
 use Rattle.stm_txn.proofs.Ending.{still_stored}

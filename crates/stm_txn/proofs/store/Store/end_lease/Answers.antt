@@ -4,7 +4,7 @@ use Rattle.stm_history.specs.History.{History, HasDistinctKeys}
 use Rattle.stm_keys.specs.Keys.{DeletePresent}
 use Rattle.stm_txn.specs.Leasing.{lease_now, hangs_of, HangOnLive}
 use Rattle.stm_txn.specs.LeaseKeys.{deletions_of}
-use Rattle.stm_txn.specs.Outcome.{with_changes}
+use Rattle.stm_outcome.specs.Outcome.{with_changes}
 use Rattle.stm_txn.specs.Store.{StoreView}
 use Rattle.stm_txn.proofs.Ending.{deletions_are_distinct, deletions_are_present, hangs_of-deletions, gone}
 use Rattle.stm_txn.proofs.store.Store.end_lease.Goals as goal

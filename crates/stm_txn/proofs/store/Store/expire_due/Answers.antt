@@ -3,8 +3,8 @@ use Rattle.std.specs.FinMap as finmap
 use Rattle.stm_leases.specs.LeaseLog.{LogItem}
 use Rattle.stm_leases.specs.Leases.{StandsFor}
 use Rattle.stm_leases.specs.DueFirst.{first_due}
-use Rattle.stm_txn.specs.declared.advance.Expired.{Expired}
-use Rattle.stm_txn.specs.Numbers.{AllExpiredFit}
+use Rattle.stm_outcome.specs.declared.advance.Expired.{Expired}
+use Rattle.stm_outcome.specs.Numbers.{AllExpiredFit}
 use Rattle.stm_txn.specs.Standing.{Standing, Advance, expire_all, after, with_expiries, expired_in, IsCutShort, HasCome}
 use Rattle.stm_txn.specs.Store.{StoreView}
 use Rattle.stm_txn.proofs.Ending.{due_lives, ended_fewer, one_more_expired, one_more_logged, cut_short}

@@ -2,7 +2,7 @@ use Rattle.std.proofs.Common.{◌≡◌, List}
 use Rattle.std.specs.FinMap as finmap
 use Rattle.stm_leases.specs.LeaseLog.{LogItem}
 use Rattle.stm_leases.specs.Leases.{StandsFor}
-use Rattle.stm_txn.specs.Numbers.{AllExpiredFit}
+use Rattle.stm_outcome.specs.Numbers.{AllExpiredFit}
 use Rattle.stm_txn.specs.Standing.{after, expire_all, with_expiries, HasCome}
 use Rattle.stm_txn.proofs.store.Store.expire_due.Given as goal
 

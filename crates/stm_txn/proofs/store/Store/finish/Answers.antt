@@ -2,14 +2,14 @@ use Rattle.std.proofs.Common.{◌∙◌, sym, ap, subst, List, []}
 use Rattle.std.specs.Prelude.{IsTrue}
 use Rattle.stm_history.specs.declared.change.Change.{Change}
 use Rattle.stm_history.specs.History.{now, HasDistinctKeys}
-use Rattle.stm_txn.specs.declared.txn.Op.{Op}
-use Rattle.stm_txn.specs.Branches.{are_readable}
-use Rattle.stm_txn.specs.LookUps.{changes_copied}
+use Rattle.stm_outcome.specs.declared.txn.Op.{Op}
+use Rattle.stm_outcome.specs.Branches.{are_readable}
+use Rattle.stm_outcome.specs.LookUps.{changes_copied}
 use Rattle.stm_keys.specs.Keys.{DeletePresent}
 use Rattle.stm_txn.specs.Leasing.{hangs_of, HangOnLive}
 use Rattle.stm_txn.specs.Standing.{terms_of}
 use Rattle.stm_txn.specs.Store.{StoreView}
-use Rattle.stm_txn.proofs.Branching.{changes_are_distinct}
+use Rattle.stm_outcome.proofs.Branching.{changes_are_distinct}
 use Rattle.stm_txn.proofs.Running.{all_readable, hangs_live, deletes_present}
 use Rattle.stm_txn.proofs.store.Store.finish.Goals as goal
 

@@ -7,7 +7,7 @@ use Rattle.stm_leases.specs.Leases.{lease_of}
 use Rattle.stm_leases.specs.AttachedKeys.{HasKeys}
 use Rattle.stm_txn.specs.LeaseKeys.{deletions_of}
 use Rattle.stm_txn.specs.Leasing.{lease_now}
-use Rattle.stm_txn.specs.Outcome.{is_used_up}
+use Rattle.stm_outcome.specs.Outcome.{is_used_up}
 use Rattle.stm_txn.specs.Store.{StoreView}
 use Rattle.stm_txn.proofs.Ending.{stuck}
 use Rattle.stm_txn.proofs.store.Store.is_stuck.Goals as goal

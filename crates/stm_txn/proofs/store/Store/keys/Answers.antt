@@ -1,6 +1,6 @@
 use Rattle.std.proofs.Common.{◌≤◌, subst}
 use Rattle.stm_history.specs.declared.revisions.TheConstants.{HIGHEST_REVISION}
-use Rattle.stm_txn.specs.Numbers.{StatesFit}
+use Rattle.stm_outcome.specs.Numbers.{StatesFit}
 use Rattle.stm_txn.specs.Store.{StoreView}
 use Rattle.stm_txn.proofs.Fitting.{states_fit}
 use Rattle.stm_txn.proofs.store.Store.keys.Goals as goal

@@ -4,7 +4,7 @@ use Rattle.stm_history.specs.declared.change.Change.{Change}
 use Rattle.stm_history.specs.History.{HasDistinctKeys}
 use Rattle.stm_keys.specs.Keys.{DeletePresent}
 use Rattle.stm_leases.specs.Live.{is_live_in}
-use Rattle.stm_txn.specs.Commits.{is_on_dead_lease, effective}
+use Rattle.stm_outcome.specs.Commits.{is_on_dead_lease, effective}
 use Rattle.stm_txn.specs.Leasing.{hangs_of, HangOnLive}
 use Rattle.stm_txn.specs.Store.{StoreView}
 use Rattle.stm_txn.proofs.Writing.{effective_distinct, effective_live, effective_present}

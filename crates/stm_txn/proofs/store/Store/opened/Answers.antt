@@ -7,7 +7,7 @@ use Rattle.stm_leases.specs.Live.{Live}
 use Rattle.stm_watch.specs.declared.watched.Watcher.{Watcher}
 use Rattle.stm_watch.specs.Calls.{StandFor}
 use Rattle.stm_txn.specs.Leasing.{hanging}
-use Rattle.stm_txn.specs.Numbers.{LeasesFit}
+use Rattle.stm_outcome.specs.Numbers.{LeasesFit}
 use Rattle.stm_txn.proofs.store.Store.opened.Goals as goal
 
 pub invariant_of-result : goal.invariant_of-result

@@ -1,7 +1,7 @@
 use Rattle.std.proofs.Common.{◌≤◌, subst}
 use Rattle.stm_history.specs.declared.revisions.TheConstants.{HIGHEST_REVISION}
 use Rattle.stm_history.specs.History.{now}
-use Rattle.stm_txn.specs.Numbers.{LeasesFit}
+use Rattle.stm_outcome.specs.Numbers.{LeasesFit}
 use Rattle.stm_txn.specs.Store.{StoreView}
 use Rattle.stm_txn.proofs.Polling.{batch_fits}
 use Rattle.stm_txn.proofs.store.Store.poll.Goals as goal

@@ -1,11 +1,12 @@
 use Rattle.std.proofs.Common.{◌≡◌, ◌∙◌, sym, ap, subst, false, List}
 use Rattle.stm_history.specs.History.{key_now}
-use Rattle.stm_txn.specs.declared.txn.Op.{Op}
-use Rattle.stm_txn.specs.Checks.{has_clash}
-use Rattle.stm_txn.specs.Compares.{first_failed}
+use Rattle.stm_outcome.specs.declared.txn.Op.{Op}
+use Rattle.stm_outcome.specs.Checks.{has_clash}
+use Rattle.stm_outcome.specs.Compares.{first_failed}
 use Rattle.stm_txn.specs.Standing.{terms_of}
 use Rattle.stm_txn.specs.Store.{StoreView}
-use Rattle.stm_txn.proofs.Applying.{came, chosen_apart}
+use Rattle.stm_outcome.proofs.Applying.{chosen_apart}
+use Rattle.stm_txn.proofs.Transacting.{came}
 use Rattle.stm_txn.proofs.store.Store.run_chosen.Goals as goal
 
 pub run-requires : goal.run-requires

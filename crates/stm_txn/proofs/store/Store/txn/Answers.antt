@@ -2,10 +2,10 @@ use Rattle.std.proofs.Common.{◌≤◌, subst}
 use Rattle.stm_history.specs.declared.revisions.TheConstants.{HIGHEST_REVISION}
 use Rattle.stm_history.specs.History.{now}
 use Rattle.stm_leases.specs.Live.{AreInRange}
-use Rattle.stm_txn.specs.Numbers.{LeasesFit}
+use Rattle.stm_outcome.specs.Numbers.{LeasesFit}
 use Rattle.stm_txn.specs.Standing.{Standing}
 use Rattle.stm_txn.specs.Store.{StoreView}
-use Rattle.stm_txn.proofs.Applying.{placed, of_answer}
+use Rattle.stm_txn.proofs.Transacting.{placed, of_answer}
 use Rattle.stm_txn.proofs.Fitting.{numbers_fit}
 use Rattle.stm_txn.proofs.store.Store.txn.Goals as goal
 

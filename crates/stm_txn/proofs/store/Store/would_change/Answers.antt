@@ -1,5 +1,5 @@
 use Rattle.std.proofs.Common.{◌∙◌, ap}
-use Rattle.stm_txn.specs.Outcome.{would_change}
+use Rattle.stm_outcome.specs.Outcome.{would_change}
 use Rattle.stm_txn.specs.Store.{StoreView}
 use Rattle.stm_txn.proofs.Counting.{told_revision}
 use Rattle.stm_txn.proofs.store.Store.would_change.Goals as goal

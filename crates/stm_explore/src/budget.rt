@@ -1,0 +1,59 @@
+//! The events that a search may take, and who is told how far it is.
+ghost use Rattle.std.specs.Prelude.{◌≡◌, ◌+◌, IfErr, OnOk, OnErr};
+ghost use Rattle.stm_explore.specs.declared.halt.Halt.TheVariants.{Spent};
+
+use crate::halt::Halt;
+
+/// Of so many events the observer is told of the last.
+const TOLD_EACH: u64 = 5000;
+
+/// Who is told how far a search is. It only hears of it: whatever it does, the search answers the same.
+pub trait Observer {
+    /// All schedules of up to so many moves were gone through, and there are longer ones. So many more events may be taken.
+    fn passed(&mut self, length: u64, left: u64);
+
+    /// Events were taken, and so many more may be.
+    fn spent(&mut self, left: u64);
+
+    /// The search has ended.
+    fn ended(&mut self);
+}
+
+/// An observer who looks away.
+#[derive(Clone, Copy, Debug, PartialEq, Eq)]
+pub struct Nobody;
+
+impl Observer for Nobody {
+    fn passed(&mut self, _length: u64, _left: u64) {}
+
+    fn spent(&mut self, _left: u64) {}
+
+    fn ended(&mut self) {}
+}
+
+/// How many events a search may take, and who is told how far it is: of each length of schedules, of each 5000th event, and of its end.
+#[derive(Debug, Drop)]
+pub struct Budget<O> {
+    /// How many events may be taken. A search leaves what it has not taken.
+    pub left: u64,
+    /// Who is told.
+    pub observer: O,
+}
+
+impl<O: Observer> Budget<O> {
+    /// Counts one event more, where one may still be taken.
+    pub(crate) fn spend(&mut self) -> Result<(), Halt>
+        ensures ok { OnOk result (self.new.left + 1 ≡ self.old.left) }
+        ensures spent { IfErr result (λ halt. halt ≡ Spent) }
+        ensures err { OnErr result (self.old.left ≡ 0) }
+    {
+        if self.left == 0 {
+            return Err(Halt::Spent);
+        }
+        self.left -= 1;
+        if self.left % TOLD_EACH == 0 {
+            self.observer.spent(self.left);
+        }
+        Ok(())
+    }
+}

@@ -1,0 +1,12 @@
+use Rattle.stm_jobs.proofs.TallyLemmas.{none_made, all_made, one_made}
+use Rattle.stm_jobs.proofs.running.count_runs.Goals as goal
+
+pub loop-made-init : goal.loop-made-init
+loop-made-init g c = none_made _ _ _ _ c.new-tally.ensures.empty
+
+-- as many were counted as were made
+pub count_run-requires-clause-made : goal.count_run-requires-clause-made
+count_run-requires-clause-made g c κs within = all_made _ _ _ _ _ c.loop-made.invariant
+
+pub loop-made-preserved : goal.loop-made-preserved
+loop-made-preserved g c = one_made _ _ _ _ _ _ c.loop-made.invariant c.in-Ok.ensures.counted

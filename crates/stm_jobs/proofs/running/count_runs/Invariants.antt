@@ -1,0 +1,6 @@
+use Rattle.stm_jobs.specs.Running.{AreCounted}
+use Rattle.stm_jobs.proofs.running.count_runs.Given as goal
+
+-- the runs so far are counted
+abbrev pub invariant-loop-made : goal.invariant-loop-made
+invariant-loop-made g l = AreCounted l.made l.start l.calls l.jobs l.tally.entries

@@ -1,0 +1,10 @@
+use Rattle.std.proofs.lemmas.Result.{IfOk-weaker, IfErr-weaker}
+use Rattle.stm_jobs.proofs.running.run_once.Goals as goal
+
+pub returns-in-Ok-clause-shows : goal.returns-in-Ok-clause-shows
+returns-in-Ok-clause-shows g c =
+    IfOk-weaker c.text_on.result _ _ (λ text printed. printed c.args.start c.args.calls.now c.in-Ok.ensures) c.text_on.ensures.shows
+
+pub returns-in-Ok-clause-fault : goal.returns-in-Ok-clause-fault
+returns-in-Ok-clause-fault g c =
+    IfErr-weaker c.text_on.result _ _ (λ fault told. told c.args.start c.args.calls.now c.in-Ok.ensures) c.text_on.ensures.fault

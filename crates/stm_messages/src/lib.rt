@@ -1,0 +1,8 @@
+//! What the commands say on standard error of a fault: texts in pieces, which take no memory, and what stands behind them to explain it.
+#![tactic(auto)]
+
+mod messages;
+
+pub use messages::{write_bad, write_both, write_text};
+pub use stm_devices::{DeviceFault, Sink};
+pub use stm_json::BadInput;

@@ -1,0 +1,12 @@
+pub mod Terms
+pub mod Operations
+pub mod Compares
+pub mod Checks
+pub mod Branches
+pub mod Outcome
+pub mod LookUps
+pub mod Effect
+pub mod Commits
+pub mod Laws
+pub mod Numbers
+pub mod Names

@@ -1,0 +1,25 @@
+-- What a store takes a transaction on.
+--
+-- etcd's API reference, "Transaction" and "Lease", for the keys that are compared and read and for the leases that keys are put
+-- on; "Compaction": no revision below the compacted one can be read; and its server's flag `--max-txn-ops`, the most operations
+-- of a transaction, 128 where it is not given.
+use Rattle.std.specs.Prelude.{ℕ, Bool}
+use Rattle.stm_history.specs.History.{History}
+use Rattle.stm_leases.specs.Live.{Live, is_live_in}
+use Rattle.stm_outcome.specs.declared.check.TheConstants.{MOST_OPERATIONS}
+
+-- the history, whether an id is that of a live lease, the lowest revision that can be read, and the most elements of each of a
+-- transaction's three lists
+pub record Terms : Type 0 where
+  pub history : History
+  pub is_live : ℕ → Bool
+  pub floor : ℕ
+  pub limit : ℕ
+
+-- the most operations that any store takes
+abbrev pub most_operations : ℕ
+most_operations = MOST_OPERATIONS
+
+-- the terms on which most is taken: every revision can be read, and the limit is the highest
+abbrev pub widest_terms : History → Live → Terms
+widest_terms h live = record { history = h; is_live = is_live_in live; floor = 0; limit = most_operations }

@@ -1,0 +1,10 @@
+//! The command `threads`, over devices: a scenario's starts are run as jobs by several threads, and what that comes to is printed.
+#![tactic(auto)]
+
+mod messages;
+mod threading;
+
+pub use stm_devices::{DeviceFault, Sink, Source, Std};
+pub use stm_explain::Kept;
+pub use stm_jobs::{MOST_WORKERS, Printing};
+pub use threading::{ThreadsOptions, threads_as_to, threads_to};

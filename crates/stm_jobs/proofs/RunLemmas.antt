@@ -16,8 +16,8 @@ use Rattle.stm_report.specs.Script.{Devices}
 use Rattle.stm_report.proofs.ScriptLemmas.{scenario_in-front}
 use Rattle.stm_txn.specs.Standing.{Standing}
 use Rattle.stm_hall.specs.HallState.{HallState, made_over}
-use Rattle.stm_worker.specs.declared.job.Job.{Job}
-use Rattle.stm_worker.specs.declared.job_end.JobEnd.{JobEnd}
+use Rattle.stm_workers.specs.declared.job.Job.{Job}
+use Rattle.stm_workers.specs.declared.job_end.JobEnd.{JobEnd}
 use Rattle.stm_workers.specs.declared.gathered.FaultCause.{FaultCause}
 use Rattle.stm_workers.specs.declared.gathered.FaultCause.TheVariants.{OutOfMemory as NoMemory, Spawn as NoThread, Audit as AtFault}
 use Rattle.stm_workers.specs.Gathered.{RanTo, BrokeOff}

@@ -14,7 +14,7 @@ use Rattle.std.proofs.lemmas.Map.Steps.{lookup-le-sum}
 use Rattle.std.proofs.lemmas.Map.Text.{is_eq-slice_cmp}
 use Rattle.std.proofs.lemmas.Map.Views.{All-values-insert_entry}
 use Rattle.stm_world.specs.declared.event.WorldEvent.{WorldEvent}
-use Rattle.stm_worker.specs.declared.job.Job.{Job}
+use Rattle.stm_workers.specs.declared.job.Job.{Job}
 use Rattle.stm_jobs.specs.declared.shown.Shown.TheVariants.{Outcome}
 use Rattle.stm_jobs.specs.Outcomes.{Tally, Counts, times_in}
 use Rattle.stm_jobs.specs.Running.{AreCounted, HasCounted, IsOfRun}

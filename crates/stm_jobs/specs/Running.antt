@@ -11,8 +11,8 @@ use Rattle.stm_report.specs.Script.{Devices, IsUntouched}
 use Rattle.stm_world.specs.declared.event.WorldEvent.{WorldEvent}
 use Rattle.stm_world.specs.World.{opened, world_after}
 use Rattle.stm_hall.specs.HallState.{HallState, made_over}
-use Rattle.stm_worker.specs.declared.job.Job.{Job}
-use Rattle.stm_worker.specs.declared.job_end.JobEnd.{JobEnd}
+use Rattle.stm_workers.specs.declared.job.Job.{Job}
+use Rattle.stm_workers.specs.declared.job_end.JobEnd.{JobEnd}
 use Rattle.stm_workers.specs.declared.gathered.FaultCause.{FaultCause}
 use Rattle.stm_workers.specs.declared.gathered.FaultCause.TheVariants.{OutOfMemory as NoMemory, Spawn as NoThread, Audit as AtFault}
 use Rattle.stm_workers.specs.Gathered.{RanTo, BrokeOff}

@@ -4,7 +4,7 @@ ghost use Rattle.serde_json.specs.View.{view};
 ghost use Rattle.serde_json.specs.Written.{compact_text, has_float};
 ghost use Rattle.stm_meaning.specs.States.{IsAscending};
 ghost use Rattle.stm_reports.specs.LineData.{list, value_data};
-ghost use Rattle.stm_worker.specs.declared.job_end.JobEnd.TheVariants.{Committed};
+ghost use Rattle.stm_workers.specs.declared.job_end.JobEnd.TheVariants.{Committed};
 ghost use Rattle.stm_jobs.specs.Outcomes.{end_data, front_text, output_in, output_of, pair_data, pairs, IsFrontOf};
 
 use crate::printing::refusal_name;
@@ -12,8 +12,7 @@ use serde_json::{Value as Json, json};
 use std::alloc::{AllocError, Global};
 use stm_entries::Entry;
 use stm_meaning::{State, Value};
-use stm_worker::JobEnd;
-use stm_workers::Gathered;
+use stm_workers::{Gathered, JobEnd};
 
 /// A value as JSON.
 fn value_json(alloc: Global, value: &Value) -> Result<Json, AllocError>

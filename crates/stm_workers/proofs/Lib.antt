@@ -1,3 +1,9 @@
+pub mod LockedLemmas
+pub mod AskLemmas
+pub mod NextLemmas
+pub mod AttemptLemmas
+pub mod OutcomeLemmas
+pub mod Sent
 pub mod EndLaws
 pub mod StopLaws
 pub mod AttemptLaws

@@ -4,20 +4,20 @@ use Rattle.stm_draw.specs.declared.table.JobSeat.{JobSeat}
 use Rattle.stm_draw.specs.declared.view.Size.{Size}
 use Rattle.stm_hall.specs.HallState.{HallState}
 use Rattle.stm_workers.specs.declared.start_point.StartPoint.{StartPoint}
-use Rattle.stm_worker.specs.declared.job.Job.{Job}
-use Rattle.stm_worker.specs.declared.job_end.JobEnd.{JobEnd}
+use Rattle.stm_workers.specs.declared.job.Job.{Job}
+use Rattle.stm_workers.specs.declared.job_end.JobEnd.{JobEnd}
 use Rattle.stm_workers.specs.declared.gathered.FaultCause.{FaultCause}
 use Rattle.stm_workers.specs.declared.gathered.FaultCause.TheVariants.{OutOfMemory, Spawn, Audit}
 use Rattle.stm_workers.specs.Ends.{start_point, AllStand, StandsAt}
-use Rattle.stm_worker.specs.Commits.{commits_in, is_committed, TookCommitsOf}
+use Rattle.stm_workers.specs.Commits.{commits_in, is_committed, TookCommitsOf}
 use Rattle.stm_workers.specs.Drawn.{HasDrawnAll}
 use Rattle.stm_workers.specs.Runs.{HaveTheirRuns}
 use Rattle.stm_workers.specs.Gathered.{RanTo, IsAtFault, OnAudit, BrokeOff}
 use Rattle.stm_workers.specs.declared.thread_fault.ThreadFault.{ThreadFault}
 use Rattle.stm_workers.specs.declared.thread_fault.ThreadFault.TheVariants.{OutOfMemory as NoMemory, Spawn as NoThread}
 use Rattle.stm_workers.specs.Causes.{cause_of}
-use Rattle.stm_worker.specs.Calls.{HasGoneOn, HasKeptStore, takes_commits_of}
-use Rattle.stm_worker.proofs.LockedLemmas.{goes_on, has_not_gone, took_commits, took_nothing}
+use Rattle.stm_workers.specs.Calls.{HasGoneOn, HasKeptStore, takes_commits_of}
+use Rattle.stm_workers.proofs.LockedLemmas.{goes_on, has_not_gone, took_commits, took_nothing}
 
 -- the ends were gathered, and each stands
 pub ran_to : (before after : HallState) (jobs : List Job) (ends : List JobEnd) (attempts : List ℕ) (begun : StartPoint) (committed : ℕ) →

@@ -1,3 +1,8 @@
+pub mod Commits
+pub mod Calls
+pub mod Attempts
+pub mod AttemptOutcomes
+pub mod Codes
 pub mod Drawn
 pub mod Runs
 pub mod Ends

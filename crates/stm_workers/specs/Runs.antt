@@ -1,8 +1,8 @@
 -- How the jobs of a list came to their ends.
 use Rattle.std.specs.Prelude.{◌≡◌, ℕ, List, [], ◌∷◌, ◌++◌, Some, slice_get}
-use Rattle.stm_worker.specs.declared.job.Job.{Job}
-use Rattle.stm_worker.specs.declared.job_end.JobEnd.{JobEnd}
-use Rattle.stm_worker.specs.Attempts.{HasCome, HasSomeRun}
+use Rattle.stm_workers.specs.declared.job.Job.{Job}
+use Rattle.stm_workers.specs.declared.job_end.JobEnd.{JobEnd}
+use Rattle.stm_workers.specs.Attempts.{HasCome, HasSomeRun}
 use Rattle.stm_workers.specs.declared.worker.EndOf.{EndOf}
 
 -- a worker that had seen so much, and these ends, has brought the job at a place to its end

@@ -6,12 +6,13 @@ ghost use Rattle.stm_workers.specs.Ends.{AreOfOneState, MayHaveStopped};
 ghost use Rattle.stm_workers.specs.Ends.{entry_named, names_entry, IsCommitOf, IsGivenUp, IsBorneOut, BorneOutAt, StandsAt, AllStand};
 ghost use Rattle.stm_workers.specs.Marks.{NamesWithin, IsNewAt, is_marked, revision_of};
 
+use crate::job::Job;
+use crate::job_end::JobEnd;
 use crate::start_point::StartPoint;
 use std::alloc::{AllocError, Global};
 use stm_entries::Entry;
 use stm_hall::{Hall, ReadAnswer};
 use stm_program::Level;
-use stm_worker::{Job, JobEnd};
 
 /// Whether an entry is a commit of this job after which the store's revision was this.
 fn is_commit_of(entry: &Entry, job: &Job, after: u64) -> bool

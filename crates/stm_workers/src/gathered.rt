@@ -1,7 +1,7 @@
 //! What a run of jobs comes to.
+use crate::job_end::JobEnd;
 use stm_draw::JobSeat;
 use stm_hall::Hall;
-use stm_worker::JobEnd;
 
 /// All jobs have ended.
 #[derive(Drop)]

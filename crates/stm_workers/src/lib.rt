@@ -1,25 +1,37 @@
 //! Programs run as jobs by several threads on one store behind one lock.
 //!
-//! Each worker draws a job and brings it to its end (`stm_worker`). Each job is drawn once. What nobody can know before all threads have ended is
-//! looked at then, by the audit.
+//! The store is a `Hall` behind one lock, beside a count of the commits that it took. Each worker draws a job and brings it to its end. It evaluates the job
+//! without the lock, and holds the lock for one fetch or one commit at a time. After a commit that failed the job is attempted again, until it has sent as
+//! many commits as it may. Each job is drawn once. What nobody can know before all threads have ended is looked at then, by the audit.
 #![tactic(auto)]
 
+mod attempts;
 mod auditing;
+mod executor;
+mod gate;
 mod gathered;
+mod job;
+mod job_end;
 pub mod laws;
+mod locked;
 mod placing;
 mod run;
 mod shared;
 mod start_point;
+mod stop;
+mod store_refusal;
 mod thread_fault;
 mod threading;
 mod worker;
 
 pub use auditing::audit;
+pub use gate::{Gate, NoGate};
 pub use gathered::{FaultCause, Gathered, RunFault};
+pub use job::Job;
+pub use job_end::{JobEnd, JobRefusal};
 pub use run::{MOST_WORKERS, run_workers};
 pub use start_point::StartPoint;
 pub use stm_draw::{JobSeat, JobTable};
 pub use stm_hall::{CommitRefusal, FetchRefusal, Hall, ReadAnswer, Sequence, Text, Verdict};
 pub use stm_meaning::Fault;
-pub use stm_worker::{Gate, Job, JobEnd, JobRefusal, NoGate, StoreRefusal};
+pub use store_refusal::StoreRefusal;

@@ -2,15 +2,19 @@
 ghost use Rattle.std.specs.Prelude.{◌≡◌, ◌+◌, ◌≤◌, ◌<◌, length, count_by, IfOk, IfErr, IfNone, IfSome};
 ghost use Rattle.stm_draw.specs.Draw.{size_of, newcomer};
 ghost use Rattle.stm_draw.specs.Seats.{IsSeatAt, seat_view, table_id, table_size};
-ghost use Rattle.stm_worker.specs.Commits.{commits_in, is_committed, TookCommitsOf};
-ghost use Rattle.stm_worker.specs.Calls.{HasGoneOn, HasKeptStore};
+ghost use Rattle.stm_workers.specs.Commits.{commits_in, is_committed, TookCommitsOf};
+ghost use Rattle.stm_workers.specs.Calls.{HasGoneOn, HasKeptStore};
 ghost use Rattle.stm_workers.specs.Drawn.{HasDrawnAll};
 ghost use Rattle.stm_workers.specs.Ends.{start_point, StandsAt, AllStand};
 ghost use Rattle.stm_workers.specs.Runs.{HaveTheirRuns};
 ghost use Rattle.stm_workers.specs.Gathered.{RanTo, OnAudit, BrokeOff};
 
 use crate::auditing::audit;
+use crate::gate::Gate;
 use crate::gathered::{FaultCause, Gathered, RunFault};
+use crate::job::Job;
+use crate::job_end::JobEnd;
+use crate::locked::{Locked, RunOfJobs};
 use crate::placing::{Placed, place_ends};
 use crate::shared::Shared;
 use crate::start_point::StartPoint;
@@ -25,7 +29,6 @@ use std::sync::{Mutex, Wait};
 use std::thread::Threads;
 use stm_draw::{JobSeat, JobTable};
 use stm_hall::Hall;
-use stm_worker::{Gate, Job, JobEnd, Locked, RunOfJobs};
 
 /// How many workers there may be.
 pub const MOST_WORKERS: usize = 16;

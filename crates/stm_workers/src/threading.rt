@@ -3,6 +3,8 @@ ghost use Rattle.std.specs.Prelude.{◌≡◌, ◌+◌, ◌≤◌, ◌<◌, vec_
 ghost use Rattle.stm_draw.specs.Seats.{seat_view, table_id, table_size};
 ghost use Rattle.stm_workers.specs.declared.thread_fault.ThreadFault.TheVariants.{OutOfMemory, Spawn};
 
+use crate::gate::Gate;
+use crate::locked::RunOfJobs;
 use crate::shared::Shared;
 use crate::thread_fault::ThreadFault;
 use crate::worker::{Collected, Coordinator, RetiredWorker, Worker, WorkerStep};
@@ -11,7 +13,6 @@ use std::sync::Wait;
 use std::thread;
 use std::thread::{JoinHandle, Scope, Threads};
 use stm_draw::JobTable;
-use stm_worker::{Gate, RunOfJobs};
 
 /// Draws jobs, each of which the worker brings to its end, until there are none left.
 fn draw_all<R: RunOfJobs, W: Wait, G: Gate>(

@@ -1,8 +1,8 @@
 use Rattle.std.proofs.Common.{◌≡◌, ℕ, List, Some, slice_get, refl, sym, subst, ap, ◌∙◌}
 use Rattle.std.proofs.lemmas.List.Elements.{All-same, All-push}
-use Rattle.stm_worker.specs.declared.job.Job.{Job}
-use Rattle.stm_worker.specs.Attempts.{HasCome}
-use Rattle.stm_worker.proofs.LockedLemmas.{job_of_some}
+use Rattle.stm_workers.specs.declared.job.Job.{Job}
+use Rattle.stm_workers.specs.Attempts.{HasCome}
+use Rattle.stm_workers.proofs.LockedLemmas.{job_of_some}
 use Rattle.stm_workers.specs.declared.worker.EndOf.{EndOf}
 use Rattle.stm_workers.specs.Drawn.{jobs_of, committed_in, drawing}
 use Rattle.stm_workers.specs.Runs.{HasItsRun}

@@ -1,5 +1,0 @@
-use Rattle.stm_worker.proofs.NextLemmas.{begun_is_of}
-use Rattle.stm_worker.proofs.attempts.first_attempt.Goals as goal
-
-pub returns-clause-is_its : goal.returns-clause-is_its
-returns-clause-is_its c = begun_is_of c.args.job.now _ _ c.new.ensures

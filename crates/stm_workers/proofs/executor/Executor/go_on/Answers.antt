@@ -1,0 +1,101 @@
+use Rattle.stm_workers.proofs.NextLemmas.{aborted_is_not_done, faulted_is_not_done, ready_is_of, advanced_is_of, supplied_is_of, waits_for}
+use Rattle.stm_workers.proofs.NextLemmas.{aborted_is_run, faulted_is_run, reads_taken}
+use Rattle.std.proofs.Common.{List, Some, inl, inr, refl, ap, sym, ◌∙◌}
+use Rattle.stm_history.specs.declared.key_state.ReadAnswer.{ReadAnswer}
+use Rattle.std.proofs.lemmas.Result.{err_from_is_err_and}
+use Rattle.stm_attempt.specs.AttemptState.{AttemptState, supplied}
+use Rattle.stm_workers.specs.declared.stop.Stop.TheVariants.{OutOfMemory}
+use Rattle.stm_workers.specs.Attempts.{state_of}
+use Rattle.stm_workers.proofs.AttemptLemmas.{told_out, fetch_stops}
+use Rattle.stm_workers.proofs.executor.Executor.go_on.Goals as goal
+
+pub advance-requires : goal.advance-requires
+advance-requires g c = c.requires.0
+
+pub returns-in-Ready-clause-attempt : goal.returns-in-Ready-clause-attempt
+returns-in-Ready-clause-attempt g c = advanced_is_of c.args.job.now _ _ c.in_ok-next.ensures.ok c.requires
+
+-- it is a run of the job
+pub returns-in-Ready-clause-ready : goal.returns-in-Ready-clause-ready
+returns-in-Ready-clause-ready g c = ready_is_of c.args.job.now _ _ c.requires (sym c.in_ok-next.ensures.next ∙ c.in-Ready.is)
+
+pub of_run-requires : goal.of_run-requires
+of_run-requires g c = aborted_is_not_done _ _ _ _ (sym c.in_ok-next.ensures.next ∙ c.in-Aborted.is)
+
+pub of_run-requires-in-Faulted : goal.of_run-requires-in-Faulted
+of_run-requires-in-Faulted g c = faulted_is_not_done _ _ _ _ (sym c.in_ok-next.ensures.next ∙ c.in-Faulted.is)
+
+-- the answer is for the key that the attempt waits for
+pub supply-requires-clause-asked : goal.supply-requires-clause-asked
+supply-requires-clause-asked g c =
+    waits_for c.advance.new.self c.in_ok-next.next c.in-Fetch.key c.in-Fetch.at c.in_ok-answer-in-Fetch.answer c.in_ok-next.ensures.asked c.in-Fetch.is
+    c.in_ok-answer-in-Fetch.ensures.key
+
+pub returns-in_ok-supply-in-Fetch-clause-attempt : goal.returns-in_ok-supply-in-Fetch-clause-attempt
+returns-in_ok-supply-in-Fetch-clause-attempt g c =
+    supplied_is_of c.args.job.now c.in_ok-answer-in-Fetch.answer c.advance.new.self _ c.in_ok-supply-in-Fetch.ensures.ok
+    (advanced_is_of c.args.job.now _ _ c.in_ok-next.ensures.ok c.requires)
+
+-- ---- a fetch
+
+pub returns-in_ok-supply-in-Fetch-clause-fetch : goal.returns-in_ok-supply-in-Fetch-clause-fetch
+returns-in_ok-supply-in-Fetch-clause-fetch g c = λ none. record {
+  key = c.in-Fetch.key;
+  at = c.in-Fetch.at;
+  wants = sym c.in_ok-next.ensures.next ∙ c.in-Fetch.is;
+  answer = c.in_ok-answer-in-Fetch.answer;
+  answered = c.in_ok-answer-in-Fetch.ensures.answered;
+  goes_on = c.in_ok-supply-in-Fetch.ensures.ok
+      ∙ ap (λ (a : AttemptState). supplied c.in_ok-answer-in-Fetch.answer a) c.in_ok-next.ensures.ok;
+  sees = c.in_ok-answer-in-Fetch.ensures.seen.1;
+}
+
+pub returns-in-Ready-clause-fetch : goal.returns-in-Ready-clause-fetch
+returns-in-Ready-clause-fetch g c = λ none. absurd (cc)
+
+pub returns-in-Ready-clause-is_ready : goal.returns-in-Ready-clause-is_ready
+returns-in-Ready-clause-is_ready g c = (sym c.in_ok-next.ensures.next ∙ c.in-Ready.is, refl)
+
+-- ---- an attempt that goes no further
+
+pub returns-in-Aborted-clause-stops : goal.returns-in-Aborted-clause-stops
+returns-in-Aborted-clause-stops g c = inr (
+  inl (record {
+    run = c.in-Aborted.run';
+    is_run = aborted_is_run _ _ _ _ (sym c.in_ok-next.ensures.next ∙ c.in-Aborted.is);
+    told = c.of_run.ensures.end;
+    reads = c.of_run.ensures.reads ∙ ap (λ (rs : List ReadAnswer). Some rs) (reads_taken c.args.job.now.program c.args.attempt.now c.advance.new.self
+        c.take_reads.result c.in_ok-next.ensures.ok c.take_reads.ensures.reads);
+  }),
+  refl,
+)
+
+pub returns-in-Faulted-clause-stops : goal.returns-in-Faulted-clause-stops
+returns-in-Faulted-clause-stops g c = inr (
+  inl (record {
+    run = c.in-Faulted.run';
+    is_run = faulted_is_run _ _ _ _ (sym c.in_ok-next.ensures.next ∙ c.in-Faulted.is);
+    told = c.of_run-in-Faulted.ensures.end;
+    reads = c.of_run-in-Faulted.ensures.reads
+        ∙ ap (λ (rs : List ReadAnswer). Some rs) (reads_taken c.args.job.now.program c.args.attempt.now c.advance.new.self
+        c.take_reads-in-Faulted.result c.in_ok-next.ensures.ok c.take_reads-in-Faulted.ensures.reads);
+  }),
+  refl,
+)
+
+pub returns-in_err-next-clause-stops : goal.returns-in_err-next-clause-stops
+returns-in_err-next-clause-stops g c =
+    let exit = err_from_is_err_and c.from_residual.result c.from_residual.ensures.1 in
+    told_out c.from_residual.result _ exit.0 OutOfMemory exit.1 exit.2 (inl refl)
+
+pub returns-in_err-answer-in-Fetch-clause-stops : goal.returns-in_err-answer-in-Fetch-clause-stops
+returns-in_err-answer-in-Fetch-clause-stops g c =
+    let exit = err_from_is_err_and c.from_residual-in_err-answer-in-Fetch.result c.from_residual-in_err-answer-in-Fetch.ensures.1 in
+    told_out c.from_residual-in_err-answer-in-Fetch.result _ exit.0 c.in_err-answer-in-Fetch.field-0.0 exit.1 exit.2
+    (fetch_stops c.args.job.now (state_of c.args.attempt.now c.args.seen.now) c.in-Fetch.key c.in-Fetch.at _ _ (sym c.in_ok-next.ensures.next ∙ c.in-Fetch.is)
+    c.in_err-answer-in-Fetch.ensures.refused c.in_err-answer-in-Fetch.ensures.stopped)
+
+pub returns-in_err-supply-in-Fetch-clause-stops : goal.returns-in_err-supply-in-Fetch-clause-stops
+returns-in_err-supply-in-Fetch-clause-stops g c =
+    let exit = err_from_is_err_and c.from_residual-in_err-supply-in-Fetch.result c.from_residual-in_err-supply-in-Fetch.ensures.1 in
+    told_out c.from_residual-in_err-supply-in-Fetch.result _ exit.0 OutOfMemory exit.1 exit.2 (inl refl)

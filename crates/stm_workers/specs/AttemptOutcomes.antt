@@ -1,0 +1,13 @@
+-- What an attempt came to.
+use Rattle.stm_attempt.specs.AttemptState.{AttemptState}
+use Rattle.stm_workers.specs.declared.job_end.JobEnd.{JobEnd}
+use Rattle.stm_workers.specs.declared.attempts.AttemptOutcome.{AttemptOutcome}
+use Rattle.stm_workers.specs.declared.attempts.AttemptOutcome.TheVariants.{Ended, Again}
+
+abbrev pub IfEnded : (JobEnd → Type 0) → AttemptOutcome → Type 0
+IfEnded says (Ended end) = says end
+IfEnded says (Again next) = Unit {0}
+
+abbrev pub IfAgain : (AttemptState → Type 0) → AttemptOutcome → Type 0
+IfAgain says (Ended end) = Unit {0}
+IfAgain says (Again next) = says next

@@ -1,0 +1,244 @@
+-- What a worker does for a job, from its first attempt to its end: between its calls of the hall, of which each is made in some hall, since others come to it
+-- in between.
+--
+-- The documentation of the Go package `clientv3/concurrency`, "STM": a transaction whose commit fails is run again, on what was read again then. That a fetch
+-- says what its worker has seen, how many commits a job may send, and what its end tells, is our own.
+use Rattle.std.specs.Prelude.{◌≡◌, ◌⊎◌, ℕ, zero, suc, ◌+◌, ◌≤◌, Bool, true, List, [], ◌∷◌, if◌then◌else◌, Option, None, Some, Ok, Err}
+use Rattle.stm_history.specs.declared.key_state.ReadAnswer.{ReadAnswer}
+use Rattle.stm_meaning.specs.declared.run.End.{End}
+use Rattle.stm_meaning.specs.declared.run.End.TheVariants.{Aborted as AbortedEnd, Faulted as FaultedEnd}
+use Rattle.stm_meaning.specs.declared.run.Run.{Run}
+use Rattle.stm_meaning.specs.declared.run.Answered.TheVariants.{Ended as EndedRun}
+use Rattle.stm_outcome.specs.declared.answer.OpAnswer.TheVariants.{Get as GetAnswer}
+use Rattle.stm_outcome.specs.declared.answer.TxnAnswer.{TxnAnswer}
+use Rattle.stm_outcome.specs.declared.refusal.Refusal.TheVariants.{OutOfMemory as Want}
+use Rattle.stm_compile.specs.Levels.{is_serializable}
+use Rattle.stm_attempt.specs.declared.next.Next.TheVariants.{Fetch, Ready}
+use Rattle.stm_attempt.specs.AttemptState.{AttemptState, begun, advanced, supplied}
+use Rattle.stm_attempt.specs.Next.{next_of}
+use Rattle.stm_attempt.specs.ReadyRun.{ReadyRun}
+use Rattle.stm_attempt.specs.Settled.{run_on, settled}
+use Rattle.stm_calls.specs.Fetched.{fetch_of}
+use Rattle.stm_hall.specs.declared.refusal.FetchRefusal.{FetchRefusal}
+use Rattle.stm_hall.specs.declared.refusal.FetchRefusal.TheVariants.{Behind as FetchBehind, Store as FetchRefused}
+use Rattle.stm_hall.specs.declared.refusal.CommitRefusal.{CommitRefusal}
+use Rattle.stm_hall.specs.declared.refusal.CommitRefusal.TheVariants.{Unvouched as CommitUnvouched, Store as CommitRefused}
+use Rattle.stm_hall.specs.declared.verdict.Verdict.{Verdict}
+use Rattle.stm_hall.specs.declared.verdict.Verdict.TheVariants.{Committed, Failed}
+use Rattle.stm_workers.specs.declared.job.Job.{Job}
+use Rattle.stm_workers.specs.declared.job_end.JobEnd.{JobEnd}
+use Rattle.stm_workers.specs.declared.job_end.JobEnd.TheVariants.{Committed as CommittedJob, Aborted as AbortedJob, Faulted as FaultedJob, Refused as RefusedJob}
+use Rattle.stm_workers.specs.declared.job_end.JobEnd.TheVariants.{GaveUp}
+use Rattle.stm_workers.specs.declared.job_end.JobRefusal.TheVariants.{Store, Behind, Unvouched}
+use Rattle.stm_workers.specs.declared.stop.Stop.{Stop}
+use Rattle.stm_workers.specs.declared.stop.Stop.TheVariants.{OutOfMemory, Aborted, Faulted, Refused}
+use Rattle.stm_workers.specs.Calls.{AnswersInSomeHall, JudgedInSomeHall, committed_by, seen_after}
+
+-- ---- what a stop tells
+
+-- the end of a run
+abbrev pub end_told : Stop → Option End
+end_told OutOfMemory = None
+end_told (Aborted text reads) = Some (AbortedEnd text)
+end_told (Faulted fault reads) = Some (FaultedEnd fault)
+end_told (Refused refusal) = None
+
+-- and what that was on
+abbrev pub reads_told : Stop → Option (List ReadAnswer)
+reads_told OutOfMemory = None
+reads_told (Aborted text reads) = Some reads
+reads_told (Faulted fault reads) = Some reads
+reads_told (Refused refusal) = None
+
+-- the hall's refusal of a fetch
+abbrev pub fetch_refusal_told : Stop → Option FetchRefusal
+fetch_refusal_told OutOfMemory = Some (FetchRefused Want)
+fetch_refusal_told (Refused (Store refusal)) = Some (FetchRefused refusal.cause)
+fetch_refusal_told (Refused (Behind seen now)) = Some (FetchBehind seen now)
+fetch_refusal_told (Refused (Unvouched key)) = None
+fetch_refusal_told (Aborted text reads) = None
+fetch_refusal_told (Faulted fault reads) = None
+
+-- the hall's refusal of a commit
+abbrev pub commit_refusal_told : Stop → Option CommitRefusal
+commit_refusal_told OutOfMemory = Some (CommitRefused Want)
+commit_refusal_told (Refused (Store refusal)) = Some (CommitRefused refusal.cause)
+commit_refusal_told (Refused (Behind seen now)) = None
+commit_refusal_told (Refused (Unvouched key)) = Some (CommitUnvouched key)
+commit_refusal_told (Aborted text reads) = None
+commit_refusal_told (Faulted fault reads) = None
+
+-- the end of a job, which want of memory is not
+abbrev pub job_end_told : Stop → Option JobEnd
+job_end_told OutOfMemory = None
+job_end_told (Aborted text reads) = Some (AbortedJob text reads)
+job_end_told (Faulted fault reads) = Some (FaultedJob fault reads)
+job_end_told (Refused refusal) = Some (RefusedJob refusal)
+
+-- the end of a job by the verdict on its last commit
+abbrev pub end_after : Verdict → JobEnd
+end_after (Committed index revision) = CommittedJob index revision
+end_after (Failed key seen modified answers) = GaveUp key
+
+-- ---- one attempt
+
+-- how far a job has come: its attempt, and the greatest revision that an answer to its worker carried
+pub record JobState : Type 0 where
+  pub attempt : AttemptState
+  pub seen : ℕ
+
+abbrev pub state_of : AttemptState → ℕ → JobState
+state_of attempt seen = record { attempt = attempt; seen = seen }
+
+-- a hall that was asked for a key at a revision, by who has seen this, answered so
+pub record IsAnswered (seen : ℕ) (key : List ℕ) (at : ℕ) (answer : ReadAnswer) : Type 0 where
+  pub told : TxnAnswer
+  pub by_hall : AnswersInSomeHall seen (fetch_of key at) (Ok told)
+  pub is_read : told.answers ≡ GetAnswer answer ∷ []
+
+-- it refused, as the stop tells
+pub record IsUnanswered (seen : ℕ) (key : List ℕ) (at : ℕ) (stop : Stop) : Type 0 where
+  pub cause : FetchRefusal
+  pub by_hall : AnswersInSomeHall seen (fetch_of key at) (Err cause)
+  pub told : fetch_refusal_told stop ≡ Some cause
+
+-- a hall refused the commit of a ready attempt, as the stop tells
+pub record IsTurnedAway (ready : ReadyRun) (stop : Stop) : Type 0 where
+  pub cause : CommitRefusal
+  pub by_hall : JudgedInSomeHall ready (Err cause)
+  pub told : commit_refusal_told stop ≡ Some cause
+
+-- A fetch: the attempt wants a key at a revision; that is asked for, with exactly what was seen; and the attempt goes on with the answer, whose revision is
+-- what was seen then.
+pub record IsFetch (job : Job) (before after : JobState) : Type 0 where
+  pub key : List ℕ
+  pub at : ℕ
+  pub wants : next_of job.program before.attempt.level before.attempt.known ≡ Fetch key at
+  pub answer : ReadAnswer
+  pub answered : IsAnswered before.seen key at answer
+  pub goes_on : after.attempt ≡ supplied answer (advanced job.program before.attempt)
+  pub sees : after.seen ≡ answer.revision
+
+-- so many fetches, one after the other
+abbrev pub AreFetches : Job → ℕ → JobState → JobState → Type 0
+AreFetches job zero before after = after ≡ before
+AreFetches job (suc n) before after = (between : JobState) × AreFetches job n before between × IsFetch job between after
+
+abbrev pub HasFetched : Job → JobState → JobState → Type 0
+HasFetched job before after = (n : ℕ) × AreFetches job n before after
+
+-- the attempt is ready to commit
+abbrev pub IsReadyAt : Job → JobState → ReadyRun → Type 0
+IsReadyAt job at ready = next_of job.program at.attempt.level at.attempt.known ≡ Ready ready
+
+-- after some fetches it is
+pub record IsEvaluated (job : Job) (before : JobState) (ready : ReadyRun) (seen : ℕ) : Type 0 where
+  pub at : JobState
+  pub fetches : HasFetched job before at
+  pub is_ready : IsReadyAt job at ready
+  pub sees : seen ≡ at.seen
+
+-- and this is the verdict on it, of which the revisions are seen
+pub record HasTried (job : Job) (before : JobState) (verdict : Verdict) (seen : ℕ) : Type 0 where
+  pub ready : ReadyRun
+  pub fetched : ℕ
+  pub evaluated : IsEvaluated job before ready fetched
+  pub by_hall : JudgedInSomeHall ready (Ok verdict)
+  pub sees : seen ≡ seen_after fetched verdict
+
+-- ---- an attempt without a verdict
+
+-- the program has come to an end other than its last statement, on what the attempt has read
+pub record IsEndOfRun (job : Job) (at : JobState) (stop : Stop) : Type 0 where
+  pub run : Run
+  pub is_run : run_on job.program (settled job.program at.attempt.known) ≡ EndedRun run
+  pub told : end_told stop ≡ Some run.end
+  pub reads : reads_told stop ≡ Some (settled job.program at.attempt.known)
+
+-- the key that it wants is refused
+pub record IsFetchRefused (job : Job) (at : JobState) (stop : Stop) : Type 0 where
+  pub key : List ℕ
+  pub of_rev : ℕ
+  pub wants : next_of job.program at.attempt.level at.attempt.known ≡ Fetch key of_rev
+  pub refused : IsUnanswered at.seen key of_rev stop
+
+-- its commit is
+pub record IsCommitRefused (job : Job) (at : JobState) (stop : Stop) : Type 0 where
+  pub ready : ReadyRun
+  pub is_ready : IsReadyAt job at ready
+  pub refused : IsTurnedAway ready stop
+
+-- it goes no further from here, for one of these
+abbrev pub IsStop : Job → JobState → Stop → Type 0
+IsStop job at stop = IsEndOfRun job at stop ⊎ IsFetchRefused job at stop ⊎ IsCommitRefused job at stop
+
+pub record StopsAt (job : Job) (before : JobState) (stop : Stop) (seen : ℕ) : Type 0 where
+  pub at : JobState
+  pub fetches : HasFetched job before at
+  pub is_stop : IsStop job at stop
+  pub sees : seen ≡ at.seen
+
+-- after some fetches it goes no further, or memory was wanted somewhere
+abbrev pub HasStopped : Job → JobState → Stop → ℕ → Type 0
+HasStopped job before stop seen = (stop ≡ OutOfMemory) ⊎ StopsAt job before stop seen
+
+-- ---- a job
+
+-- the attempt after a commit that failed with these answers: at the two serializable levels they are prefetched for it
+abbrev pub next_attempt : Job → List ReadAnswer → AttemptState
+next_attempt job answers = begun job.level (if is_serializable job.level then answers else [])
+
+abbrev pub IsNextAttempt : Job → Verdict → AttemptState → Type 0
+IsNextAttempt job (Committed index revision) next = ⊥
+IsNextAttempt job (Failed key seen modified answers) next = next ≡ next_attempt job answers
+
+-- an attempt whose commit failed, and where the next one begins
+pub record HasFailed (job : Job) (before after : JobState) : Type 0 where
+  pub verdict : Verdict
+  pub tried : HasTried job before verdict after.seen
+  pub next : IsNextAttempt job verdict after.attempt
+
+-- so many, one after the other
+abbrev pub HaveFailed : Job → ℕ → JobState → JobState → Type 0
+HaveFailed job zero before after = after ≡ before
+HaveFailed job (suc n) before after = (between : JobState) × HaveFailed job n before between × HasFailed job between after
+
+-- an attempt, the last one or not, that ends its job by the verdict on its commit: the commit was made, or no attempt comes after it
+pub record HasEnded (job : Job) (before : JobState) (is_last : Bool) (end : JobEnd) (seen : ℕ) : Type 0 where
+  pub verdict : Verdict
+  pub tried : HasTried job before verdict seen
+  pub told : end ≡ end_after verdict
+  pub last : committed_by verdict ≡ 0 → is_last ≡ true
+
+-- A job has come to an attempt with this number, from 1 on, of which this is so: that is one more than the commits of it that failed before, and at most the
+-- commits that it may send. The first attempt begins with nothing prefetched.
+pub record ComesTo (job : Job) (seen attempts : ℕ) (Then : JobState → Type 0) : Type 0 where
+  pub failed : ℕ
+  pub counted : attempts ≡ failed + 1
+  pub within : attempts ≤ job.limit
+  pub last : JobState
+  pub failures : HaveFailed job failed (state_of (begun job.level []) seen) last
+  pub then_is : Then last
+
+-- the end by the verdict on a commit: it was made, or it failed and was the last one that the job may send
+pub record EndsByVerdict (job : Job) (end : JobEnd) (seen attempts : ℕ) (before : JobState) : Type 0 where
+  pub verdict : Verdict
+  pub tried : HasTried job before verdict seen
+  pub told : end ≡ end_after verdict
+  pub last : committed_by verdict ≡ 0 → attempts ≡ job.limit
+
+-- the end by an attempt that goes no further
+pub record EndsByStop (job : Job) (end : JobEnd) (seen : ℕ) (before : JobState) : Type 0 where
+  pub stop : Stop
+  pub stopped : StopsAt job before stop seen
+  pub told : job_end_told stop ≡ Some end
+
+-- A job that was begun by who had seen the one revision has come to this end after so many attempts, and the other was seen then. It has sent at most as many
+-- commits as it may; and it gave up only where it has sent exactly so many, which all failed.
+abbrev pub HasCome : Job → ℕ → JobEnd → ℕ → ℕ → Type 0
+HasCome job seen end after attempts =
+    ComesTo job seen attempts (EndsByVerdict job end after attempts) ⊎ ComesTo job seen attempts (EndsByStop job end after)
+
+-- the same, whatever its worker had seen before and after
+abbrev pub HasSomeRun : Job → JobEnd → ℕ → Type 0
+HasSomeRun job end attempts = ∥ ((seen : ℕ) × (after : ℕ) × HasCome job seen end after attempts) ∥₁

@@ -1,0 +1,306 @@
+//! One job of a worker, from its first attempt to its end.
+ghost use Rattle.std.specs.Prelude.{◌≡◌, ◌⊎◌, ℕ, ◌+◌, ◌<◌, ◌≤◌, true, false, [], None, IfOk, IfErr, IfSome, OnOk, OnErr};
+ghost use Rattle.stm_attempt.specs.AttemptState.{begun};
+ghost use Rattle.stm_calls.specs.Prefetch.{MayBePrefetched};
+ghost use Rattle.stm_hall.specs.Verdicts.{CanGoOn};
+ghost use Rattle.stm_workers.specs.declared.stop.Stop.TheVariants.{OutOfMemory};
+ghost use Rattle.stm_workers.specs.Attempts.{state_of, next_attempt, end_after, IsFetch, IsReadyAt, IsEvaluated, IsStop, IsNextAttempt};
+ghost use Rattle.stm_workers.specs.Attempts.{HasTried, HasStopped, HasFailed, HasEnded, HasCome, ComesTo, EndsByVerdict};
+ghost use Rattle.stm_workers.specs.AttemptOutcomes.{IfEnded, IfAgain};
+ghost use Rattle.stm_workers.specs.Calls.{committed_by, counted_end, greatest_carried, seen_after, is_run_of_some, IsOfJob, IsRunOfJob};
+
+use crate::executor::Executor;
+use crate::gate::Gate;
+use crate::job::Job;
+use crate::job_end::JobEnd;
+use crate::locked::RunOfJobs;
+use crate::stop::Stop;
+use std::alloc::{AllocError, Global};
+use std::sync::Wait;
+use std::sync::ledger::Share;
+use stm_attempt::{Attempt, Next, ReadAnswer, Ready, Sequence};
+use stm_hall::Verdict;
+use stm_program::Level;
+
+/// What an attempt came to.
+#[derive(Drop)]
+pub(crate) enum AttemptOutcome {
+    /// The job has its end.
+    Ended(JobEnd),
+    /// Its commit failed, and this is the next attempt.
+    Again(Attempt),
+}
+
+/// The greatest of a revision and those that answers carry.
+fn greatest_revision(seen: u64, answers: &[ReadAnswer]) -> u64
+    ensures greatest { result ≡ greatest_carried seen answers.now }
+    ensures at_least { seen ≤ result }
+{
+    let mut greatest = seen;
+    for answer in answers {
+        greatest = greatest.max(answer.revision);
+    }
+    greatest
+}
+
+/// The greatest of a revision and those that a verdict carries.
+fn greatest_of(seen: u64, verdict: &Verdict) -> u64
+    ensures greatest { result ≡ seen_after seen verdict.now }
+    ensures at_least { seen ≤ result }
+{
+    match verdict {
+        Verdict::Committed { revision, .. } => seen.max(*revision),
+        Verdict::Failed { answers, .. } => greatest_revision(seen, answers.as_slice()),
+    }
+}
+
+/// The first attempt of a job. It takes no memory.
+fn first_attempt(alloc: Global, job: &Job) -> Attempt
+    ensures begun { result ≡ begun job.now.level [] }
+    ensures is_its { IsOfJob job.now result }
+{
+    Attempt::new(alloc, job.level)
+}
+
+/// The next attempt of a job after a commit that failed: with the answers that came with it at the two serializable levels.
+fn next_attempt(
+    alloc: Global,
+    job: &Job,
+    answers: Sequence<ReadAnswer>,
+) -> Result<Attempt, AllocError>
+    requires { MayBePrefetched answers }
+    ensures begun { IfOk result (λ attempt. attempt ≡ next_attempt job.now answers) }
+    ensures is_its { IfOk result (IsOfJob job.now) }
+{
+    match job.level {
+        Level::SerializableSnapshot | Level::Serializable => {
+            let attempt = Attempt::from_prefetch(alloc, job.level, answers)?;
+            Ok(attempt)
+        }
+        Level::RepeatableReads | Level::ReadCommitted => Ok(Attempt::new(alloc, job.level)),
+    }
+}
+
+/// What comes after the verdict on an attempt, the last one or not: the job's end, or its next attempt.
+fn after_verdict(
+    alloc: Global,
+    job: &Job,
+    verdict: Verdict,
+    is_last: bool,
+) -> Result<AttemptOutcome, Stop>
+    requires { CanGoOn verdict }
+    ensures counted { IfOk result (IfEnded (λ end. counted_end end ≡ committed_by verdict)) }
+    ensures again { IfOk result (IfAgain (λ next. IsOfJob job.now next × (committed_by verdict ≡ 0))) }
+    ensures told { IfOk result (IfEnded (λ end. (end ≡ end_after verdict) × (committed_by verdict ≡ 0 → is_last ≡ true))) }
+    ensures next { IfOk result (IfAgain (λ next. (is_last ≡ false) × IsNextAttempt job.now verdict next)) }
+    ensures stopped { OnErr result (committed_by verdict ≡ 0) }
+    ensures want { IfErr result (λ stop. stop ≡ OutOfMemory) }
+{
+    match verdict {
+        Verdict::Committed { index, revision } => {
+            Ok(AttemptOutcome::Ended(JobEnd::Committed { index, revision }))
+        }
+        Verdict::Failed { key, answers, .. } => {
+            if is_last {
+                return Ok(AttemptOutcome::Ended(JobEnd::GaveUp { key }));
+            }
+            let next = next_attempt(alloc, job, answers)?;
+            Ok(AttemptOutcome::Again(next))
+        }
+    }
+}
+
+impl<'a, R: RunOfJobs, W: Wait, G: Gate> Executor<'a, R, W, G> {
+    /// Goes on with an attempt to the next key that it wants, which is fetched, or until it is ready.
+    fn go_on(
+        &self,
+        place: usize,
+        job: &Job,
+        attempt: &mut Attempt,
+        seen: &mut u64,
+    ) -> Result<Option<Ready>, Stop>
+        requires { IsOfJob job.now attempt.old }
+        ensures attempt { OnOk result (IsOfJob job.now attempt.new) }
+        ensures ready { IfOk result (λ found. IfSome found (λ ready. IsRunOfJob job.now ready)) }
+        ensures never_falls { seen.old ≤ seen.new }
+        ensures fetch { IfOk result (λ found. found ≡ None → IsFetch job.now (state_of attempt.old seen.old) (state_of attempt.new seen.new)) }
+        ensures is_ready { IfOk result (λ found. IfSome found (λ ready. IsReadyAt job.now (state_of attempt.old seen.old) ready × (seen.new ≡ seen.old))) }
+        ensures stops { IfErr result (λ stop. (stop ≡ OutOfMemory) ⊎ (IsStop job.now (state_of attempt.old seen.old) stop × (seen.new ≡ seen.old))) }
+    {
+        let next = attempt.advance(&job.program)?;
+        match next {
+            Next::Ready(ready) => Ok(Some(ready)),
+            Next::Aborted(run) => Err(Stop::of_run(run, attempt.take_reads())),
+            Next::Faulted(run) => Err(Stop::of_run(run, attempt.take_reads())),
+            Next::Fetch { key, at } => {
+                self.gate.before_fetch(place);
+                let answer = self.ask(&key, at, seen)?;
+                attempt.supply(answer)?;
+                Ok(None)
+            }
+        }
+    }
+
+    /// Goes on with an attempt until it is ready. The lock is held for its fetches alone.
+    fn evaluate(
+        &self,
+        place: usize,
+        job: &Job,
+        attempt: &mut Attempt,
+        seen: &mut u64,
+    ) -> Result<Ready, Stop>
+        requires { IsOfJob job.now attempt.old }
+        ensures attempt { OnOk result (IsOfJob job.now attempt.new) }
+        ensures ready { IfOk result (λ ready. IsRunOfJob job.now ready) }
+        ensures never_falls { seen.old ≤ seen.new }
+        ensures evaluated { IfOk result (λ ready. IsEvaluated job.now (state_of attempt.old seen.old) ready seen.new) }
+        ensures stops { IfErr result (λ stop. HasStopped job.now (state_of attempt.old seen.old) stop seen.new) }
+    {
+        for _ in self.rt.forever() {
+            if let Some(ready) = self.go_on(place, job, attempt, seen)? {
+                return Ok(ready);
+            }
+        }
+        unreachable!()
+    }
+
+    /// One attempt of a job, and its commit. What the verdict carries is seen.
+    fn try_once(
+        &self,
+        place: usize,
+        job: &Job,
+        share: &mut Share<R>,
+        attempt: &mut Attempt,
+        seen: &mut u64,
+    ) -> Result<Verdict, Stop>
+        requires attempt { IsOfJob job.now attempt.old }
+        requires of_a_job { is_run_of_some R.jobs job.now.program job.now.level ≡ true }
+        requires part { 0 < share.old.parts }
+        ensures attempt { OnOk result (IsOfJob job.now attempt.new) }
+        ensures parts { share.new.parts ≡ share.old.parts }
+        ensures committed { IfOk result (λ verdict. share.new.amount ≡ share.old.amount + committed_by verdict) }
+        ensures stopped { OnErr result (share.new.amount ≡ share.old.amount) }
+        ensures answers { IfOk result CanGoOn }
+        ensures carried { IfOk result (λ verdict. (before : ℕ) × (seen.old ≤ before) × (seen.new ≡ seen_after before verdict)) }
+        ensures never_falls { seen.old ≤ seen.new }
+        ensures tried { IfOk result (λ verdict. HasTried job.now (state_of attempt.old seen.old) verdict seen.new) }
+        ensures stops { IfErr result (λ stop. HasStopped job.now (state_of attempt.old seen.old) stop seen.new) }
+    {
+        let ready = self.evaluate(place, job, attempt, seen)?;
+        let verdict = self.send(place, share, &ready)?;
+        *seen = greatest_of(*seen, &verdict);
+        Ok(verdict)
+    }
+
+    /// What an attempt of a job comes to, the last one or not, by the verdict on its commit.
+    fn try_by_verdict(
+        &self,
+        place: usize,
+        job: &Job,
+        share: &mut Share<R>,
+        attempt: &mut Attempt,
+        seen: &mut u64,
+        is_last: bool,
+    ) -> Result<AttemptOutcome, Stop>
+        requires attempt { IsOfJob job.now attempt.old }
+        requires of_a_job { is_run_of_some R.jobs job.now.program job.now.level ≡ true }
+        requires part { 0 < share.old.parts }
+        ensures parts { share.new.parts ≡ share.old.parts }
+        ensures counted { IfOk result (IfEnded (λ end. share.new.amount ≡ share.old.amount + counted_end end)) }
+        ensures again { IfOk result (IfAgain (λ next. IsOfJob job.now next × (share.new.amount ≡ share.old.amount))) }
+        ensures stopped { OnErr result (share.new.amount ≡ share.old.amount) }
+        ensures never_falls { seen.old ≤ seen.new }
+        ensures ends { IfOk result (IfEnded (λ end. HasEnded job.now (state_of attempt.old seen.old) is_last end seen.new)) }
+        ensures fails { IfOk result (IfAgain (λ next. (is_last ≡ false) × HasFailed job.now (state_of attempt.old seen.old) (state_of next seen.new))) }
+        ensures stops { IfErr result (λ stop. HasStopped job.now (state_of attempt.old seen.old) stop seen.new) }
+    {
+        let verdict = self.try_once(place, job, share, attempt, seen)?;
+        after_verdict(self.alloc, job, verdict, is_last)
+    }
+
+    /// The same. The attempt is dropped here, at one place: where it were dropped on each way out of the loop below, that would take the prover long.
+    fn try_attempt(
+        &self,
+        place: usize,
+        job: &Job,
+        share: &mut Share<R>,
+        attempt: Attempt,
+        seen: &mut u64,
+        is_last: bool,
+    ) -> Result<AttemptOutcome, Stop>
+        requires attempt { IsOfJob job.now attempt }
+        requires of_a_job { is_run_of_some R.jobs job.now.program job.now.level ≡ true }
+        requires part { 0 < share.old.parts }
+        ensures parts { share.new.parts ≡ share.old.parts }
+        ensures counted { IfOk result (IfEnded (λ end. share.new.amount ≡ share.old.amount + counted_end end)) }
+        ensures again { IfOk result (IfAgain (λ next. IsOfJob job.now next × (share.new.amount ≡ share.old.amount))) }
+        ensures stopped { OnErr result (share.new.amount ≡ share.old.amount) }
+        ensures never_falls { seen.old ≤ seen.new }
+        ensures ends { IfOk result (IfEnded (λ end. HasEnded job.now (state_of attempt seen.old) is_last end seen.new)) }
+        ensures fails { IfOk result (IfAgain (λ next. (is_last ≡ false) × HasFailed job.now (state_of attempt seen.old) (state_of next seen.new))) }
+        ensures stops { IfErr result (λ stop. HasStopped job.now (state_of attempt seen.old) stop seen.new) }
+    {
+        let mut attempt = attempt;
+        let outcome = self.try_by_verdict(place, job, share, &mut attempt, seen, is_last);
+        drop(attempt);
+        outcome
+    }
+
+    /// Attempts a job until it ends, and counts its attempts. The last one that it may make is the one behind the loop.
+    fn attempt(
+        &self,
+        place: usize,
+        job: &Job,
+        share: &mut Share<R>,
+        seen: &mut u64,
+        attempts: &mut u32,
+    ) -> Result<JobEnd, Stop>
+        requires of_a_job { is_run_of_some R.jobs job.now.program job.now.level ≡ true }
+        requires part { 0 < share.old.parts }
+        ensures parts { share.new.parts ≡ share.old.parts }
+        ensures counted { IfOk result (λ end. share.new.amount ≡ share.old.amount + counted_end end) }
+        ensures stopped { OnErr result (share.new.amount ≡ share.old.amount) }
+        ensures never_falls { seen.old ≤ seen.new }
+        ensures ends { IfOk result (λ end. ComesTo job.now seen.old attempts.new (EndsByVerdict job.now end seen.new attempts.new)) }
+        ensures stops { IfErr result (λ stop. ComesTo job.now seen.old attempts.new (λ last. HasStopped job.now last stop seen.new)) }
+    {
+        let mut attempt = first_attempt(self.alloc, job);
+        for number in 1..job.limit {
+            *attempts = number;
+            match self.try_attempt(place, job, share, attempt, seen, false)? {
+                AttemptOutcome::Ended(end) => return Ok(end),
+                AttemptOutcome::Again(next) => attempt = next,
+            }
+        }
+        *attempts = job.limit;
+        match self.try_attempt(place, job, share, attempt, seen, true)? {
+            AttemptOutcome::Ended(end) => Ok(end),
+            AttemptOutcome::Again(_) => unreachable!(),
+        }
+    }
+
+    /// Brings the job at a place to its end, and tells how many attempts of it were made: at least one, and one for each commit that failed before.
+    ///
+    /// The place is handed to the gate. `seen` is the greatest revision that an answer to the worker carried, before the call and after it, and what the
+    /// job committed counts in the share. `AllocError`: a growth was refused, which is no end.
+    pub fn run_job(
+        &self,
+        place: usize,
+        job: &Job,
+        share: &mut Share<R>,
+        seen: &mut u64,
+        attempts: &mut u32,
+    ) -> Result<JobEnd, AllocError>
+        requires of_a_job { is_run_of_some R.jobs job.now.program job.now.level ≡ true }
+        requires part { 0 < share.old.parts }
+        ensures parts { share.new.parts ≡ share.old.parts }
+        ensures counted { IfOk result (λ end. share.new.amount ≡ share.old.amount + counted_end end) }
+        ensures never_falls { seen.old ≤ seen.new }
+        ensures came { IfOk result (λ end. HasCome job.now seen.old end seen.new attempts.new) }
+    {
+        match self.attempt(place, job, share, seen, attempts) {
+            Ok(end) => Ok(end),
+            Err(stop) => stop.end(),
+        }
+    }
+}

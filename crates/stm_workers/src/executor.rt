@@ -1,0 +1,80 @@
+//! What each worker of a run calls the hall with.
+ghost use Rattle.std.specs.Prelude.{◌≡◌, ◌⊎◌, ◌+◌, ◌<◌, ◌≤◌, true, Ok, IfOk, IfErr, OnErr};
+ghost use Rattle.stm_outcome.specs.Numbers.{ReadFits};
+ghost use Rattle.stm_hall.specs.Verdicts.{CanGoOn};
+ghost use Rattle.stm_workers.specs.declared.stop.Stop.TheVariants.{OutOfMemory};
+ghost use Rattle.stm_workers.specs.Attempts.{IsAnswered, IsUnanswered, IsTurnedAway};
+ghost use Rattle.stm_workers.specs.Calls.{committed_by, is_run_of_some, shown_at, JudgedInSomeHall};
+
+use crate::gate::Gate;
+use crate::locked::{Locked, RunOfJobs};
+use crate::stop::Stop;
+use std::alloc::Global;
+use std::sync::ledger::Share;
+use std::sync::{Mutex, Wait};
+use stm_attempt::{ReadAnswer, Ready, Text};
+use stm_calls::{read_one, take_only_read};
+use stm_hall::{Verdict, prepare};
+
+/// What each worker of a run calls the hall with: the lock round it, which is held for one fetch or one commit at a time, and the gate.
+#[derive(Drop)]
+pub(crate) struct Executor<'a, R: RunOfJobs, W: Wait, G: Gate> {
+    pub rt: &'a W,
+    pub alloc: Global,
+    pub locked: &'a Mutex<Locked<R>>,
+    pub gate: &'a G,
+}
+
+impl<'a, R: RunOfJobs, W: Wait, G: Gate> Executor<'a, R, W, G> {
+    /// Fetches a key at a revision, 0 for the store's own, and remembers the revision that the answer carries: none of those before was
+    /// greater. Where it stops, nothing was seen.
+    pub(crate) fn ask(&self, key: &Text, at: u64, seen: &mut u64) -> Result<ReadAnswer, Stop>
+        ensures key { IfOk result (λ answer. answer.key ≡ key.now) }
+        ensures in_range { IfOk result ReadFits }
+        ensures shown { IfOk result (λ answer. answer.of_rev ≡ shown_at at answer.revision) }
+        ensures seen { IfOk result (λ answer. (seen.old ≤ answer.revision) × (seen.new ≡ answer.revision)) }
+        ensures stopped { OnErr result (seen.new ≡ seen.old) }
+        ensures never_falls { seen.old ≤ seen.new }
+        ensures answered { IfOk result (IsAnswered seen.old key.now at) }
+        ensures refused { IfErr result (λ stop. (stop ≡ OutOfMemory) ⊎ IsUnanswered seen.old key.now at stop) }
+    {
+        let txn = read_one(self.alloc, key.as_str(), at)?;
+        // Under the lock: one key is looked up, and its value copied.
+        let told = self.locked.lock(self.rt).fetch(*seen, &txn);
+        match told {
+            Ok(told) => {
+                let answer = take_only_read(told.answers)?;
+                *seen = answer.revision;
+                Ok(answer)
+            }
+            Err(refusal) => Err(Stop::of_fetch(refusal)),
+        }
+    }
+
+    /// Sends one commit. What it writes and what its entry keeps is made before the lock is taken.
+    pub(crate) fn send(
+        &self,
+        place: usize,
+        share: &mut Share<R>,
+        ready: &Ready,
+    ) -> Result<Verdict, Stop>
+        requires part { 0 < share.old.parts }
+        requires of_a_job { is_run_of_some R.jobs ready.now.program ready.now.level ≡ true }
+        ensures parts { share.new.parts ≡ share.old.parts }
+        ensures committed { IfOk result (λ verdict. share.new.amount ≡ share.old.amount + committed_by verdict) }
+        ensures stopped { OnErr result (share.new.amount ≡ share.old.amount) }
+        ensures answers { IfOk result CanGoOn }
+        ensures judged { IfOk result (λ verdict. JudgedInSomeHall ready.now (Ok verdict)) }
+        ensures refused { IfErr result (λ stop. (stop ≡ OutOfMemory) ⊎ IsTurnedAway ready.now stop) }
+    {
+        let prepared = prepare(self.alloc, ready)?;
+        self.gate.before_commit(place);
+        // Under the lock: the compares, the look at the values, and the writes; the entry is moved in.
+        let verdict = self.locked.lock(self.rt).commit(share, ready, prepared);
+        self.gate.after_commit(place);
+        match verdict {
+            Ok(verdict) => Ok(verdict),
+            Err(refusal) => Err(Stop::of_commit(refusal)),
+        }
+    }
+}

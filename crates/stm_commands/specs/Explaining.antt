@@ -4,11 +4,11 @@ use Rattle.std.specs.Io.KnownBytes.{Keeps}
 use Rattle.stm_program.specs.declared.level.Level.{Level}
 use Rattle.stm_report.specs.declared.run_script.ScriptFault.{ScriptFault}
 use Rattle.stm_report.specs.Script.{Devices as ScriptDevices}
-use Rattle.stm_formats.specs.declared.format.Format.{Format}
-use Rattle.stm_formats.specs.Script.{DoesAs}
+use Rattle.stm_report.specs.declared.format.Format.{Format}
+use Rattle.stm_report.specs.FormatScript.{DoesAs}
 use Rattle.stm_check.specs.declared.checking.Checked.{Checked}
 use Rattle.stm_check.specs.declared.judging.CheckFault.{CheckFault}
-use Rattle.stm_whole.specs.declared.comparing.WholeChecked.{WholeChecked}
+use Rattle.stm_report.specs.declared.whole_comparing.WholeChecked.{WholeChecked}
 use Rattle.stm_exploring.specs.declared.printed.Printed.{Printed}
 use Rattle.stm_exploring.specs.declared.printed.Verdict.{Verdict}
 use Rattle.stm_exploring.specs.declared.reading.ExploreFault.{ExploreFault}

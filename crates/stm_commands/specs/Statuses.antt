@@ -6,8 +6,8 @@ use Rattle.stm_report.specs.declared.run_script.ScriptFault.{ScriptFault}
 use Rattle.stm_report.specs.declared.run_script.ScriptFault.TheVariants.{OutOfMemory, Bad, Read, Write}
 use Rattle.stm_report.specs.Script.{Devices, Does}
 use Rattle.stm_commands.specs.declared.formats.TheConstants.{NO_FORMAT}
-use Rattle.stm_formats.specs.declared.format.Format.{Format}
-use Rattle.stm_formats.specs.Script.{DoesAs}
+use Rattle.stm_report.specs.declared.format.Format.{Format}
+use Rattle.stm_report.specs.FormatScript.{DoesAs}
 
 -- 2 for bad input, 3 for want of memory and a failed device
 abbrev pub status_of : ScriptFault → ℕ

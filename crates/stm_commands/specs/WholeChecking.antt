@@ -5,9 +5,9 @@ use Rattle.stm_devices.specs.Transfers.{WritesFront}
 use Rattle.stm_check.specs.declared.judging.CheckFault.{CheckFault}
 use Rattle.stm_check.specs.declared.judging.CheckFault.TheVariants.{OutOfMemory, BadScenario, BadReport, Device}
 use Rattle.stm_check.specs.Judging.{Sources, NoneFailed}
-use Rattle.stm_whole.specs.declared.comparing.WholeChecked.{WholeChecked}
-use Rattle.stm_whole.specs.declared.comparing.WholeChecked.TheVariants.{Yes, No}
-use Rattle.stm_whole.specs.Judging.{Judges}
+use Rattle.stm_report.specs.declared.whole_comparing.WholeChecked.{WholeChecked}
+use Rattle.stm_report.specs.declared.whole_comparing.WholeChecked.TheVariants.{Yes, No}
+use Rattle.stm_report.specs.WholeJudging.{Judges}
 use Rattle.stm_commands.specs.Checking.{Devices, SaysOf}
 use Rattle.stm_commands.specs.Statuses.{Says}
 

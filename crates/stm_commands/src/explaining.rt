@@ -19,9 +19,8 @@ use stm_explain::{Input, Kept};
 use stm_exploring::{
     Budget, ExploreFault, Level, Observer, Printed, explore_sources, outcomes_of_source,
 };
-use stm_formats::{Format, script_as};
 use stm_messages::write_text;
-use stm_report::{DeviceFault, ScriptFault, Sink, Source};
+use stm_report::{DeviceFault, Format, ScriptFault, Sink, Source, script_as};
 
 // ---- explanations
 

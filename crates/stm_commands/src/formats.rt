@@ -5,9 +5,8 @@ ghost use Rattle.stm_commands.specs.Statuses.{EndsAs, SaysNoFormat};
 
 use crate::scripting::tell;
 use std::alloc::Global;
-use stm_formats::{Format, script_as};
 use stm_messages::write_text;
-use stm_report::{Sink, Source};
+use stm_report::{Format, Sink, Source, script_as};
 
 /// What is said of a word that names no format, in the manner of the other usage faults.
 pub const NO_FORMAT: &str = "error: no format has this name: lines, json, text and svg are allowed

@@ -22,7 +22,6 @@ pub use recipes::{USAGE, recipe_to};
 pub use scripting::script_to;
 pub use stm_explain::{Input, Kept};
 pub use stm_exploring::{Budget, Level, Nobody, Observer};
-pub use stm_formats::Format;
 pub use stm_recipe_lines::RecipeWords;
-pub use stm_report::{BadInput, DeviceFault, Sink, Source, Std};
+pub use stm_report::{BadInput, DeviceFault, Format, Sink, Source, Std};
 pub use whole_checking::check_whole_to;

@@ -8,8 +8,7 @@ use crate::checking::tell;
 use std::alloc::{AllocError, Global};
 use stm_check::CheckFault;
 use stm_messages::write_text;
-use stm_report::{DeviceFault, Sink, Source, write_all};
-use stm_whole::{WholeChecked, check_whole};
+use stm_report::{DeviceFault, Sink, Source, WholeChecked, check_whole, write_all};
 
 /// The line of a line that is not as expected.
 fn no_line(alloc: Global, line: u64) -> Result<String, AllocError>

@@ -4,7 +4,7 @@ use Rattle.std.proofs.Common.{append_assoc, append-nil}
 use Rattle.std.proofs.lemmas.List.{map-append, drop_all}
 use Rattle.std.proofs.Math.Seq.{drop-cons}
 use Rattle.serde_json.specs.Data.{Data}
-use Rattle.stm_scenario_json.specs.Writing.{written_event}
+use Rattle.stm_texts.specs.Writing.{written_event}
 use Rattle.stm_schedules.specs.declared.moves.Move.{Move}
 use Rattle.stm_schedules.specs.Places.{event_of, left_after}
 use Rattle.stm_schedules.specs.Schedules.{events_along}

@@ -5,8 +5,8 @@ use Rattle.stm_history.specs.declared.revisions.TheConstants.{HIGHEST_NUMBER}
 use Rattle.stm_json.specs.Outcome.{Outcome, ◌>>=◌}
 use Rattle.stm_program.specs.declared.level.Level.{Level}
 use Rattle.stm_program_json.specs.Writing.{written_number}
-use Rattle.stm_scenario_json.specs.Laws.{AreSpelled}
-use Rattle.stm_scenario_json.proofs.Scenarios.{scenarios_spell}
+use Rattle.stm_texts.specs.Laws.{AreSpelled}
+use Rattle.stm_texts.proofs.WrittenScenarios.{scenarios_spell}
 use Rattle.stm_schedules.specs.declared.moves.Move.{Move}
 use Rattle.stm_schedules.specs.declared.moves.Move.TheVariants.{Step, Other}
 use Rattle.stm_schedules.specs.Scenarios.{has_start, up_to_last_start, behind_last_start, at_level, with_schedule}

@@ -2,7 +2,7 @@
 use Rattle.std.specs.Prelude.{◌≡◌, ◌≤◌, ℕ, List, [], ◌∷◌, length, Option, Ok}
 use Rattle.stm_history.specs.declared.revisions.TheConstants.{HIGHEST_NUMBER}
 use Rattle.stm_program.specs.declared.level.Level.{Level}
-use Rattle.stm_scenario_json.specs.Writing.{written_scenario}
+use Rattle.stm_texts.specs.Writing.{written_scenario}
 use Rattle.stm_schedules.specs.declared.moves.Move.{Move}
 use Rattle.stm_schedules.specs.declared.moves.Move.TheVariants.{Step, Other}
 use Rattle.stm_texts.specs.Grammar.{SpellsData}

@@ -17,7 +17,7 @@ use Rattle.stm_schedules.specs.declared.outcome.KeyValue.{KeyValue}
 use Rattle.stm_schedules.specs.declared.outcome.Outcome.{Outcome}
 use Rattle.stm_schedules.specs.declared.outcome.RunnerEnd.{RunnerEnd}
 use Rattle.stm_schedules.specs.declared.outcome.RunnerEnd.TheVariants.{Committed, GaveUp, Aborted, Faulted, Ended}
-use Rattle.stm_scenario_json.specs.Writing.{written_list, written_scenario}
+use Rattle.stm_texts.specs.Writing.{written_list, written_scenario}
 use Rattle.stm_texts.specs.declared.scenario.Scenario.{Scenario}
 use Rattle.stm_explore.specs.declared.exploring.Explored.{Explored}
 use Rattle.stm_explore.specs.declared.exploring.Explored.TheVariants.{Always, Broken, Open}

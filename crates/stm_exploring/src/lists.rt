@@ -2,7 +2,7 @@
 ghost use Rattle.std.specs.Prelude.{◌≡◌, ◌++◌, [], ◌∷◌, map, IfOk, OnOk};
 ghost use Rattle.serde_json.specs.Data.{Data};
 ghost use Rattle.serde_json.specs.View.{view};
-ghost use Rattle.stm_scenario_json.specs.Writing.{written_list};
+ghost use Rattle.stm_texts.specs.Writing.{written_list};
 
 use serde_json::Value as Json;
 use std::alloc::{AllocError, Global};

@@ -2,7 +2,7 @@
 ghost use Rattle.std.specs.Prelude.{◌≡◌, ◌++◌, [], ◌∷◌, map, IfOk, OnOk, string_bytes};
 ghost use Rattle.serde_json.specs.View.{view};
 ghost use Rattle.stm_reports.specs.Text.{line_text};
-ghost use Rattle.stm_scenario_json.specs.Writing.{written_event, opening_elements, written_scenario};
+ghost use Rattle.stm_texts.specs.Writing.{written_event, opening_elements, written_scenario};
 ghost use Rattle.stm_schedules.specs.Places.{event_of, left_after};
 ghost use Rattle.stm_schedules.specs.Schedules.{events_along};
 ghost use Rattle.stm_exploring.specs.Asking.{scheduled};
@@ -11,9 +11,8 @@ use crate::setup::setup_and_others;
 use serde_json::Value as Json;
 use std::alloc::{AllocError, Global};
 use stm_reports::push_line;
-use stm_scenario_json::{event_json, opening_json};
 use stm_schedules::Move;
-use stm_texts::{Scenario, WorldEvent};
+use stm_texts::{Scenario, WorldEvent, event_json, opening_json};
 
 /// Writes an event behind the elements so far.
 fn push_event(alloc: Global, elements: &mut Vec<Json>, event: &WorldEvent) -> Result<(), AllocError>

@@ -11,3 +11,15 @@ pub mod LinesRight
 pub mod Checks
 pub mod Written
 pub mod ReadBack
+pub mod Joining
+pub mod FormatFronts
+pub mod FormatRowLemmas
+pub mod FormatEscapedLaws
+pub mod FormatNoFloats
+pub mod FormatOneLine
+pub mod FormatScriptLemmas
+pub mod FormatLoops
+pub mod FormatMembers
+pub mod WholeLineLemmas
+pub mod WholeJudgingLemmas
+pub mod WholeReportLaws

@@ -1,8 +1,7 @@
 -- Adding lines one after the other, as a loop does.
-use Rattle.std.proofs.Common.{◌≡◌, ℕ, suc, ◌+◌, ◌<◌, ◌≤◌, List, [], ◌∷◌, ◌++◌, length, map, drop, get_or, Option, Some, refl, sym, ap, ◌∙◌}
-use Rattle.std.proofs.Common.{String, string_bytes, append_assoc, append-nil, arith}
+use Rattle.std.proofs.Common.{◌≡◌, ℕ, ◌+◌, ◌<◌, ◌≤◌, List, [], ◌∷◌, ◌++◌, length, map, drop, get_or, Option, Some, refl, sym, ap, ◌∙◌}
+use Rattle.std.proofs.Common.{String, string_bytes, append_assoc, append-nil}
 use Rattle.std.proofs.lemmas.List.{drop_all}
-use Rattle.std.proofs.Math.Seq.{drop-cons}
 use Rattle.serde_json.specs.Data.{Data}
 use Rattle.stm_history.specs.declared.key_state.KeyState.{KeyState}
 use Rattle.stm_history.specs.History.{History, key_now}
@@ -11,6 +10,7 @@ use Rattle.stm_reports.specs.declared.line.ReportLine.{ReportLine}
 use Rattle.stm_reports.specs.LineData.{line_data}
 use Rattle.stm_check.specs.StoreLines.{key_lines_of, key_lines}
 use Rattle.stm_reports.specs.Text.{line_text, text_of}
+use Rattle.stm_report.proofs.Joining.{left_at}
 
 pub text_of-append : (ks ls : List ReportLine) → text_of (ks ++ ls) ≡ text_of ks ++ text_of ls
 text_of-append [] ls = refl
@@ -38,12 +38,6 @@ one_key h key state d present is =
     ap (λ (kv : Option KeyState). text_of (key_lines_of key kv)) (sym present) ∙ append-nil (line_text (key_line key state)) ∙ ap line_text (sym is)
 
 module _ {A : Type 0} where
-  -- what is left at a key
-  left_at : (keys : List (String A)) (i : ℕ) (key : String A) → i < length keys → key ≡ get_or keys i key → drop i keys ≡ key ∷ drop (i + 1) keys
-  left_at keys i key within is =
-      let step : i + 1 ≡ suc i = omega arith in
-      drop-cons keys i key within ∙ ap (λ (k : String A). k ∷ drop (suc i) keys) (sym is) ∙ ap (λ (n : ℕ). key ∷ drop n keys) (sym step)
-
   -- the line of one more key
   pub next_key : (text total : List ℕ) (h : History) (keys : List (String A)) (i : ℕ) (key : String A) → i < length keys → key ≡ get_or keys i key
       → text ++ text_of (key_lines h (map string_bytes (drop i keys))) ≡ total

@@ -1,11 +1,42 @@
-//! Reports of worlds, and the script that goes from a scenario to its report.
+//! Reports of worlds in each form, the script that goes from a scenario to its report, and the check of a whole report.
+//!
+//! A report has a line for each event, each key that is present, each live lease and the end (`specs/Report.antt`). The files `format_*` write
+//! it in other forms: the same lines as objects with named fields, a column of text for each runner, and a picture. Text and picture are two
+//! writers over the same rows, one for each event (`specs/FormatRows.antt`). The objects are the lines of the report, each element under the
+//! name of its field (`specs/FormatFields.antt`).
+//!
+//! The files `whole_*` compare a text with the report that a script writes of its scenario, line by line. `stm_check` judges a report by the
+//! replay of what it tells; here it is compared with the report itself, so that also what was fetched, what failed, what ended a program and
+//! what a watcher was given have to be as a script tells them.
 #![tactic(auto)]
 
+mod format;
+mod format_columns;
+mod format_fields;
+mod format_json;
+mod format_laws;
+mod format_notes;
+mod format_pieces;
+mod format_row;
+mod format_rows;
+mod format_script;
+mod format_svg;
+mod format_text;
+mod format_words;
 mod laws;
 mod leases;
 mod report_text;
 mod run_script;
+mod whole_comparing;
+mod whole_judging;
+mod whole_laws;
+mod whole_lines;
 
+pub use format::Format;
+pub use format_laws::{nothing_unescaped, one_line_a_row, one_object_an_event, one_row_an_event};
+pub use format_row::{Lane, Mark, Row};
+pub use format_rows::rows_of;
+pub use format_script::{render, script_as};
 pub use laws::{
     checks_say_yes, one_report, reports_are_of_right_runs, reports_are_read_back,
     scripts_pass_checks,
@@ -13,8 +44,13 @@ pub use laws::{
 pub use leases::live_leases;
 pub use report_text::report;
 pub use run_script::{ScriptFault, script};
-pub use stm_check::{Checked, WrongCause, check};
+pub use stm_check::{CheckFault, Checked, WrongCause, check};
 pub use stm_devices::{DeviceFault, Sink, Source, Std, write_all};
+pub use stm_history::{Sequence, Text};
 pub use stm_reports::{Report, ReportLine, read_report};
 pub use stm_retry::{Denied, Reply, World};
 pub use stm_texts::{BadInput, Cause, ReadError, Scenario, WorldEvent, read_scenario};
+pub use whole_comparing::WholeChecked;
+pub use whole_judging::check_whole;
+pub use whole_laws::{alike_is_equal, yes_is_the_report};
+pub use whole_lines::first_unlike;

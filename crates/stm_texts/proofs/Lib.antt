@@ -5,3 +5,6 @@ pub mod ScenarioFaults
 pub mod WatcherSound
 pub mod GrammarSound
 pub mod GrammarComplete
+pub mod WrittenSpells
+pub mod NoFloats
+pub mod WrittenScenarios

@@ -1,5 +1,5 @@
 use Rattle.std.proofs.Common.{ℕ, List, sym, subst}
-use Rattle.stm_whole.specs.declared.comparing.WholeChecked.{WholeChecked}
+use Rattle.stm_report.specs.declared.whole_comparing.WholeChecked.{WholeChecked}
 use Rattle.stm_commands.specs.WholeChecking.{SaysExpected, SaysOfAnswer}
 use Rattle.stm_commands.proofs.whole_checking.say.Goals as goal
 

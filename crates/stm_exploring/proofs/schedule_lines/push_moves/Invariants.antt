@@ -1,6 +1,6 @@
 use Rattle.std.proofs.Common.{◌≡◌, ◌++◌, map, drop}
 use Rattle.serde_json.specs.View.{view}
-use Rattle.stm_scenario_json.specs.Writing.{written_event}
+use Rattle.stm_texts.specs.Writing.{written_event}
 use Rattle.stm_schedules.specs.Schedules.{events_along}
 use Rattle.stm_exploring.proofs.schedule_lines.push_moves.Given as goal
 

@@ -1,6 +1,6 @@
 use Rattle.std.proofs.Common.{ap, ◌∙◌}
 use Rattle.serde_json.specs.Written.{has_float}
-use Rattle.stm_scenario_json.proofs.NoFloats.{scenario-no_float}
+use Rattle.stm_texts.proofs.NoFloats.{scenario-no_float}
 use Rattle.stm_exploring.specs.Asking.{scheduled}
 use Rattle.stm_exploring.proofs.schedule_lines.push_scheduled.Goals as goal
 

@@ -1,9 +1,0 @@
-mod Joining
-mod Fronts
-mod RowLemmas
-mod EscapedLaws
-mod NoFloats
-mod OneLine
-mod ScriptLemmas
-mod LineLoops
-mod Members

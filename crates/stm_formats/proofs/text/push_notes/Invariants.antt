@@ -1,7 +1,0 @@
-use Rattle.std.proofs.Common.{◌≡◌, ◌++◌, drop}
-use Rattle.stm_formats.specs.TextForm.{notes_text}
-use Rattle.stm_formats.proofs.text.push_notes.Given as goal
-
--- what was written so far, and the notes that are left
-abbrev pub invariant-loop-note : goal.invariant-loop-note
-invariant-loop-note l = l.out.items ++ notes_text (drop l.note-index l.notes) ≡ l.fn.out.items ++ notes_text l.notes

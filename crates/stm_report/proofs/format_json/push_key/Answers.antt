@@ -1,0 +1,14 @@
+use Rattle.std.proofs.Common.{◌≡◌, ◌++◌, List, ℕ, Some, OnOk, sym, ap, subst, ◌∙◌, string_bytes}
+use Rattle.serde_json.specs.View.{view}
+use Rattle.stm_history.specs.History.{History, key_now}
+use Rattle.stm_report.proofs.FormatLoops.{one_key}
+use Rattle.stm_report.proofs.format_json.push_key.Goals as goal
+
+pub returns-in_ok-object-in-Some : goal.returns-in_ok-object-in-Some
+returns-in_ok-object-in-Some c =
+    let h = c.args.store.now.standing.history in
+    let key = c.args.key.now in
+    let state = c.in-Some.state.now in
+    let present : Some state ≡ key_now h key = c.in-Some.ensures.value ∙ ap (λ (kept : History). key_now kept key) c.keys.ensures.history in
+    subst (λ (line : List ℕ). OnOk c.push_object.result (string_bytes c.push_object.new.text ≡ string_bytes c.args.text.now ++ line))
+    (sym (one_key h key state (view c.in_ok-object-in-Some.object) present c.in_ok-object-in-Some.ensures.object)) c.push_object.ensures

@@ -1,0 +1,41 @@
+-- Laws of the formats.
+use Rattle.std.specs.Prelude.{◌≡◌, ◌⊎◌, ℕ, List, [], ◌∷◌, ◌+◌, ◌||◌, length, map, Bool, false, true, if◌then◌else◌, nat_eq, Result, codes}
+use Rattle.stm_world.specs.declared.event.WorldEvent.{WorldEvent}
+use Rattle.stm_world.specs.declared.reply.Reply.{Reply}
+use Rattle.stm_world.specs.declared.refusal.Denied.{Denied}
+use Rattle.stm_world.specs.World.{World, replies_to}
+use Rattle.stm_report.specs.FormatEscaped.{escaped}
+use Rattle.stm_report.specs.FormatRows.{rows_of, AreNumbered}
+use Rattle.stm_report.specs.FormatFields.{event_objects}
+use Rattle.stm_report.specs.FormatText.{rows_text}
+
+-- A run has one row for each event, and they are numbered in its order from 1.
+abbrev pub OneRowAnEvent : Type 0
+OneRowAnEvent =
+    (events : List WorldEvent) (w : World) →
+    (length (rows_of 1 events (replies_to events w)) ≡ length events) × AreNumbered 1 (rows_of 1 events (replies_to events w))
+
+-- and one object for each event
+abbrev pub OneObjectAnEvent : Type 0
+OneObjectAnEvent = (events : List WorldEvent) (w : World) → length (event_objects 1 (replies_to events w)) ≡ length events
+
+abbrev pub has : ℕ → List ℕ → Bool
+has b [] = false
+has b (x ∷ xs) = nat_eq x b || has b xs
+
+-- how often a byte stands in a text
+abbrev pub count : ℕ → List ℕ → ℕ
+count b [] = 0
+count b (x ∷ xs) = if nat_eq x b then count b xs + 1 else count b xs
+
+-- Rows have so many line feeds as there are rows: the words of a row have none.
+abbrev pub OneLineARow : Type 0
+OneLineARow = (w n : ℕ) (events : List WorldEvent) (replies : List (Result Reply Denied)) →
+    count 10 (rows_text w (rows_of n events replies)) ≡ length (rows_of n events replies)
+
+-- What stands escaped has no `<`, `>` or quote.
+pub record NothingUnescaped : Type 0 where
+  pub less : (text : List ℕ) → has 60 (escaped text) ≡ false
+  pub greater : (text : List ℕ) → has 62 (escaped text) ≡ false
+  pub double : (text : List ℕ) → has 34 (escaped text) ≡ false
+  pub single : (text : List ℕ) → has 39 (escaped text) ≡ false

@@ -1,0 +1,76 @@
+-- What a script does in a format: from the bytes of a source to the report in a sink.
+use Rattle.std.specs.Prelude.{◌≡◌, ℕ, List, Bool, true, false, Option, Result, Ok, Err, IfSome, unwrap_or}
+use Rattle.std.specs.Io.KnownBytes.{Appends, Keeps}
+use Rattle.stm_world.specs.declared.event.WorldEvent.{WorldEvent}
+use Rattle.stm_world.specs.declared.reply.Reply.{Reply}
+use Rattle.stm_world.specs.declared.refusal.Denied.{Denied}
+use Rattle.stm_world.specs.World.{World, opened, world_after, replies_to}
+use Rattle.stm_texts.specs.declared.scenario.Scenario.{Scenario}
+use Rattle.stm_json.specs.Outcome.{Outcome}
+use Rattle.stm_texts.specs.Reading.{scenario_in}
+use Rattle.stm_devices.specs.Transfers.{WritesFront}
+use Rattle.stm_report.specs.declared.run_script.ScriptFault.{ScriptFault}
+use Rattle.stm_report.specs.declared.run_script.ScriptFault.TheVariants.{OutOfMemory, Bad, Read, Write}
+use Rattle.stm_report.specs.Report.{IsReport}
+use Rattle.stm_report.specs.Script.{Devices, IsUntouched}
+use Rattle.stm_report.specs.declared.format.Format.{Format}
+use Rattle.stm_report.specs.declared.format.Format.TheVariants.{Lines, Json, Text, Svg}
+use Rattle.stm_report.specs.FormatFields.{json_text}
+use Rattle.stm_report.specs.FormatRows.{rows_of}
+use Rattle.stm_report.specs.FormatNotes.{notes_of}
+use Rattle.stm_report.specs.FormatText.{text_of}
+use Rattle.stm_report.specs.FormatSvg.{svg_of}
+
+-- ---- the report of a run in a format
+
+-- the text is the report of these events, of their replies and of the world that they left
+abbrev pub IsTextOf : Format → World → List WorldEvent → List (Result Reply Denied) → List ℕ → Type 0
+IsTextOf Lines w events replies text = IsReport w replies text
+IsTextOf Json w events replies text = text ≡ json_text w replies
+IsTextOf Text w events replies text = text ≡ text_of (rows_of 1 events replies) (notes_of w replies)
+IsTextOf Svg w events replies text = text ≡ svg_of (rows_of 1 events replies) (notes_of w replies)
+
+-- the text is that of these events' run from a world
+abbrev pub IsTextFrom : Format → World → List WorldEvent → List ℕ → Type 0
+IsTextFrom format w events text = IsTextOf format (world_after events w) events (replies_to events w) text
+
+-- the text is that of a scenario's run, over an empty store at its opening revision
+unfoldable pub IsRunText : Format → Scenario → List ℕ → Type 0
+IsRunText format s text = IsTextFrom format (opened (unwrap_or s.opening 1)) s.events text
+
+-- a scenario was read, and the text is that of its run
+abbrev pub IsOutputOf : Format → Outcome Scenario → List ℕ → Type 0
+IsOutputOf format reading text = (s : Scenario) × (reading ≡ Ok s) × IsRunText format s text
+
+-- what making the report of bytes answers, seen by view: that of the scenario that they spell, or their first fault, unless memory ran out
+abbrev pub Answers : {X : Type 0} → (X → List ℕ) → Format → List ℕ → Result X ScriptFault → Type 0
+Answers view format bytes (Ok x) = IsOutputOf format (scenario_in bytes) (view x)
+Answers view format bytes (Err OutOfMemory) = Unit {0}
+Answers view format bytes (Err (Bad fault)) = scenario_in bytes ≡ Err fault
+Answers view format bytes (Err Read) = ⊥
+Answers view format bytes (Err Write) = ⊥
+
+-- what writing the report of bytes does: what the sink held before and holds, whether it has failed then, and the answer
+abbrev pub Writes : {A : Type 0} → Format → List ℕ → Option (List ℕ) → Option (List ℕ) → Bool → Result A ScriptFault → Type 0
+Writes format bytes before after failed (Ok u) =
+    (failed ≡ false) × (text : List ℕ) × IsOutputOf format (scenario_in bytes) text × Appends before after text
+Writes format bytes before after failed (Err OutOfMemory) = (failed ≡ false) × Keeps before after
+Writes format bytes before after failed (Err (Bad fault)) = (failed ≡ false) × Keeps before after × (scenario_in bytes ≡ Err fault)
+Writes format bytes before after failed (Err Read) = ⊥
+Writes format bytes before after failed (Err Write) =
+    (failed ≡ true) × (text : List ℕ) × IsOutputOf format (scenario_in bytes) text × WritesFront before after text
+
+-- ---- the script
+
+-- What a script did, by its answer, as of a script that writes lines. At the end of a good one exactly the report of the input in its
+-- format was written; at a bad scenario, want of memory and a failed source nothing was; at a failed sink a front of it was.
+abbrev pub DoesAs : {A : Type 0} → Format → Devices → Result A ScriptFault → Type 0
+DoesAs format d (Ok u) =
+    (d.source_failed ≡ false) × (d.sink_failed ≡ false)
+    × IfSome d.input (λ input. (text : List ℕ) × IsOutputOf format (scenario_in input) text × Appends d.before d.after text)
+DoesAs format d (Err OutOfMemory) = IsUntouched d
+DoesAs format d (Err (Bad fault)) = IsUntouched d × IfSome d.input (λ input. scenario_in input ≡ Err fault)
+DoesAs format d (Err Read) = (d.source_failed ≡ true) × (d.sink_failed ≡ false) × Keeps d.before d.after
+DoesAs format d (Err Write) =
+    (d.source_failed ≡ false) × (d.sink_failed ≡ true)
+    × IfSome d.input (λ input. (text : List ℕ) × IsOutputOf format (scenario_in input) text × WritesFront d.before d.after text)

@@ -1,0 +1,37 @@
+//! The forms of a report.
+ghost use Rattle.std.specs.Prelude.{◌≡◌};
+ghost use Rattle.stm_report.specs.Format.{format_named};
+
+/// The form in which the report of a run is written.
+#[derive(Clone, Copy, Debug, PartialEq, Eq)]
+pub enum Format {
+    /// Each line as a JSON array: the report itself, which `check` reads.
+    Lines,
+    /// Each line as a JSON object with named fields.
+    Json,
+    /// A row of text for each event, in a column of its runner or of the store, and what is left at the end.
+    Text,
+    /// The rows of the text as a picture.
+    Svg,
+}
+
+impl Format {
+    /// The format of this name: `lines`, `json`, `text` or `svg`; `None` for another word.
+    pub fn named(word: &str) -> Option<Format>
+        ensures { result ≡ format_named word.now }
+    {
+        if word == "lines" {
+            return Some(Format::Lines);
+        }
+        if word == "json" {
+            return Some(Format::Json);
+        }
+        if word == "text" {
+            return Some(Format::Text);
+        }
+        if word == "svg" {
+            return Some(Format::Svg);
+        }
+        None
+    }
+}

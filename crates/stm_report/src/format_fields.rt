@@ -1,0 +1,165 @@
+//! The lines of a report as objects.
+ghost use Rattle.std.specs.Prelude.{◌≡◌, false, map, IfOk};
+ghost use Rattle.serde_json.specs.Data.{no_members};
+ghost use Rattle.serde_json.specs.View.{view, items_view, members_view};
+ghost use Rattle.serde_json.specs.Written.{has_float};
+ghost use Rattle.stm_lines.specs.Lines.{IsOfRunner};
+ghost use Rattle.stm_report.specs.FormatFields.{members_named, object_of, reply_fields, event_fields, event_object, key_object, lease_object, end_object};
+
+use serde_json::{Map, Value as Json};
+use std::alloc::{AllocError, Global};
+use stm_history::KeyState;
+use stm_lines::{end_json, event_json, key_json, lease_json};
+use stm_retry::{Denied, Reply};
+
+/// The members that have these values under these names.
+fn members_named(
+    alloc: Global,
+    mut values: Vec<Json>,
+    names: &[&str],
+) -> Result<Map<String, Json>, AllocError>
+    ensures { IfOk result (λ members. members_view members.entries
+        ≡ members_named (map (λ name. name.now) names.now) (items_view values.items) no_members) }
+{
+    let mut members = Map::new(alloc);
+    for name in names {
+        if values.is_empty() {
+            return Ok(members);
+        }
+        serde_json::put(&mut members, alloc, name, values.remove(0))?;
+    }
+    Ok(members)
+}
+
+/// A line as an object, its elements under these names.
+fn object_of(alloc: Global, line: Json, names: &[&str]) -> Result<Json, AllocError>
+    ensures { IfOk result (λ v. view v ≡ object_of (map (λ name. name.now) names.now) (view line)) }
+{
+    match line {
+        Json::Array(values) => Ok(Json::Object(members_named(alloc, values, names)?)),
+        other => Ok(other),
+    }
+}
+
+/// The line of a runner's event as an object.
+fn runner_object(alloc: Global, reply: &Reply, line: Json) -> Result<Json, AllocError>
+    requires { IsOfRunner reply.now }
+    ensures { IfOk result (λ v. view v ≡ object_of (reply_fields reply.now) (view line)) }
+{
+    match reply {
+        Reply::Started { .. } => object_of(alloc, line, &["event", "kind", "runner"]),
+        Reply::Fetched { .. } => object_of(
+            alloc,
+            line,
+            &[
+                "event", "kind", "runner", "key", "mod_rev", "of_rev", "revision",
+            ],
+        ),
+        Reply::Committed { .. } => object_of(
+            alloc,
+            line,
+            &[
+                "event", "kind", "runner", "revision", "attempts", "output", "trace", "answers",
+            ],
+        ),
+        Reply::Conflict { .. } => object_of(
+            alloc,
+            line,
+            &["event", "kind", "runner", "key", "seen", "now"],
+        ),
+        Reply::GaveUp { .. } => object_of(
+            alloc,
+            line,
+            &["event", "kind", "runner", "attempts", "key", "seen", "now"],
+        ),
+        Reply::Aborted { .. } => object_of(alloc, line, &["event", "kind", "runner", "text"]),
+        Reply::Faulted { .. } => object_of(alloc, line, &["event", "kind", "runner", "fault"]),
+        Reply::Ended { .. } => object_of(alloc, line, &["event", "kind", "runner", "cause"]),
+        _ => unreachable!(),
+    }
+}
+
+/// The line of an event that was taken, as an object.
+fn reply_object(alloc: Global, reply: &Reply, line: Json) -> Result<Json, AllocError>
+    ensures { IfOk result (λ v. view v ≡ object_of (reply_fields reply.now) (view line)) }
+{
+    match reply {
+        Reply::Txn { .. } => object_of(
+            alloc,
+            line,
+            &["event", "kind", "succeeded", "revision", "answers"],
+        ),
+        Reply::Granted { .. } => object_of(alloc, line, &["event", "kind", "lease"]),
+        Reply::Kept { .. } => object_of(alloc, line, &["event", "kind", "lease"]),
+        Reply::Revoked { .. } => object_of(alloc, line, &["event", "kind", "lease", "revision"]),
+        Reply::Advanced { .. } => object_of(alloc, line, &["event", "kind", "now", "expired"]),
+        Reply::Watching { .. } => object_of(alloc, line, &["event", "kind", "watcher"]),
+        Reply::Batch { .. } => object_of(
+            alloc,
+            line,
+            &["event", "kind", "watcher", "upto", "events"],
+        ),
+        Reply::Cancelled { .. } => object_of(alloc, line, &["event", "kind", "watcher"]),
+        _ => runner_object(alloc, reply, line),
+    }
+}
+
+/// The object of the event with this number, by the reply to it.
+pub(crate) fn event_object(
+    alloc: Global,
+    number: u64,
+    reply: &Result<Reply, Denied>,
+) -> Result<Json, AllocError>
+    ensures object { IfOk result (λ v. view v ≡ event_object number reply.now) }
+    ensures no_float { IfOk result (λ v. has_float (view v) ≡ false) }
+{
+    let line = event_json(alloc, number, reply)?;
+    match reply {
+        Ok(reply) => reply_object(alloc, reply, line),
+        Err(_) => object_of(alloc, line, &["event", "kind", "cause", "expired"]),
+    }
+}
+
+/// The object of a present key.
+pub(crate) fn key_object(alloc: Global, key: &str, state: &KeyState) -> Result<Json, AllocError>
+    ensures object { IfOk result (λ v. view v ≡ key_object key.now state.now) }
+    ensures no_float { IfOk result (λ v. has_float (view v) ≡ false) }
+{
+    let line = key_json(alloc, key, state)?;
+    object_of(
+        alloc,
+        line,
+        &[
+            "kind",
+            "key",
+            "value",
+            "create_rev",
+            "mod_rev",
+            "version",
+            "lease",
+        ],
+    )
+}
+
+/// The object of a live lease.
+pub(crate) fn lease_object(
+    alloc: Global,
+    id: u64,
+    ttl: u64,
+    renewed: u64,
+) -> Result<Json, AllocError>
+    ensures object { IfOk result (λ v. view v ≡ lease_object id (record { ttl = ttl; renewed = renewed })) }
+    ensures no_float { IfOk result (λ v. has_float (view v) ≡ false) }
+{
+    let line = lease_json(alloc, id, ttl, renewed)?;
+    object_of(alloc, line, &["kind", "lease", "ttl", "renewed"])
+}
+
+/// The object of the end.
+pub(crate) fn end_object(alloc: Global, revision: u64, entries: u64) -> Result<Json, AllocError>
+    ensures object { IfOk result (λ v. view v ≡ end_object revision entries) }
+    ensures no_float { IfOk result (λ v. has_float (view v) ≡ false) }
+{
+    let line = end_json(alloc, revision, entries)?;
+    object_of(alloc, line, &["kind", "revision", "entries"])
+}

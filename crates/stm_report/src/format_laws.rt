@@ -1,0 +1,22 @@
+//! Laws of the formats. Each function does nothing: its contract is the law.
+ghost use Rattle.stm_report.specs.FormatLaws.{OneRowAnEvent, OneObjectAnEvent, OneLineARow, NothingUnescaped};
+
+/// A run has one row for each event, in text and in the picture, numbered in their order from 1.
+pub fn one_row_an_event()
+    ensures { OneRowAnEvent }
+{}
+
+/// A run has one object for each event.
+pub fn one_object_an_event()
+    ensures { OneObjectAnEvent }
+{}
+
+/// Each row of a text is one line: no key, value or message breaks it.
+pub fn one_line_a_row()
+    ensures { OneLineARow }
+{}
+
+/// What stands escaped in a picture opens and closes no element, and ends no attribute.
+pub fn nothing_unescaped()
+    ensures { NothingUnescaped }
+{}

@@ -1,0 +1,214 @@
+//! Writing a text piece by piece.
+ghost use Rattle.std.specs.Prelude.{◌≡◌, ◌++◌, ◌<◌, ◌≤◌, ◌+◌, map, decimal, replicate, length, take, IfOk, OnOk};
+ghost use Rattle.stm_report.specs.FormatShown.{front, plain, shown, is_continuation};
+ghost use Rattle.stm_report.specs.FormatEscaped.{entity, escaped};
+ghost use Rattle.stm_report.specs.FormatPieces.{joined, padded, title, tag_text, piece_text};
+
+use crate::format_row::Lane;
+use itoa::Buffer;
+use std::alloc::{AllocError, Global};
+use stm_history::Sequence;
+
+/// So many columns a report has for runners at most. All runners from this number on stand in the last one, each row with its runner's number.
+pub(crate) const MOST_COLUMNS: u64 = 9;
+
+/// A key or value of more bytes than this is shortened.
+const MOST_SHOWN: usize = 20;
+
+/// So many bytes of a shortened text are shown, and the rest of the character that they end in.
+const KEPT: usize = 18;
+
+/// A piece of what is written.
+#[derive(Clone, Copy, Debug)]
+pub(crate) enum Piece<'a> {
+    /// A text of this crate.
+    Say(&'a str),
+    /// A key or value, shortened, with a `?` for each control character.
+    Shown(&'a str),
+    /// A number in decimal.
+    Number(u64),
+    /// A number in decimal, behind spaces that make it six characters where it has fewer.
+    Padded(u64),
+    /// So many spaces.
+    Spaces(u64),
+    /// The title of a column.
+    Title(u64),
+    /// Which runner a row of the last column is about.
+    Tag(Lane),
+    /// Bytes as they are.
+    Raw(&'a [u8]),
+    /// Bytes as XML has them in a text.
+    Escaped(&'a [u8]),
+}
+
+/// Whether a byte goes on with a character of UTF-8.
+fn is_continuation(byte: u8) -> bool
+    ensures { result ≡ is_continuation byte }
+{
+    byte >= 128 && byte < 192
+}
+
+/// A byte of a text that is shown: `?` for a control character.
+fn plain(byte: u8) -> u8
+    ensures { result ≡ plain byte }
+{
+    if byte < 32 || byte == 127 { b'?' } else { byte }
+}
+
+/// Where the front of so many bytes ends, with the rest of its last character.
+fn end_of_front(bytes: &[u8], kept: usize) -> usize
+    requires { kept ≤ length bytes.now }
+    ensures within { result ≤ length bytes.now }
+    ensures front { take result bytes.now ≡ front kept bytes.now }
+{
+    let mut end = kept;
+    while end < bytes.len() && is_continuation(bytes[end]) {
+        end += 1;
+    }
+    end
+}
+
+/// Adds bytes as they are shown.
+fn push_plain(out: &mut Vec<u8>, bytes: &[u8]) -> Result<(), AllocError>
+    ensures { OnOk result (out.new.items ≡ out.old.items ++ map plain bytes.now) }
+{
+    for byte in bytes {
+        out.push(plain(*byte))?;
+    }
+    Ok(())
+}
+
+/// Adds a key or a value as it is shown.
+fn push_shown(out: &mut Vec<u8>, text: &str) -> Result<(), AllocError>
+    ensures { OnOk result (out.new.items ≡ out.old.items ++ shown text.now) }
+{
+    let bytes = text.as_bytes();
+    if bytes.len() <= MOST_SHOWN {
+        return push_plain(out, bytes);
+    }
+    let end = end_of_front(bytes, KEPT);
+    push_plain(out, &bytes[..end])?;
+    out.extend_from_slice(b"..")
+}
+
+/// Adds a number in decimal.
+fn push_number(out: &mut Vec<u8>, number: u64) -> Result<(), AllocError>
+    ensures { OnOk result (out.new.items ≡ out.old.items ++ decimal number) }
+{
+    let mut buffer = Buffer::new();
+    out.extend_from_slice(buffer.format(number).as_bytes())
+}
+
+/// Adds a number in decimal, and spaces before it where it has fewer than six digits.
+fn push_padded(out: &mut Vec<u8>, number: u64) -> Result<(), AllocError>
+    ensures { OnOk result (out.new.items ≡ out.old.items ++ padded number) }
+{
+    let mut buffer = Buffer::new();
+    let digits = buffer.format(number);
+    push_spaces(out, 6usize.saturating_sub(digits.len()) as u64)?;
+    out.extend_from_slice(digits.as_bytes())
+}
+
+/// Adds so many spaces.
+fn push_spaces(out: &mut Vec<u8>, count: u64) -> Result<(), AllocError>
+    ensures { OnOk result (out.new.items ≡ out.old.items ++ replicate count 32) }
+{
+    for _ in 0..count {
+        out.push(b' ')?;
+    }
+    Ok(())
+}
+
+/// Adds the number of a runner that stands in the last column.
+fn push_tag(out: &mut Vec<u8>, lane: Lane) -> Result<(), AllocError>
+    ensures { OnOk result (out.new.items ≡ out.old.items ++ tag_text lane) }
+{
+    match lane {
+        Lane::Store => Ok(()),
+        Lane::Runner(runner) => {
+            if runner < MOST_COLUMNS {
+                return Ok(());
+            }
+            push_number(out, runner)?;
+            out.extend_from_slice(b": ")
+        }
+    }
+}
+
+/// Adds the title of a column.
+fn push_title(out: &mut Vec<u8>, column: u64) -> Result<(), AllocError>
+    ensures { OnOk result (out.new.items ≡ out.old.items ++ title column) }
+{
+    if column == 0 {
+        return out.extend_from_slice(b"store");
+    }
+    if column >= MOST_COLUMNS {
+        return out.extend_from_slice(b"others");
+    }
+    out.extend_from_slice(b"runner ")?;
+    push_number(out, column)
+}
+
+/// Adds a byte as XML has it in a text.
+fn push_entity(out: &mut Vec<u8>, byte: u8) -> Result<(), AllocError>
+    ensures { OnOk result (out.new.items ≡ out.old.items ++ entity byte) }
+{
+    match byte {
+        b'&' => out.extend_from_slice(b"&amp;"),
+        b'<' => out.extend_from_slice(b"&lt;"),
+        b'>' => out.extend_from_slice(b"&gt;"),
+        b'"' => out.extend_from_slice(b"&quot;"),
+        b'\'' => out.extend_from_slice(b"&apos;"),
+        _ => {
+            out.push(byte)?;
+            Ok(())
+        }
+    }
+}
+
+/// Adds bytes as XML has them in a text.
+#[tactic(auto, unfolding(crate::specs::FormatEscaped::escaped))]
+fn push_escaped(out: &mut Vec<u8>, bytes: &[u8]) -> Result<(), AllocError>
+    ensures { OnOk result (out.new.items ≡ out.old.items ++ escaped bytes.now) }
+{
+    for byte in bytes {
+        push_entity(out, *byte)?;
+    }
+    Ok(())
+}
+
+/// Adds a piece.
+fn push_piece(out: &mut Vec<u8>, piece: Piece<'_>) -> Result<(), AllocError>
+    ensures { OnOk result (out.new.items ≡ out.old.items ++ piece_text piece.entry) }
+{
+    match piece {
+        Piece::Say(text) => out.extend_from_slice(text.as_bytes()),
+        Piece::Shown(text) => push_shown(out, text),
+        Piece::Number(number) => push_number(out, number),
+        Piece::Padded(number) => push_padded(out, number),
+        Piece::Title(column) => push_title(out, column),
+        Piece::Spaces(count) => push_spaces(out, count),
+        Piece::Tag(lane) => push_tag(out, lane),
+        Piece::Raw(bytes) => out.extend_from_slice(bytes),
+        Piece::Escaped(bytes) => push_escaped(out, bytes),
+    }
+}
+
+/// Adds pieces, one behind the other.
+pub(crate) fn push_pieces(out: &mut Vec<u8>, pieces: &[Piece<'_>]) -> Result<(), AllocError>
+    ensures { OnOk result (out.new.items ≡ out.old.items ++ joined (map piece_text pieces.now)) }
+{
+    for piece in pieces {
+        push_piece(out, *piece)?;
+    }
+    Ok(())
+}
+
+/// The text of pieces.
+pub(crate) fn said(alloc: Global, pieces: &[Piece<'_>]) -> Result<Sequence<u8>, AllocError>
+    ensures { IfOk result (λ text. text ≡ joined (map piece_text pieces.now)) }
+{
+    let mut out = Vec::new(alloc);
+    push_pieces(&mut out, pieces)?;
+    Ok(Sequence::of(out))
+}

@@ -1,0 +1,166 @@
+//! From the bytes of a source to the report in a sink, in a format.
+ghost use Rattle.std.specs.Prelude.{◌≡◌, ◌≤◌, ◌+◌, false, length, IfOk};
+ghost use Rattle.stm_devices.specs.declared.transfer.TheConstants.{MOST_READ};
+ghost use Rattle.stm_texts.specs.Reading.{IsOpening};
+ghost use Rattle.stm_report.specs.FormatScript.{IsTextOf, IsTextFrom, IsRunText, Answers, Writes, DoesAs};
+ghost use Rattle.stm_report.specs.FormatRows.{rows_of};
+ghost use Rattle.stm_report.specs.FormatNotes.{notes_of};
+ghost use Rattle.stm_report.specs.FormatText.{text_of};
+ghost use Rattle.stm_report.specs.FormatSvg.{svg_of};
+
+use crate::format::Format;
+use crate::format_json::json_text;
+use crate::format_notes::notes_of;
+use crate::format_rows::rows_of;
+use crate::format_svg::svg_of;
+use crate::format_text::text_of;
+use crate::report_text::report;
+use crate::run_script::ScriptFault;
+use std::alloc::{AllocError, Global};
+use stm_devices::{ReadFault, Sink, Source, read_all, write_all};
+use stm_retry::{Denied, Reply, World, WorldEvent};
+use stm_texts::{ReadError, Scenario, read_scenario};
+
+/// The text of a world, of the events that led to it, and of their replies.
+fn text_from(
+    alloc: Global,
+    world: &World,
+    events: &[WorldEvent],
+    replies: &[Result<Reply, Denied>],
+) -> Result<Vec<u8>, AllocError>
+    requires { length events.now ≡ length replies.now }
+    ensures { IfOk result (λ text. text.items ≡ text_of (rows_of 1 events.now replies.now) (notes_of world.now replies.now)) }
+{
+    let rows = rows_of(alloc, events, replies)?;
+    let notes = notes_of(alloc, world, replies)?;
+    text_of(alloc, rows.as_slice(), notes.as_slice())
+}
+
+/// The picture of a world, of the events that led to it, and of their replies.
+fn svg_from(
+    alloc: Global,
+    world: &World,
+    events: &[WorldEvent],
+    replies: &[Result<Reply, Denied>],
+) -> Result<Vec<u8>, AllocError>
+    requires { length events.now ≡ length replies.now }
+    ensures { IfOk result (λ svg. svg.items ≡ svg_of (rows_of 1 events.now replies.now) (notes_of world.now replies.now)) }
+{
+    let rows = rows_of(alloc, events, replies)?;
+    let notes = notes_of(alloc, world, replies)?;
+    svg_of(alloc, rows.as_slice(), notes.as_slice())
+}
+
+/// The report of a world, of the events that led to it, and of their replies, in a format.
+///
+/// There is a reply to each event. It fails where a growth was refused.
+pub fn render(
+    alloc: Global,
+    format: Format,
+    world: &World,
+    events: &[WorldEvent],
+    replies: &[Result<Reply, Denied>],
+) -> Result<Vec<u8>, AllocError>
+    requires { length events.now ≡ length replies.now }
+    ensures { IfOk result (λ text. IsTextOf format world.now events.now replies.now text.items) }
+{
+    match format {
+        Format::Lines => Ok(report(alloc, world, replies)?.into_bytes()),
+        Format::Json => Ok(json_text(alloc, world, replies)?.into_bytes()),
+        Format::Text => text_from(alloc, world, events, replies),
+        Format::Svg => svg_from(alloc, world, events, replies),
+    }
+}
+
+/// The report of what a world replies to these events.
+fn report_from(
+    alloc: Global,
+    format: Format,
+    world: &mut World,
+    events: &[WorldEvent],
+) -> Result<Vec<u8>, AllocError>
+    ensures { IfOk result (λ text. IsTextFrom format world.old events.now text.items) }
+{
+    match world.run(events) {
+        Ok(replies) => render(alloc, format, world, events, replies.as_slice()),
+        Err(_) => Err(AllocError),
+    }
+}
+
+/// The report of a scenario's run.
+fn run_report(alloc: Global, format: Format, scenario: &Scenario) -> Result<Vec<u8>, AllocError>
+    requires { IsOpening scenario.now.opening }
+    ensures { IfOk result (λ text. IsRunText format scenario.now text.items) }
+{
+    let opening = scenario.opening.unwrap_or(1);
+    let mut world = World::with_revision(alloc, opening)?;
+    let text = report_from(alloc, format, &mut world, scenario.events.as_slice());
+    drop(world);
+    text
+}
+
+/// The report of the scenario that bytes spell.
+fn report_of(alloc: Global, format: Format, bytes: &[u8]) -> Result<Vec<u8>, ScriptFault>
+    ensures { Answers (λ v. v.items) format bytes.now result }
+{
+    let scenario = match read_scenario(alloc, bytes) {
+        Ok(scenario) => scenario,
+        Err(ReadError::OutOfMemory) => return Err(ScriptFault::OutOfMemory),
+        Err(ReadError::Bad(fault)) => return Err(ScriptFault::Bad(fault)),
+    };
+    match run_report(alloc, format, &scenario) {
+        Ok(text) => Ok(text),
+        Err(_) => Err(ScriptFault::OutOfMemory),
+    }
+}
+
+/// Writes the report of the scenario that bytes spell, once it is whole.
+fn write_report<W: Sink>(
+    alloc: Global,
+    format: Format,
+    bytes: &[u8],
+    sink: &mut W,
+) -> Result<(), ScriptFault>
+    requires { W.failed sink.old ≡ false }
+    ensures { Writes format bytes.now (W.held sink.old) (W.held sink.new) (W.failed sink.new) result }
+{
+    let text = match report_of(alloc, format, bytes) {
+        Ok(text) => text,
+        Err(fault) => return Err(fault),
+    };
+    match write_all(sink, text.as_slice()) {
+        Ok(()) => Ok(()),
+        Err(_) => Err(ScriptFault::Write),
+    }
+}
+
+/// Reads a scenario from a source to its end, runs it over an empty store, and writes the report of the run to a sink in a
+/// format. Nothing is written before the report is whole.
+///
+/// Neither device has failed before. It fails as `Bad` with the scenario's first fault, as `OutOfMemory` where a
+/// growth was refused, and as `Read` where the source has failed: then nothing was written. It fails as `Write`
+/// where the sink has failed: then a front of the report was written. At most 16777217 bytes are read, in at most so
+/// many reads, whatever it answers.
+pub fn script_as<S: Source, W: Sink>(
+    alloc: Global,
+    format: Format,
+    source: &mut S,
+    sink: &mut W,
+) -> Result<(), ScriptFault>
+    requires source_works { S.failed source.old ≡ false }
+    requires sink_works { W.failed sink.old ≡ false }
+    ensures done { DoesAs format (record {
+      input = S.left source.old;
+      before = W.held sink.old;
+      after = W.held sink.new;
+      source_failed = S.failed source.new;
+      sink_failed = W.failed sink.new;
+    }) result }
+    ensures bounded { S.reads source.new ≤ S.reads source.old + MOST_READ }
+{
+    match read_all(alloc, source) {
+        Ok(bytes) => write_report(alloc, format, bytes.as_slice(), sink),
+        Err(ReadFault::OutOfMemory) => Err(ScriptFault::OutOfMemory),
+        Err(ReadFault::Device) => Err(ScriptFault::Read),
+    }
+}

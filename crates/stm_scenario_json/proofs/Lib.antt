@@ -1,3 +1,0 @@
-pub mod Spells
-pub mod NoFloats
-pub mod Scenarios

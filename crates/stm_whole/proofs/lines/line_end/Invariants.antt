@@ -1,7 +1,0 @@
-use Rattle.std.proofs.Common.{◌≡◌, ◌+◌, drop}
-use Rattle.stm_whole.specs.Lines.{line_end}
-use Rattle.stm_whole.proofs.lines.line_end.Given as goal
-
--- the bytes so far are no line feeds
-abbrev pub invariant-loop-index : goal.invariant-loop-index
-invariant-loop-index l = l.index + line_end (drop l.index l.bytes) ≡ line_end l.bytes

@@ -1,4 +1,0 @@
-pub mod Lines
-pub mod Comparing
-pub mod Judging
-pub mod Laws

@@ -1,9 +1,12 @@
 //! The commands over devices in memory, which may fail, and what they leave.
 
-use crate::devices::{Faults, Taker, reader_of, writer_of};
+use crate::devices::{Faults, NONE, Taker, reader_of, writer_of};
 use std::alloc::Global;
 use std::process::Abort;
-use stm_commands::{RecipeWords, Std, check_to, check_whole_to, recipe_to, script_to};
+use stm_commands::{
+    Format, Kept, RecipeWords, Std, check_explained_to, check_to, check_whole_to, recipe_to,
+    script_as_to, script_explained_to, script_to,
+};
 
 /// What a command left: its status, how often its first reader was read, and its output and its standard error.
 #[derive(Drop)]
@@ -21,6 +24,55 @@ pub fn script(alloc: Global, scenario: &[u8], is_endless: bool, faults: Faults) 
     let mut err = Std::new(writer_of(alloc, faults.err));
     let status = script_to(alloc, &mut input, &mut out, &mut err);
     let reads = input.device.calls;
+    Left {
+        status,
+        reads,
+        out,
+        err,
+    }
+}
+
+/// Runs a scenario, whose report is written in a format.
+pub fn script_as(alloc: Global, format: Format, scenario: &str) -> Left {
+    let mut input = Std::new(reader_of(scenario.as_bytes(), false, NONE.scenario));
+    let mut out = Std::new(writer_of(alloc, NONE.out));
+    let mut err = Std::new(writer_of(alloc, NONE.err));
+    let status = script_as_to(alloc, format, &mut input, &mut out, &mut err);
+    let reads = input.device.calls;
+    Left {
+        status,
+        reads,
+        out,
+        err,
+    }
+}
+
+/// Runs a scenario, which is named `s.json`. What is wrong with it is explained.
+pub fn script_explained(alloc: Global, scenario: &[u8], faults: Faults) -> Left {
+    let source = Std::new(reader_of(scenario, false, faults.scenario));
+    let mut input = Kept::new(alloc, "s.json", source);
+    let mut out = Std::new(writer_of(alloc, faults.out));
+    let mut err = Std::new(writer_of(alloc, faults.err));
+    let status = script_explained_to(alloc, Format::Lines, &mut input, &mut out, &mut err);
+    let reads = input.source.device.calls;
+    Left {
+        status,
+        reads,
+        out,
+        err,
+    }
+}
+
+/// Checks a report beside a scenario, which are named `r.txt` and `s.json`. What is wrong with them is explained.
+pub fn check_explained(alloc: Global, scenario: &str, report: &str) -> Left {
+    let source = Std::new(reader_of(scenario.as_bytes(), false, NONE.scenario));
+    let mut scenario = Kept::new(alloc, "s.json", source);
+    let source = Std::new(reader_of(report.as_bytes(), false, NONE.report));
+    let mut report = Kept::new(alloc, "r.txt", source);
+    let mut out = Std::new(writer_of(alloc, NONE.out));
+    let mut err = Std::new(writer_of(alloc, NONE.err));
+    let status = check_explained_to(alloc, &mut scenario, &mut report, &mut out, &mut err);
+    let reads = scenario.source.device.calls;
     Left {
         status,
         reads,

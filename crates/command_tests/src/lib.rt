@@ -1,5 +1,5 @@
-//! Tests of the commands `script`, `check` and `recipe`: whole scenarios with their reports, hostile schedules, bad texts, and readers and
-//! writers that fail.
+//! Tests of the commands `script`, `check` and `recipe`: whole scenarios with their reports, in each format, hostile schedules, bad texts
+//! and their explanations, and readers and writers that fail.
 //!
 //! This crate has no code but tests. They stand here, and not beside what they test, since a crate with tests is proved twice, and in one
 //! crate, since each crate proves anew how each type that it uses is dropped.
@@ -13,6 +13,10 @@ mod commands;
 mod devices;
 #[cfg(test)]
 mod each_call;
+#[cfg(test)]
+mod explanations;
+#[cfg(test)]
+mod formats;
 #[cfg(test)]
 mod many_keys;
 #[cfg(test)]

@@ -4,7 +4,7 @@ use std::alloc::Global;
 use std::io;
 use std::io::{ErrorKind, Write};
 use std::process::Abort;
-use stm_commands::{Budget, Observer, ProgressLine, Std, explore_to, outcomes_to};
+use stm_exploring::{Budget, Observer, ProgressLine, Std, explore_to, outcomes_to};
 
 /// Two programs that each put a key. Schedules of one move take two events, and those of two moves four.
 const TWO_PUTS: &str =

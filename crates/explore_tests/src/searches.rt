@@ -3,7 +3,7 @@
 use crate::scenarios::{AT_LEVEL, OUTCOMES, RULES};
 use std::alloc::Global;
 use std::process::Abort;
-use stm_commands::{Budget, Level, Nobody, Std, explore_to, outcomes_to};
+use stm_exploring::{Budget, Level, Nobody, Std, explore_to, outcomes_to};
 
 /// How many events a search takes at most, where nothing else is said.
 const BUDGET: u64 = 5000000;

@@ -4,7 +4,8 @@ use Rattle.std.specs.Io.KnownBytes.{Keeps}
 pub use Rattle.stm_messages.specs.Saying.{bad_input, Says}
 use Rattle.stm_report.specs.declared.run_script.ScriptFault.{ScriptFault}
 use Rattle.stm_report.specs.declared.run_script.ScriptFault.TheVariants.{OutOfMemory, Bad, Read, Write}
-use Rattle.stm_report.specs.Script.{Devices, Does}
+use Rattle.stm_devices.specs.Ends.{Devices}
+use Rattle.stm_report.specs.Script.{Does}
 use Rattle.stm_commands.specs.declared.formats.TheConstants.{NO_FORMAT}
 use Rattle.stm_report.specs.declared.format.Format.{Format}
 use Rattle.stm_report.specs.FormatScript.{DoesAs}

@@ -4,21 +4,14 @@ ghost use Rattle.stm_devices.specs.declared.transfer.TheConstants.{MOST_READ};
 ghost use Rattle.stm_devices.specs.Transfers.{HasWritten};
 ghost use Rattle.stm_commands.specs.Statuses.{message_of};
 ghost use Rattle.stm_commands.specs.Checking.{fault_message as check_message};
-ghost use Rattle.stm_commands.specs.Exploring.{fault_message as explore_message, Writes};
-ghost use Rattle.stm_commands.specs.Explaining.{IsExplained, ScriptSays, CheckSays, ExploreSays, ScriptEnds, CheckEnds, WholeCheckEnds, ExploreFinishes, Explores, GoesThrough};
+ghost use Rattle.stm_commands.specs.Explaining.{IsExplained, ScriptSays, CheckSays, ScriptEnds, CheckEnds, WholeCheckEnds};
 
 use crate::checking::{answer, status as check_status, status_of, write_message as write_check};
-use crate::exploring::{
-    status as explore_status, status_of as verdict_status, write, write_message as write_explore,
-};
 use crate::scripting::{status as script_status, write_message as write_script};
 use crate::whole_checking::{answer as whole_answer, say};
 use std::alloc::Global;
 use stm_check::CheckFault;
 use stm_explain::{Input, Kept};
-use stm_exploring::{
-    Budget, ExploreFault, Level, Observer, Printed, explore_sources, outcomes_of_source,
-};
 use stm_messages::write_text;
 use stm_report::{DeviceFault, Format, ScriptFault, Sink, Source, script_as};
 
@@ -50,32 +43,6 @@ fn check_explanation<S, R>(
     }
 }
 
-/// The explanation of what is wrong with a scenario or with the program of a rule; none of another fault.
-fn rule_explanation<S, R>(
-    alloc: Global,
-    scenario: &Kept<'_, S>,
-    keeps: &Kept<'_, R>,
-    fault: &ExploreFault,
-) -> String
-    ensures { IsExplained (string_bytes result) }
-{
-    match fault {
-        ExploreFault::BadScenario(bad) => scenario.explanation(alloc, Input::Search, bad),
-        ExploreFault::BadProgram(bad) => keeps.explanation(alloc, Input::Program, bad),
-        ExploreFault::OutOfMemory | ExploreFault::Device => String::new(alloc),
-    }
-}
-
-/// The explanation of what is wrong with a scenario that is searched without a rule; none of another fault.
-fn search_explanation<S>(alloc: Global, scenario: &Kept<'_, S>, fault: &ExploreFault) -> String
-    ensures { IsExplained (string_bytes result) }
-{
-    match fault {
-        ExploreFault::BadScenario(bad) => scenario.explanation(alloc, Input::Search, bad),
-        _ => String::new(alloc),
-    }
-}
-
 // ---- what is said
 
 /// Writes what is said of a fault of a script, and more behind it. Where the sink fails, a front of that was written.
@@ -102,20 +69,6 @@ fn write_check_with<E: Sink>(err: &mut E, fault: &CheckFault, more: &str) -> Res
     Ok(())
 }
 
-/// Writes what is said of a fault of a search, and more behind it. Where the sink fails, a front of that was written.
-fn write_explore_with<E: Sink>(
-    err: &mut E,
-    fault: &ExploreFault,
-    more: &str,
-) -> Result<(), DeviceFault>
-    requires { E.failed err.old ≡ false }
-    ensures { HasWritten (E.held err.old) (E.held err.new) (E.failed err.new) result (explore_message fault.now ++ more.now) }
-{
-    write_explore(err, fault)?;
-    write_text(err, more)?;
-    Ok(())
-}
-
 /// Says what went wrong with a script and its explanation, and gives the status.
 fn tell_script<E: Sink>(err: &mut E, fault: &ScriptFault, more: &str) -> u8
     requires works { E.failed err.old ≡ false }
@@ -134,16 +87,6 @@ fn tell_check<E: Sink>(err: &mut E, fault: &CheckFault, more: &str) -> u8
 {
     let _ = write_check_with(err, fault, more);
     check_status(fault)
-}
-
-/// Says what went wrong with a search and its explanation, and gives the status.
-fn tell_explore<E: Sink>(err: &mut E, fault: &ExploreFault, more: &str) -> u8
-    requires works { E.failed err.old ≡ false }
-    requires explains { IsExplained more.now }
-    ensures { ExploreSays (E.held err.old) (E.held err.new) (E.failed err.new) fault.now result }
-{
-    let _ = write_explore_with(err, fault, more);
-    explore_status(fault)
 }
 
 // ---- the commands
@@ -246,69 +189,6 @@ pub fn check_whole_explained_to<S: Source, R: Source, W: Sink, E: Sink>(
         Err(fault) => {
             let more = check_explanation(alloc, scenario, report, &fault);
             tell_check(err, &fault, more.as_str())
-        }
-    }
-}
-
-/// Does what `explore_to` does, with that status and that output. Behind what is said of a bad input stands its explanation, as a line
-/// `NAME:LINE:COLUMN: WORDS`, or nothing where a growth was refused for it.
-pub fn explore_explained_to<S: Source, R: Source, W: Sink, E: Sink, O: Observer>(
-    alloc: Global,
-    scenario: &mut Kept<'_, S>,
-    keeps: &mut Kept<'_, R>,
-    level: Option<Level>,
-    budget: &mut Budget<O>,
-    out: &mut W,
-    err: &mut E,
-) -> u8
-    requires scenario_works { S.failed scenario.old.source ≡ false }
-    requires keeps_works { R.failed keeps.old.source ≡ false }
-    requires out_works { W.failed out.old ≡ false }
-    requires err_works { E.failed err.old ≡ false }
-    ensures ends { Explores level (record {
-      scenario = S.left scenario.old.source;
-      keeps = R.left keeps.old.source;
-      scenario_failed = S.failed scenario.new.source;
-      keeps_failed = R.failed keeps.new.source;
-    }) (record { before = W.held out.old; after = W.held out.new; failed = W.failed out.new })
-        (record { before = E.held err.old; after = E.held err.new; failed = E.failed err.new }) result }
-    ensures scenario_bounded { S.reads scenario.new.source ≤ S.reads scenario.old.source + MOST_READ }
-    ensures keeps_bounded { R.reads keeps.new.source ≤ R.reads keeps.old.source + MOST_READ }
-{
-    let searched = explore_sources(alloc, scenario, keeps, level, budget);
-    match write(out, searched) {
-        Ok(verdict) => verdict_status(verdict),
-        Err(fault) => {
-            let more = rule_explanation(alloc, scenario, keeps, &fault);
-            tell_explore(err, &fault, more.as_str())
-        }
-    }
-}
-
-/// Does what `outcomes_to` does, with that status and that output. Behind what is said of a bad scenario stands its explanation, as a line
-/// `NAME:LINE:COLUMN: WORDS`, or nothing where a growth was refused for it.
-pub fn outcomes_explained_to<S: Source, W: Sink, E: Sink, O: Observer>(
-    alloc: Global,
-    scenario: &mut Kept<'_, S>,
-    level: Option<Level>,
-    budget: &mut Budget<O>,
-    out: &mut W,
-    err: &mut E,
-) -> u8
-    requires scenario_works { S.failed scenario.old.source ≡ false }
-    requires out_works { W.failed out.old ≡ false }
-    requires err_works { E.failed err.old ≡ false }
-    ensures ends { GoesThrough level (S.left scenario.old.source) (S.failed scenario.new.source)
-        (record { before = W.held out.old; after = W.held out.new; failed = W.failed out.new })
-        (record { before = E.held err.old; after = E.held err.new; failed = E.failed err.new }) result }
-    ensures bounded { S.reads scenario.new.source ≤ S.reads scenario.old.source + MOST_READ }
-{
-    let gathered = outcomes_of_source(alloc, scenario, level, budget);
-    match write(out, gathered) {
-        Ok(verdict) => verdict_status(verdict),
-        Err(fault) => {
-            let more = search_explanation(alloc, scenario, &fault);
-            tell_explore(err, &fault, more.as_str())
         }
     }
 }

@@ -1,27 +1,19 @@
-//! The commands that start no thread, over devices: what `script`, `check`, `explore` and `recipe` write, their statuses, and what they say of a fault.
+//! The commands that start no thread, over devices: what `script`, `check` and `recipe` write, their statuses, and what they say of a fault.
 #![tactic(auto)]
 
 mod checking;
 mod explaining;
-mod exploring;
 mod formats;
-mod progress;
 mod recipes;
 mod scripting;
 mod whole_checking;
 
 pub use checking::check_to;
-pub use explaining::{
-    check_explained_to, check_whole_explained_to, explore_explained_to, outcomes_explained_to,
-    script_explained_to,
-};
-pub use exploring::{explore_to, outcomes_to};
+pub use explaining::{check_explained_to, check_whole_explained_to, script_explained_to};
 pub use formats::{NO_FORMAT, no_format_to, script_as_to};
-pub use progress::ProgressLine;
 pub use recipes::{USAGE, recipe_to};
 pub use scripting::script_to;
 pub use stm_explain::{Input, Kept};
-pub use stm_exploring::{Budget, Level, Nobody, Observer};
 pub use stm_recipe_lines::RecipeWords;
 pub use stm_report::{BadInput, DeviceFault, Format, Sink, Source, Std};
 pub use whole_checking::check_whole_to;

@@ -1,43 +1,36 @@
 -- From what was read of a source to what it has.
-use Rattle.std.proofs.Common.{◌≡◌, ℕ, ◌≤◌, ◌<◌, List, length, take, Bool, true, false, nat_lt, Option, Some, None, IfSome, refl, sym, ap}
-use Rattle.std.proofs.Common.{◌∙◌, arith, take_all, IsUtf8}
+use Rattle.std.proofs.Common.{◌≡◌, ℕ, ◌≤◌, List, length, take, Bool, true, false, Option, Some, None, IfSome, refl, sym, ap}
+use Rattle.std.proofs.Common.{◌∙◌, arith, IsUtf8}
 use Rattle.std.specs.Str.{is_utf8}
 use Rattle.std.proofs.lemmas.Str.{IsUtf8-from_is_utf8, is_utf8-from_IsUtf8}
 use Rattle.serde_json.specs.Data.{Data}
 use Rattle.serde_json.specs.Read.{read}
 use Rattle.stm_json.specs.Bytes.{data_of}
 use Rattle.stm_program_json.specs.Reading.{program_of}
-use Rattle.std.proofs.lemmas.Bool.{ltb-true, ltb-false}
 use Rattle.std.proofs.lemmas.Bool.Decides.{nat_tests}
-use Rattle.std.proofs.lemmas.List.{length-take-le}
 use Rattle.stm_devices.specs.declared.transfer.TheConstants.{MOST_READ}
-use Rattle.stm_json.specs.declared.cause.Cause.TheVariants.{NotJson, TooLong}
+use Rattle.stm_json.specs.declared.cause.Cause.TheVariants.{NotJson}
 use Rattle.stm_json.specs.declared.limits.TheConstants.{MOST_BYTES}
 use Rattle.stm_json.specs.Outcome.{Outcome, bad, ◌>>=◌}
 use Rattle.stm_program.specs.Syntax.{ProgramTree}
 use Rattle.stm_program.specs.declared.level.Level.{Level}
-use Rattle.stm_report.proofs.ScriptLemmas.{scenario_in-front}
 use Rattle.stm_texts.specs.declared.scenario.Scenario.{Scenario}
+use Rattle.stm_texts.proofs.Fronts.{RefusesLong, of_front, scenario_in-front}
 use Rattle.stm_exploring.specs.Asking.{asked}
 use Rattle.stm_exploring.specs.Exploring.{asked_in, program_in, program_read}
 
 -- ---- what is too long by a byte is too long however it goes on
 
 asked_in-front : (level : Option Level) (all : List ℕ) → asked_in level (take MOST_READ all) ≡ asked_in level all
-asked_in-front level all = ap (λ (o : Outcome Scenario). o >>= asked level) (scenario_in-front all)
+asked_in-front level all =
+    ap (λ (o : Outcome Scenario). o >>= asked level) (scenario_in-front all)
 
-program_in-long : (bytes : List ℕ) → MOST_BYTES < length bytes → program_in bytes ≡ bad TooLong
+program_in-long : RefusesLong program_in
 unfolding program_in
 program_in-long bytes long = grind (arith, nat_tests)
 
-program_by_length : (b : Bool) (all : List ℕ) → nat_lt MOST_BYTES (length all) ≡ b → program_in (take MOST_READ all) ≡ program_in all
-program_by_length true all is =
-    let long : MOST_BYTES < length all = ltb-true MOST_BYTES (length all) is in
-    let front : length (take MOST_READ all) ≡ MOST_READ = length-take-le MOST_READ all (omega arith) in
-    program_in-long (take MOST_READ all) (omega arith) ∙ sym (program_in-long all long)
-program_by_length false all is =
-    let short : length all ≤ MOST_BYTES = ltb-false MOST_BYTES (length all) is in
-    ap program_in (take_all MOST_READ all (omega arith))
+program_in-front : (all : List ℕ) → program_in (take MOST_READ all) ≡ program_in all
+program_in-front = of_front program_in program_in-long
 
 -- ---- what was read of the bytes was read of the source
 
@@ -50,7 +43,7 @@ pub program_told : (bytes : List ℕ) (known : Option (List ℕ)) (outcome : Out
     → program_in bytes ≡ outcome → IfSome known (λ all. program_in all ≡ outcome)
 program_told bytes None outcome taken is = tt
 program_told bytes (Some all) outcome taken is =
-    sym (program_by_length (nat_lt MOST_BYTES (length all)) all refl) ∙ sym (ap program_in taken) ∙ is
+    sym (program_in-front all) ∙ sym (ap program_in taken) ∙ is
 
 -- ---- bytes that are the JSON of a program, and bytes that are not JSON
 

@@ -2,3 +2,5 @@ pub mod Asking
 pub mod Lines
 pub mod Exploring
 pub mod Laws
+pub mod Command
+pub mod Explaining

@@ -1,9 +1,13 @@
-//! Searches through the interleavings of a scenario, from the bytes of sources to what is printed of them.
+//! Searches through the interleavings of a scenario, from the bytes of sources to what is printed of them, and the command `explore` over
+//! devices.
 //!
-//! A scenario whose schedules are looked at has no step. `specs/Asking.antt` has what is asked, and `specs/Lines.antt` what is printed.
+//! A scenario whose schedules are looked at has no step. `specs/Asking.antt` has what is asked, `specs/Lines.antt` what is printed, and
+//! `specs/Command.antt` the statuses and what is said of a fault.
 #![tactic(auto)]
 
 mod asking;
+mod command;
+mod explaining;
 mod exploring;
 mod laws;
 mod lines;
@@ -11,17 +15,22 @@ mod lists;
 mod outcome_lines;
 mod outcomes;
 mod printed;
+mod progress;
 mod reading;
 mod schedule_lines;
 mod searching;
 mod setup;
 
+pub use command::{explore_to, outcomes_to};
+pub use explaining::{explore_explained_to, outcomes_explained_to};
 pub use exploring::explore_sources;
 pub use laws::schedules_spell;
 pub use outcomes::outcomes_of_source;
 pub use printed::{Printed, Verdict};
+pub use progress::ProgressLine;
 pub use reading::ExploreFault;
-pub use stm_devices::Source;
+pub use stm_devices::{DeviceFault, Sink, Source, Std};
+pub use stm_explain::{Input, Kept};
 pub use stm_explore::{Budget, Nobody, Observer};
 pub use stm_json::BadInput;
 pub use stm_program::Level;

@@ -1,5 +1,5 @@
 -- From the run of the jobs to what is printed of it, and from there to what the devices saw.
-use Rattle.std.proofs.Common.{◌≡◌, ℕ, List, length, map, Bool, Option, Some, None, Result, Ok, Err, IfOk, IfErr, IfSome, false}
+use Rattle.std.proofs.Common.{◌≡◌, ℕ, List, length, map, Result, Ok, Err, IfOk, IfErr, IfSome, false}
 use Rattle.std.proofs.Common.{refl, sym, ap, subst, ◌∙◌, take}
 use Rattle.std.specs.Io.KnownBytes.{Appends}
 use Rattle.stm_devices.specs.Transfers.{WritesFront}
@@ -9,11 +9,10 @@ use Rattle.stm_json.specs.declared.read_error.ReadError.TheVariants as error
 use Rattle.stm_json.specs.Outcome.{Outcome as Reading}
 use Rattle.stm_json.specs.Tells.{TellsFault}
 use Rattle.stm_texts.specs.declared.scenario.Scenario.{Scenario}
-use Rattle.stm_texts.specs.Reading.{scenario_in}
 use Rattle.stm_world.specs.declared.event.WorldEvent.{WorldEvent}
 use Rattle.stm_world.specs.World.{opened, world_after}
-use Rattle.stm_report.specs.Script.{Devices}
-use Rattle.stm_report.proofs.ScriptLemmas.{scenario_in-front}
+use Rattle.stm_devices.specs.Ends.{Devices}
+use Rattle.stm_texts.proofs.Fronts.{told_at}
 use Rattle.stm_txn.specs.Standing.{Standing}
 use Rattle.stm_hall.specs.HallState.{HallState, made_over}
 use Rattle.stm_workers.specs.declared.job.Job.{Job}
@@ -124,11 +123,6 @@ judged_unread reading error.OutOfMemory told = tt
 judged_unread reading (error.Bad fault) told = ap judged told
 
 -- ---- the devices
-
-told_at : (bytes : List ℕ) (known : Option (List ℕ)) (P : Reading Scenario → Type 0) → IfSome known (λ all. bytes ≡ take MOST_READ all)
-    → P (scenario_in bytes) → IfSome known (λ all. P (scenario_in all))
-told_at bytes None P read holds = tt
-told_at bytes (Some all) P read holds = subst P (ap scenario_in read ∙ scenario_in-front all) holds
 
 -- what was done for the bytes that were read was done for the input
 pub does_of : {A : Type 0} (printing : Printing) (d : Devices) (bytes : List ℕ) (result : Result A JobsFault) → IfSome d.input (λ all. bytes ≡ take MOST_READ all)

@@ -7,7 +7,7 @@ use Rattle.stm_json.specs.declared.read_error.ReadError.TheVariants.{OutOfMemory
 use Rattle.stm_json.specs.Outcome.{Outcome as Reading, ◌>>=◌}
 use Rattle.stm_texts.specs.declared.scenario.Scenario.{Scenario}
 use Rattle.stm_texts.specs.Reading.{scenario_in}
-use Rattle.stm_report.specs.Script.{Devices, IsUntouched}
+use Rattle.stm_devices.specs.Ends.{Devices, IsUntouched}
 use Rattle.stm_world.specs.declared.event.WorldEvent.{WorldEvent}
 use Rattle.stm_world.specs.World.{opened, world_after}
 use Rattle.stm_hall.specs.HallState.{HallState, made_over}

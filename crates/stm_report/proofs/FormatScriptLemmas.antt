@@ -5,8 +5,8 @@ use Rattle.stm_devices.specs.declared.transfer.TheConstants.{MOST_READ}
 use Rattle.stm_devices.specs.Transfers.{WritesFront}
 use Rattle.stm_report.specs.declared.run_script.ScriptFault.{ScriptFault}
 use Rattle.stm_report.specs.declared.run_script.ScriptFault.TheVariants.{OutOfMemory, Bad, Read, Write}
-use Rattle.stm_report.specs.Script.{Devices}
-use Rattle.stm_report.proofs.ScriptLemmas.{told_at}
+use Rattle.stm_devices.specs.Ends.{Devices}
+use Rattle.stm_texts.proofs.Fronts.{told_at}
 use Rattle.stm_report.specs.declared.format.Format.{Format}
 use Rattle.stm_report.specs.FormatScript.{IsOutputOf, Writes, DoesAs}
 

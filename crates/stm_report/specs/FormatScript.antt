@@ -12,7 +12,7 @@ use Rattle.stm_devices.specs.Transfers.{WritesFront}
 use Rattle.stm_report.specs.declared.run_script.ScriptFault.{ScriptFault}
 use Rattle.stm_report.specs.declared.run_script.ScriptFault.TheVariants.{OutOfMemory, Bad, Read, Write}
 use Rattle.stm_report.specs.Report.{IsReport}
-use Rattle.stm_report.specs.Script.{Devices, IsUntouched}
+use Rattle.stm_devices.specs.Ends.{Devices, IsUntouched}
 use Rattle.stm_report.specs.declared.format.Format.{Format}
 use Rattle.stm_report.specs.declared.format.Format.TheVariants.{Lines, Json, Text, Svg}
 use Rattle.stm_report.specs.FormatFields.{json_text}

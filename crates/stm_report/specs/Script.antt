@@ -9,6 +9,7 @@ use Rattle.stm_texts.specs.Reading.{scenario_in}
 use Rattle.stm_report.specs.declared.run_script.ScriptFault.{ScriptFault}
 use Rattle.stm_report.specs.declared.run_script.ScriptFault.TheVariants.{OutOfMemory, Bad, Read, Write}
 use Rattle.stm_report.specs.Report.{IsReport}
+use Rattle.stm_devices.specs.Ends.{Devices, IsUntouched}
 use Rattle.stm_devices.specs.Transfers.{WritesFront}
 
 -- ---- the report of a text
@@ -42,18 +43,6 @@ Reports bytes before after failed (Err Read) = ⊥
 Reports bytes before after failed (Err Write) = (failed ≡ true) × (text : List ℕ) × IsReportOf (scenario_in bytes) text × WritesFront before after text
 
 -- ---- the script
-
--- the devices at the end: what was left of the source before, what the sink held before and holds, and whether each has failed
-pub record Devices : Type 0 where
-  pub input : Option (List ℕ)
-  pub before : Option (List ℕ)
-  pub after : Option (List ℕ)
-  pub source_failed : Bool
-  pub sink_failed : Bool
-
--- nothing was written, and nothing failed
-abbrev pub IsUntouched : Devices → Type 0
-IsUntouched d = (d.source_failed ≡ false) × (d.sink_failed ≡ false) × Keeps d.before d.after
 
 -- What a script did, by its answer. At the end of a good one exactly the report of the input was written; at a bad
 -- scenario, want of memory and a failed source nothing was; at a failed sink a front of the report was. Each fault of a

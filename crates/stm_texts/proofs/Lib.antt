@@ -1,4 +1,5 @@
 pub mod EventLemmas
+pub mod Fronts
 pub mod ScenarioLemmas
 pub mod WatcherFaults
 pub mod ScenarioFaults

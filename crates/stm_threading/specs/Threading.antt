@@ -1,7 +1,7 @@
 -- What the command `threads` does to its devices, its statuses, and what it says.
 use Rattle.std.specs.Prelude.{◌≡◌, ℕ, List, ◌++◌, Bool, true, false, Option, Result, Ok, Err, codes, decimal}
 use Rattle.std.specs.Io.KnownBytes.{Keeps}
-use Rattle.stm_report.specs.Script.{Devices}
+use Rattle.stm_devices.specs.Ends.{Devices}
 use Rattle.stm_jobs.specs.declared.running.JobsFault.{JobsFault}
 use Rattle.stm_jobs.specs.declared.running.JobsFault.TheVariants.{OutOfMemory, Bad, Read, Write, Spawn, Audit}
 use Rattle.stm_jobs.specs.declared.shown.Printing.{Printing}

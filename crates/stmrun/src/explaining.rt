@@ -9,9 +9,9 @@ use std::rt::Files;
 use std::sync::Wait;
 use std::thread::Threads;
 use stm_commands::{
-    Format, Kept, Level, Std, check_explained_to, check_whole_explained_to, explore_explained_to,
-    outcomes_explained_to, script_explained_to,
+    Format, Kept, Std, check_explained_to, check_whole_explained_to, script_explained_to,
 };
+use stm_exploring::{Level, explore_explained_to, outcomes_explained_to};
 use stm_files::{Noting, Opened, open};
 use stm_threading::{ThreadsOptions, threads_as_to};
 

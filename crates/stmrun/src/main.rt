@@ -9,12 +9,13 @@ use std::process::ExitCode;
 use std::sync::Wait;
 use std::thread::Threads;
 use stm_arguments::{Asked, asked_of, read_level, read_words};
-use stm_commands::{Format, Level, RecipeWords, Std, no_format_to};
+use stm_commands::{Format, RecipeWords, Std, no_format_to};
 pub use stm_commands::{
-    check_explained_to, check_to, check_whole_explained_to, check_whole_to, explore_explained_to,
-    explore_to, outcomes_explained_to, outcomes_to, recipe_to, script_as_to, script_explained_to,
-    script_to,
+    check_explained_to, check_to, check_whole_explained_to, check_whole_to, recipe_to,
+    script_as_to, script_explained_to, script_to,
 };
+use stm_exploring::Level;
+pub use stm_exploring::{explore_explained_to, explore_to, outcomes_explained_to, outcomes_to};
 use stm_files::open;
 use stm_threading::{Printing, ThreadsOptions};
 pub use stm_threading::{threads_as_to, threads_to};

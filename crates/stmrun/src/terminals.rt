@@ -1,6 +1,6 @@
 //! What is shown on a terminal.
 use std::io::{IsTerminal, Stderr};
-use stm_commands::{Budget, ProgressLine};
+use stm_exploring::{Budget, ProgressLine};
 
 /// Standard error, if it is a terminal.
 fn terminal(rt: &HostRuntime) -> Option<Stderr> {

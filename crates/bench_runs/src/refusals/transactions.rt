@@ -1,0 +1,115 @@
+//! Transactions of a store, each of which is made again where it was refused for want of memory.
+use crate::refusals::scenarios::{TRANSACTIONS, scenario_of};
+use anyhow::{Result, bail};
+use serde_json::Value as Json;
+use std::alloc::{AllocError, Global};
+use stm_history::Sequence;
+use stm_lines::event_json;
+use stm_txn::{Refusal as StoreRefusal, Store, Txn, TxnAnswer};
+use stm_world::{Denied, Refusal, Reply, WorldEvent};
+
+/// Replies, one for each transaction.
+type Replies = Vec<Result<Reply, Denied>>;
+
+/// A new store, by a second call where the first was refused.
+pub(crate) fn store_again(alloc: Global) -> Result<Store, AllocError> {
+    match Store::new(alloc) {
+        Ok(store) => Ok(store),
+        Err(_) => Store::new(alloc),
+    }
+}
+
+/// Makes a transaction, in a second call where the first was refused for want of memory.
+pub(crate) fn txn_again(store: &mut Store, txn: &Txn) -> Result<TxnAnswer, StoreRefusal> {
+    match store.txn(txn) {
+        Err(StoreRefusal::OutOfMemory) => store.txn(txn),
+        Err(cause) => Err(cause),
+        Ok(answer) => Ok(answer),
+    }
+}
+
+/// The reply to a transaction.
+fn reply_of(alloc: Global, made: Result<TxnAnswer, StoreRefusal>) -> Result<Result<Reply, Denied>> {
+    match made {
+        Ok(answer) => Ok(Ok(Reply::Txn { answer })),
+        Err(StoreRefusal::OutOfMemory) => bail!("the transaction was refused twice"),
+        Err(cause) => Ok(Err(Denied {
+            cause: Refusal::Store(cause),
+            expired: Sequence::new(alloc),
+        })),
+    }
+}
+
+/// Makes the transaction of an event.
+fn reply_to(alloc: Global, store: &mut Store, event: &WorldEvent) -> Result<Result<Reply, Denied>> {
+    match event {
+        WorldEvent::Txn { txn } => reply_of(alloc, txn_again(store, txn)),
+        _ => bail!("the event is no transaction"),
+    }
+}
+
+/// Room for so many replies, by a second call where the first was refused.
+fn room_again(alloc: Global, count: usize) -> Result<Replies, AllocError> {
+    match Vec::with_capacity(alloc, count) {
+        Ok(replies) => Ok(replies),
+        Err(_) => Vec::with_capacity(alloc, count),
+    }
+}
+
+/// Makes the transactions in their order.
+fn replies_to(alloc: Global, store: &mut Store, events: &[WorldEvent]) -> Result<Replies> {
+    let mut replies = room_again(alloc, events.len())?;
+    for event in events {
+        replies.push(reply_to(alloc, store, event)?)?;
+    }
+    Ok(replies)
+}
+
+/// Adds a line.
+fn push_line(alloc: Global, text: &mut String, line: &Json) -> Result<(), AllocError> {
+    let compact = line.to_string(alloc)?;
+    text.push_str(compact.as_str())?;
+    text.push('\n')
+}
+
+/// A line for each reply, numbered from 1.
+fn text_of(alloc: Global, replies: &[Result<Reply, Denied>]) -> Result<String, AllocError> {
+    let mut text = String::new(alloc);
+    for (before, reply) in replies.iter().enumerate() {
+        let line = event_json(alloc, before as u64 + 1, reply)?;
+        push_line(alloc, &mut text, &line)?;
+    }
+    Ok(text)
+}
+
+/// The same, by a second call where the first was refused.
+fn text_again(alloc: Global, replies: &[Result<Reply, Denied>]) -> Result<String, AllocError> {
+    match text_of(alloc, replies) {
+        Ok(text) => Ok(text),
+        Err(_) => text_of(alloc, replies),
+    }
+}
+
+/// Makes transactions of a store, and tells the replies.
+fn lines_on(alloc: Global, store: &mut Store, events: &[WorldEvent]) -> Result<String> {
+    let replies = replies_to(alloc, store, events)?;
+    let text = text_again(alloc, replies.as_slice());
+    drop(replies);
+    Ok(text?)
+}
+
+/// Makes transactions of a new store, and tells the replies.
+fn lines_of(alloc: Global, events: &[WorldEvent]) -> Result<String> {
+    let mut store = store_again(alloc)?;
+    let text = lines_on(alloc, &mut store, events);
+    drop(store);
+    text
+}
+
+/// A line for each of the transactions.
+pub(crate) fn lines(alloc: Global) -> Result<String> {
+    let scenario = scenario_of(alloc, TRANSACTIONS)?;
+    let text = lines_of(alloc, scenario.events.as_slice());
+    drop(scenario);
+    text
+}

@@ -1,0 +1,71 @@
+-- What the command `explore` does to its devices, its statuses, and what it says.
+use Rattle.std.specs.Prelude.{◌≡◌, ℕ, List, Bool, true, false, Option, Result, Ok, Err, codes}
+use Rattle.std.specs.Io.KnownBytes.{Appends, Keeps}
+use Rattle.stm_devices.specs.Transfers.{WritesFront}
+use Rattle.stm_program.specs.declared.level.Level.{Level}
+use Rattle.stm_exploring.specs.declared.printed.Printed.{Printed}
+use Rattle.stm_exploring.specs.declared.printed.Verdict.{Verdict}
+use Rattle.stm_exploring.specs.declared.printed.Verdict.TheVariants.{Kept, Broken, Open}
+use Rattle.stm_exploring.specs.declared.reading.ExploreFault.{ExploreFault}
+use Rattle.stm_exploring.specs.declared.reading.ExploreFault.TheVariants.{OutOfMemory, BadScenario, BadProgram, Device}
+use Rattle.stm_exploring.specs.Exploring.{Sources, Searches, Gathers}
+use Rattle.stm_messages.specs.Saying.{bad_input, Says}
+
+-- ---- answers and faults
+
+abbrev pub verdict_status : Verdict → ℕ
+verdict_status Kept = 0
+verdict_status Broken = 1
+verdict_status Open = 4
+
+-- 2 for bad input, 3 for want of memory and a failed device
+abbrev pub fault_status : ExploreFault → ℕ
+fault_status OutOfMemory = 3
+fault_status (BadScenario bad) = 2
+fault_status (BadProgram bad) = 2
+fault_status Device = 3
+
+abbrev pub fault_message : ExploreFault → List ℕ
+fault_message OutOfMemory = codes "stmrun: out of memory\n"
+fault_message (BadScenario bad) = bad_input (codes "stmrun: bad scenario at ") bad
+fault_message (BadProgram bad) = bad_input (codes "stmrun: bad program at ") bad
+fault_message Device = codes "stmrun: device fault\n"
+
+-- ---- the sinks
+
+-- a sink: what it held before and holds, and whether it has failed
+pub record Sunk : Type 0 where
+  pub before : Option (List ℕ)
+  pub after : Option (List ℕ)
+  pub failed : Bool
+
+-- What was written of what a search answered: what it prints, a front of that where the sink has failed, and of a fault nothing.
+abbrev pub Writes : Result Printed ExploreFault → Option (List ℕ) → Option (List ℕ) → Bool → Result Verdict ExploreFault → Type 0
+Writes (Ok p) before after failed (Ok verdict) = (verdict ≡ p.verdict) × (failed ≡ false) × Appends before after p.text
+Writes (Ok p) before after failed (Err fault) = (fault ≡ Device) × (failed ≡ true) × WritesFront before after p.text
+Writes (Err fault) before after failed result = (result ≡ Err fault) × (failed ≡ false) × Keeps before after
+
+-- what is said and answered of a fault: its own message and status
+abbrev pub SaysOf : Option (List ℕ) → Option (List ℕ) → Bool → ExploreFault → ℕ → Type 0
+SaysOf before after failed fault status = (status ≡ fault_status fault) × Says before after failed (fault_message fault)
+
+-- the status of an answer, with nothing said, or that of a fault, with what is said of it
+abbrev pub EndsBy : Sunk → Result Verdict ExploreFault → ℕ → Type 0
+EndsBy err (Ok verdict) status = (status ≡ verdict_status verdict) × (err.failed ≡ false) × Keeps err.before err.after
+EndsBy err (Err fault) status = SaysOf err.before err.after err.failed fault status
+
+-- ---- the command
+
+-- its end, by what a search answered
+abbrev pub Finishes : Result Printed ExploreFault → Sunk → Sunk → ℕ → Type 0
+Finishes searched out err status =
+    (ended : Result Verdict ExploreFault) × Writes searched out.before out.after out.failed ended × EndsBy err ended status
+
+-- with a rule
+abbrev pub Explores : Option Level → Sources → Sunk → Sunk → ℕ → Type 0
+Explores level sources out err status = (searched : Result Printed ExploreFault) × Searches level sources searched × Finishes searched out err status
+
+-- without one
+abbrev pub GoesThrough : Option Level → Option (List ℕ) → Bool → Sunk → Sunk → ℕ → Type 0
+GoesThrough level known failed out err status =
+    (gathered : Result Printed ExploreFault) × Gathers level known failed gathered × Finishes gathered out err status

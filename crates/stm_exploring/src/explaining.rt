@@ -1,0 +1,127 @@
+//! The command `explore`, which explains a bad input behind what it says of it.
+ghost use Rattle.std.specs.Prelude.{◌≡◌, ◌≤◌, ◌+◌, ◌++◌, false, string_bytes};
+ghost use Rattle.stm_devices.specs.declared.transfer.TheConstants.{MOST_READ};
+ghost use Rattle.stm_devices.specs.Transfers.{HasWritten};
+ghost use Rattle.stm_messages.specs.Saying.{IsExplained};
+ghost use Rattle.stm_exploring.specs.Command.{fault_message};
+ghost use Rattle.stm_exploring.specs.Explaining.{SaysMoreOf, Explores, GoesThrough};
+
+use crate::command::{status, status_of, write, write_message};
+use crate::exploring::explore_sources;
+use crate::outcomes::outcomes_of_source;
+use crate::reading::ExploreFault;
+use std::alloc::Global;
+use stm_devices::{DeviceFault, Sink, Source};
+use stm_explain::{Input, Kept};
+use stm_explore::{Budget, Observer};
+use stm_messages::write_text;
+use stm_program::Level;
+
+/// The explanation of what is wrong with a scenario or with the program of a rule; none of another fault.
+fn rule_explanation<S, R>(
+    alloc: Global,
+    scenario: &Kept<'_, S>,
+    keeps: &Kept<'_, R>,
+    fault: &ExploreFault,
+) -> String
+    ensures { IsExplained (string_bytes result) }
+{
+    match fault {
+        ExploreFault::BadScenario(bad) => scenario.explanation(alloc, Input::Search, bad),
+        ExploreFault::BadProgram(bad) => keeps.explanation(alloc, Input::Program, bad),
+        ExploreFault::OutOfMemory | ExploreFault::Device => String::new(alloc),
+    }
+}
+
+/// The explanation of what is wrong with a scenario that is searched without a rule; none of another fault.
+fn search_explanation<S>(alloc: Global, scenario: &Kept<'_, S>, fault: &ExploreFault) -> String
+    ensures { IsExplained (string_bytes result) }
+{
+    match fault {
+        ExploreFault::BadScenario(bad) => scenario.explanation(alloc, Input::Search, bad),
+        _ => String::new(alloc),
+    }
+}
+
+/// Writes what is said of a fault, and more behind it. Where the sink fails, a front of that was written.
+fn write_with<E: Sink>(err: &mut E, fault: &ExploreFault, more: &str) -> Result<(), DeviceFault>
+    requires { E.failed err.old ≡ false }
+    ensures { HasWritten (E.held err.old) (E.held err.new) (E.failed err.new) result (fault_message fault.now ++ more.now) }
+{
+    write_message(err, fault)?;
+    write_text(err, more)?;
+    Ok(())
+}
+
+/// Says what went wrong and its explanation, and gives the status.
+fn tell_with<E: Sink>(err: &mut E, fault: &ExploreFault, more: &str) -> u8
+    requires works { E.failed err.old ≡ false }
+    requires explains { IsExplained more.now }
+    ensures { SaysMoreOf (E.held err.old) (E.held err.new) (E.failed err.new) fault.now result }
+{
+    let _ = write_with(err, fault, more);
+    status(fault)
+}
+
+/// Does what `explore_to` does, with that status and that output. Behind what is said of a bad input stands its explanation, as a line
+/// `NAME:LINE:COLUMN: WORDS`, or nothing where a growth was refused for it.
+pub fn explore_explained_to<S: Source, R: Source, W: Sink, E: Sink, O: Observer>(
+    alloc: Global,
+    scenario: &mut Kept<'_, S>,
+    keeps: &mut Kept<'_, R>,
+    level: Option<Level>,
+    budget: &mut Budget<O>,
+    out: &mut W,
+    err: &mut E,
+) -> u8
+    requires scenario_works { S.failed scenario.old.source ≡ false }
+    requires keeps_works { R.failed keeps.old.source ≡ false }
+    requires out_works { W.failed out.old ≡ false }
+    requires err_works { E.failed err.old ≡ false }
+    ensures ends { Explores level (record {
+      scenario = S.left scenario.old.source;
+      keeps = R.left keeps.old.source;
+      scenario_failed = S.failed scenario.new.source;
+      keeps_failed = R.failed keeps.new.source;
+    }) (record { before = W.held out.old; after = W.held out.new; failed = W.failed out.new })
+        (record { before = E.held err.old; after = E.held err.new; failed = E.failed err.new }) result }
+    ensures scenario_bounded { S.reads scenario.new.source ≤ S.reads scenario.old.source + MOST_READ }
+    ensures keeps_bounded { R.reads keeps.new.source ≤ R.reads keeps.old.source + MOST_READ }
+{
+    let searched = explore_sources(alloc, scenario, keeps, level, budget);
+    match write(out, searched) {
+        Ok(verdict) => status_of(verdict),
+        Err(fault) => {
+            let more = rule_explanation(alloc, scenario, keeps, &fault);
+            tell_with(err, &fault, more.as_str())
+        }
+    }
+}
+
+/// Does what `outcomes_to` does, with that status and that output. Behind what is said of a bad scenario stands its explanation, as a line
+/// `NAME:LINE:COLUMN: WORDS`, or nothing where a growth was refused for it.
+pub fn outcomes_explained_to<S: Source, W: Sink, E: Sink, O: Observer>(
+    alloc: Global,
+    scenario: &mut Kept<'_, S>,
+    level: Option<Level>,
+    budget: &mut Budget<O>,
+    out: &mut W,
+    err: &mut E,
+) -> u8
+    requires scenario_works { S.failed scenario.old.source ≡ false }
+    requires out_works { W.failed out.old ≡ false }
+    requires err_works { E.failed err.old ≡ false }
+    ensures ends { GoesThrough level (S.left scenario.old.source) (S.failed scenario.new.source)
+        (record { before = W.held out.old; after = W.held out.new; failed = W.failed out.new })
+        (record { before = E.held err.old; after = E.held err.new; failed = E.failed err.new }) result }
+    ensures bounded { S.reads scenario.new.source ≤ S.reads scenario.old.source + MOST_READ }
+{
+    let gathered = outcomes_of_source(alloc, scenario, level, budget);
+    match write(out, gathered) {
+        Ok(verdict) => status_of(verdict),
+        Err(fault) => {
+            let more = search_explanation(alloc, scenario, &fault);
+            tell_with(err, &fault, more.as_str())
+        }
+    }
+}

@@ -40,7 +40,7 @@ pub enum Asked<'a> {
         scenario: Option<&'a str>,
         workers: usize,
         ends: bool,
-        /// How many runs are made in its place, of which is shown what they come to, where a number is named.
+        /// Where a number is named: so many runs are made, and what they come to is shown.
         repeat: Option<u32>,
         /// Whether a fault is explained.
         explain: bool,

@@ -34,7 +34,7 @@ MergesAreKept rule p (Open kept) =
 abbrev pub AreAllOutcomes : Place → Ends → List Outcome → Type 0
 AreAllOutcomes p ends outcomes = ((it : Outcome) → Contains outcomes it ↔ IsOutcome p ends it) × AreDistinct outcomes
 
--- these are all; or schedules of up to so many moves were gone through, and some schedule has more
+-- these are all; or some schedule has more moves than so many (that those of up to so many were gone through is the body's matter)
 abbrev pub IsCollected : Place → Ends → List Outcome → Option ℕ → Type 0
 IsCollected p ends found None = AreAllOutcomes p ends found
 IsCollected p ends found (Some gone_through) = goes_on (suc gone_through) p ≡ true

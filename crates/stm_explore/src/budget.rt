@@ -4,10 +4,10 @@ ghost use Rattle.stm_explore.specs.declared.halt.Halt.TheVariants.{Spent};
 
 use crate::halt::Halt;
 
-/// Of so many events the observer is told of the last.
+/// The observer is told where so many events are left, or a multiple of that.
 const TOLD_EACH: u64 = 5000;
 
-/// Who is told how far a search is. It only hears of it: whatever it does, the search answers the same.
+/// Who is told how far a search is. It only hears of it: nothing that it does changes what the search answers.
 pub trait Observer {
     /// All schedules of up to so many moves were gone through, and there are longer ones. So many more events may be taken.
     fn passed(&mut self, length: u64, left: u64);
@@ -31,7 +31,8 @@ impl Observer for Nobody {
     fn ended(&mut self) {}
 }
 
-/// How many events a search may take, and who is told how far it is: of each length of schedules, of each 5000th event, and of its end.
+/// How many events a search may take, and who is told how far it is: before each length of schedules, where the events left are a multiple of
+/// 5000, and at its end.
 #[derive(Debug, Drop)]
 pub struct Budget<O> {
     /// How many events may be taken. A search leaves what it has not taken.

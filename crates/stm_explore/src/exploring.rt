@@ -38,7 +38,8 @@ pub enum Explored {
     },
 }
 
-/// Goes on behind the place itself, where the rule is kept and a move can be made. No schedule has more moves than events may be taken.
+/// Goes on behind the place itself, where the rule is kept and a move can be made. No schedule is looked at that has more moves than events may
+/// be taken.
 fn look_deeper<O: Observer>(
     alloc: Global,
     rule: &Program,

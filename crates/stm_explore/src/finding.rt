@@ -29,8 +29,8 @@ pub enum Outcomes {
     },
 }
 
-/// Adds the outcomes of whole schedules that have some move, those of each length after those of shorter ones. No schedule has more
-/// moves than events may be taken.
+/// Adds the outcomes of whole schedules that have some move, those of each length after those of shorter ones. No schedule is looked at that
+/// has more moves than events may be taken.
 ///
 /// The answer is None once all are found, and else up to which length every schedule was gone through.
 fn collect_deeper<O: Observer>(

@@ -2,10 +2,11 @@
 use std::io::Write;
 use stm_explore::Observer;
 
-/// Puts the cursor at the begin of its line, and wipes the line out.
+/// Puts the cursor at the start of its line, and wipes the line out.
 const WIPE: &str = "\r\x1b[K";
 
-/// Shows on a terminal how far a search is, in one line that is written over, and wiped out when the search has ended.
+/// Shows on a terminal how far a search is, in one line that is written over, and wiped out when the search has ended. On a terminal that is
+/// not as wide as that line, rows of it are left.
 ///
 /// It takes no memory, and passes over a write that fails. Where there is no terminal, nothing is written.
 #[derive(Debug, Drop)]

@@ -45,6 +45,12 @@ impl<W: Write> Write for Noting<W> {
     }
 
     fn flush(&mut self) -> io::Result<()> {
-        self.device.flush()
+        match self.device.flush() {
+            Ok(()) => Ok(()),
+            Err(error) => {
+                self.failure = Some(error);
+                Err(error)
+            }
+        }
     }
 }

@@ -1,5 +1,4 @@
 pub mod AcceptLemmas
 pub mod LineLemmas
 pub mod NoFloats
-pub mod RunLemmas
 pub mod TallyLemmas

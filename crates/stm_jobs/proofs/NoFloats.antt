@@ -9,8 +9,8 @@ use Rattle.stm_meaning.specs.declared.value.Value.{Value}
 use Rattle.stm_meaning.specs.declared.value.Value.TheVariants.{Text, Number}
 use Rattle.stm_entries.specs.declared.entry.Entry.{Entry}
 use Rattle.stm_reports.specs.LineData.{list, value_data}
-use Rattle.stm_workers.specs.declared.job_end.JobEnd.{JobEnd}
-use Rattle.stm_workers.specs.declared.job_end.JobEnd.TheVariants.{Committed, Aborted, Faulted, Refused, GaveUp}
+use Rattle.stm_job.specs.declared.job_end.JobEnd.{JobEnd}
+use Rattle.stm_job.specs.declared.job_end.JobEnd.TheVariants.{Committed, Aborted, Faulted, Refused, GaveUp}
 use Rattle.std.specs.Prelude.{slice_get}
 use Rattle.stm_jobs.specs.Outcomes.{end_data, output_in, pair_data, pairs}
 

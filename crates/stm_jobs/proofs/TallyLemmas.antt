@@ -1,4 +1,4 @@
--- Counting texts, and the runs that they are of, one after the other.
+-- Counting texts, one after the other.
 use Rattle.std.proofs.Common.{◌≡◌, ℕ, ◌+◌, ◌≤◌, Bool, true, false, List, [], ◌∷◌, ◌++◌, length, cond, Option, None, Some, unwrap_or, is_eq, nat_cmp}
 use Rattle.std.proofs.Common.{refl, sym, ◌∙◌, ap, subst, arith, length-append}
 use Rattle.std.specs.Prelude.{All, bytes_eq, count_by, option_map, sum}
@@ -7,22 +7,18 @@ use Rattle.std.specs.Cmp.Lexicographic.{slice_cmp, bytes_decides}
 use Rattle.std.specs.List.Sorted.{IsStrictlySortedBy}
 use Rattle.std.specs.Map.{keys_of, lookup, values_of}
 use Rattle.std.proofs.lemmas.Cmp.{nat_list_cmp_total, nat_list_eq_equiv}
-use Rattle.std.proofs.lemmas.List.Elements.{All-nil, All-push}
+use Rattle.std.proofs.lemmas.List.Elements.{All-nil}
 use Rattle.std.proofs.lemmas.List.Sums.{sum_by_push}
 use Rattle.std.proofs.lemmas.Map.Entries.{sum_by-insert_entry}
 use Rattle.std.proofs.lemmas.Map.Steps.{lookup-le-sum}
 use Rattle.std.proofs.lemmas.Map.Text.{is_eq-slice_cmp}
 use Rattle.std.proofs.lemmas.Map.Views.{All-values-insert_entry}
-use Rattle.stm_world.specs.declared.event.WorldEvent.{WorldEvent}
-use Rattle.stm_workers.specs.declared.job.Job.{Job}
-use Rattle.stm_jobs.specs.declared.shown.Shown.TheVariants.{Outcome}
 use Rattle.stm_jobs.specs.Outcomes.{Tally, Counts, times_in}
-use Rattle.stm_jobs.specs.Running.{AreCounted, HasCounted, IsOfRun}
 
 -- ---- texts
 
 -- no text was counted
-no_text : Counts [] []
+pub no_text : Counts [] []
 unfolding IsStrictlySortedBy
 no_text = record { ascending = tt; times = λ text. refl; came = All-nil (λ (n : ℕ). 1 ≤ n); total = refl }
 
@@ -73,31 +69,4 @@ one_more before after texts text n is inserted finds ascends counts = record {
       let old : unwrap_or (option_map (λ (m : ℕ). m) (found_in before text)) 0 ≡ times_in before text = weighed (found_in before text) in
       let long : length (texts ++ text ∷ []) ≡ length texts + 1 = length-append texts (text ∷ []) in
       let so_far = counts.total in omega (arith, added, all, old, long, so_far, is);
-}
-
--- ---- runs
-
--- none was made
-pub none_made : (start : ℕ) (calls : List WorldEvent) (jobs : List Job) (tally : Tally) → tally ≡ [] → AreCounted 0 start calls jobs tally
-none_made start calls jobs tally none = record {
-  texts = [];
-  many = refl;
-  each = All-nil (IsOfRun Outcome start calls jobs);
-  counted = subst (λ (t : Tally). Counts [] t) (sym none) no_text;
-}
-
--- the numbers in the tally add up to how many were made
-pub all_made : (runs start : ℕ) (calls : List WorldEvent) (jobs : List Job) (tally : Tally) → AreCounted runs start calls jobs tally
-    → sum (values_of tally) ≡ runs
-all_made runs start calls jobs tally made = made.counted.total ∙ made.many
-
--- one more was made
-pub one_made : (runs start : ℕ) (calls : List WorldEvent) (jobs : List Job) (before after : Tally) → AreCounted runs start calls jobs before
-    → HasCounted start calls jobs before after → AreCounted (runs + 1) start calls jobs after
-one_made runs start calls jobs before after made more = record {
-  texts = made.texts ++ more.0 ∷ [];
-  many = let long : length (made.texts ++ more.0 ∷ []) ≡ length made.texts + 1 = length-append made.texts (more.0 ∷ []) in
-      let so_far = made.many in omega (arith, long, so_far);
-  each = All-push (IsOfRun Outcome start calls jobs) made.texts more.0 made.each more.1;
-  counted = more.2 made.texts made.counted;
 }

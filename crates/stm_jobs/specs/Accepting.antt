@@ -9,7 +9,7 @@ use Rattle.stm_world.specs.declared.event.WorldEvent.TheVariants.{Start, Step, T
 use Rattle.stm_world.specs.declared.event.WorldEvent.TheVariants.{WatchKey, WatchRange, Poll, Cancel}
 use Rattle.stm_world.specs.Task.{Task}
 use Rattle.stm_texts.specs.declared.scenario.Scenario.{Scenario}
-use Rattle.stm_workers.specs.declared.job.Job.{Job}
+use Rattle.stm_job.specs.declared.job.Job.{Job}
 use Rattle.stm_jobs.specs.declared.accepting.JobScenario.{JobScenario}
 
 -- what a job is, but for the fact that it may send a commit

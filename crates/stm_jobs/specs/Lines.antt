@@ -7,10 +7,10 @@ use Rattle.stm_history.specs.History.{History, now}
 use Rattle.stm_meaning.specs.declared.state.StateEntry.{StateEntry}
 use Rattle.stm_meaning.specs.Faults.{fault_name}
 use Rattle.stm_outcome.specs.Names.{refusal_name}
-use Rattle.stm_workers.specs.declared.job_end.JobEnd.{JobEnd}
-use Rattle.stm_workers.specs.declared.job_end.JobEnd.TheVariants.{Committed, Aborted, Faulted, Refused, GaveUp}
-use Rattle.stm_workers.specs.declared.job_end.JobRefusal.{JobRefusal}
-use Rattle.stm_workers.specs.declared.job_end.JobRefusal.TheVariants.{Store, Behind, Unvouched}
+use Rattle.stm_job.specs.declared.job_end.JobEnd.{JobEnd}
+use Rattle.stm_job.specs.declared.job_end.JobEnd.TheVariants.{Committed, Aborted, Faulted, Refused, GaveUp}
+use Rattle.stm_job.specs.declared.job_end.JobRefusal.{JobRefusal}
+use Rattle.stm_job.specs.declared.job_end.JobRefusal.TheVariants.{Store, Behind, Unvouched}
 use Rattle.stm_meaning.specs.States.{IsAscending}
 use Rattle.stm_reports.specs.LineData.{list, whole}
 use Rattle.stm_reports.specs.Text.{line_text, lines_text}

@@ -21,8 +21,8 @@ use Rattle.stm_hall.specs.HallState.{HallState}
 use Rattle.stm_hall.specs.StateOf.{IsStateOf}
 use Rattle.stm_reports.specs.LineData.{list, value_data}
 use Rattle.stm_reports.specs.Text.{line_text}
-use Rattle.stm_workers.specs.declared.job_end.JobEnd.{JobEnd}
-use Rattle.stm_workers.specs.declared.job_end.JobEnd.TheVariants.{Committed, Aborted, Faulted, Refused, GaveUp}
+use Rattle.stm_job.specs.declared.job_end.JobEnd.{JobEnd}
+use Rattle.stm_job.specs.declared.job_end.JobEnd.TheVariants.{Committed, Aborted, Faulted, Refused, GaveUp}
 use Rattle.stm_jobs.specs.Lines.{count_line, job_refusal_name}
 
 -- ---- what a run comes to

@@ -5,10 +5,10 @@ ghost use Rattle.stm_jobs.specs.Accepting.{sorted_of, shift_of, add_call, add_ta
 
 use std::alloc::Global;
 use stm_history::Sequence;
+use stm_job::Job;
 use stm_json::{Cause, ReadError, fault, within};
 use stm_program::{Level, Program};
 use stm_texts::Scenario;
-use stm_workers::Job;
 use stm_world::WorldEvent;
 
 /// The events of a scenario of jobs, in their orders.

@@ -4,15 +4,15 @@ ghost use Rattle.serde_json.specs.View.{view};
 ghost use Rattle.serde_json.specs.Written.{compact_text, has_float};
 ghost use Rattle.stm_meaning.specs.States.{IsAscending};
 ghost use Rattle.stm_reports.specs.LineData.{list, value_data};
-ghost use Rattle.stm_workers.specs.declared.job_end.JobEnd.TheVariants.{Committed};
+ghost use Rattle.stm_job.specs.declared.job_end.JobEnd.TheVariants.{Committed};
 ghost use Rattle.stm_jobs.specs.Outcomes.{end_data, front_text, output_in, output_of, pair_data, pairs, IsFrontOf};
 
 use crate::printing::refusal_name;
 use serde_json::{Value as Json, json};
 use std::alloc::{AllocError, Global};
 use stm_entries::Entry;
+use stm_job::{Gathered, JobEnd};
 use stm_meaning::{State, Value};
-use stm_workers::{Gathered, JobEnd};
 
 /// A value as JSON.
 fn value_json(alloc: Global, value: &Value) -> Result<Json, AllocError>
@@ -191,8 +191,8 @@ fn front_text(
     Ok(text)
 }
 
-/// The front of the line of what a run came to.
-pub(crate) fn front_of(alloc: Global, gathered: &Gathered) -> Result<String, AllocError>
+/// The front of the line of what a run came to, `["outcome",STATE,ENDS`, behind which stands how often it came. An `AllocError` is a refused growth.
+pub fn front_of(alloc: Global, gathered: &Gathered) -> Result<String, AllocError>
     ensures { IfOk result (λ text. IsFrontOf gathered.now.ends.items gathered.now.hall (string_bytes text)) }
 {
     let state = gathered.hall.state()?;

@@ -9,9 +9,9 @@ ghost use Rattle.stm_jobs.specs.Lines.{count_line, value_line, value_lines, job_
 
 use serde_json::{Value as Json, json};
 use std::alloc::{AllocError, Global};
+use stm_job::{Gathered, JobEnd, JobRefusal};
 use stm_meaning::State;
 use stm_reports::push_line;
-use stm_workers::{Gathered, JobEnd, JobRefusal};
 
 /// The line of a count.
 fn count_json(alloc: Global, word: &str, count: u64) -> Result<Json, AllocError>

@@ -21,12 +21,8 @@ fn times_of(tally: &BTreeMap<Text, u64>, text: &Text) -> u64
     }
 }
 
-/// Counts one more of a text. So many were counted before.
-pub(crate) fn count_one(
-    tally: &mut BTreeMap<Text, u64>,
-    text: Text,
-    before: u32,
-) -> Result<(), AllocError>
+/// Counts one more of a text. So many were counted before. Where a growth is refused nothing is said of the tally.
+pub fn count_one(tally: &mut BTreeMap<Text, u64>, text: Text, before: u32) -> Result<(), AllocError>
     requires { sum (values_of tally.old.entries) ≡ before }
     ensures { OnOk result ((texts : List (List ℕ)) → Counts texts tally.old.entries → Counts (texts ++ text ∷ []) tally.new.entries) }
 {
@@ -57,8 +53,9 @@ fn push_all(text: &mut String, tally: &BTreeMap<Text, u64>) -> Result<(), AllocE
     Ok(())
 }
 
-/// What is printed of the outcomes of so many runs.
-pub(crate) fn tally_text(
+/// What is printed of the outcomes of so many runs: a line for each, in ascending order, with how often it came, and `["runs",RUNS]`. An `AllocError` is a
+/// refused growth.
+pub fn tally_text(
     alloc: Global,
     tally: &BTreeMap<Text, u64>,
     runs: u32,

@@ -1,4 +1,4 @@
--- A branch as it is run here: what a key is by now is looked up in the changes so far. Where no two operations clash that
+-- A branch as `stm_txn` runs it: what a key is by now is looked up in the changes so far. Where no two operations clash that
 -- is the branch's state, by a law. No public clause cites this module.
 use Rattle.std.specs.Prelude.{ℕ, ◌+◌, nat_eq, if◌then◌else◌, List, [], ◌∷◌, ◌++◌, Option, Some, None, Result}
 use Rattle.stm_history.specs.declared.change.Change.{Change}

@@ -78,7 +78,7 @@ fn branch_clashes(ops: &[Op]) -> bool
     false
 }
 
-/// The refusal of a whole transaction, if there is one.
+/// Why a transaction is refused as a whole, whichever branch would run, if it is: `TooManyOps`, else `EmptyKey`, else `DuplicateKey`.
 pub fn find_fault(txn: &Txn) -> Option<Refusal>
     ensures { result ≡ fault_of most_operations txn.now }
 {

@@ -1,7 +1,8 @@
 //! What a transaction comes to.
 //!
 //! The types of a transaction, of its answer and of what a call is refused for; which transactions are wrong as a whole, which compare
-//! fails first, and, as definitions with their laws, what a transaction makes of a history. The store itself stands above.
+//! fails first, and, as definitions with their laws, what a transaction makes of a history. Beside them stand `ShortList`, and what an
+//! advance of the moment answers, which the store and the lines of reports have in common. The store itself stands above.
 #![tactic(auto)]
 
 mod advance;

@@ -6,14 +6,14 @@ use std::alloc::AllocError;
 use std::error::Error;
 use std::fmt;
 
-/// Why a call of the store is refused. A refused call leaves the store as it was, an `advance` aside.
+/// Why a call of the store is refused. A refused call leaves the store as it was, an `advance` aside (`AdvanceRefused` says what that leaves).
 ///
 /// `Display` gives the refusal's name, as it is spelled here.
 #[derive(Debug, Clone, Copy, PartialEq, Eq)]
 pub enum Refusal {
     /// A growth was refused.
     OutOfMemory,
-    /// A key is empty, or the first key of a range.
+    /// A key is empty, or the first key of a range is.
     EmptyKey,
     /// A revision is above the store's counter.
     FutureRevision,

@@ -2,10 +2,10 @@
 use Rattle.std.specs.Prelude.{◌≡◌, ℕ, List, ◌++◌, Bool, true, false, Option, Result, Ok, Err, codes, decimal}
 use Rattle.std.specs.Io.KnownBytes.{Keeps}
 use Rattle.stm_devices.specs.Ends.{Devices}
-use Rattle.stm_jobs.specs.declared.running.JobsFault.{JobsFault}
-use Rattle.stm_jobs.specs.declared.running.JobsFault.TheVariants.{OutOfMemory, Bad, Read, Write, Spawn, Audit}
-use Rattle.stm_jobs.specs.declared.shown.Printing.{Printing}
-use Rattle.stm_jobs.specs.Running.{Does}
+use Rattle.stm_threading.specs.declared.running.JobsFault.{JobsFault}
+use Rattle.stm_threading.specs.declared.running.JobsFault.TheVariants.{OutOfMemory, Bad, Read, Write, Spawn, Audit}
+use Rattle.stm_threading.specs.declared.shown.Printing.{Printing}
+use Rattle.stm_threading.specs.Running.{Does}
 use Rattle.stm_messages.specs.Saying.{bad_input, Says, SaysMore}
 
 -- 2 for bad input, 3 for want of memory, a failed device, a thread that was refused and an end that does not stand

@@ -2,14 +2,14 @@
 ghost use Rattle.std.specs.Prelude.{◌≡◌, ◌++◌, false, decimal, string_bytes};
 ghost use Rattle.stm_devices.specs.Transfers.{HasWritten};
 ghost use Rattle.stm_messages.specs.Saying.{IsExplained};
-ghost use Rattle.stm_jobs.specs.declared.running.JobsFault.TheVariants.{Audit};
+ghost use Rattle.stm_threading.specs.declared.running.JobsFault.TheVariants.{Audit};
 ghost use Rattle.stm_threading.specs.Threading.{fault_status, fault_message, SaysOf, SaysMoreOf, SaysBy};
 
+use crate::running::JobsFault;
 use itoa::Buffer;
 use std::alloc::Global;
 use stm_devices::{DeviceFault, Sink};
 use stm_explain::{Input, Kept};
-use stm_jobs::JobsFault;
 use stm_messages::{write_bad, write_text};
 
 /// The status of a fault.

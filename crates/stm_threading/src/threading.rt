@@ -2,16 +2,17 @@
 ghost use Rattle.std.specs.Prelude.{◌≡◌, ◌≤◌, ◌+◌, false};
 ghost use Rattle.stm_devices.specs.declared.transfer.TheConstants.{MOST_READ};
 ghost use Rattle.stm_workers.specs.declared.run.TheConstants.{MOST_WORKERS};
-ghost use Rattle.stm_jobs.specs.declared.shown.Printing.TheVariants.{Values};
+ghost use Rattle.stm_threading.specs.declared.shown.Printing.TheVariants.{Values};
 ghost use Rattle.stm_threading.specs.Threading.{Ends};
 
 use crate::messages::{tell, tell_by};
+use crate::running::run_jobs;
+use crate::shown::Printing;
 use std::alloc::Global;
 use std::sync::Wait;
 use std::thread::Threads;
 use stm_devices::{Sink, Source};
 use stm_explain::Kept;
-use stm_jobs::{Printing, run_jobs};
 
 /// How the command `threads` runs, and what it prints.
 #[derive(Debug, Clone, Copy, PartialEq, Eq)]

@@ -1,7 +1,8 @@
 //! Transactions over a key store, its leases and its watchers.
 //!
 //! `Store` has the behaviour of a single-member etcd v3: one call is one step, and a refused call changes
-//! nothing but where it says so.
+//! nothing but where it says so. What a transaction is, and what it comes to, is defined in `stm_outcome`, whose
+//! types are passed on.
 #![tactic(auto)]
 
 mod branch;

@@ -11,8 +11,8 @@ use Rattle.stm_hall.specs.HallState.{HallState}
 use Rattle.stm_hall.specs.Verdicts.{verdict_of, CommitTells}
 use Rattle.stm_workers.specs.declared.attempts.AttemptOutcome.{AttemptOutcome}
 use Rattle.stm_workers.specs.declared.attempts.AttemptOutcome.TheVariants.{Ended, Again}
-use Rattle.stm_workers.specs.declared.job.Job.{Job}
-use Rattle.stm_workers.specs.declared.job_end.JobEnd.{JobEnd}
+use Rattle.stm_job.specs.declared.job.Job.{Job}
+use Rattle.stm_job.specs.declared.job_end.JobEnd.{JobEnd}
 use Rattle.stm_workers.specs.declared.stop.Stop.{Stop}
 use Rattle.stm_workers.specs.declared.stop.Stop.TheVariants.{OutOfMemory}
 use Rattle.stm_workers.specs.Calls.{committed_by, JudgedInSomeHall}

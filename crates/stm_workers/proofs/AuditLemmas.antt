@@ -9,9 +9,9 @@ use Rattle.stm_history.specs.History.{History, now}
 use Rattle.stm_hall.specs.HallState.{HallState}
 use Rattle.stm_hall.specs.Showing.{IsShown, AreShownAt}
 use Rattle.stm_workers.specs.declared.start_point.StartPoint.{StartPoint}
-use Rattle.stm_workers.specs.declared.job.Job.{Job}
-use Rattle.stm_workers.specs.declared.job_end.JobEnd.{JobEnd}
-use Rattle.stm_workers.specs.declared.job_end.JobEnd.TheVariants.{Committed, Aborted, Faulted, Refused, GaveUp}
+use Rattle.stm_job.specs.declared.job.Job.{Job}
+use Rattle.stm_job.specs.declared.job_end.JobEnd.{JobEnd}
+use Rattle.stm_job.specs.declared.job_end.JobEnd.TheVariants.{Committed, Aborted, Faulted, Refused, GaveUp}
 use Rattle.stm_workers.specs.Ends.{AreOfOneState}
 use Rattle.stm_workers.specs.Ends.{entry_named, names_entry, IsCommitOf, IsBorneOut, BorneOutAt, IsNew, StandsAt, AllStand}
 use Rattle.stm_workers.specs.Marks.{NamesWithin, IsNewAt, is_marked, is_named_before, revision_of}

@@ -26,7 +26,7 @@ use Rattle.stm_hall.specs.Locked.{Opening}
 use Rattle.stm_hall.specs.Laws.{GoesOn}
 use Rattle.stm_hall.specs.Verdicts.{txn_of, entry_of, first_unvouched, taken, unless_unvouched, by_compares, unless_at_fault, verdict_of}
 use Rattle.stm_hall.proofs.Opening.{goes_nowhere, gone_front, goes_on_by, goes_on_twice}
-use Rattle.stm_workers.specs.declared.job.Job.{Job}
+use Rattle.stm_job.specs.declared.job.Job.{Job}
 use Rattle.stm_workers.specs.Commits.{is_commit, commits_in, IsOfAJob, TookCommitsOf}
 use Rattle.stm_workers.specs.Calls.{HasGoneOn, HasKeptStore, committed_by, same_level, is_run_of, is_run_of_some, is_of_some, are_of_jobs, takes_commits_of}
 use Rattle.stm_workers.specs.Calls.{IsRunOfJob}

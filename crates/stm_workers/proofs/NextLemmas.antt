@@ -15,7 +15,7 @@ use Rattle.stm_attempt.specs.Known.{Known}
 use Rattle.stm_attempt.specs.ReadyRun.{ReadyRun, ready_run}
 use Rattle.stm_attempt.specs.Settled.{run_on, settled}
 use Rattle.stm_attempt.specs.Next.{next_at_end, next_after, next_of, key_asked}
-use Rattle.stm_workers.specs.declared.job.Job.{Job}
+use Rattle.stm_job.specs.declared.job.Job.{Job}
 use Rattle.stm_workers.specs.Calls.{IsOfJob, IsRunOfJob}
 
 aborted_at_end : (program : ProgramTree) (level : Level) (reads : List ReadAnswer) (run aborted : Run) (end : End) → run.end ≡ end →

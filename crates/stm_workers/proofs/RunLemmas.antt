@@ -4,12 +4,13 @@ use Rattle.stm_draw.specs.declared.table.JobSeat.{JobSeat}
 use Rattle.stm_draw.specs.declared.view.Size.{Size}
 use Rattle.stm_hall.specs.HallState.{HallState}
 use Rattle.stm_workers.specs.declared.start_point.StartPoint.{StartPoint}
-use Rattle.stm_workers.specs.declared.job.Job.{Job}
-use Rattle.stm_workers.specs.declared.job_end.JobEnd.{JobEnd}
-use Rattle.stm_workers.specs.declared.gathered.FaultCause.{FaultCause}
-use Rattle.stm_workers.specs.declared.gathered.FaultCause.TheVariants.{OutOfMemory, Spawn, Audit}
+use Rattle.stm_job.specs.declared.job.Job.{Job}
+use Rattle.stm_job.specs.declared.job_end.JobEnd.{JobEnd}
+use Rattle.stm_job.specs.declared.gathered.FaultCause.{FaultCause}
+use Rattle.stm_job.specs.declared.gathered.FaultCause.TheVariants.{OutOfMemory, Spawn, Audit}
 use Rattle.stm_workers.specs.Ends.{start_point, AllStand, StandsAt}
-use Rattle.stm_workers.specs.Commits.{commits_in, is_committed, TookCommitsOf}
+use Rattle.stm_job.specs.Ends.{is_committed}
+use Rattle.stm_workers.specs.Commits.{commits_in, TookCommitsOf}
 use Rattle.stm_workers.specs.Drawn.{HasDrawnAll}
 use Rattle.stm_workers.specs.Runs.{HaveTheirRuns}
 use Rattle.stm_workers.specs.Gathered.{RanTo, IsAtFault, OnAudit, BrokeOff}

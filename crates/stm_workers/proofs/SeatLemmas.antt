@@ -14,12 +14,12 @@ use Rattle.atomic_table.specs.Seated.{TableId}
 use Rattle.stm_draw.specs.Seats.{IsSeatAt, seat_view}
 use Rattle.stm_draw.specs.Draw.{EachOnce, Knows, times, once_below, fresh, given, drew, joined, after_none}
 use Rattle.stm_draw.proofs.Counted.{as_many}
-use Rattle.stm_workers.specs.declared.job_end.JobEnd.{JobEnd}
-use Rattle.stm_workers.specs.declared.job.Job.{Job}
+use Rattle.stm_job.specs.declared.job_end.JobEnd.{JobEnd}
+use Rattle.stm_job.specs.declared.job.Job.{Job}
 use Rattle.stm_workers.specs.Attempts.{HasCome, HasSomeRun}
 use Rattle.stm_workers.specs.Runs.{HasItsRun, HaveTheirRuns}
 use Rattle.stm_workers.specs.declared.worker.EndOf.{EndOf}
-use Rattle.stm_workers.specs.Commits.{is_committed}
+use Rattle.stm_job.specs.Ends.{is_committed}
 use Rattle.stm_workers.specs.Drawn.{jobs_of, attempts_in, committed_in, ends_in, drawing, used_up, EachAtItsPlace, HasDrawnAll}
 use Rattle.stm_workers.specs.Calls.{counted_end}
 

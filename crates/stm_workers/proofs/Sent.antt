@@ -26,7 +26,7 @@ use Rattle.std.proofs.alloc.Global.TheSendSync as heap
 use Rattle.stm_entries.specs.contracts.entry.Entry as Entry
 use Rattle.stm_hall.specs.contracts.log.Log as Log
 use Rattle.stm_hall.specs.contracts.hall.Hall as Hall
-use Rattle.stm_workers.specs.contracts.job.Job as Job
+use Rattle.stm_job.specs.contracts.job.Job as Job
 use Rattle.stm_workers.specs.contracts.locked.Locked as Locked
 
 -- the leaves of a program

@@ -27,10 +27,10 @@ use Rattle.stm_hall.specs.declared.verdict.Verdict.TheVariants.{Committed, Faile
 use Rattle.stm_hall.specs.HallState.{HallState}
 use Rattle.stm_hall.specs.Showing.{AreShownAt}
 use Rattle.stm_workers.specs.declared.start_point.StartPoint.{StartPoint}
-use Rattle.stm_workers.specs.declared.job.Job.{Job}
-use Rattle.stm_workers.specs.declared.job_end.JobEnd.{JobEnd}
-use Rattle.stm_workers.specs.declared.job_end.JobEnd.TheVariants.{Committed as CommittedJob, Aborted as AbortedJob, Faulted as FaultedJob, Refused as RefusedJob}
-use Rattle.stm_workers.specs.declared.job_end.JobEnd.TheVariants.{GaveUp}
+use Rattle.stm_job.specs.declared.job.Job.{Job}
+use Rattle.stm_job.specs.declared.job_end.JobEnd.{JobEnd}
+use Rattle.stm_job.specs.declared.job_end.JobEnd.TheVariants.{Committed as CommittedJob, Aborted as AbortedJob, Faulted as FaultedJob, Refused as RefusedJob}
+use Rattle.stm_job.specs.declared.job_end.JobEnd.TheVariants.{GaveUp}
 use Rattle.stm_workers.specs.declared.stop.Stop.{Stop}
 use Rattle.stm_workers.specs.declared.stop.Stop.TheVariants.{OutOfMemory, Aborted, Faulted, Refused}
 use Rattle.stm_workers.specs.Ends.{start_point, AreOfOneState, MayHaveStopped, IsBorneOut}

@@ -1,6 +1,6 @@
 -- What an attempt came to.
 use Rattle.stm_attempt.specs.AttemptState.{AttemptState}
-use Rattle.stm_workers.specs.declared.job_end.JobEnd.{JobEnd}
+use Rattle.stm_job.specs.declared.job_end.JobEnd.{JobEnd}
 use Rattle.stm_workers.specs.declared.attempts.AttemptOutcome.{AttemptOutcome}
 use Rattle.stm_workers.specs.declared.attempts.AttemptOutcome.TheVariants.{Ended, Again}
 

@@ -22,9 +22,9 @@ use Rattle.stm_hall.specs.declared.verdict.Verdict.{Verdict}
 use Rattle.stm_hall.specs.declared.verdict.Verdict.TheVariants.{Committed, Failed}
 use Rattle.stm_hall.specs.HallState.{HallState, hall_of, made_over}
 use Rattle.stm_hall.specs.Locked.{opening_of}
-use Rattle.stm_workers.specs.declared.job.Job.{Job}
-use Rattle.stm_workers.specs.declared.job_end.JobEnd.{JobEnd}
-use Rattle.stm_workers.specs.Commits.{is_committed}
+use Rattle.stm_job.specs.declared.job.Job.{Job}
+use Rattle.stm_job.specs.declared.job_end.JobEnd.{JobEnd}
+use Rattle.stm_job.specs.Ends.{is_committed}
 
 -- the hall has gone on from another: that one's entries are its first ones, and it began as that one did
 abbrev pub HasGoneOn : HallState → HallState → Type 0

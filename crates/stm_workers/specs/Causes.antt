@@ -1,6 +1,6 @@
 -- What is told of threads that were given up.
-use Rattle.stm_workers.specs.declared.gathered.FaultCause.{FaultCause}
-use Rattle.stm_workers.specs.declared.gathered.FaultCause.TheVariants.{OutOfMemory, Spawn}
+use Rattle.stm_job.specs.declared.gathered.FaultCause.{FaultCause}
+use Rattle.stm_job.specs.declared.gathered.FaultCause.TheVariants.{OutOfMemory, Spawn}
 use Rattle.stm_workers.specs.declared.thread_fault.ThreadFault.{ThreadFault}
 use Rattle.stm_workers.specs.declared.thread_fault.ThreadFault.TheVariants.{OutOfMemory as NoMemory, Spawn as NoThread}
 

@@ -1,11 +1,9 @@
--- Commits of jobs, among the entries of a hall and among the ends of jobs.
+-- Commits of jobs, among the entries of a hall.
 use Rattle.std.specs.Prelude.{◌≡◌, ℕ, ◌≤◌, Bool, true, false, List, length, Some, slice_get, count_by}
 use Rattle.stm_entries.specs.declared.entry.Entry.{Entry}
 use Rattle.stm_entries.specs.declared.entry.Entry.TheVariants.{Program, Foreign, Grant, Renew, Revoke, Expire}
 use Rattle.stm_hall.specs.HallState.{HallState}
-use Rattle.stm_workers.specs.declared.job.Job.{Job}
-use Rattle.stm_workers.specs.declared.job_end.JobEnd.{JobEnd}
-use Rattle.stm_workers.specs.declared.job_end.JobEnd.TheVariants.{Committed, Aborted, Faulted, Refused, GaveUp}
+use Rattle.stm_job.specs.declared.job.Job.{Job}
 
 abbrev pub is_commit : Entry → Bool
 is_commit (Program program level answers output trace revision) = true
@@ -32,12 +30,3 @@ IsOfAJob jobs (Expire id) = ⊥
 abbrev pub TookCommitsOf : List Job → HallState → HallState → Type 0
 TookCommitsOf jobs before after =
     (index : ℕ) (entry : Entry) → length before.entries ≤ index → slice_get after.entries index ≡ Some entry → IsOfAJob jobs entry
-
--- ---- ends
-
-abbrev pub is_committed : JobEnd → Bool
-is_committed (Committed index revision) = true
-is_committed (Aborted text reads) = false
-is_committed (Faulted fault reads) = false
-is_committed (Refused cause) = false
-is_committed (GaveUp key) = false

@@ -5,8 +5,8 @@ use Rattle.stm_draw.specs.declared.view.Size.{Size}
 use Rattle.stm_draw.specs.declared.view.View.{View}
 use Rattle.stm_draw.specs.Draw.{EachOnce, IsWhole}
 use Rattle.stm_draw.specs.Seats.{seat_view}
-use Rattle.stm_workers.specs.declared.job_end.JobEnd.{JobEnd}
-use Rattle.stm_workers.specs.Commits.{is_committed}
+use Rattle.stm_job.specs.declared.job_end.JobEnd.{JobEnd}
+use Rattle.stm_job.specs.Ends.{is_committed}
 use Rattle.stm_workers.specs.declared.worker.EndOf.{EndOf}
 
 -- the jobs that a worker has brought to their ends, and how many of them it committed

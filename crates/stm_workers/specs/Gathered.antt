@@ -5,12 +5,13 @@
 use Rattle.std.specs.Prelude.{◌≡◌, ℕ, ◌+◌, ◌<◌, List, length, count_by}
 use Rattle.stm_hall.specs.HallState.{HallState}
 use Rattle.stm_hall.specs.Laws.{GoesOn}
-use Rattle.stm_workers.specs.declared.job.Job.{Job}
-use Rattle.stm_workers.specs.declared.job_end.JobEnd.{JobEnd}
+use Rattle.stm_job.specs.declared.job.Job.{Job}
+use Rattle.stm_job.specs.declared.job_end.JobEnd.{JobEnd}
 use Rattle.stm_workers.specs.Calls.{HasKeptStore}
-use Rattle.stm_workers.specs.Commits.{commits_in, is_committed, TookCommitsOf}
-use Rattle.stm_workers.specs.declared.gathered.FaultCause.{FaultCause}
-use Rattle.stm_workers.specs.declared.gathered.FaultCause.TheVariants.{OutOfMemory, Spawn, Audit}
+use Rattle.stm_job.specs.Ends.{is_committed}
+use Rattle.stm_workers.specs.Commits.{commits_in, TookCommitsOf}
+use Rattle.stm_job.specs.declared.gathered.FaultCause.{FaultCause}
+use Rattle.stm_job.specs.declared.gathered.FaultCause.TheVariants.{OutOfMemory, Spawn, Audit}
 use Rattle.stm_workers.specs.Ends.{start_point, AllStand, StandsAt}
 use Rattle.stm_workers.specs.Runs.{HaveTheirRuns}
 

@@ -3,9 +3,9 @@
 -- The documentation of the Go package `clientv3/concurrency`, "STM": a transaction whose commit fails is run again. How often it is run is our own.
 use Rattle.std.specs.Prelude.{◌≡◌, ℕ, ◌≤◌, List, Some, slice_get}
 use Rattle.stm_hall.specs.HallState.{HallState}
-use Rattle.stm_workers.specs.declared.job.Job.{Job}
-use Rattle.stm_workers.specs.declared.job_end.JobEnd.{JobEnd}
-use Rattle.stm_workers.specs.declared.job_end.JobEnd.TheVariants.{Committed, Aborted, Faulted, Refused, GaveUp}
+use Rattle.stm_job.specs.declared.job.Job.{Job}
+use Rattle.stm_job.specs.declared.job_end.JobEnd.{JobEnd}
+use Rattle.stm_job.specs.declared.job_end.JobEnd.TheVariants.{Committed, Aborted, Faulted, Refused, GaveUp}
 use Rattle.stm_workers.specs.Gathered.{RanTo}
 
 -- a job that gave up has made all the attempts that it may

@@ -1,7 +1,7 @@
 -- How an audit finds entries that two ends name: it marks each entry that an end names, from the first end on. And at which revision it looks at reads.
 use Rattle.std.specs.Prelude.{◌≡◌, ℕ, zero, suc, ◌<◌, ◌||◌, Bool, false, List, [], ◌∷◌, Option, None, Some, get_or, option_and_then, slice_get}
 use Rattle.stm_history.specs.declared.key_state.ReadAnswer.{ReadAnswer}
-use Rattle.stm_workers.specs.declared.job_end.JobEnd.{JobEnd}
+use Rattle.stm_job.specs.declared.job_end.JobEnd.{JobEnd}
 use Rattle.stm_workers.specs.Ends.{entry_named, names_entry, IsNew}
 
 -- each entry that an end names is among so many

@@ -11,8 +11,6 @@ ghost use Rattle.stm_workers.specs.Calls.{committed_by, counted_end, greatest_ca
 
 use crate::executor::Executor;
 use crate::gate::Gate;
-use crate::job::Job;
-use crate::job_end::JobEnd;
 use crate::locked::RunOfJobs;
 use crate::stop::Stop;
 use std::alloc::{AllocError, Global};
@@ -20,6 +18,7 @@ use std::sync::Wait;
 use std::sync::ledger::Share;
 use stm_attempt::{Attempt, Next, ReadAnswer, Ready, Sequence};
 use stm_hall::Verdict;
+use stm_job::{Job, JobEnd};
 use stm_program::Level;
 
 /// What an attempt came to.

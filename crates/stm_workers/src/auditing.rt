@@ -6,12 +6,11 @@ ghost use Rattle.stm_workers.specs.Ends.{AreOfOneState, MayHaveStopped};
 ghost use Rattle.stm_workers.specs.Ends.{entry_named, names_entry, IsCommitOf, IsGivenUp, IsBorneOut, BorneOutAt, StandsAt, AllStand};
 ghost use Rattle.stm_workers.specs.Marks.{NamesWithin, IsNewAt, is_marked, revision_of};
 
-use crate::job::Job;
-use crate::job_end::JobEnd;
 use crate::start_point::StartPoint;
 use std::alloc::{AllocError, Global};
 use stm_entries::Entry;
 use stm_hall::{Hall, ReadAnswer};
+use stm_job::{Job, JobEnd};
 use stm_program::Level;
 
 /// Whether an entry is a commit of this job after which the store's revision was this.

@@ -22,7 +22,7 @@ pub(crate) trait RunOfJobs: Ledger {
     ghost use Rattle.stm_draw.specs.declared.view.Size.{Size};
     ghost use Rattle.std.specs.Prelude.{List};
     ghost use Rattle.stm_hall.specs.HallState.{HallState};
-    ghost use Rattle.stm_workers.specs.declared.job.Job.{Job};
+    ghost use Rattle.stm_job.specs.declared.job.Job.{Job};
 
     ghost table: { TableId };
 

@@ -2,7 +2,8 @@
 ghost use Rattle.std.specs.Prelude.{◌≡◌, ◌+◌, ◌≤◌, ◌<◌, length, count_by, IfOk, IfErr, IfNone, IfSome};
 ghost use Rattle.stm_draw.specs.Draw.{size_of, newcomer};
 ghost use Rattle.stm_draw.specs.Seats.{IsSeatAt, seat_view, table_id, table_size};
-ghost use Rattle.stm_workers.specs.Commits.{commits_in, is_committed, TookCommitsOf};
+ghost use Rattle.stm_job.specs.Ends.{is_committed};
+ghost use Rattle.stm_workers.specs.Commits.{commits_in, TookCommitsOf};
 ghost use Rattle.stm_workers.specs.Calls.{HasGoneOn, HasKeptStore};
 ghost use Rattle.stm_workers.specs.Drawn.{HasDrawnAll};
 ghost use Rattle.stm_workers.specs.Ends.{start_point, StandsAt, AllStand};
@@ -11,9 +12,6 @@ ghost use Rattle.stm_workers.specs.Gathered.{RanTo, OnAudit, BrokeOff};
 
 use crate::auditing::audit;
 use crate::gate::Gate;
-use crate::gathered::{FaultCause, Gathered, RunFault};
-use crate::job::Job;
-use crate::job_end::JobEnd;
 use crate::locked::{Locked, RunOfJobs};
 use crate::placing::{Placed, place_ends};
 use crate::shared::Shared;
@@ -29,6 +27,7 @@ use std::sync::{Mutex, Wait};
 use std::thread::Threads;
 use stm_draw::{JobSeat, JobTable};
 use stm_hall::Hall;
+use stm_job::{FaultCause, Gathered, Job, JobEnd, RunFault};
 
 /// How many workers there may be.
 pub const MOST_WORKERS: usize = 16;

@@ -8,7 +8,6 @@ ghost use Rattle.stm_workers.specs.Drawn.{committed_in, drawing, jobs_of};
 use crate::auditing::job_at;
 use crate::executor::Executor;
 use crate::gate::Gate;
-use crate::job::Job;
 use crate::locked::{Locked, RunOfJobs};
 use crate::worker::{EndOf, RetiredWorker, Worker, WorkerStep};
 use std::alloc::{AllocError, Global};
@@ -16,6 +15,7 @@ use std::sync::atomic::{AtomicBool, Ordering};
 use std::sync::ledger::Share;
 use std::sync::{Mutex, Wait};
 use stm_draw::{JobSeat, JobTable};
+use stm_job::Job;
 
 /// What all workers of a run share: the lock round the hall, the table that they draw from, the jobs, the gate, and whether the run was given up.
 #[derive(Drop)]

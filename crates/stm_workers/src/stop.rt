@@ -4,14 +4,13 @@ ghost use Rattle.stm_meaning.specs.declared.run.End.TheVariants.{Done};
 ghost use Rattle.stm_outcome.specs.declared.refusal.Refusal.TheVariants.{OutOfMemory as Want};
 ghost use Rattle.stm_hall.specs.declared.refusal.FetchRefusal.TheVariants.{Store as FetchRefused};
 ghost use Rattle.stm_hall.specs.declared.refusal.CommitRefusal.TheVariants.{Store as CommitRefused};
-ghost use Rattle.stm_workers.specs.Commits.{is_committed};
+ghost use Rattle.stm_job.specs.Ends.{is_committed};
 ghost use Rattle.stm_workers.specs.Attempts.{end_told, reads_told, fetch_refusal_told, commit_refusal_told, job_end_told};
 
-use crate::job_end::{JobEnd, JobRefusal};
-use crate::store_refusal::StoreRefusal;
 use std::alloc::AllocError;
 use stm_hall::{CommitRefusal, FetchRefusal};
 use stm_history::{ReadAnswer, Sequence, Text};
+use stm_job::{JobEnd, JobRefusal, StoreRefusal};
 use stm_meaning::{End, Fault, Run};
 use stm_txn::Refusal;
 

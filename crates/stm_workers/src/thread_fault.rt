@@ -2,8 +2,8 @@
 ghost use Rattle.std.specs.Prelude.{◌≡◌};
 ghost use Rattle.stm_workers.specs.Causes.{cause_of};
 
-use crate::gathered::FaultCause;
 use std::alloc::AllocError;
+use stm_job::FaultCause;
 
 /// Why the threads of a run are given up, before there is anything to audit.
 #[derive(Clone, Copy)]

@@ -5,11 +5,11 @@ ghost use Rattle.stm_draw.specs.Seats.{IsSeatAt, seat_view, table_id, table_size
 ghost use Rattle.stm_workers.specs.Runs.{HasItsRun};
 ghost use Rattle.stm_workers.specs.Drawn.{jobs_of, committed_in, drawing, used_up, HasDrawnAll};
 
-use crate::job_end::JobEnd;
 use crate::locked::RunOfJobs;
 use std::alloc::{AllocError, Global};
 use std::sync::ledger::Share;
 use stm_draw::{JobSeat, JobTable};
+use stm_job::JobEnd;
 
 /// The end of one job.
 #[derive(Drop)]

@@ -1,19 +1,15 @@
 //! The commands with their faults explained: where a bad input is bad, and which file the system refused and why.
-ghost use Rattle.std.specs.Prelude.{◌≡◌, ◌≤◌, false};
-ghost use Rattle.stm_workers.specs.declared.run.TheConstants.{MOST_WORKERS};
+ghost use Rattle.std.specs.Prelude.{◌≡◌, false};
 
 use crate::terminals::shown_budget;
 use std::io;
 use std::io::Input;
 use std::rt::Files;
-use std::sync::Wait;
-use std::thread::Threads;
 use stm_commands::{
     Format, Kept, Std, check_explained_to, check_whole_explained_to, script_explained_to,
 };
 use stm_exploring::{Level, explore_explained_to, outcomes_explained_to};
 use stm_files::{Noting, Opened, open};
-use stm_threading::{ThreadsOptions, threads_as_to};
 
 /// The name of an input, as people know it.
 fn name_of(path: &str) -> &str {
@@ -21,7 +17,7 @@ fn name_of(path: &str) -> &str {
 }
 
 /// The file of a path, or standard input, to be read and kept.
-fn kept<'a, R: Files + Input + AllocGlobal>(
+pub(crate) fn kept<'a, R: Files + Input + AllocGlobal>(
     rt: &R,
     path: &'a str,
 ) -> Kept<'a, Std<Noting<Opened<R::File, R::Reader>>>>
@@ -32,14 +28,14 @@ fn kept<'a, R: Files + Input + AllocGlobal>(
 }
 
 /// Says of an input that could not be read why the system refused it.
-fn say_unread(rt: &HostRuntime, name: &str, failure: Option<io::Error>) {
+pub(crate) fn say_unread(rt: &HostRuntime, name: &str, failure: Option<io::Error>) {
     if let Some(error) = failure {
         let _ = eprintln!(rt; "{name}: cannot be read: {error}");
     }
 }
 
 /// Says of standard output that could not be written why the system refused it.
-fn say_unwritten(rt: &HostRuntime, failure: Option<io::Error>) {
+pub(crate) fn say_unwritten(rt: &HostRuntime, failure: Option<io::Error>) {
     if let Some(error) = failure {
         let _ = eprintln!(rt; "standard output: cannot be written: {error}");
     }
@@ -120,25 +116,5 @@ pub(crate) fn run_outcomes(
     );
     say_unread(rt, scenario.name, scenario.source.device.failure);
     say_unwritten(rt, out.device.failure);
-    status
-}
-
-/// Runs the jobs of a path's scenario. A fault is explained where the options say so.
-pub(crate) fn run_threads<T: Threads + Wait + Sync>(
-    rt: &HostRuntime,
-    threads: &T,
-    path: &str,
-    options: ThreadsOptions,
-) -> u8
-    requires { (1 ≤ options.workers) × (options.workers ≤ MOST_WORKERS) }
-{
-    let mut input = kept(rt, path);
-    let mut out = Std::new(Noting::new(rt.stdout()));
-    let mut err = Std::new(rt.stderr());
-    let status = threads_as_to(threads, rt.alloc(), options, &mut input, &mut out, &mut err);
-    if options.explain {
-        say_unread(rt, input.name, input.source.device.failure);
-        say_unwritten(rt, out.device.failure);
-    }
     status
 }

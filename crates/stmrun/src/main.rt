@@ -4,6 +4,7 @@
 
 mod explaining;
 mod terminals;
+mod threading;
 
 use std::process::ExitCode;
 use std::sync::Wait;
@@ -17,9 +18,9 @@ pub use stm_commands::{
 use stm_exploring::Level;
 pub use stm_exploring::{explore_explained_to, explore_to, outcomes_explained_to, outcomes_to};
 use stm_files::open;
-use stm_threading::{Printing, ThreadsOptions};
 pub use stm_threading::{threads_as_to, threads_to};
 use terminals::shown_budget;
+use threading::{printing_of, run_threads};
 
 /// The path of an input that may be named: that of standard input where it is not.
 fn path_of(named: Option<&str>) -> &str {
@@ -132,27 +133,22 @@ fn run_outcomes(
     )
 }
 
-/// Looks through the interleavings of a path's scenario, for one that breaks a rule or for what they come to.
+/// Looks through the interleavings of a path's scenario, for one that breaks a rule or for what they come to, where the word names a level.
 fn run_explore(
     rt: &HostRuntime,
     scenario: &str,
     keeps: Option<&str>,
-    level: Option<Level>,
+    word: Option<&str>,
     budget: u64,
     explain: bool,
 ) -> u8 {
+    let level = match read_level(rt, word) {
+        Ok(level) => level,
+        Err(status) => return status,
+    };
     match keeps {
         Some(keeps) => run_rule(rt, scenario, keeps, level, budget, explain),
         None => run_outcomes(rt, scenario, level, budget, explain),
-    }
-}
-
-/// What is printed of jobs: what so many runs of them come to, or one run, with the ends of the jobs or without.
-fn printing_of(ends: bool, repeat: Option<u32>) -> Printing {
-    match repeat {
-        Some(runs) => Printing::Outcomes(runs),
-        None if ends => Printing::Ends,
-        None => Printing::Values,
     }
 }
 
@@ -189,12 +185,7 @@ fn run<T: Threads + Wait + Sync>(rt: &HostRuntime, threads: &T) -> u8 {
             explain,
         } => {
             let printing = printing_of(ends, repeat);
-            let options = ThreadsOptions {
-                workers,
-                printing,
-                explain,
-            };
-            explaining::run_threads(rt, threads, path_of(scenario), options)
+            run_threads(rt, threads, path_of(scenario), workers, printing, explain)
         }
         Asked::Recipe(words) => run_recipe(rt, &words),
         Asked::Explore {
@@ -203,10 +194,7 @@ fn run<T: Threads + Wait + Sync>(rt: &HostRuntime, threads: &T) -> u8 {
             level,
             budget,
             explain,
-        } => match read_level(rt, level) {
-            Ok(level) => run_explore(rt, scenario, keeps, level, budget, explain),
-            Err(status) => status,
-        },
+        } => run_explore(rt, scenario, keeps, level, budget, explain),
         Asked::Nothing(status) => status,
     }
 }

@@ -1,7 +1,7 @@
 use Rattle.std.proofs.Common.{◌≡◌, ◌++◌, ℕ, List, OnOk, codes, string_bytes, sym, subst}
 use Rattle.serde_json.specs.Data.{string}
 use Rattle.stm_reports.specs.Text.{line_text}
-use Rattle.stm_workers.specs.declared.job_end.JobEnd.{JobEnd}
+use Rattle.stm_job.specs.declared.job_end.JobEnd.{JobEnd}
 use Rattle.stm_jobs.specs.Lines.{job_line, end_of_job}
 use Rattle.stm_jobs.proofs.printing.push_end.Goals as goal
 

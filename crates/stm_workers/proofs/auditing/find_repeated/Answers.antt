@@ -1,6 +1,6 @@
 use Rattle.std.proofs.Common.{◌≡◌, ℕ, Bool, List, length, false, replicate, get_or, sym, ◌∙◌, ap, arith}
 use Rattle.std.proofs.lemmas.List.{get_or-replicate, length-replicate}
-use Rattle.stm_workers.specs.declared.job_end.JobEnd.{JobEnd}
+use Rattle.stm_job.specs.declared.job_end.JobEnd.{JobEnd}
 use Rattle.stm_workers.specs.Marks.{IsNewAt}
 use Rattle.stm_workers.proofs.AuditLemmas.{marked_more, new_there, not_new_there, next_place, all_new}
 use Rattle.stm_workers.proofs.auditing.find_repeated.Goals as goal

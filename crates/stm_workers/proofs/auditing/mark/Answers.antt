@@ -1,6 +1,6 @@
 use Rattle.std.proofs.Common.{◌<◌, ◌||◌, ◌∙◌, Bool, List, true, false, length, get_or, IfSome, sym, ap, subst}
 use Rattle.std.proofs.lemmas.List.{length-set}
-use Rattle.stm_workers.specs.declared.job_end.JobEnd.{JobEnd}
+use Rattle.stm_job.specs.declared.job_end.JobEnd.{JobEnd}
 use Rattle.stm_workers.specs.Ends.{entry_named, names_entry}
 use Rattle.stm_workers.specs.Marks.{is_marked}
 use Rattle.stm_workers.proofs.AuditLemmas.{set_marks}

@@ -2,7 +2,7 @@ use Rattle.std.proofs.Common.{rules, tests, ◌∙◌}
 use Rattle.std.proofs.lemmas.Iterator.{YieldsList-from_slice}
 use Rattle.std.proofs.lemmas.Iterator.Consumers.{count_from_yields_List, YieldsList-from_filter}
 use Rattle.std.proofs.lemmas.List.Sums.{length-filter}
-use Rattle.stm_workers.specs.Commits.{is_committed}
+use Rattle.stm_job.specs.Ends.{is_committed}
 use Rattle.stm_workers.proofs.run.count_committed.Goals as goal
 
 pub returns : goal.returns

@@ -1,6 +1,6 @@
 use Rattle.std.proofs.Common.{List, count_by, ap, ◌∙◌}
-use Rattle.stm_workers.specs.declared.job_end.JobEnd.{JobEnd}
-use Rattle.stm_workers.specs.Commits.{is_committed}
+use Rattle.stm_job.specs.declared.job_end.JobEnd.{JobEnd}
+use Rattle.stm_job.specs.Ends.{is_committed}
 use Rattle.stm_workers.proofs.RunLemmas.{all_clear, at_fault}
 use Rattle.stm_workers.proofs.run.gather.Goals as goal
 

@@ -3,8 +3,8 @@ use Rattle.std.proofs.lemmas.Result.{IfOk-weaker}
 use Rattle.stm_draw.specs.declared.table.JobSeat.{JobSeat}
 use Rattle.stm_draw.specs.declared.view.Size.{Size}
 use Rattle.stm_draw.specs.Draw.{size_of}
-use Rattle.stm_workers.specs.declared.job.Job.{Job}
-use Rattle.stm_workers.specs.Commits.{is_committed}
+use Rattle.stm_job.specs.declared.job.Job.{Job}
+use Rattle.stm_job.specs.Ends.{is_committed}
 use Rattle.stm_workers.specs.Drawn.{HasDrawnAll}
 use Rattle.stm_workers.specs.Runs.{HasItsRun}
 use Rattle.stm_workers.proofs.SeatLemmas.{an_end_each, each_of_many}

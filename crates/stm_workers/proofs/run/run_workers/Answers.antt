@@ -1,6 +1,7 @@
 use Rattle.std.proofs.Common.{◌≡◌, ◌∙◌, ◌+◌, length, count_by}
 use Rattle.stm_draw.specs.Draw.{size_of}
-use Rattle.stm_workers.specs.Commits.{commits_in, is_committed}
+use Rattle.stm_job.specs.Ends.{is_committed}
+use Rattle.stm_workers.specs.Commits.{commits_in}
 use Rattle.stm_workers.specs.Drawn.{HasDrawnAll}
 use Rattle.stm_workers.specs.Runs.{HaveTheirRuns}
 use Rattle.stm_workers.proofs.RunLemmas.{broke_off_early, given_up, ran_to, ran_on, fault_found, seat_handed, at_ok}

@@ -1,6 +1,6 @@
 use Rattle.std.proofs.Common.{◌≡◌, ℕ, List, Some, slice_get, refl, sym, subst, ap, ◌∙◌}
 use Rattle.std.proofs.lemmas.List.Elements.{All-same, All-push}
-use Rattle.stm_workers.specs.declared.job.Job.{Job}
+use Rattle.stm_job.specs.declared.job.Job.{Job}
 use Rattle.stm_workers.specs.Attempts.{HasCome}
 use Rattle.stm_workers.proofs.LockedLemmas.{job_of_some}
 use Rattle.stm_workers.specs.declared.worker.EndOf.{EndOf}

@@ -38,7 +38,7 @@ pub enum JobEnd {
 
 impl JobEnd {
     ghost use Rattle.std.specs.Prelude.{◌≡◌};
-    ghost use Rattle.stm_workers.specs.Commits.{is_committed};
+    ghost use Rattle.stm_job.specs.Ends.{is_committed};
 
     /// Whether the job committed.
     pub fn is_committed(&self) -> bool

@@ -1,5 +1,5 @@
-use Rattle.stm_jobs.proofs.RunLemmas.{does_of}
-use Rattle.stm_jobs.proofs.running.run_jobs.Goals as goal
+use Rattle.stm_threading.proofs.RunLemmas.{does_of}
+use Rattle.stm_threading.proofs.running.run_jobs.Goals as goal
 
 pub returns-in-Ok-clause-done : goal.returns-in-Ok-clause-done
 returns-in-Ok-clause-done g c =

@@ -1,7 +1,7 @@
 use Rattle.std.proofs.Common.{List, ℕ, sym, subst}
-use Rattle.stm_jobs.specs.declared.shown.Shown.TheVariants.{Outcome}
-use Rattle.stm_jobs.specs.Running.{IsOfRun}
-use Rattle.stm_jobs.proofs.running.count_run.Goals as goal
+use Rattle.stm_threading.specs.declared.shown.Shown.TheVariants.{Outcome}
+use Rattle.stm_threading.specs.Running.{IsOfRun}
+use Rattle.stm_threading.proofs.running.count_run.Goals as goal
 
 pub returns-in-Ok-count_one-clause-counted : goal.returns-in-Ok-count_one-clause-counted
 returns-in-Ok-count_one-clause-counted g c = (

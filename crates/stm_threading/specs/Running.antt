@@ -11,20 +11,20 @@ use Rattle.stm_devices.specs.Ends.{Devices, IsUntouched}
 use Rattle.stm_world.specs.declared.event.WorldEvent.{WorldEvent}
 use Rattle.stm_world.specs.World.{opened, world_after}
 use Rattle.stm_hall.specs.HallState.{HallState, made_over}
-use Rattle.stm_workers.specs.declared.job.Job.{Job}
-use Rattle.stm_workers.specs.declared.job_end.JobEnd.{JobEnd}
-use Rattle.stm_workers.specs.declared.gathered.FaultCause.{FaultCause}
-use Rattle.stm_workers.specs.declared.gathered.FaultCause.TheVariants.{OutOfMemory as NoMemory, Spawn as NoThread, Audit as AtFault}
+use Rattle.stm_job.specs.declared.job.Job.{Job}
+use Rattle.stm_job.specs.declared.job_end.JobEnd.{JobEnd}
+use Rattle.stm_job.specs.declared.gathered.FaultCause.{FaultCause}
+use Rattle.stm_job.specs.declared.gathered.FaultCause.TheVariants.{OutOfMemory as NoMemory, Spawn as NoThread, Audit as AtFault}
 use Rattle.stm_workers.specs.Gathered.{RanTo, BrokeOff}
-use Rattle.stm_jobs.specs.declared.running.JobsFault.{JobsFault}
-use Rattle.stm_jobs.specs.declared.running.JobsFault.TheVariants.{OutOfMemory, Bad, Read, Write, Spawn, Audit}
+use Rattle.stm_threading.specs.declared.running.JobsFault.{JobsFault}
+use Rattle.stm_threading.specs.declared.running.JobsFault.TheVariants.{OutOfMemory, Bad, Read, Write, Spawn, Audit}
 use Rattle.stm_jobs.specs.Accepting.{Sorted, task_of, accepted, opening_of}
 use Rattle.stm_jobs.specs.Lines.{AreLinesOf}
 use Rattle.stm_jobs.specs.Outcomes.{IsFrontOf, Tally, Counts, tally_text}
-use Rattle.stm_jobs.specs.declared.shown.Shown.{Shown}
-use Rattle.stm_jobs.specs.declared.shown.Shown.TheVariants.{Values, Ends, Outcome}
-use Rattle.stm_jobs.specs.declared.shown.Printing.{Printing}
-use Rattle.stm_jobs.specs.declared.shown.Printing.TheVariants.{Values as PrintValues, Ends as PrintEnds, Outcomes as PrintOutcomes}
+use Rattle.stm_threading.specs.declared.shown.Shown.{Shown}
+use Rattle.stm_threading.specs.declared.shown.Shown.TheVariants.{Values, Ends, Outcome}
+use Rattle.stm_threading.specs.declared.shown.Printing.{Printing}
+use Rattle.stm_threading.specs.declared.shown.Printing.TheVariants.{Values as PrintValues, Ends as PrintEnds, Outcomes as PrintOutcomes}
 
 -- ---- the run
 
@@ -44,13 +44,14 @@ pub record IsOfRun (shown : Shown) (start : ℕ) (calls : List WorldEvent) (jobs
   pub ran : RanTo (made_over (world_after calls (opened start)).standing) jobs ends attempts committed after
   pub shows : IsTextOf shown ends attempts (length jobs) committed after text
 
--- one more run was made, whose text is counted
+-- one more text was counted, that of such a run
 abbrev pub HasCounted : ℕ → List WorldEvent → List Job → Tally → Tally → Type 0
 HasCounted start calls jobs before after =
     (text : List ℕ) × IsOfRun Outcome start calls jobs text
     × ((texts : List (List ℕ)) → Counts texts before → Counts (texts ++ text ∷ []) after)
 
--- so many runs were made, each from such a hall, and the tally is that of their texts
+-- The tally is that of so many texts, each of them that of such a run. That a run was made for each is the body's matter: two of them may be of
+-- one run.
 pub record AreCounted (runs start : ℕ) (calls : List WorldEvent) (jobs : List Job) (tally : Tally) : Type 0 where
   pub texts : List (List ℕ)
   pub many : length texts ≡ runs

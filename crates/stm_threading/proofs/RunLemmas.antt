@@ -15,18 +15,18 @@ use Rattle.stm_devices.specs.Ends.{Devices}
 use Rattle.stm_texts.proofs.Fronts.{told_at}
 use Rattle.stm_txn.specs.Standing.{Standing}
 use Rattle.stm_hall.specs.HallState.{HallState, made_over}
-use Rattle.stm_workers.specs.declared.job.Job.{Job}
-use Rattle.stm_workers.specs.declared.job_end.JobEnd.{JobEnd}
-use Rattle.stm_workers.specs.declared.gathered.FaultCause.{FaultCause}
-use Rattle.stm_workers.specs.declared.gathered.FaultCause.TheVariants.{OutOfMemory as NoMemory, Spawn as NoThread, Audit as AtFault}
+use Rattle.stm_job.specs.declared.job.Job.{Job}
+use Rattle.stm_job.specs.declared.job_end.JobEnd.{JobEnd}
+use Rattle.stm_job.specs.declared.gathered.FaultCause.{FaultCause}
+use Rattle.stm_job.specs.declared.gathered.FaultCause.TheVariants.{OutOfMemory as NoMemory, Spawn as NoThread, Audit as AtFault}
 use Rattle.stm_workers.specs.Gathered.{RanTo, BrokeOff}
-use Rattle.stm_jobs.specs.declared.running.JobsFault.{JobsFault}
-use Rattle.stm_jobs.specs.declared.running.JobsFault.TheVariants.{OutOfMemory, Bad, Read, Write, Spawn, Audit}
+use Rattle.stm_threading.specs.declared.running.JobsFault.{JobsFault}
+use Rattle.stm_threading.specs.declared.running.JobsFault.TheVariants.{OutOfMemory, Bad, Read, Write, Spawn, Audit}
 use Rattle.stm_jobs.specs.Accepting.{Sorted, task_of, accepted, opening_of}
-use Rattle.stm_jobs.specs.declared.shown.Printing.{Printing}
-use Rattle.stm_jobs.specs.declared.shown.Shown.{Shown}
-use Rattle.stm_jobs.specs.Running.{IsTextOf, IsOfRun, IsPrintedOfJobs, IsBrokenOffFor, IsBrokenOff, IsBrokenOffOf, IsPrintedOf}
-use Rattle.stm_jobs.specs.Running.{fault_told, fault_read, judged, Answers, Writes, Does}
+use Rattle.stm_threading.specs.declared.shown.Printing.{Printing}
+use Rattle.stm_threading.specs.declared.shown.Shown.{Shown}
+use Rattle.stm_threading.specs.Running.{IsTextOf, IsOfRun, IsPrintedOfJobs, IsBrokenOffFor, IsBrokenOff, IsBrokenOffOf, IsPrintedOf}
+use Rattle.stm_threading.specs.Running.{fault_told, fault_read, judged, Answers, Writes, Does}
 
 -- ---- the run
 

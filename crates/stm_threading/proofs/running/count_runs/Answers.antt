@@ -1,5 +1,5 @@
-use Rattle.stm_jobs.proofs.TallyLemmas.{none_made, all_made, one_made}
-use Rattle.stm_jobs.proofs.running.count_runs.Goals as goal
+use Rattle.stm_threading.proofs.CountLemmas.{none_made, all_made, one_made}
+use Rattle.stm_threading.proofs.running.count_runs.Goals as goal
 
 pub loop-made-init : goal.loop-made-init
 loop-made-init g c = none_made _ _ _ _ c.new-tally.ensures.empty

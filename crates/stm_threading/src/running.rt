@@ -5,18 +5,13 @@ ghost use Rattle.stm_history.specs.declared.revisions.TheConstants.{HIGHEST_REVI
 ghost use Rattle.stm_texts.specs.Reading.{IsOpening, scenario_in};
 ghost use Rattle.stm_world.specs.declared.event.WorldEvent.{WorldEvent};
 ghost use Rattle.stm_world.specs.World.{opened, world_after};
-ghost use Rattle.stm_jobs.specs.declared.running.JobsFault.TheVariants.{OutOfMemory};
+ghost use Rattle.stm_threading.specs.declared.running.JobsFault.TheVariants.{OutOfMemory};
 ghost use Rattle.stm_workers.specs.declared.run.TheConstants.{MOST_WORKERS};
 ghost use Rattle.std.specs.Map.{values_of};
-ghost use Rattle.stm_jobs.specs.declared.shown.Printing.TheVariants.{Outcomes as OfRuns};
-ghost use Rattle.stm_jobs.specs.Running.{AreCounted, HasCounted, IsOfRun, IsPrintedOfJobs, IsTextOf, IsBrokenOff, fault_told, Answers, Writes, Does};
+ghost use Rattle.stm_threading.specs.declared.shown.Printing.TheVariants.{Outcomes as OfRuns};
+ghost use Rattle.stm_threading.specs.Running.{AreCounted, HasCounted, IsOfRun, IsPrintedOfJobs, IsTextOf, IsBrokenOff, fault_told, Answers, Writes, Does};
 
-use crate::accepting::accept;
-use crate::opening::open_store;
-use crate::outcome::front_of;
-use crate::printing::lines;
 use crate::shown::{Printing, Shown};
-use crate::tally::{count_one, tally_text};
 use std::alloc::{AllocError, Global};
 use std::collections::BTreeMap;
 use std::sync::Wait;
@@ -24,10 +19,12 @@ use std::thread::Threads;
 use stm_devices::{ReadFault, Sink, Source, read_all, write_all};
 use stm_hall::Hall;
 use stm_history::Text;
+use stm_job::{FaultCause, Gathered, Job, RunFault};
+use stm_jobs::{accept, count_one, front_of, lines, open_store, tally_text};
 use stm_json::{BadInput, ReadError};
 use stm_texts::{Scenario, read_scenario};
 use stm_txn::Store;
-use stm_workers::{FaultCause, Gathered, Job, NoGate, RunFault, run_workers};
+use stm_workers::{NoGate, run_workers};
 use stm_world::WorldEvent;
 use thiserror::Error;
 
@@ -56,7 +53,7 @@ pub enum JobsFault {
 
 impl From<ReadError> for JobsFault {
     ghost use Rattle.std.specs.Prelude.{◌≡◌};
-    ghost use Rattle.stm_jobs.specs.Running.{fault_read};
+    ghost use Rattle.stm_threading.specs.Running.{fault_read};
 
     ghost from_gives = { λ error fault. fault ≡ fault_read error };
 

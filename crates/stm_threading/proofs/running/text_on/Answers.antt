@@ -1,7 +1,7 @@
 use Rattle.std.proofs.Common.{string_bytes, sym, ◌∙◌}
 use Rattle.std.proofs.lemmas.Result.{IfOk-weaker, IfErr-weaker}
-use Rattle.stm_jobs.proofs.RunLemmas.{is_of_run, broken_off, no_room}
-use Rattle.stm_jobs.proofs.running.text_on.Goals as goal
+use Rattle.stm_threading.proofs.RunLemmas.{is_of_run, broken_off, no_room}
+use Rattle.stm_threading.proofs.running.text_on.Goals as goal
 
 -- there is a number of attempts for each end
 pub text_of_run-requires : goal.text_of_run-requires

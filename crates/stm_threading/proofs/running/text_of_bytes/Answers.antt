@@ -3,10 +3,10 @@ use Rattle.std.proofs.lemmas.Result.{err_from_is_err_and}
 use Rattle.stm_json.specs.Outcome.{Outcome as Reading}
 use Rattle.stm_texts.specs.declared.scenario.Scenario.{Scenario}
 use Rattle.stm_texts.specs.Reading.{scenario_in}
-use Rattle.stm_jobs.specs.declared.running.JobsFault.{JobsFault}
-use Rattle.stm_jobs.specs.Running.{Answers}
-use Rattle.stm_jobs.proofs.RunLemmas.{answers_fault, judged_unread}
-use Rattle.stm_jobs.proofs.running.text_of_bytes.Goals as goal
+use Rattle.stm_threading.specs.declared.running.JobsFault.{JobsFault}
+use Rattle.stm_threading.specs.Running.{Answers}
+use Rattle.stm_threading.proofs.RunLemmas.{answers_fault, judged_unread}
+use Rattle.stm_threading.proofs.running.text_of_bytes.Goals as goal
 
 pub returns-in_err-scenario : goal.returns-in_err-scenario
 returns-in_err-scenario g c =

@@ -1,9 +1,9 @@
 use Rattle.std.proofs.Common.{Ok, Err, map, ap, ◌∙◌, string_bytes}
 use Rattle.std.proofs.lemmas.Result.{err_from_is_err_and}
-use Rattle.stm_jobs.specs.declared.running.JobsFault.{JobsFault}
+use Rattle.stm_threading.specs.declared.running.JobsFault.{JobsFault}
 use Rattle.stm_jobs.specs.Accepting.{sorted_of, task_of}
-use Rattle.stm_jobs.proofs.RunLemmas.{answers_of, answers_fault}
-use Rattle.stm_jobs.proofs.running.text_of_scenario.Goals as goal
+use Rattle.stm_threading.proofs.RunLemmas.{answers_of, answers_fault}
+use Rattle.stm_threading.proofs.running.text_of_scenario.Goals as goal
 
 pub returns-in_err-sorted : goal.returns-in_err-sorted
 returns-in_err-sorted g c =

@@ -1,5 +1,5 @@
-use Rattle.stm_jobs.specs.Running.{AreCounted}
-use Rattle.stm_jobs.proofs.running.count_runs.Given as goal
+use Rattle.stm_threading.specs.Running.{AreCounted}
+use Rattle.stm_threading.proofs.running.count_runs.Given as goal
 
 -- the runs so far are counted
 abbrev pub invariant-loop-made : goal.invariant-loop-made

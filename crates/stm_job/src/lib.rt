@@ -1,0 +1,14 @@
+//! Jobs: what one is, how it ends, and what a run of jobs comes to.
+//!
+//! These are types that the workers and the texts of jobs have in common. They stand below both, so neither waits for the other.
+#![tactic(auto)]
+
+mod gathered;
+mod job;
+mod job_end;
+mod store_refusal;
+
+pub use gathered::{FaultCause, Gathered, RunFault};
+pub use job::Job;
+pub use job_end::{JobEnd, JobRefusal};
+pub use store_refusal::StoreRefusal;

@@ -1,0 +1,46 @@
+//! The command `threads` on the file of a path.
+ghost use Rattle.std.specs.Prelude.{◌≤◌};
+ghost use Rattle.stm_workers.specs.declared.run.TheConstants.{MOST_WORKERS};
+
+use crate::explaining::{kept, say_unread, say_unwritten};
+use std::sync::Wait;
+use std::thread::Threads;
+use stm_commands::Std;
+use stm_files::Noting;
+use stm_threading::{Printing, ThreadsOptions, threads_as_to};
+
+/// What is printed of jobs: what so many runs of them come to, or one run, with the ends of the jobs or without.
+pub(crate) fn printing_of(ends: bool, repeat: Option<u32>) -> Printing {
+    match repeat {
+        Some(runs) => Printing::Outcomes(runs),
+        None if ends => Printing::Ends,
+        None => Printing::Values,
+    }
+}
+
+/// Runs the jobs of a path's scenario by so many threads. A fault is explained, or is not.
+pub(crate) fn run_threads<T: Threads + Wait + Sync>(
+    rt: &HostRuntime,
+    threads: &T,
+    path: &str,
+    workers: usize,
+    printing: Printing,
+    explain: bool,
+) -> u8
+    requires { (1 ≤ workers) × (workers ≤ MOST_WORKERS) }
+{
+    let options = ThreadsOptions {
+        workers,
+        printing,
+        explain,
+    };
+    let mut input = kept(rt, path);
+    let mut out = Std::new(Noting::new(rt.stdout()));
+    let mut err = Std::new(rt.stderr());
+    let status = threads_as_to(threads, rt.alloc(), options, &mut input, &mut out, &mut err);
+    if explain {
+        say_unread(rt, input.name, input.source.device.failure);
+        say_unwritten(rt, out.device.failure);
+    }
+    status
+}

@@ -1,9 +1,8 @@
-//! Worked examples of stores, of programs and their meaning, of recipes, of halls, of the worlds that run programs, and of reading reports,
+//! Worked examples of stores, of programs and their meaning, of recipes, of halls, and of the worlds that run programs,
 //! by the public calls of their crates.
 //!
 //! This crate has no code but tests: one module for each crate that is tested, named for it, and the players that run their rows. They
-//! stand here, and not beside what they test, since a crate with tests is proved twice, and in one crate, since each crate proves anew how
-//! each type that it uses is dropped.
+//! stand here, and not beside what they test, since a crate with tests is proved twice.
 #![tactic(auto)]
 
 #[cfg(test)]
@@ -20,8 +19,6 @@ mod player;
 mod program;
 #[cfg(test)]
 mod recipes;
-#[cfg(test)]
-mod reports;
 #[cfg(test)]
 mod stores;
 #[cfg(test)]

@@ -114,7 +114,9 @@ fn text_of_run(
     ensures shows { IfOk result (λ text. IsTextOf shown gathered.ends.items gathered.attempts.items jobs gathered.committed gathered.hall (string_bytes text)) }
     ensures fault { IfErr result (λ fault. fault ≡ OutOfMemory) }
 {
-    match shown_of(alloc, jobs, &gathered, shown) {
+    let text = shown_of(alloc, jobs, &gathered, shown);
+    drop(gathered);
+    match text {
         Ok(text) => Ok(text),
         Err(_) => Err(JobsFault::OutOfMemory),
     }

@@ -42,3 +42,14 @@ IsCollected p ends found (Some gone_through) = goes_on (suc gone_through) p ≡ 
 abbrev pub AreOutcomes : Place → Ends → Outcomes → Type 0
 AreOutcomes p ends (Found outcomes) = AreAllOutcomes p ends outcomes
 AreOutcomes p ends (OpenAt gone_through) = goes_on (suc gone_through) p ≡ true
+
+-- ---- the budget: an answer is open only where nothing is left of it
+
+abbrev pub OpenIsSpent : ℕ → Explored → Type 0
+OpenIsSpent left (Always longest) = Unit {0}
+OpenIsSpent left (Broken schedule end) = Unit {0}
+OpenIsSpent left (Open kept) = left ≡ 0
+
+abbrev pub OpenOutcomesAreSpent : ℕ → Outcomes → Type 0
+OpenOutcomesAreSpent left (Found outcomes) = Unit {0}
+OpenOutcomesAreSpent left (OpenAt gone_through) = left ≡ 0

@@ -47,6 +47,7 @@ impl<O: Observer> Budget<O> {
         ensures ok { OnOk result (self.new.left + 1 ≡ self.old.left) }
         ensures spent { IfErr result (λ halt. halt ≡ Spent) }
         ensures err { OnErr result (self.old.left ≡ 0) }
+        ensures empty { OnErr result (self.new.left ≡ 0) }
     {
         if self.left == 0 {
             return Err(Halt::Spent);

@@ -1,13 +1,14 @@
 //! The outcomes of whole schedules of so many moves.
 //!
 //! Of schedules that come to the same one is gone through, as where places are looked at.
-ghost use Rattle.std.specs.Prelude.{◌≡◌, ◌<◌, true, None, IfOk, OnOk};
+ghost use Rattle.std.specs.Prelude.{◌≡◌, ◌<◌, ◌≤◌, true, None, IfOk, OnOk, IsErrOf};
 ghost use Rattle.std.specs.List.{list_any};
 ghost use Rattle.stm_schedules.specs.Fewer.{fewer_outcomes_at};
 ghost use Rattle.stm_schedules.specs.Outcomes.{outcome_if_whole};
 ghost use Rattle.stm_schedules.specs.Places.{moves};
 ghost use Rattle.stm_explore.specs.Gathering.{Gathers};
 ghost use Rattle.stm_explore.specs.Seen.{seen_go_on, goes_on_behind, outcomes_behind};
+ghost use Rattle.stm_explore.specs.declared.halt.Halt.TheVariants.{Spent};
 
 use crate::budget::{Budget, Observer};
 use crate::ends::copy_of_ends;
@@ -56,6 +57,9 @@ fn collect<O: Observer>(
 ) -> Result<bool, Halt>
     ensures more { IfOk result (λ more. more ≡ seen_go_on depth last (record { world = world.old; others = others.now })) }
     ensures found { OnOk result (Gathers (fewer_outcomes_at depth last (record { world = world.old; others = others.now }) ends.old.items) found.old.items found.new.items) }
+    ensures within { budget.new.left ≤ budget.old.left }
+    ensures spent { IsErrOf result Spent → budget.new.left ≡ 0 }
+    ensures taken { IfOk result (λ more. 0 < depth → more ≡ true → budget.new.left < budget.old.left) }
 {
     if depth == 0 {
         return Ok(collect_here(alloc, world, others, ends.as_slice(), found)?);
@@ -100,6 +104,9 @@ fn collect_behind<O: Observer>(
 ) -> Result<bool, Halt>
     ensures more { IfOk result (λ more. more ≡ goes_on_behind depth last (record { world = world.old; others = others.now }) chosen) }
     ensures found { OnOk result (Gathers (outcomes_behind depth last (record { world = world.old; others = others.now }) ends.old.items chosen) found.old.items found.new.items) }
+    ensures within { budget.new.left ≤ budget.old.left }
+    ensures spent { IsErrOf result Spent → budget.new.left ≡ 0 }
+    ensures taken { OnOk result (budget.new.left < budget.old.left) }
     ensures same_world { 0 < left → world.new ≡ world.old }
     ensures same_ends { 0 < left → ends.new.items ≡ ends.old.items }
 {
@@ -139,6 +146,8 @@ fn collect_aside<O: Observer>(
 ) -> Result<bool, Halt>
     ensures more { IfOk result (λ more. more ≡ goes_on_behind depth last (record { world = world.now; others = others.now }) chosen) }
     ensures found { OnOk result (Gathers (outcomes_behind depth last (record { world = world.now; others = others.now }) ends.now chosen) found.old.items found.new.items) }
+    ensures within { budget.new.left ≤ budget.old.left }
+    ensures spent { IsErrOf result Spent → budget.new.left ≡ 0 }
 {
     let mut ends = copy_of_ends(alloc, ends)?;
     let mut next = world.copy()?;
@@ -165,6 +174,8 @@ fn collect_moved<O: Observer>(
 ) -> Result<bool, Halt>
     ensures more { IfOk result (λ more. more ≡ goes_on_behind depth last (record { world = world.old; others = others.now }) chosen) }
     ensures found { OnOk result (Gathers (outcomes_behind depth last (record { world = world.old; others = others.now }) ends.old.items chosen) found.old.items found.new.items) }
+    ensures within { budget.new.left ≤ budget.old.left }
+    ensures spent { IsErrOf result Spent → budget.new.left ≡ 0 }
 {
     let quiet = tell_move(world, others, chosen, ends)?;
     if is_looked_at(last, quiet) {
@@ -195,6 +206,9 @@ pub(crate) fn collect_from<O: Observer>(
 ) -> Result<bool, Halt>
     ensures more { IfOk result (λ more. more ≡ seen_go_on depth None (record { world = world.now; others = others.now })) }
     ensures found { OnOk result (Gathers (fewer_outcomes_at depth None (record { world = world.now; others = others.now }) ends.now) found.old.items found.new.items) }
+    ensures within { budget.new.left ≤ budget.old.left }
+    ensures spent { IsErrOf result Spent → budget.new.left ≡ 0 }
+    ensures taken { IfOk result (λ more. 0 < depth → more ≡ true → budget.new.left < budget.old.left) }
 {
     let mut ends = copy_of_ends(alloc, ends)?;
     let mut next = world.copy()?;

@@ -1,7 +1,7 @@
 //! Whether a rule is kept after every schedule.
-ghost use Rattle.std.specs.Prelude.{◌≡◌, ◌+◌, true, None, IfOk};
+ghost use Rattle.std.specs.Prelude.{◌≡◌, ◌≤◌, ◌+◌, true, None, IfOk};
 ghost use Rattle.stm_schedules.specs.Keeping.{keeps, first_bad, goes_on};
-ghost use Rattle.stm_explore.specs.Explored.{IsExplored, MergesAreKept};
+ghost use Rattle.stm_explore.specs.Explored.{IsExplored, MergesAreKept, OpenIsSpent};
 ghost use Rattle.stm_explore.specs.Seen.{IsSeen};
 
 use crate::budget::{Budget, Observer};
@@ -49,7 +49,9 @@ fn look_deeper<O: Observer>(
 ) -> Result<Explored, AllocError>
     requires kept { first_bad (keeps rule.now) 0 (record { world = world.now; others = others.now }) ≡ None }
     requires more { goes_on 1 (record { world = world.now; others = others.now }) ≡ true }
-    ensures { IfOk result (IsExplored rule.now (record { world = world.now; others = others.now })) }
+    ensures explored { IfOk result (IsExplored rule.now (record { world = world.now; others = others.now })) }
+    ensures left { budget.new.left ≤ budget.old.left }
+    ensures spent { IfOk result (OpenIsSpent budget.new.left) }
 {
     let most = budget.left;
     for kept in 0..most {
@@ -75,7 +77,9 @@ fn explore_schedules<O: Observer>(
     others: &[WorldEvent],
     budget: &mut Budget<O>,
 ) -> Result<Explored, AllocError>
-    ensures { IfOk result (IsExplored rule.now (record { world = world.now; others = others.now })) }
+    ensures explored { IfOk result (IsExplored rule.now (record { world = world.now; others = others.now })) }
+    ensures left { budget.new.left ≤ budget.old.left }
+    ensures spent { IfOk result (OpenIsSpent budget.new.left) }
 {
     match look_here(alloc, rule, world, others, None)? {
         Looked::Kept { goes_on: true } => look_deeper(alloc, rule, world, others, budget),
@@ -88,8 +92,8 @@ fn explore_schedules<O: Observer>(
 ///
 /// The rule is a program, which is run alone on the state behind each schedule: the schedule keeps it where the run comes to its last
 /// statement. Schedules are looked at by length, those of one length in the order of their moves, and at most as many events are taken as
-/// `budget` has left; its observer is told how far the search is. The answer is told also of steps of any runners, merged in any way with
-/// a front of what the others bring.
+/// `budget` has left: it keeps those that are not, and the answer is `Open` only where none is left. Its observer is told how far the
+/// search is. The answer is told also of steps of any runners, merged in any way with a front of what the others bring.
 ///
 /// Want of memory is the only refusal. The world is left as it was.
 pub fn explore<O: Observer>(
@@ -101,6 +105,8 @@ pub fn explore<O: Observer>(
 ) -> Result<Explored, AllocError>
     ensures explored { IfOk result (IsExplored rule.now (record { world = world.now; others = others.now })) }
     ensures merges { IfOk result (MergesAreKept rule.now (record { world = world.now; others = others.now })) }
+    ensures left { budget.new.left ≤ budget.old.left }
+    ensures spent { IfOk result (OpenIsSpent budget.new.left) }
 {
     let explored = explore_schedules(alloc, rule, world, others, budget);
     budget.observer.ended();

@@ -1,8 +1,8 @@
 //! What whole schedules come to.
-ghost use Rattle.std.specs.Prelude.{◌≡◌, true, [], IfOk};
+ghost use Rattle.std.specs.Prelude.{◌≡◌, ◌≤◌, true, [], IfOk, OnSome};
 ghost use Rattle.stm_schedules.specs.Keeping.{goes_on};
 ghost use Rattle.stm_schedules.specs.Outcomes.{outcomes_at};
-ghost use Rattle.stm_explore.specs.Explored.{IsCollected, AreOutcomes};
+ghost use Rattle.stm_explore.specs.Explored.{IsCollected, AreOutcomes, OpenOutcomesAreSpent};
 ghost use Rattle.stm_explore.specs.Gathering.{Gathers};
 
 use crate::budget::{Budget, Observer};
@@ -43,7 +43,9 @@ fn collect_deeper<O: Observer>(
 ) -> Result<Option<u64>, AllocError>
     requires found { Gathers (outcomes_at 0 (record { world = world.now; others = others.now }) ends.now) [] found.old.items }
     requires more { goes_on 1 (record { world = world.now; others = others.now }) ≡ true }
-    ensures { IfOk result (IsCollected (record { world = world.now; others = others.now }) ends.now found.new.items) }
+    ensures collected { IfOk result (IsCollected (record { world = world.now; others = others.now }) ends.now found.new.items) }
+    ensures left { budget.new.left ≤ budget.old.left }
+    ensures spent { IfOk result (λ stopped. OnSome stopped (budget.new.left ≡ 0)) }
 {
     let most = budget.left;
     for gone_through in 0..most {
@@ -68,7 +70,9 @@ fn collect_all<O: Observer>(
     found: &mut Vec<Outcome>,
 ) -> Result<Option<u64>, AllocError>
     requires { found.old.items ≡ [] }
-    ensures { IfOk result (IsCollected (record { world = world.now; others = others.now }) ends.now found.new.items) }
+    ensures collected { IfOk result (IsCollected (record { world = world.now; others = others.now }) ends.now found.new.items) }
+    ensures left { budget.new.left ≤ budget.old.left }
+    ensures spent { IfOk result (λ stopped. OnSome stopped (budget.new.left ≡ 0)) }
 {
     if collect_here(alloc, world, others, ends, found)? {
         return collect_deeper(alloc, world, others, ends, budget, found);
@@ -79,7 +83,8 @@ fn collect_all<O: Observer>(
 /// What whole schedules come to: those of the moves of this world's runners, and of others that have these events yet to bring.
 ///
 /// In `ends` stands what is known of the runners' ends before, by the runners' numbers, as `ends_told` tells it. Schedules are gone
-/// through by length, and at most as many events are taken as `budget` has left; its observer is told how far the search is.
+/// through by length, and at most as many events are taken as `budget` has left: it keeps those that are not, and the answer is `Open`
+/// only where none is left. Its observer is told how far the search is.
 ///
 /// Want of memory is the only refusal. The world is left as it was.
 pub fn find_outcomes<O: Observer>(
@@ -89,7 +94,9 @@ pub fn find_outcomes<O: Observer>(
     ends: &[Option<RunnerEnd>],
     budget: &mut Budget<O>,
 ) -> Result<Outcomes, AllocError>
-    ensures { IfOk result (AreOutcomes (record { world = world.now; others = others.now }) ends.now) }
+    ensures outcomes { IfOk result (AreOutcomes (record { world = world.now; others = others.now }) ends.now) }
+    ensures left { budget.new.left ≤ budget.old.left }
+    ensures spent { IfOk result (OpenOutcomesAreSpent budget.new.left) }
 {
     let mut found = Vec::new(alloc);
     let stopped = collect_all(alloc, world, others, ends, budget, &mut found);

@@ -4,7 +4,9 @@
 //! right behind a quiet step of a runner of a higher number: what stands the other way round was looked at before.
 //!
 //! The state behind a quiet step is the one before it, where the rule was found kept: its program is not run there once more.
-ghost use Rattle.std.specs.Prelude.{◌≡◌, ◌<◌, None, IfOk};
+ghost use Rattle.std.specs.Prelude.{◌≡◌, ◌<◌, ◌≤◌, true, None, IfOk, OnOk, IsErrOf};
+ghost use Rattle.stm_explore.specs.declared.halt.Halt.TheVariants.{Spent};
+ghost use Rattle.stm_explore.specs.declared.looked.Looked.TheVariants.{Kept};
 ghost use Rattle.stm_explore.specs.Seen.{IsSeen, IsSeenBehind, KeptBefore, KeptBehind};
 
 use crate::budget::{Budget, Observer};
@@ -60,7 +62,10 @@ fn look<O: Observer>(
     budget: &mut Budget<O>,
 ) -> Result<Looked, Halt>
     requires { KeptBefore rule.now depth last (record { world = world.old; others = others.now }) }
-    ensures { IfOk result (IsSeen rule.now depth last (record { world = world.old; others = others.now })) }
+    ensures seen { IfOk result (IsSeen rule.now depth last (record { world = world.old; others = others.now })) }
+    ensures within { budget.new.left ≤ budget.old.left }
+    ensures spent { IsErrOf result Spent → budget.new.left ≡ 0 }
+    ensures taken { IfOk result (λ looked. 0 < depth → looked ≡ Kept true → budget.new.left < budget.old.left) }
 {
     if depth == 0 {
         return Ok(look_here(alloc, rule, world, others, last)?);
@@ -105,6 +110,9 @@ fn look_behind<O: Observer>(
 ) -> Result<Looked, Halt>
     requires { KeptBehind rule.now depth last (record { world = world.old; others = others.now }) chosen }
     ensures seen { IfOk result (IsSeenBehind rule.now depth last chosen (record { world = world.old; others = others.now })) }
+    ensures within { budget.new.left ≤ budget.old.left }
+    ensures spent { IsErrOf result Spent → budget.new.left ≡ 0 }
+    ensures taken { OnOk result (budget.new.left < budget.old.left) }
     ensures same { 0 < left → world.new ≡ world.old }
 {
     budget.spend()?;
@@ -129,7 +137,9 @@ fn look_aside<O: Observer>(
     budget: &mut Budget<O>,
 ) -> Result<Looked, Halt>
     requires { KeptBehind rule.now depth last (record { world = world.now; others = others.now }) chosen }
-    ensures { IfOk result (IsSeenBehind rule.now depth last chosen (record { world = world.now; others = others.now })) }
+    ensures seen { IfOk result (IsSeenBehind rule.now depth last chosen (record { world = world.now; others = others.now })) }
+    ensures within { budget.new.left ≤ budget.old.left }
+    ensures spent { IsErrOf result Spent → budget.new.left ≡ 0 }
 {
     let mut next = world.copy()?;
     let looked = look_moved(alloc, rule, &mut next, others, last, chosen, depth, budget);
@@ -151,7 +161,9 @@ fn look_moved<O: Observer>(
     budget: &mut Budget<O>,
 ) -> Result<Looked, Halt>
     requires { KeptBehind rule.now depth last (record { world = world.old; others = others.now }) chosen }
-    ensures { IfOk result (IsSeenBehind rule.now depth last chosen (record { world = world.old; others = others.now })) }
+    ensures seen { IfOk result (IsSeenBehind rule.now depth last chosen (record { world = world.old; others = others.now })) }
+    ensures within { budget.new.left ≤ budget.old.left }
+    ensures spent { IsErrOf result Spent → budget.new.left ≡ 0 }
 {
     let quiet = make_move(world, others, chosen)?;
     if is_looked_at(last, quiet) {
@@ -181,7 +193,10 @@ pub(crate) fn look_from<O: Observer>(
     budget: &mut Budget<O>,
 ) -> Result<Looked, Halt>
     requires { KeptBefore rule.now depth None (record { world = world.now; others = others.now }) }
-    ensures { IfOk result (IsSeen rule.now depth None (record { world = world.now; others = others.now })) }
+    ensures seen { IfOk result (IsSeen rule.now depth None (record { world = world.now; others = others.now })) }
+    ensures within { budget.new.left ≤ budget.old.left }
+    ensures spent { IsErrOf result Spent → budget.new.left ≡ 0 }
+    ensures taken { IfOk result (λ looked. 0 < depth → looked ≡ Kept true → budget.new.left < budget.old.left) }
 {
     let mut next = world.copy()?;
     let looked = look(alloc, rule, &mut next, others, None, depth, budget);

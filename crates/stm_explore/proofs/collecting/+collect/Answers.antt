@@ -1,4 +1,4 @@
-use Rattle.std.proofs.Common.{◌≡◌, ◌∙◌, List, sym, ap, subst, refl, arith}
+use Rattle.std.proofs.Common.{◌≡◌, ◌∙◌, ◌<◌, List, sym, ap, subst, refl, arith}
 use Rattle.stm_world.specs.World.{World}
 use Rattle.stm_schedules.specs.declared.moves.Move.{Move}
 use Rattle.stm_schedules.specs.Places.{Place, moved}
@@ -16,6 +16,8 @@ collect-loop-chosen-init g t c =
     record {
       collected = collected_none c.args.depth c.args.last p c.args.ends.now.items c.as_slice-choices.result.now c.args.found.now.items c.if-depth-eq0.false
           (c.as_slice-choices.ensures.value ∙ c.in_ok-all.ensures);
+      within = omega arith;
+      taken = λ is. absurd (cc);
       counted = omega arith;
       world = λ within. refl;
       ends = λ within. refl;
@@ -27,11 +29,14 @@ collect-loop-chosen-preserved g t c =
     let ms : List Move = c.as_slice-choices.result.now in
     let same : c.loop-chosen.world ≡ c.args.world.now = c.loop-chosen.invariant.world (omega arith) in
     let alike : c.loop-chosen.ends.items ≡ c.args.ends.now.items = c.loop-chosen.invariant.ends (omega arith) in
+    let one : c.collect_behind.new.budget.left < c.loop-chosen.budget.left = c.in_ok-more.ensures.taken in
     record {
       collected = collected_next_here c.args.depth c.args.last p c.loop-chosen.world c.args.ends.now.items c.loop-chosen.ends.items ms
           c.loop-chosen.chosen-index _ c.loop-chosen.goes_on c.in_ok-more.more c.is_either-goes_on.result c.loop-chosen.found.items
           c.collect_behind.new.found.items c.args.found.now.items same alike c.in_ok-more.ensures.found c.in_ok-more.ensures.more (omega arith)
           c.is_either-goes_on.ensures c.loop-chosen.invariant.collected;
+      within = omega (arith, one, c.loop-chosen.invariant.within);
+      taken = λ is. omega (arith, one, c.loop-chosen.invariant.within);
       counted = omega arith;
       world = λ within. c.in_ok-more.ensures.same_world (omega arith) ∙ same;
       ends = λ within. c.in_ok-more.ensures.same_ends (omega arith) ∙ alike;
@@ -91,3 +96,11 @@ collect_moved-returns-clause-found g t c =
     let p : Place = record { world = c.args.world.now; others = c.args.others.now } in
     nothing_behind c.args.depth c.args.last c.args.chosen p c.args.ends.now.items c.args.found.now.items
     (ap (is_looked_at c.args.last) (sym c.in_ok-quiet.ensures.quiet) ∙ sym c.is_looked_at.ensures ∙ c.if-is_looked_at.false)
+
+-- ---- the events that are taken
+
+pub collect-returns-then-depth-eq0-clause-taken : goal.collect-returns-then-depth-eq0-clause-taken
+collect-returns-then-depth-eq0-clause-taken g t c = λ deep is. absurd (omega (arith, deep, c.if-depth-eq0.true))
+
+pub collect-returns-clause-taken : goal.collect-returns-clause-taken
+collect-returns-clause-taken g t c = λ deep is. c.loop-chosen.invariant.taken is

@@ -1,4 +1,4 @@
-use Rattle.std.proofs.Common.{◌≡◌, ◌+◌, ◌*◌, ◌<◌, length, drop}
+use Rattle.std.proofs.Common.{◌≡◌, ◌+◌, ◌*◌, ◌<◌, ◌≤◌, true, length, drop}
 use Rattle.stm_schedules.specs.Places.{Place}
 use Rattle.stm_explore.proofs.GatherLemmas.{CollectedSoFar}
 use Rattle.stm_explore.proofs.collecting.+collect.Given as goal
@@ -15,12 +15,14 @@ decreases-collect_aside g l = 4 * l.depth + 2
 abbrev pub decreases-collect_moved : goal.decreases-collect_moved
 decreases-collect_moved g l = 4 * l.depth + 1
 
--- what was gathered so far; and world and ends are as they were, while moves are left
+-- what was gathered so far; an event was taken, where a schedule goes on; and world and ends are as they were, while moves are left
 abbrev pub invariant-collect-loop-chosen : goal.invariant-collect-loop-chosen
 invariant-collect-loop-chosen g l =
     let p : Place = record { world = l.fn.world; others = l.others } in
     record {
       collected : CollectedSoFar l.depth l.last p l.fn.ends.items l.goes_on (drop l.chosen-index l.choices) l.found.items l.fn.found.items;
+      within : l.budget.left ≤ l.fn.budget.left;
+      taken : l.goes_on ≡ true → l.budget.left < l.fn.budget.left;
       counted : l.left + l.chosen-index ≡ length l.choices;
       world : l.chosen-index < length l.choices → l.world ≡ l.fn.world;
       ends : l.chosen-index < length l.choices → l.ends.items ≡ l.fn.ends.items;

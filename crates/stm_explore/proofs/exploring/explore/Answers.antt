@@ -4,4 +4,4 @@ use Rattle.stm_explore.proofs.exploring.explore.Goals as goal
 
 pub returns-clause-merges : goal.returns-clause-merges
 returns-clause-merges g c =
-    merges_keep merges c.args.rule.now (record { world = c.args.world.now; others = c.args.others.now }) c.in_ok-explored.explored c.in_ok-explored.ensures
+    merges_keep merges c.args.rule.now (record { world = c.args.world.now; others = c.args.others.now }) c.in_ok-explored.explored c.in_ok-explored.ensures.explored

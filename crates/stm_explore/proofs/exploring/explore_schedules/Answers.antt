@@ -18,8 +18,8 @@ look_deeper-requires g c =
     let both = more_at_once fewer_are_enough c.args.rule.now p seen in
     record { kept = both.0; more = both.1 }
 
-pub returns-in-Kept-false : goal.returns-in-Kept-false
-returns-in-Kept-false g c =
+pub returns-in-Kept-false-clause-explored : goal.returns-in-Kept-false-clause-explored
+returns-in-Kept-false-clause-explored g c =
     let p : Place = record { world = c.args.world.now; others = c.args.others.now } in
     let seen : IsSeen c.args.rule.now 0 None p (Kept false) =
     subst (λ (l : Looked). IsSeen c.args.rule.now 0 None p l) (c.in-Kept-false.is ∙ ap (λ (b : Bool). Kept b) c.in-Kept-false.goes_on-test)

@@ -8,8 +8,8 @@ use Rattle.stm_explore.specs.Gathering.{Gathers}
 use Rattle.stm_explore.proofs.OutcomeLemmas.{found_all}
 use Rattle.stm_explore.proofs.finding.collect_all.Goals as goal
 
-pub returns : goal.returns
-returns g c =
+pub returns-clause-collected : goal.returns-clause-collected
+returns-clause-collected g c =
     let p : Place = record { world = c.args.world.now; others = c.args.others.now } in
     let found : List Outcome = c.collect_here.new.found.items in
     found_all outcomes_are_those longest_is_all 0 p c.args.ends.now found

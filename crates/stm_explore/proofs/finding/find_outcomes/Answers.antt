@@ -4,8 +4,9 @@ use Rattle.stm_schedules.specs.Places.{Place}
 use Rattle.stm_explore.specs.Explored.{IsCollected, AreAllOutcomes}
 use Rattle.stm_explore.proofs.finding.find_outcomes.Goals as goal
 
-pub returns-in-None : goal.returns-in-None
-returns-in-None g c =
+pub returns-in-None-clause-outcomes : goal.returns-in-None-clause-outcomes
+returns-in-None-clause-outcomes g c =
     let p : Place = record { world = c.args.world.now; others = c.args.others.now } in
     subst (λ (outcomes : List Outcome). AreAllOutcomes p c.args.ends.now outcomes) (sym c.of.ensures)
-    (subst (λ (stopped : Option ℕ). IsCollected p c.args.ends.now c.collect_all-stopped.new.found.items stopped) c.in-None.is c.in_ok-stopped.ensures)
+    (subst (λ (stopped : Option ℕ). IsCollected p c.args.ends.now c.collect_all-stopped.new.found.items stopped) c.in-None.is
+    c.in_ok-stopped.ensures.collected)

@@ -19,6 +19,8 @@ look-loop-chosen-init g t c =
     record {
       seen = seen_none c.args.rule.now c.args.depth c.args.last p c.as_slice-choices.result.now c.if-depth-eq0.false
           (c.as_slice-choices.ensures.value ∙ c.in_ok-all.ensures);
+      within = omega arith;
+      taken = λ is. absurd (cc);
       counted = omega arith;
       world = λ within. refl;
     }
@@ -39,23 +41,26 @@ look-loop-chosen-preserved g t c =
     let p : Place = record { world = c.args.world.now; others = c.args.others.now } in
     let ms : List Move = c.as_slice-choices.result.now in
     let same : c.loop-chosen.world ≡ c.args.world.now = c.loop-chosen.invariant.world (omega arith) in
+    let one : c.look_behind.new.budget.left < c.loop-chosen.budget.left = c.in_ok-more.ensures.taken in
     record {
       seen = seen_next_here c.args.rule.now c.args.depth c.args.last p c.loop-chosen.world ms c.loop-chosen.chosen-index _ c.loop-chosen.goes_on
           c.in-Kept.more c.is_either-goes_on.result c.in_ok-more.field-0 same c.in_ok-more.ensures.seen c.in-Kept.is (omega arith)
           c.is_either-goes_on.ensures c.loop-chosen.invariant.seen;
+      within = omega (arith, one, c.loop-chosen.invariant.within);
+      taken = λ is. omega (arith, one, c.loop-chosen.invariant.within);
       counted = omega arith;
       world = λ within. c.in_ok-more.ensures.same (omega arith) ∙ same;
     }
 
-pub look-returns-in-Broken : goal.look-returns-in-Broken
-look-returns-in-Broken g t c =
+pub look-returns-in-Broken-clause-seen : goal.look-returns-in-Broken-clause-seen
+look-returns-in-Broken-clause-seen g t c =
     let p : Place = record { world = c.args.world.now; others = c.args.others.now } in
     seen_broken_here c.args.rule.now c.args.depth c.args.last p c.loop-chosen.world c.as_slice-choices.result.now c.loop-chosen.chosen-index _
     c.loop-chosen.goes_on c.in_ok-more.field-0 c.in-Broken.moves c.in-Broken.end (c.loop-chosen.invariant.world (omega arith)) c.in_ok-more.ensures.seen
     c.in-Broken.is (omega arith) c.loop-chosen.invariant.seen
 
-pub look-returns : goal.look-returns
-look-returns g t c =
+pub look-returns-clause-seen : goal.look-returns-clause-seen
+look-returns-clause-seen g t c =
     seen_all c.args.rule.now c.args.depth c.args.last (record { world = c.args.world.now; others = c.args.others.now }) c.as_slice-choices.result.now
     c.loop-chosen.chosen-index c.loop-chosen.goes_on (omega arith) c.loop-chosen.invariant.seen
 
@@ -66,10 +71,10 @@ look_aside-look_moved-looked-requires g t c =
     (sym c.in_ok-next.ensures) c.requires in
     search rules
 
-pub look_aside-returns : goal.look_aside-returns
-look_aside-returns g t c =
+pub look_aside-returns-clause-seen : goal.look_aside-returns-clause-seen
+look_aside-returns-clause-seen g t c =
     subst (λ (w : World). IsSeenBehind c.args.rule.now c.args.depth c.args.last c.args.chosen (record { world = w; others = c.args.others.now }) c.in_ok-looked.looked)
-    c.in_ok-next.ensures c.in_ok-looked.ensures
+    c.in_ok-next.ensures c.in_ok-looked.ensures.seen
 
 pub look_moved-look-requires : goal.look_moved-look-requires
 look_moved-look-requires g t c =
@@ -80,16 +85,27 @@ look_moved-look-requires g t c =
     c.in_ok-quiet.ensures.next c.left_after.ensures c.requires in
     search rules
 
-pub look_moved-returns-then-is_looked_at : goal.look_moved-returns-then-is_looked_at
-look_moved-returns-then-is_looked_at g t c =
+pub look_moved-returns-then-is_looked_at-clause-seen : goal.look_moved-returns-then-is_looked_at-clause-seen
+look_moved-returns-then-is_looked_at-clause-seen g t c =
     let p : Place = record { world = c.args.world.now; others = c.args.others.now } in
     looked_behind c.args.rule.now c.args.depth c.args.last c.args.chosen p c.in_ok-looked.looked c.in_ok-seen.seen
     (ap (is_looked_at c.args.last) (sym c.in_ok-quiet.ensures.quiet) ∙ sym c.is_looked_at.ensures ∙ c.if-is_looked_at.true) c.in_ok-seen.ensures
     (seen_at c.args.rule.now c.args.depth (quiet_runner c.args.chosen c.args.world.now) c.in_ok-quiet.quiet (moved c.args.chosen p) _ c.in_ok-looked.looked
-    c.in_ok-quiet.ensures.quiet c.in_ok-quiet.ensures.next c.left_after.ensures c.in_ok-looked.ensures)
+    c.in_ok-quiet.ensures.quiet c.in_ok-quiet.ensures.next c.left_after.ensures c.in_ok-looked.ensures.seen)
 
-pub look_moved-returns : goal.look_moved-returns
-look_moved-returns g t c =
+pub look_moved-returns-clause-seen : goal.look_moved-returns-clause-seen
+look_moved-returns-clause-seen g t c =
     let p : Place = record { world = c.args.world.now; others = c.args.others.now } in
     not_looked_behind c.args.rule.now c.args.depth c.args.last c.args.chosen p
     (ap (is_looked_at c.args.last) (sym c.in_ok-quiet.ensures.quiet) ∙ sym c.is_looked_at.ensures ∙ c.if-is_looked_at.false)
+
+-- ---- the events that are taken
+
+pub look-returns-then-depth-eq0-clause-taken : goal.look-returns-then-depth-eq0-clause-taken
+look-returns-then-depth-eq0-clause-taken g t c = λ deep is. absurd (omega (arith, deep, c.if-depth-eq0.true))
+
+pub look-returns-in-Broken-clause-taken : goal.look-returns-in-Broken-clause-taken
+look-returns-in-Broken-clause-taken g t c = λ deep is. absurd (cc)
+
+pub look-returns-clause-taken : goal.look-returns-clause-taken
+look-returns-clause-taken g t c = λ deep is. c.loop-chosen.invariant.taken (cc)

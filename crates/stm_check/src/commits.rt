@@ -109,6 +109,7 @@ fn run_of_keys(run: Run, answers: &[ToldAnswer]) -> Option<Run>
     if are_of_keys(answers, run.reads.as_slice()) {
         Some(run)
     } else {
+        drop(run);
         None
     }
 }
@@ -224,7 +225,9 @@ fn apply_writes(alloc: Global, store: &mut Store, run: &Run) -> Result<Option<u6
     ensures store { OnOk result (store.new.standing ≡ with_writes store.old.standing run.now) }
 {
     let latest = WriteBuffer::of(alloc, run.writes.as_slice())?;
-    let changes = changes_of(alloc, &latest)?;
+    let made = changes_of(alloc, &latest);
+    drop(latest);
+    let changes = made?;
     match store.write(changes) {
         Ok(revision) => Ok(Some(revision)),
         Err(cause) => refused_writes(cause),

@@ -101,9 +101,15 @@ pub fn check_sources<S: Source, R: Source>(
     };
     let report = match report_of(alloc, report) {
         Ok(report) => report,
-        Err(fault) => return Err(fault),
+        Err(fault) => {
+            drop(scenario);
+            return Err(fault);
+        }
     };
-    match check(alloc, &scenario, &report) {
+    let checked = check(alloc, &scenario, &report);
+    drop(report);
+    drop(scenario);
+    match checked {
         Ok(checked) => Ok(checked),
         Err(_) => Err(CheckFault::OutOfMemory),
     }

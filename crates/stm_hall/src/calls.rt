@@ -89,7 +89,10 @@ pub(crate) fn make_txn(
             enter_txn(entries, copy);
             Ok(answer)
         }
-        Err(cause) => Err(cause),
+        Err(cause) => {
+            drop(copy);
+            Err(cause)
+        }
     }
 }
 

@@ -67,12 +67,22 @@ fn send(
     ensures answers { IfOk result CanGoOn }
 {
     let _keys_differ = ready.answers.as_slice();
-    entries.reserve(1)?;
-    let answer = store.txn(&prepared.txn)?;
+    if entries.reserve(1).is_err() {
+        drop(prepared);
+        return Err(CommitRefusal::Store(Refusal::OutOfMemory));
+    }
+    let answer = match store.txn(&prepared.txn) {
+        Ok(answer) => answer,
+        Err(cause) => {
+            drop(prepared);
+            return Err(CommitRefusal::Store(cause));
+        }
+    };
     match answer.failed {
         None => {
             let index = entries.len();
             let revision = answer.revision;
+            drop(answer);
             entries.push_reserved(entry_from(prepared.draft, revision));
             drop(prepared.txn);
             Ok(Verdict::Committed { index, revision })
@@ -112,18 +122,20 @@ fn turn_down(
 {
     let _keys_differ = ready.answers.as_slice();
     if txn.success.len() > MOST_OPERATIONS {
+        drop(txn);
         return Err(CommitRefusal::Store(Refusal::TooManyOps));
     }
     let asked = without_writes(alloc, txn);
-    let answer = store.txn(&asked)?;
+    let sent = store.txn(&asked);
+    drop(asked);
+    let answer = sent?;
     match answer.failed {
         None => {
-            drop(asked);
+            drop(answer);
             let key = unvouched.key.clone()?;
             Err(CommitRefusal::Unvouched { key })
         }
         Some(compare) => {
-            drop(asked);
             let verdict = tell_failure(alloc, ready, compare, answer.answers)?;
             Ok(verdict)
         }

@@ -23,6 +23,9 @@ pub fn prepare(alloc: Global, ready: &Ready) -> Result<Prepared, AllocError>
     ensures run { IsRunOnItsAnswers ready.now }
 {
     let txn = compile(alloc, ready.level, &ready.answers, &ready.writes)?;
-    let draft = draft_of(alloc, ready)?;
+    let Ok(draft) = draft_of(alloc, ready) else {
+        drop(txn);
+        return Err(AllocError);
+    };
     Ok(Prepared { txn, draft })
 }

@@ -78,17 +78,24 @@ fn fetch(
     }))
 }
 
-/// The reply of a run that came to its end with nothing to commit.
-fn reply_at_end(id: u64, run: Run) -> Reply
-    requires { run.end ≢ Done }
-    ensures { TellsEnd id run.end result }
+/// The reply of an end other than a run's last statement.
+fn reply_to_end(id: u64, end: End) -> Reply
+    requires { end ≢ Done }
+    ensures { TellsEnd id end result }
 {
-    let end = run.end;
     match end {
         End::Done => unreachable!(),
         End::Aborted(text) => Reply::Aborted { runner: id, text },
         End::Faulted(fault) => Reply::Faulted { runner: id, fault },
     }
+}
+
+/// The reply of a run that came to its end with nothing to commit.
+fn reply_at_end(id: u64, run: Run) -> Reply
+    requires { run.end ≢ Done }
+    ensures { TellsEnd id run.end result }
+{
+    reply_to_end(id, run.end)
 }
 
 /// What a commit that failed comes to: the next attempt, or the end of the run where it may send no more.
@@ -148,7 +155,10 @@ fn prepare(alloc: Global, entries: &mut Vec<Entry>, ready: &Ready) -> Result<Cop
     ensures same { entries.new.items ≡ entries.old.items }
 {
     let copies = copies_of(alloc, ready)?;
-    entries.reserve(1)?;
+    if entries.reserve(1).is_err() {
+        drop(copies);
+        return Err(AllocError);
+    }
     Ok(copies)
 }
 
@@ -202,7 +212,10 @@ fn commit(
         (workplace store.old.standing entries.old.items runner.old.runner) (workplace store.new.standing entries.new.items runner.new.runner)
         (commit_of id runner.old.runner runner.old.runner.known.reads run) }
 {
-    let copies = prepare(alloc, entries, &ready)?;
+    let Ok(copies) = prepare(alloc, entries, &ready) else {
+        drop(ready);
+        return Err(AllocError);
+    };
     match stm_calls::commit(alloc, store, &ready) {
         Ok(Sent::Committed { revision }) => {
             let attempts = runner.attempts();

@@ -82,7 +82,10 @@ pub(crate) fn make_txn(
             enter_txn(entries, copy);
             Ok(Reply::Txn { answer })
         }
-        Err(cause) => refuse(alloc, cause),
+        Err(cause) => {
+            drop(copy);
+            refuse(alloc, cause)
+        }
     }
 }
 

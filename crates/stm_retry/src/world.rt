@@ -82,7 +82,10 @@ fn expired_of(alloc: Global, reply: Result<Reply, Denied>) -> Sequence<Expired>
     ensures { result ≡ expired_of reply }
 {
     match reply {
-        Ok(_) => Sequence::new(alloc),
+        Ok(reply) => {
+            drop(reply);
+            Sequence::new(alloc)
+        }
         Err(denied) => denied.expired,
     }
 }

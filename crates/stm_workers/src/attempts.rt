@@ -133,7 +133,9 @@ impl<'a, R: RunOfJobs, W: Wait, G: Gate> Executor<'a, R, W, G> {
             Next::Faulted(run) => Err(Stop::of_run(run, attempt.take_reads())),
             Next::Fetch { key, at } => {
                 self.gate.before_fetch(place);
-                let answer = self.ask(&key, at, seen)?;
+                let asked = self.ask(&key, at, seen);
+                drop(key);
+                let answer = asked?;
                 attempt.supply(answer)?;
                 Ok(None)
             }
@@ -186,7 +188,9 @@ impl<'a, R: RunOfJobs, W: Wait, G: Gate> Executor<'a, R, W, G> {
         ensures stops { IfErr result (λ stop. HasStopped job.now (state_of attempt.old seen.old) stop seen.new) }
     {
         let ready = self.evaluate(place, job, attempt, seen)?;
-        let verdict = self.send(place, share, &ready)?;
+        let sent = self.send(place, share, &ready);
+        drop(ready);
+        let verdict = sent?;
         *seen = greatest_of(*seen, &verdict);
         Ok(verdict)
     }

@@ -41,6 +41,7 @@ impl<'a, R: RunOfJobs, W: Wait, G: Gate> Executor<'a, R, W, G> {
         let txn = read_one(self.alloc, key.as_str(), at)?;
         // Under the lock: one key is looked up, and its value copied.
         let told = self.locked.lock(self.rt).fetch(*seen, &txn);
+        drop(txn);
         match told {
             Ok(told) => {
                 let answer = take_only_read(told.answers)?;

@@ -23,14 +23,14 @@ returns-in-Ok-clause-store c =
     (c.in_ok-changes.ensures ∙ ap (map as_change) (c.in_ok-latest.ensures ∙ ap (λ (ws : List Write). latest_writes ws) c.as_slice.ensures))
     c.in-Ok.ensures.step
 
-pub returns-clause-revision : goal.returns-clause-revision
-returns-clause-revision c =
+pub returns-in-Err-clause-revision : goal.returns-in-Err-clause-revision
+returns-in-Err-clause-revision c =
     refused_revision c.refused_writes.result c.args.store.now.standing c.args.run.now c.in_ok-changes.changes.items c.in-Err.cause
     (c.in_ok-changes.ensures ∙ ap (map as_change) (c.in_ok-latest.ensures ∙ ap (λ (ws : List Write). latest_writes ws) c.as_slice.ensures))
     c.in-Err.ensures.step c.refused_writes.ensures.none c.refused_writes.ensures.memory
 
-pub returns-clause-store : goal.returns-clause-store
-returns-clause-store c =
+pub returns-in-Err-clause-store : goal.returns-in-Err-clause-store
+returns-in-Err-clause-store c =
     refused_store c.refused_writes.result c.args.store.now.standing c.write.new.self.standing c.args.run.now c.in_ok-changes.changes.items c.in-Err.cause
     (c.in_ok-changes.ensures ∙ ap (map as_change) (c.in_ok-latest.ensures ∙ ap (λ (ws : List Write). latest_writes ws) c.as_slice.ensures))
     c.in-Err.ensures.step (ap (λ (v : StoreView). v.standing) c.in-Err.ensures.err) c.refused_writes.ensures.memory

@@ -32,7 +32,7 @@ returns-in_err-answer-clause-verdict c = λ entries start.
     let ready : ReadyRun = c.args.ready.now in
     let kept : IsRunOnItsAnswers ready = subst IsRunOnItsAnswers c.ready.view_is c.ready.invariant in
     let s : Standing = c.args.store.now.standing in
-    let next : Standing = c.txn-2.new.self.standing in
+    let next : Standing = c.txn-sent.new.self.standing in
     let hall : HallState = hall_of s entries start in
     let after : HallState = hall_of next entries start in
     let exit = err_from_is_err_and c.from_residual.result c.from_residual.ensures.1 in
@@ -48,7 +48,7 @@ pub returns-in_err-key-in-None-clause-verdict : goal.returns-in_err-key-in-None-
 returns-in_err-key-in-None-clause-verdict c = λ entries start.
     let ready : ReadyRun = c.args.ready.now in
     let s : Standing = c.args.store.now.standing in
-    let next : Standing = c.txn-2.new.self.standing in
+    let next : Standing = c.txn-sent.new.self.standing in
     let hall : HallState = hall_of s entries start in
     let exit = err_from_is_err_and c.from_residual-in_err-key-in-None.result c.from_residual-in_err-key-in-None.ensures.1 in
     let a = asked_answered s next ready c.without_writes-asked.result c.in_ok-answer.answer (c.without_writes-asked.ensures ∙ ap asking c.requires.is_its)
@@ -63,7 +63,7 @@ returns-in_ok-key-in-None-clause-verdict c = λ entries start.
     let ready : ReadyRun = c.args.ready.now in
     let kept : IsRunOnItsAnswers ready = subst IsRunOnItsAnswers c.ready.view_is c.ready.invariant in
     let s : Standing = c.args.store.now.standing in
-    let next : Standing = c.txn-2.new.self.standing in
+    let next : Standing = c.txn-sent.new.self.standing in
     let hall : HallState = hall_of s entries start in
     let few : length (txn_of ready).success ≤ most_operations =
     subst (λ (t : Txn). length t.success ≤ most_operations) c.requires.is_its (omega (arith, c.len.ensures, c.if-len-gt-MOST_OPERATIONS.false)) in
@@ -90,7 +90,7 @@ tell_failure-requires-clause-in_range c = rw c.in-Some.is at c.in_ok-answer.ensu
 pub tell_failure-requires-clause-rereads : goal.tell_failure-requires-clause-rereads
 tell_failure-requires-clause-rereads c =
     let s : Standing = c.args.store.now.standing in
-    let next : Standing = c.txn-2.new.self.standing in
+    let next : Standing = c.txn-sent.new.self.standing in
     let ready : ReadyRun = c.args.ready.now in
     let a = asked_answered s next ready c.without_writes-asked.result c.in_ok-answer.answer (c.without_writes-asked.ensures ∙ ap asking c.requires.is_its)
     c.in_ok-answer.ensures.step in
@@ -104,7 +104,7 @@ pub returns-in_err-verdict-in-Some-clause-verdict : goal.returns-in_err-verdict-
 returns-in_err-verdict-in-Some-clause-verdict c = λ entries start.
     let ready : ReadyRun = c.args.ready.now in
     let s : Standing = c.args.store.now.standing in
-    let next : Standing = c.txn-2.new.self.standing in
+    let next : Standing = c.txn-sent.new.self.standing in
     let hall : HallState = hall_of s entries start in
     let exit = err_from_is_err_and c.from_residual-in_err-verdict-in-Some.result c.from_residual-in_err-verdict-in-Some.ensures.1 in
     let a = asked_answered s next ready c.without_writes-asked.result c.in_ok-answer.answer (c.without_writes-asked.ensures ∙ ap asking c.requires.is_its)
@@ -118,7 +118,7 @@ returns-in_ok-verdict-in-Some-clause-verdict c = λ entries start.
     let ready : ReadyRun = c.args.ready.now in
     let kept : IsRunOnItsAnswers ready = subst IsRunOnItsAnswers c.ready.view_is c.ready.invariant in
     let s : Standing = c.args.store.now.standing in
-    let next : Standing = c.txn-2.new.self.standing in
+    let next : Standing = c.txn-sent.new.self.standing in
     let hall : HallState = hall_of s entries start in
     let few : length (txn_of ready).success ≤ most_operations =
     subst (λ (t : Txn). length t.success ≤ most_operations) c.requires.is_its (omega (arith, c.len.ensures, c.if-len-gt-MOST_OPERATIONS.false)) in

@@ -7,9 +7,9 @@ use Rattle.stm_hall.proofs.prepared.prepare.Goals as goal
 pub returns-clause-prepared : goal.returns-clause-prepared
 returns-clause-prepared c = record {
   txn = c.in_ok-txn.ensures ∙ ap (λ (r : ReadyRun). commit_of r.level r.answers r.writes) c.ready.view_is;
-  program = c.in_ok-draft.ensures.program;
-  level = c.in_ok-draft.ensures.level;
-  answers = c.in_ok-draft.ensures.answers;
-  output = c.in_ok-draft.ensures.output;
-  trace = c.in_ok-draft.ensures.trace;
+  program = c.in-Ok.ensures.program;
+  level = c.in-Ok.ensures.level;
+  answers = c.in-Ok.ensures.answers;
+  output = c.in-Ok.ensures.output;
+  trace = c.in-Ok.ensures.trace;
 }

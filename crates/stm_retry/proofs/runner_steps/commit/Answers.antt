@@ -27,9 +27,9 @@ returns-in-Ok-Committed c run x =
     subst (λ (t : Told). Leaves c.args.id (Ok t) (workplace s c.args.entries.now.items r) (workplace after more r) (commit c.args.id r r.known.reads run))
     (sym c.end_committed.ensures.told)
     (take_leaves c.args.id r r run ready s after c.args.entries.now.items more entry revision c.attempts-attempts.result
-    c.in_ok-copies.copies.output c.in_ok-copies.copies.trace c.in_ok-copies.copies.answers x made c.attempts-attempts.ensures c.in_ok-copies.ensures.output
-    c.in_ok-copies.ensures.trace c.in_ok-copies.ensures.answers refl
-    (c.end_committed.ensures.entered ∙ ap (λ (l : List Entry). l ++ entry ∷ []) c.in_ok-copies.ensures.same))
+    c.in-Ok.copies.output c.in-Ok.copies.trace c.in-Ok.copies.answers x made c.attempts-attempts.ensures c.in-Ok.ensures.output
+    c.in-Ok.ensures.trace c.in-Ok.ensures.answers refl
+    (c.end_committed.ensures.entered ∙ ap (λ (l : List Entry). l ++ entry ∷ []) c.prepare.ensures.same))
 
 pub fail_commit-requires-clause-named : goal.fail_commit-requires-clause-named
 fail_commit-requires-clause-named c =
@@ -53,7 +53,7 @@ returns-in-Ok-Failed c run x =
     let told = rw c.in-Ok-Failed.field-0-is at (c.in-Ok-Failed.ensures.step run (ready_runs r run ready x)) in
     let failed = has_failed s after ready.level ready.answers run c.in-Ok-Failed.key c.in-Ok-Failed.seen c.in-Ok-Failed.now c.in-Ok-Failed.answers told in
     with_room c.args.id c.fail_commit.result (workplace s entries r) after entries c.prepare.new.entries.items q
-    (commit c.args.id r r.known.reads run) c.in_ok-copies.ensures.same
+    (commit c.args.id r r.known.reads run) c.prepare.ensures.same
     (fail_comes_to c.args.id r q run ready s after entries c.in-Ok-Failed.key c.in-Ok-Failed.seen c.in-Ok-Failed.now
     c.in-Ok-Failed.answers c.fail_commit.result x failed c.fail_commit.ensures.told c.fail_commit.ensures.again c.fail_commit.ensures.err)
 
@@ -66,6 +66,6 @@ returns-in-Err c run x =
     let entries : List Entry = c.args.entries.now.items in
     let refused = c.in-Err.ensures.step run (ready_runs r run ready x) in
     with_room c.args.id c.end_refused.result (workplace s entries r) after entries c.prepare.new.entries.items r
-    (commit c.args.id r r.known.reads run) c.in_ok-copies.ensures.same
+    (commit c.args.id r r.known.reads run) c.prepare.ensures.same
     (refusal_comes_to c.args.id r run ready s after entries c.in-Err.cause c.end_refused.result x c.end_refused.ensures.told
     c.end_refused.ensures.refused refused.0 refused.1)

@@ -20,7 +20,7 @@ use stm_program::{Level, Program};
 /// read, and what was prefetched for it.
 ///
 /// Between two calls its program stands where it wants a key, and goes on from there.
-#[derive(Debug, Drop)]
+#[derive(Drop)]
 pub struct Attempt {
     program: Option<Program>,
     level: Level,

@@ -27,7 +27,7 @@ use stm_meaning::{End, Run};
 use stm_program::{Level, Program};
 
 /// How far an attempt has run its program.
-#[derive(Debug, Drop)]
+#[derive(Drop)]
 pub(crate) enum Progress {
     /// Not at all: it begins at the start.
     Fresh,

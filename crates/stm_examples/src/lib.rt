@@ -1,5 +1,5 @@
-//! Worked examples of stores, of programs and their meaning, of recipes, of halls, and of the worlds that run programs,
-//! by the public calls of their crates.
+//! Worked examples of programs and their meaning, of attempts and commits, of recipes, and of the worlds that run programs, by the public
+//! calls of their crates.
 //!
 //! This crate has no code but tests: one module for each crate that is tested, named for it, and the players that run their rows. They
 //! stand here, and not beside what they test, since a crate with tests is proved twice.
@@ -10,8 +10,6 @@ mod attempts;
 #[cfg(test)]
 mod commits;
 #[cfg(test)]
-mod halls;
-#[cfg(test)]
 mod meaning;
 #[cfg(test)]
 mod player;
@@ -19,7 +17,5 @@ mod player;
 mod program;
 #[cfg(test)]
 mod recipes;
-#[cfg(test)]
-mod stores;
 #[cfg(test)]
 mod worlds;

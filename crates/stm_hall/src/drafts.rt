@@ -12,7 +12,7 @@ use stm_meaning::{TraceItem, Value};
 use stm_program::{Level, Program};
 
 /// The copies that an entry keeps of an attempt, made before the commit is sent.
-#[derive(Debug, Drop)]
+#[derive(Drop)]
 pub(crate) struct Draft {
     pub(crate) program: Program,
     pub(crate) level: Level,

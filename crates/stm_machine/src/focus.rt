@@ -4,7 +4,7 @@ use stm_history::Text;
 use stm_steps::{End, Value};
 
 /// What a part of a program gives.
-#[derive(Debug, Drop)]
+#[derive(Drop)]
 pub enum Item {
     /// An expression gives a value.
     Value(Value),
@@ -15,7 +15,7 @@ pub enum Item {
 }
 
 /// Where a machine stands.
-#[derive(Debug, Drop)]
+#[derive(Drop)]
 pub enum Focus {
     /// At the start of an expression.
     Evaluate(ExprPart),

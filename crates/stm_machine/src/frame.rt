@@ -4,7 +4,7 @@ use stm_program::{Block, Operator, Variable};
 use stm_steps::Value;
 
 /// An expression that waits for the value of one of its parts.
-#[derive(Debug, Drop)]
+#[derive(Drop)]
 pub enum OperandFrame {
     /// A `get` of the value.
     Get,
@@ -25,7 +25,7 @@ pub enum OperandFrame {
 }
 
 /// A condition that waits for a value.
-#[derive(Debug, Drop)]
+#[derive(Drop)]
 pub enum ComparisonFrame {
     /// The value is the left side; this is the right one.
     EqualLeft(ExprPart),
@@ -38,7 +38,7 @@ pub enum ComparisonFrame {
 }
 
 /// A statement that waits for a value.
-#[derive(Debug, Drop)]
+#[derive(Drop)]
 pub enum ArgumentFrame {
     /// The variable becomes the value.
     Set(Variable),
@@ -57,7 +57,7 @@ pub enum ArgumentFrame {
 }
 
 /// A condition or a statement that waits for a truth.
-#[derive(Debug, Drop)]
+#[derive(Drop)]
 pub enum TruthFrame {
     /// The opposite of the truth.
     Not,
@@ -70,7 +70,7 @@ pub enum TruthFrame {
 }
 
 /// What waits for nothing but its turn.
-#[derive(Debug, Drop)]
+#[derive(Drop)]
 pub enum NextFrame {
     /// The statements that are left of a block.
     Rest(Remaining),
@@ -79,7 +79,7 @@ pub enum NextFrame {
 }
 
 /// A part of a program that waits.
-#[derive(Debug, Drop)]
+#[derive(Drop)]
 pub enum Frame {
     /// An expression waits for a value.
     Operand(OperandFrame),

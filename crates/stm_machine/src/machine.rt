@@ -22,7 +22,7 @@ use stm_steps::{Lookup, Run, Session};
 ///
 /// Contracts see where it stands, the parts of the program that wait, innermost first, and what the run has come
 /// to. What finishing the run comes to is `finish` of that.
-#[derive(Debug, Drop)]
+#[derive(Drop)]
 pub struct Machine {
     focus: Focus,
     stack: Stack,

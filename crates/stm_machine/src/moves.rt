@@ -9,7 +9,7 @@ use stm_steps::{End, Fault, Value};
 
 /// What a machine makes of where it stands: the parts that it leaves waiting, `above` inside `below`, and where it
 /// stands then.
-#[derive(Debug, Drop)]
+#[derive(Drop)]
 pub(crate) struct Move {
     pub(crate) below: Option<Frame>,
     pub(crate) above: Option<Frame>,

@@ -10,7 +10,7 @@ use std::sync::Arc;
 use stm_program::{Block, Cond, Expr, Stmt};
 
 /// An expression of a program. Contracts see its tree.
-#[derive(Debug, Drop)]
+#[derive(Drop)]
 pub struct ExprPart {
     part: Arc<Expr>,
 }
@@ -51,7 +51,7 @@ impl ExprPart {
 }
 
 /// A condition of a program. Contracts see its tree.
-#[derive(Debug, Drop)]
+#[derive(Drop)]
 pub struct CondPart {
     part: Arc<Cond>,
 }
@@ -92,7 +92,7 @@ impl CondPart {
 }
 
 /// The statements that are left of a block. Contracts see the block of these.
-#[derive(Debug, Drop)]
+#[derive(Drop)]
 pub struct Remaining {
     statements: Arc<Vec<Stmt>>,
     next: usize,
@@ -155,7 +155,7 @@ impl Remaining {
 /// The turns that are left of a loop. Contracts see the next turn's number, from 0, and how many are left with it.
 ///
 /// No turn's number is above `HIGHEST_NUMBER`.
-#[derive(Debug, Drop)]
+#[derive(Drop)]
 pub struct Turns {
     next: u64,
     left: u64,

@@ -7,7 +7,7 @@ use std::alloc::{AllocError, Global};
 use std::marker::Model;
 
 /// The parts of a program that wait. Contracts see the innermost first, and for how many more there is room.
-#[derive(Debug, Drop)]
+#[derive(Drop)]
 pub(crate) struct Stack {
     frames: Vec<Frame>,
 }

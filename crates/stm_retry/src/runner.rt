@@ -19,7 +19,7 @@ use stm_program::{Level, Program};
 /// A run of a program that has not ended.
 ///
 /// Contracts see the runner of the world that it is, and the key whose answer it waits for.
-#[derive(Debug, Drop)]
+#[derive(Drop)]
 pub(crate) struct Runner {
     program: Program,
     level: Level,

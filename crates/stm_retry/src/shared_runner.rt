@@ -16,7 +16,7 @@ use stm_world::Entry;
 /// A runner that stands once for a world and its copies, until one of them makes a step of it.
 ///
 /// Contracts see the runner.
-#[derive(Debug, Drop)]
+#[derive(Drop)]
 pub(crate) struct SharedRunner {
     runner: Arc<Runner>,
 }

@@ -9,7 +9,7 @@ use std::marker::Model;
 use std::mem;
 
 /// The place of a runner. It is kept when the run has ended, and then no runner stands there.
-#[derive(Debug, Drop)]
+#[derive(Drop)]
 pub(crate) struct Slot {
     runner: Option<SharedRunner>,
 }

@@ -2,7 +2,7 @@
 use stm_world::Reply;
 
 /// The reply to a step of a runner.
-#[derive(Debug, Drop)]
+#[derive(Drop)]
 pub(crate) enum Told {
     /// The run goes on.
     GoesOn(Reply),

@@ -1,5 +1,5 @@
 //! Transactions of a store, each of which is made again where it was refused for want of memory.
-use crate::refusals::scenarios::{TRANSACTIONS, scenario_of};
+use crate::scenarios::{TRANSACTIONS, scenario_of};
 use anyhow::{Result, bail};
 use serde_json::Value as Json;
 use std::alloc::{AllocError, Global};

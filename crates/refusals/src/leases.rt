@@ -1,6 +1,6 @@
 //! Two leases that are due at one moment. Where the growth for the second one is refused, the first stays expired and is told, the
 //! key of the second is still present, and the next advance ends the second alone.
-use crate::refusals::transactions::{store_again, txn_again};
+use crate::transactions::{store_again, txn_again};
 use anyhow::{Result, bail};
 use std::alloc::{AllocError, Global};
 use stm_txn::{AdvanceRefused, Expired, Op, Refusal, ShortList, Store, Text, Txn};

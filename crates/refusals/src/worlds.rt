@@ -6,7 +6,7 @@ ghost use Rattle.std.specs.Prelude.{◌≤◌};
 ghost use Rattle.stm_history.specs.declared.revisions.TheConstants.{HIGHEST_REVISION};
 ghost use Rattle.stm_texts.specs.Reading.{IsOpening};
 
-use crate::refusals::scenarios::scenario_of;
+use crate::scenarios::scenario_of;
 use anyhow::{Result, bail};
 use std::alloc::{AllocError, Global};
 use stm_history::Sequence;

@@ -1,7 +1,7 @@
 //! A walk over a plain array in the order in which leases fall due: what the machine's memory asks for one
 //! look at each lease, whatever table finds it.
 
-use crate::benchmarks::leases::expiries::Order;
+use crate::leases::expiries::Order;
 use std::alloc::{AllocError, Global};
 use std::io;
 use std::rt::Clock;

@@ -1,6 +1,6 @@
 //! Transfers between accounts by two workers. Whatever breaks their run off, the accounts have what they had together, and the jobs
 //! can be run once more on what is left.
-use crate::refusals::scenarios::{TRANSFERS, scenario_of};
+use crate::scenarios::{TRANSFERS, scenario_of};
 use anyhow::{Result, bail};
 use std::alloc::{AllocError, Global};
 use std::sync::Wait;

@@ -164,6 +164,40 @@ fn command_lines(rt: HostRuntime) {
     refuses(&rt, alloc, &[NAME, b"scripts"], &HINT);
 }
 
+/// What the help of a script has: every cause of a bad scenario, every refusal that a report may tell, and every fault of a program.
+const SCRIPT_HELP: [&str; 30] = [
+    "report",
+    "stmrun: bad scenario at /0: Shape",
+    "--explain",
+    "NotJson",
+    "Shape",
+    "  Range ",
+    "TooMany ",
+    "TooLong ",
+    "TooDeep",
+    "TooManyNodes",
+    "BadLimit",
+    "NoRunner",
+    "TooManyOps",
+    "EmptyKey",
+    "DuplicateKey",
+    "FutureRevision",
+    "LeaseIdOutOfRange",
+    "TtlOutOfRange",
+    "LeaseExists",
+    "LeaseNotFound",
+    "TimeGoesBack",
+    "NoWatcher",
+    "RevisionsUsedUp",
+    "Kind",
+    "Overflow",
+    "ZeroDivisor",
+    "NotANumber",
+    "LoopTooLong",
+    "TurnLimit",
+    "TextTooLong",
+];
+
 /// A script of this path, in lines.
 fn script(scenario: Option<&str>) -> Asked<'_> {
     Asked::Script {
@@ -197,8 +231,7 @@ fn command_lines_of_script(rt: HostRuntime) {
     refuses(&rt, alloc, &[NAME, word, b"--format"], &lacking);
     refuses(&rt, alloc, &[NAME, word, other, other], &HINT);
     refuses(&rt, alloc, &[NAME, word, b"\xff"], &HINT);
-    let help = ["report", "stmrun: bad scenario at /0: Shape", "--explain"];
-    shows(&rt, alloc, &[NAME, word, HELP], &help);
+    shows(&rt, alloc, &[NAME, word, HELP], &SCRIPT_HELP);
 }
 
 /// A check of these paths, whole or not.

@@ -44,6 +44,7 @@ fn named(name: &str) -> Option<Run> {
         "transactions" => Some(Run::Transactions),
         "workers" => Some(Run::Workers),
         "write_skew" => Some(Run::World(scenarios::WRITE_SKEW)),
+        "write_skew_stopped" => Some(Run::World(scenarios::WRITE_SKEW_STOPPED)),
         _ => None,
     }
 }

@@ -15,6 +15,16 @@ pub(crate) const WRITE_SKEW: &str = r#"[
     ["step",1],["step",2],["step",1],["step",2],["step",1],["step",2],["step",2]
 ]"#;
 
+/// The same at a level that compares what was read: the second commit fails, and its program does nothing at its second attempt. The last step has no
+/// runner.
+pub(crate) const WRITE_SKEW_STOPPED: &str = r#"[
+    ["txn",[],[["put","x","1",0]],[]],
+    ["txn",[],[["put","y","1",0]],[]],
+    ["start","Serializable",3,[["if",["less",1,["add",["num_of",["get","x"]],["num_of",["get","y"]]]],[["put","x","0",0]],[]]]],
+    ["start","Serializable",3,[["if",["less",1,["add",["num_of",["get","x"]],["num_of",["get","y"]]]],[["put","y","0",0]],[]]]],
+    ["step",1],["step",2],["step",1],["step",2],["step",1],["step",2],["step",2],["step",2]
+]"#;
+
 /// A key moves from a lease to another, each of which expires, and a range is watched between.
 pub(crate) const EXPIRING_LEASES: &str = r#"[
     ["grant",1,5],

@@ -129,10 +129,48 @@ it prints no report, but says
 
   stmrun: bad scenario at /0: Shape
 
+The place is a JSON Pointer: the indices of the arrays around it, counted from 0. The causes are
+
+  NotJson        the scenario is no JSON in UTF-8, or nests deeper than 127
+  Shape          another word, kind of value or length of an array is wanted there; a number is whole
+                 and of 64 bits
+  Range          the number is outside its range
+  TooMany        it is event 100001
+  TooLong        the scenario has more than 16777216 bytes, or a text of a program more than 65536
+  TooDeep        it is at depth 33 of a program
+  TooManyNodes   it is node 4097 of a program
+
 With --explain a second line says where that is, what was found there and what is allowed; check, threads and
 explore have --explain too:
 
   s.json:1:2: elements behind \"step\": 0 found, 1 wanted
+
+In a report the line refused says why an event was refused, and the line ended why a commit was:
+
+  BadLimit            the limit is 0
+  NoRunner            there is no such runner, or its run is over
+  TooManyOps          a list of the transaction, or of the commit, has more than 128 elements
+  EmptyKey            a key is empty
+  DuplicateKey        a list of the transaction puts a key twice, or puts and deletes it
+  FutureRevision      a read is of a revision that the store has not reached
+  LeaseIdOutOfRange   the id is 0
+  TtlOutOfRange       the time to live is not from 1 to 9000000000
+  LeaseExists         there is such a lease already
+  LeaseNotFound       there is no such lease, or it has ended
+  TimeGoesBack        the store's moment is later than that
+  NoWatcher           there is no such watcher, or it was cancelled
+  RevisionsUsedUp     something is to change, and the last revision, 9223372036854775806, is reached
+
+The line faulted says what ended a program:
+
+  Kind          a text stands where a number is wanted, or a number where a text is
+  Overflow      a result is outside the 64 bits of a number
+  ZeroDivisor   a number is divided by 0
+  NotANumber    a text is to be a number, and spells none
+  LoopTooLong   the count of a loop is above its limit
+  TurnLimit     it is turn 10001 of the program's loops
+  TextTooLong   a text of more than 65536 bytes is made
+  EmptyKey      a key is empty
 
 Statuses: 0 done, 2 bad input or usage, 3 want of memory or a failed device.";
 

@@ -1,5 +1,4 @@
-//! Devices that fail under the command `threads`. Each transfer is that of the other commands, whose tests let each call of a device fail in turn; here
-//! stand one call of each and the first and the last. What is expected comes from the rules, and never from a run.
+//! Devices that fail at each of their calls in turn, under the command `threads`. What is expected comes from the rules, and never from a run.
 
 use crate::commands::{is_left, threads};
 use crate::devices::{Fault, Faults, NONE};
@@ -9,10 +8,10 @@ use std::process::Abort;
 use std::sync::Wait;
 use std::thread::Threads;
 
-/// 49 bytes: 50 reads of at most one byte, the last of which tells the end.
+/// 49 bytes: 50 reads of at most one byte, the last of which tells the end, or 8 of at most seven.
 const JOBS: &str = "[[\"start\",\"ReadCommitted\",1,[[\"put\",\"a\",\"1\",0]]]]";
 
-/// 55 bytes: 55 writes of one.
+/// 55 bytes: 55 writes of one, or 8 of at most seven.
 const PRINTED: &str = "[\"jobs\",1]
 [\"committed\",1]
 [\"value\",\"a\",\"1\"]
@@ -22,17 +21,23 @@ const PRINTED: &str = "[\"jobs\",1]
 /// No scenario of jobs.
 const BAD: &str = "[[\"step\",1]]";
 
-/// What is said of it: 34 bytes.
+/// What is said of it, 34 bytes: 34 writes of one.
 const SAID: &str = "stmrun: bad scenario at /0: Shape\n";
 
-/// A device that moves one byte at each call but this one, which fails with an error, or moves none.
-fn fails_at(bad_call: usize, kind: Option<ErrorKind>) -> Fault {
-    Fault {
-        piece: 1,
-        bad_call,
-        kind,
-    }
+/// What is said of a device that failed.
+const DEVICE_FAULT: &[u8] = b"stmrun: device fault\n";
+
+/// Which device of the command fails.
+#[derive(Clone, Copy)]
+enum Failing {
+    Input,
+    Output,
+    /// The standard error of a scenario that is refused.
+    Message,
 }
+
+/// The status of the command, what is written, and what is said.
+type Ending = (u8, &'static [u8], &'static [u8]);
 
 /// So many bytes from the front of a text.
 fn front(text: &str, count: usize) -> &[u8] {
@@ -41,87 +46,100 @@ fn front(text: &str, count: usize) -> &[u8] {
     &bytes[..end]
 }
 
-/// A run by two threads ends with this status, and leaves these texts.
+/// How a command ends whose device fails once it has moved so many bytes.
+fn broken(failing: Failing, moved: usize) -> Ending {
+    match failing {
+        Failing::Input => (3, b"".as_slice(), DEVICE_FAULT),
+        Failing::Output => (3, front(PRINTED, moved), DEVICE_FAULT),
+        Failing::Message => (2, b"".as_slice(), front(SAID, moved)),
+    }
+}
+
+/// How it ends where the device does not fail.
+fn whole(failing: Failing) -> Ending {
+    match failing {
+        Failing::Input | Failing::Output => (0, PRINTED.as_bytes(), b"".as_slice()),
+        Failing::Message => (2, b"".as_slice(), SAID.as_bytes()),
+    }
+}
+
+/// Asserts that a run by two threads ends so, where the device has this fault.
 fn ends<T: Abort + Threads + Wait + Sync>(
     rt: &T,
     alloc: Global,
-    scenario: &str,
-    faults: Faults,
-    status: u8,
-    written: &[u8],
-    said: &[u8],
+    failing: Failing,
+    fault: Fault,
+    ending: Ending,
 ) {
-    let left = threads(rt, alloc, scenario, 2, faults);
-    is_left(rt, &left, scenario, status, written, said);
-}
-
-/// What is said of a device that failed.
-const DEVICE_FAULT: &[u8] = b"stmrun: device fault\n";
-
-#[test]
-fn readers_that_fail(rt: HostRuntime) {
-    for (bad_call, kind) in [
-        (0usize, ErrorKind::Interrupted),
-        (20, ErrorKind::BrokenPipe),
-        (49, ErrorKind::Interrupted),
-    ] {
-        let input = fails_at(bad_call, Some(kind));
-        let faults = Faults { input, ..NONE };
-        ends(
-            &rt,
-            rt.alloc(),
+    let (scenario, faults) = match failing {
+        Failing::Input => (
             JOBS,
-            faults,
-            3,
-            b"".as_slice(),
-            DEVICE_FAULT,
-        );
-    }
-}
-
-#[test]
-fn writers_that_fail(rt: HostRuntime) {
-    for (bad_call, kind) in [
-        (0usize, Some(ErrorKind::Interrupted)),
-        (20, None),
-        (54, Some(ErrorKind::BrokenPipe)),
-    ] {
-        let out = fails_at(bad_call, kind);
-        let faults = Faults { out, ..NONE };
-        let written = front(PRINTED, bad_call);
-        ends(&rt, rt.alloc(), JOBS, faults, 3, written, DEVICE_FAULT);
-    }
-}
-
-#[test]
-fn messages_that_fail(rt: HostRuntime) {
-    for (bad_call, kind) in [
-        (0usize, Some(ErrorKind::Interrupted)),
-        (8, None),
-        (33, Some(ErrorKind::BrokenPipe)),
-    ] {
-        let err = fails_at(bad_call, kind);
-        let faults = Faults { err, ..NONE };
-        let said = front(SAID, bad_call);
-        ends(&rt, rt.alloc(), BAD, faults, 2, b"".as_slice(), said);
-    }
-}
-
-#[test]
-fn devices_that_do_not_fail(rt: HostRuntime) {
-    let faults = Faults {
-        input: fails_at(50, None),
-        out: fails_at(55, None),
-        err: fails_at(0, None),
+            Faults {
+                input: fault,
+                ..NONE
+            },
+        ),
+        Failing::Output => (JOBS, Faults { out: fault, ..NONE }),
+        Failing::Message => (BAD, Faults { err: fault, ..NONE }),
     };
-    let alloc = rt.alloc();
-    ends(
-        &rt,
-        alloc,
-        JOBS,
-        faults,
-        0,
-        PRINTED.as_bytes(),
-        b"".as_slice(),
-    );
+    let (status, written, said) = ending;
+    let left = threads(rt, alloc, scenario, 2, faults);
+    is_left(rt, &left, "a device fails", status, written, said);
+}
+
+/// A device that needs so many calls, of which each fails in turn, and at last none.
+fn each_fails<T: Abort + Threads + Wait + Sync>(
+    rt: &T,
+    alloc: Global,
+    failing: Failing,
+    piece: usize,
+    calls: usize,
+    kind: Option<ErrorKind>,
+) {
+    for bad_call in 0..calls {
+        let fault = Fault {
+            piece,
+            bad_call,
+            kind,
+        };
+        let moved = bad_call.saturating_mul(piece);
+        ends(rt, alloc, failing, fault, broken(failing, moved));
+    }
+    let fault = Fault {
+        piece,
+        bad_call: calls,
+        kind,
+    };
+    ends(rt, alloc, failing, fault, whole(failing));
+}
+
+/// How a reader fails.
+const READ_FAULTS: &[Option<ErrorKind>] = &[
+    Some(ErrorKind::Interrupted),
+    Some(ErrorKind::BrokenPipe),
+];
+
+/// How a writer fails: by an error, or by taking no byte.
+const WRITE_FAULTS: &[Option<ErrorKind>] = &[
+    Some(ErrorKind::Interrupted),
+    Some(ErrorKind::BrokenPipe),
+    None,
+];
+
+/// Devices, the length of their pieces, the number of calls, and how these fail.
+const DEVICES: [(Failing, usize, usize, &[Option<ErrorKind>]); 5] = [
+    (Failing::Input, 1, 50, READ_FAULTS),
+    (Failing::Input, 7, 8, READ_FAULTS),
+    (Failing::Output, 1, 55, WRITE_FAULTS),
+    (Failing::Output, 7, 8, WRITE_FAULTS),
+    (Failing::Message, 1, 34, WRITE_FAULTS),
+];
+
+#[test]
+fn devices_that_fail(rt: HostRuntime) {
+    for (failing, piece, calls, kinds) in DEVICES {
+        for kind in kinds {
+            each_fails(&rt, rt.alloc(), failing, piece, calls, *kind);
+        }
+    }
 }

@@ -1,5 +1,5 @@
 //! Tests of the commands `script`, `check` and `recipe`: whole scenarios with their reports, in each format, hostile schedules, bad texts
-//! and their explanations, and readers and writers that fail.
+//! and runs that come to a fault with their explanations, and readers and writers that fail.
 //!
 //! This crate has no code but tests. They stand here, and not beside what they test, since a crate with tests is proved twice, and in one
 //! crate, since each crate proves anew how each type that it uses is dropped.
@@ -15,6 +15,8 @@ mod devices;
 mod each_call;
 #[cfg(test)]
 mod explanations;
+#[cfg(test)]
+mod faulted;
 #[cfg(test)]
 mod formats;
 #[cfg(test)]

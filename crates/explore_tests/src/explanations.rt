@@ -5,7 +5,7 @@ use std::process::Abort;
 use stm_exploring::{Budget, Kept, Nobody, Std, explore_explained_to, outcomes_explained_to};
 
 /// So many events, of which nobody is told.
-fn no_more_than(events: u64) -> Budget<Nobody> {
+pub(crate) fn no_more_than(events: u64) -> Budget<Nobody> {
     Budget {
         left: events,
         observer: Nobody,

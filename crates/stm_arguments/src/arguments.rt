@@ -145,6 +145,11 @@ explore have --explain too:
 
   s.json:1:2: elements behind \"step\": 0 found, 1 wanted
 
+Behind the report of a good scenario it says of each run that came to a fault, threads of each job and explore of
+a rule that did, at which place the program stopped and on which values:
+
+  s.json:3:38: event 4: NotANumber of runner 1 at /1/3/0/2/1/1: \"seven\" is no whole number of 64 bits
+
 In a report the line refused says why an event was refused, and the line ended why a commit was:
 
   BadLimit            the limit is 0
@@ -298,7 +303,7 @@ pub(crate) fn explain<'a>(alloc: Global) -> Arg<'a>
     flag(
         alloc,
         "explain",
-        "Whether a fault is explained: where it stands, what was found, and what is allowed",
+        "Whether faults are explained, of an input or of a run: where each stands, and what was found there",
     )
 }
 

@@ -1,4 +1,5 @@
--- What the commands do that explain a bad input behind what they say of it: what they do otherwise, but for the explanation.
+-- What the commands do that explain a bad input behind what they say of it, and runs that came to a fault: what they do otherwise, but for
+-- the explanations.
 use Rattle.std.specs.Prelude.{◌≡◌, ℕ, List, Bool, false, Option, Result, Ok, Err}
 use Rattle.std.specs.Io.KnownBytes.{Keeps}
 use Rattle.stm_report.specs.declared.run_script.ScriptFault.{ScriptFault}
@@ -8,7 +9,9 @@ use Rattle.stm_report.specs.FormatScript.{DoesAs}
 use Rattle.stm_check.specs.declared.checking.Checked.{Checked}
 use Rattle.stm_check.specs.declared.judging.CheckFault.{CheckFault}
 use Rattle.stm_report.specs.declared.whole_comparing.WholeChecked.{WholeChecked}
-pub use Rattle.stm_messages.specs.Saying.{IsExplained, SaysMore}
+use Rattle.stm_texts.specs.Reading.{scenario_in}
+use Rattle.stm_faulted_runs.specs.Lines.{OrNothing, ExplainsRun}
+pub use Rattle.stm_messages.specs.Saying.{IsExplained, SaysMore, SaysSome}
 use Rattle.stm_commands.specs.Statuses.{status_of, message_of}
 use Rattle.stm_commands.specs.Checking.{Devices, DoesTo, answer_status, fault_status as check_status, fault_message as check_message}
 use Rattle.stm_commands.specs.WholeChecking.{DoesTo as WholeDoesTo, SaysOfAnswer}
@@ -18,13 +21,18 @@ use Rattle.stm_commands.specs.WholeChecking.{DoesTo as WholeDoesTo, SaysOfAnswer
 abbrev pub ScriptSays : Option (List ℕ) → Option (List ℕ) → Bool → ScriptFault → ℕ → Type 0
 ScriptSays before after failed fault status = (status ≡ status_of fault) × SaysMore before after failed (message_of fault)
 
-abbrev pub ScriptEndsBy : {A : Type 0} → Option (List ℕ) → Option (List ℕ) → Bool → Result A ScriptFault → ℕ → Type 0
-ScriptEndsBy before after failed (Ok u) status = (status ≡ 0) × (failed ≡ false) × Keeps before after
-ScriptEndsBy before after failed (Err fault) status = ScriptSays before after failed fault status
+-- what is said of the runs that came to a fault, of the scenario that was kept under this name as this text
+abbrev pub SaysRuns : List ℕ → List ℕ → Option (List ℕ) → Option (List ℕ) → Bool → Type 0
+SaysRuns name text before after failed = SaysSome (OrNothing (ExplainsRun name text (scenario_in text))) before after failed
 
-abbrev pub ScriptEnds : Format → ScriptDevices → Option (List ℕ) → Option (List ℕ) → Bool → ℕ → Type 0
-ScriptEnds format devices before after failed status =
-    (ended : Result (Unit {0}) ScriptFault) × DoesAs format devices ended × ScriptEndsBy before after failed ended status
+-- at a good end the runs are explained that came to a fault
+abbrev pub ScriptEndsBy : {A : Type 0} → List ℕ → List ℕ → Option (List ℕ) → Option (List ℕ) → Bool → Result A ScriptFault → ℕ → Type 0
+ScriptEndsBy name text before after failed (Ok u) status = (status ≡ 0) × SaysRuns name text before after failed
+ScriptEndsBy name text before after failed (Err fault) status = ScriptSays before after failed fault status
+
+abbrev pub ScriptEnds : Format → List ℕ → List ℕ → ScriptDevices → Option (List ℕ) → Option (List ℕ) → Bool → ℕ → Type 0
+ScriptEnds format name text devices before after failed status =
+    (ended : Result (Unit {0}) ScriptFault) × DoesAs format devices ended × ScriptEndsBy name text before after failed ended status
 
 -- ---- check, and check of each line
 

@@ -1,10 +1,12 @@
-//! The commands that explain a bad input behind what they say of it.
+//! The commands that explain a bad input behind what they say of it, and runs that came to a fault.
 ghost use Rattle.std.specs.Prelude.{◌≡◌, ◌≤◌, ◌+◌, ◌++◌, false, string_bytes};
 ghost use Rattle.stm_devices.specs.declared.transfer.TheConstants.{MOST_READ};
 ghost use Rattle.stm_devices.specs.Transfers.{HasWritten};
 ghost use Rattle.stm_commands.specs.Statuses.{message_of};
 ghost use Rattle.stm_commands.specs.Checking.{fault_message as check_message};
-ghost use Rattle.stm_commands.specs.Explaining.{IsExplained, ScriptSays, CheckSays, ScriptEnds, CheckEnds, WholeCheckEnds};
+ghost use Rattle.stm_texts.specs.Reading.{scenario_in};
+ghost use Rattle.stm_faulted_runs.specs.Lines.{OrNothing, ExplainsRun};
+ghost use Rattle.stm_commands.specs.Explaining.{IsExplained, SaysRuns, ScriptSays, CheckSays, ScriptEnds, CheckEnds, WholeCheckEnds};
 
 use crate::checking::{answer, status as check_status, status_of, write_message as write_check};
 use crate::scripting::{status as script_status, write_message as write_script};
@@ -12,6 +14,7 @@ use crate::whole_checking::{answer as whole_answer, say};
 use std::alloc::Global;
 use stm_check::CheckFault;
 use stm_explain::{Input, Kept};
+use stm_faulted_runs::{Named, faults_explained};
 use stm_messages::write_text;
 use stm_report::{DeviceFault, Format, ScriptFault, Sink, Source, script_as};
 
@@ -40,6 +43,26 @@ fn check_explanation<S, R>(
         CheckFault::BadScenario(bad) => scenario.explanation(alloc, Input::Scenario, bad),
         CheckFault::BadReport(bad) => report.explanation(alloc, Input::Report, bad),
         CheckFault::OutOfMemory | CheckFault::Device => String::new(alloc),
+    }
+}
+
+/// The explanations of the runs that came to a fault, of the scenario that a text spells; none where a growth was refused.
+fn lines_of_runs(alloc: Global, name: &str, text: &str) -> String
+    ensures { OrNothing (ExplainsRun name.now text.now (scenario_in text.now)) (string_bytes result) }
+{
+    match faults_explained(alloc, &Named { name, text }) {
+        Ok(lines) => lines,
+        Err(_) => String::new(alloc),
+    }
+}
+
+/// The explanations of the runs of a scenario that came to a fault; none where a growth was refused, now or before.
+fn runs_explained<S>(alloc: Global, input: &Kept<'_, S>) -> String
+    ensures { OrNothing (ExplainsRun input.now.name.now input.now.bytes.items (scenario_in input.now.bytes.items)) (string_bytes result) }
+{
+    match input.text() {
+        Some(text) => lines_of_runs(alloc, input.name, text),
+        None => String::new(alloc),
     }
 }
 
@@ -89,10 +112,22 @@ fn tell_check<E: Sink>(err: &mut E, fault: &CheckFault, more: &str) -> u8
     check_status(fault)
 }
 
+/// Explains the runs of a scenario that came to a fault, and gives the status of a good end.
+fn tell_runs<S, E: Sink>(alloc: Global, input: &Kept<'_, S>, err: &mut E) -> u8
+    requires { E.failed err.old ≡ false }
+    ensures status { result ≡ 0 }
+    ensures says { SaysRuns input.now.name.now input.now.bytes.items (E.held err.old) (E.held err.new) (E.failed err.new) }
+{
+    let more = runs_explained(alloc, input);
+    let _ = write_text(err, more.as_str());
+    0
+}
+
 // ---- the commands
 
 /// Does what `script_as_to` does, with that status and that output. Behind what is said of a bad scenario stands its explanation, as a line
-/// `NAME:LINE:COLUMN: WORDS`, or nothing where a growth was refused for it.
+/// `NAME:LINE:COLUMN: WORDS`, and of a scenario that was run a line for each run that came to a fault; or nothing where a growth was refused for
+/// these.
 pub fn script_explained_to<S: Source, W: Sink, E: Sink>(
     alloc: Global,
     format: Format,
@@ -103,7 +138,7 @@ pub fn script_explained_to<S: Source, W: Sink, E: Sink>(
     requires input_works { S.failed input.old.source ≡ false }
     requires out_works { W.failed out.old ≡ false }
     requires err_works { E.failed err.old ≡ false }
-    ensures ends { ScriptEnds format (record {
+    ensures ends { ScriptEnds format input.new.name.now input.new.bytes.items (record {
       input = S.left input.old.source;
       before = W.held out.old;
       after = W.held out.new;
@@ -113,7 +148,7 @@ pub fn script_explained_to<S: Source, W: Sink, E: Sink>(
     ensures bounded { S.reads input.new.source ≤ S.reads input.old.source + MOST_READ }
 {
     match script_as(alloc, format, input, out) {
-        Ok(()) => 0,
+        Ok(()) => tell_runs(alloc, input, err),
         Err(fault) => {
             let more = script_explanation(alloc, input, &fault);
             tell_script(err, &fault, more.as_str())

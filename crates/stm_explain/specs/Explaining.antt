@@ -6,7 +6,12 @@ use Rattle.stm_explain.specs.Positions.{place_behind}
 abbrev pub explanation : List ℕ → ℕ → ℕ → List ℕ → List ℕ
 explanation name line column words = name ++ codes ":" ++ decimal line ++ codes ":" ++ decimal column ++ codes ": " ++ words ++ codes "\n"
 
--- it is one, whose line and column are those of an offset in the text
+-- it is one with these words, whose line and column are those of an offset in the text
+abbrev pub IsExplanationOf : List ℕ → List ℕ → List ℕ → List ℕ → Type 0
+IsExplanationOf name text words said =
+    (offset : ℕ) × (offset ≤ length text) × (said ≡ explanation name (place_behind (take offset text)).0 (place_behind (take offset text)).1 words)
+
+-- it is one with some words
 abbrev pub IsExplanation : List ℕ → List ℕ → List ℕ → Type 0
 IsExplanation name text said =
     (offset : ℕ) × (offset ≤ length text) × (words : List ℕ)

@@ -1,3 +1,4 @@
 pub mod Explaining
+pub mod Marks
 pub mod Positions
 pub mod Words

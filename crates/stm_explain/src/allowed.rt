@@ -47,7 +47,7 @@ fn nearest<'a>(
     if word.len() > MOST_NEAR {
         return Ok(found);
     }
-    let mut least = word.len() / 2 + 1;
+    let mut least = word.chars().count() / 2 + 1;
     for form in forms {
         let distance = levenshtein(alloc, word, form.0)?;
         if distance < least {

@@ -1,6 +1,6 @@
 //! The explanation of a fault.
 ghost use Rattle.std.specs.Prelude.{◌≡◌, ◌≤◌, length, IfOk, string_bytes};
-ghost use Rattle.stm_explain.specs.Explaining.{IsExplanation, explanation};
+ghost use Rattle.stm_explain.specs.Explaining.{IsExplanation, IsExplanationOf, explanation};
 
 use crate::allowed::{described, noun, parts_behind, words_allowed};
 use crate::forms::{Input, Part};
@@ -295,7 +295,7 @@ pub fn explained_at(
     steps: &[usize],
     words: &str,
 ) -> Result<String, AllocError>
-    ensures { IfOk result (λ line. IsExplanation name.now text.now (string_bytes line)) }
+    ensures { IfOk result (λ line. IsExplanationOf name.now text.now words.now (string_bytes line)) }
 {
     let offset = offset_of(alloc, text, steps)?;
     let at = position_of(text.as_bytes(), offset);
@@ -303,7 +303,7 @@ pub fn explained_at(
 }
 
 /// A line of explanation.
-fn line_of(
+pub(crate) fn line_of(
     alloc: Global,
     name: &str,
     line: usize,

@@ -1,5 +1,5 @@
 //! Sources of which is kept what was read.
-ghost use Rattle.std.specs.Prelude.{◌≡◌, string_bytes};
+ghost use Rattle.std.specs.Prelude.{◌≡◌, IfSome, string_bytes};
 ghost use Rattle.stm_explain.specs.Explaining.{ExplainsOrNothing};
 
 use crate::explaining::explain;
@@ -44,6 +44,19 @@ impl<'a, S> Kept<'a, S> {
         match explain(alloc, input, self.name, self.bytes.as_slice(), bad) {
             Ok(line) => line,
             Err(_) => String::new(alloc),
+        }
+    }
+
+    /// What was read, as text; nothing where it is none, or where a growth was refused before.
+    pub fn text(&self) -> Option<&str>
+        ensures { IfSome result (λ text. text.now ≡ self.now.bytes.items) }
+    {
+        if self.is_cut {
+            return None;
+        }
+        match std::str::from_utf8(self.bytes.as_slice()) {
+            Ok(text) => Some(text),
+            Err(_) => None,
         }
     }
 

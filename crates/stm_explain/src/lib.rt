@@ -8,6 +8,7 @@ mod explaining;
 mod forms;
 mod kept;
 mod laws;
+mod marked;
 mod offsets;
 mod position;
 mod syntax;
@@ -21,6 +22,6 @@ pub use forms::{
 };
 pub use kept::Kept;
 pub use laws::words_are_those_of_readers;
+pub use marked::Marked;
 pub use position::{Position, position_of};
 pub use values::shown;
-pub use walking::part_of;

@@ -1,6 +1,6 @@
 //! Lines and columns.
 ghost use Rattle.std.specs.Prelude.{◌≡◌, ◌≤◌, ◌+◌, ◌^◌, length, take};
-ghost use Rattle.stm_explain.specs.Positions.{next as next_place, place_behind};
+ghost use Rattle.stm_explain.specs.Positions.{next as next_place, place_behind, place_from};
 
 /// Where a byte of a file stands.
 #[derive(Clone, Copy, Debug, PartialEq, Eq)]
@@ -26,18 +26,29 @@ fn next(line: usize, column: usize, byte: u8) -> (usize, usize)
     }
 }
 
-/// The position behind these bytes.
-fn position_behind(bytes: &[u8]) -> Position
-    ensures { (result.line, result.column) ≡ place_behind bytes.now }
+/// The position behind these bytes, of which the first stands at this one.
+pub(crate) fn position_from(at: Position, bytes: &[u8]) -> Position
+    requires small { at.line + at.column + length bytes.now ≤ 2 ^ 63 + 1 }
+    requires counted { 1 ≤ at.column }
+    ensures { (result.line, result.column) ≡ place_from (at.line, at.column) bytes.now }
 {
-    let mut line = 1;
-    let mut column = 1;
+    let mut line = at.line;
+    let mut column = at.column;
     for byte in bytes {
         let (next_line, next_column) = next(line, column, *byte);
         line = next_line;
         column = next_column;
     }
     Position { line, column }
+}
+
+impl Position {
+    /// The position of a text's first byte.
+    pub(crate) fn first() -> Position
+        ensures { result ≡ record { line = 1; column = 1 } }
+    {
+        Position { line: 1, column: 1 }
+    }
 }
 
 /// The position of the byte at an offset of a text, or of the text's end.
@@ -47,5 +58,5 @@ pub fn position_of(text: &[u8], offset: usize) -> Position
     requires { offset ≤ length text.now }
     ensures { (result.line, result.column) ≡ place_behind (take offset text.now) }
 {
-    position_behind(&text[..offset])
+    position_from(Position::first(), &text[..offset])
 }

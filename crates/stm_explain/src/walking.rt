@@ -35,7 +35,7 @@ fn begins(value: &Value) -> bool {
 }
 
 /// What is wanted at an index of an array that begins with a word; `None` where the word is not allowed, or has nothing there.
-pub fn part_of(part: Part, array: &Value, index: usize) -> Option<Part> {
+fn part_of(part: Part, array: &Value, index: usize) -> Option<Part> {
     let (word, _) = worded_array(array)?;
     parts_behind(part, word)?.at(index)
 }

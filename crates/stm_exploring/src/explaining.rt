@@ -1,19 +1,24 @@
-//! The command `explore`, which explains a bad input behind what it says of it.
-ghost use Rattle.std.specs.Prelude.{◌≡◌, ◌≤◌, ◌+◌, ◌++◌, false, string_bytes};
+//! The command `explore`, which explains a bad input behind what it says of it, and a rule that came to a fault.
+ghost use Rattle.std.specs.Prelude.{◌≡◌, ◌≤◌, ◌+◌, ◌++◌, false, IfSome, string_bytes};
 ghost use Rattle.stm_devices.specs.declared.transfer.TheConstants.{MOST_READ};
 ghost use Rattle.stm_devices.specs.Transfers.{HasWritten};
-ghost use Rattle.stm_messages.specs.Saying.{IsExplained};
-ghost use Rattle.stm_exploring.specs.Command.{fault_message};
-ghost use Rattle.stm_exploring.specs.Explaining.{SaysMoreOf, Explores, GoesThrough};
+ghost use Rattle.stm_messages.specs.Saying.{IsExplained, Says};
+ghost use Rattle.stm_texts.specs.Reading.{scenario_in};
+ghost use Rattle.stm_faulted_runs.specs.Lines.{OrNothing};
+ghost use Rattle.stm_faulted_runs.specs.Rules.{ExplainsRule};
+ghost use Rattle.stm_exploring.specs.Command.{fault_message, verdict_status};
+ghost use Rattle.stm_exploring.specs.Explaining.{SaysMoreOf, SaysOfVerdict, schedule_in, ExplainsOnSchedule, ExplainsSearched, Explores, GoesThrough};
 
 use crate::command::{status, status_of, write, write_message};
 use crate::exploring::explore_sources;
 use crate::outcomes::outcomes_of_source;
+use crate::printed::{Printed, Verdict};
 use crate::reading::ExploreFault;
 use std::alloc::Global;
 use stm_devices::{DeviceFault, Sink, Source};
 use stm_explain::{Input, Kept};
 use stm_explore::{Budget, Observer};
+use stm_faulted_runs::{Named, rule_explained};
 use stm_messages::write_text;
 use stm_program::Level;
 
@@ -43,6 +48,64 @@ fn search_explanation<S>(alloc: Global, scenario: &Kept<'_, S>, fault: &ExploreF
     }
 }
 
+/// The explanation of a rule that comes to a fault after a schedule; none where a growth was refused.
+fn line_of_rule(alloc: Global, name: &str, text: &str, schedule: &str) -> String
+    ensures { OrNothing (ExplainsRule name.now text.now (scenario_in schedule.now)) (string_bytes result) }
+{
+    match rule_explained(alloc, &Named { name, text }, schedule) {
+        Ok(line) => line,
+        Err(_) => String::new(alloc),
+    }
+}
+
+/// The schedule of a broken rule, which is printed behind the first line.
+fn schedule_in(printed: &str) -> Option<&str>
+    ensures { IfSome result (λ schedule. schedule.now ≡ schedule_in printed.now) }
+{
+    match printed.split_once('\n') {
+        Some((_, schedule)) => Some(schedule),
+        None => None,
+    }
+}
+
+/// The explanation of a broken rule that comes to a fault after its schedule, by what is printed of that; none where a growth was refused.
+fn line_by_printed(alloc: Global, name: &str, text: &str, printed: &str) -> String
+    ensures { OrNothing (ExplainsOnSchedule name.now text.now printed.now) (string_bytes result) }
+{
+    match schedule_in(printed) {
+        Some(schedule) => line_of_rule(alloc, name, text, schedule),
+        None => String::new(alloc),
+    }
+}
+
+/// The explanation of a broken rule that comes to a fault after its schedule, by what is printed of that; none where a growth was refused, now
+/// or before.
+fn rule_on<R>(alloc: Global, keeps: &Kept<'_, R>, printed: &str) -> String
+    ensures { OrNothing (ExplainsOnSchedule keeps.now.name.now keeps.now.bytes.items printed.now) (string_bytes result) }
+{
+    match keeps.text() {
+        Some(text) => line_by_printed(alloc, keeps.name, text, printed),
+        None => String::new(alloc),
+    }
+}
+
+/// The explanation of what a search came to: of a broken rule that comes to a fault.
+fn searched_explanation<R>(
+    alloc: Global,
+    keeps: &Kept<'_, R>,
+    searched: &Result<Printed, ExploreFault>,
+) -> String
+    ensures { OrNothing (ExplainsSearched keeps.now.name.now keeps.now.bytes.items searched.now) (string_bytes result) }
+{
+    match searched {
+        Ok(printed) => match printed.verdict {
+            Verdict::Broken => rule_on(alloc, keeps, printed.text.as_str()),
+            Verdict::Kept | Verdict::Open => String::new(alloc),
+        },
+        Err(_) => String::new(alloc),
+    }
+}
+
 /// Writes what is said of a fault, and more behind it. Where the sink fails, a front of that was written.
 fn write_with<E: Sink>(err: &mut E, fault: &ExploreFault, more: &str) -> Result<(), DeviceFault>
     requires { E.failed err.old ≡ false }
@@ -63,8 +126,30 @@ fn tell_with<E: Sink>(err: &mut E, fault: &ExploreFault, more: &str) -> u8
     status(fault)
 }
 
+/// Says what explains a broken rule.
+fn say_rule<E: Sink>(err: &mut E, more: &str)
+    requires { E.failed err.old ≡ false }
+    ensures { Says (E.held err.old) (E.held err.new) (E.failed err.new) more.now }
+{
+    let _ = write_text(err, more);
+}
+
+/// Says of what a search came to what explains it, and gives the status.
+fn tell_verdict<E: Sink>(err: &mut E, verdict: Verdict, more: &str) -> u8
+    requires { E.failed err.old ≡ false }
+    ensures status { result ≡ verdict_status verdict }
+    ensures says { SaysOfVerdict verdict more.now (E.held err.old) (E.held err.new) (E.failed err.new) }
+{
+    match verdict {
+        Verdict::Broken => say_rule(err, more),
+        Verdict::Kept | Verdict::Open => {}
+    }
+    status_of(verdict)
+}
+
 /// Does what `explore_to` does, with that status and that output. Behind what is said of a bad input stands its explanation, as a line
-/// `NAME:LINE:COLUMN: WORDS`, or nothing where a growth was refused for it.
+/// `NAME:LINE:COLUMN: WORDS`, and behind what is printed of a rule that was broken by a fault a line of that form; or nothing where a growth was
+/// refused for these.
 pub fn explore_explained_to<S: Source, R: Source, W: Sink, E: Sink, O: Observer>(
     alloc: Global,
     scenario: &mut Kept<'_, S>,
@@ -78,7 +163,7 @@ pub fn explore_explained_to<S: Source, R: Source, W: Sink, E: Sink, O: Observer>
     requires keeps_works { R.failed keeps.old.source ≡ false }
     requires out_works { W.failed out.old ≡ false }
     requires err_works { E.failed err.old ≡ false }
-    ensures ends { Explores level (record {
+    ensures ends { Explores level keeps.new.name.now keeps.new.bytes.items (record {
       scenario = S.left scenario.old.source;
       keeps = R.left keeps.old.source;
       scenario_failed = S.failed scenario.new.source;
@@ -89,8 +174,9 @@ pub fn explore_explained_to<S: Source, R: Source, W: Sink, E: Sink, O: Observer>
     ensures keeps_bounded { R.reads keeps.new.source ≤ R.reads keeps.old.source + MOST_READ }
 {
     let searched = explore_sources(alloc, scenario, keeps, level, budget);
+    let more = searched_explanation(alloc, keeps, &searched);
     match write(out, searched) {
-        Ok(verdict) => status_of(verdict),
+        Ok(verdict) => tell_verdict(err, verdict, more.as_str()),
         Err(fault) => {
             let more = rule_explanation(alloc, scenario, keeps, &fault);
             tell_with(err, &fault, more.as_str())

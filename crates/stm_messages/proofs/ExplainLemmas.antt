@@ -1,9 +1,10 @@
 -- What is said of a fault and behind it.
-use Rattle.std.proofs.Common.{◌≡◌, ◌++◌, ◌∙◌, List, [], ℕ, Bool, true, false, Option, Result, Ok, Err, sym, true≢false, append-nil}
+use Rattle.std.proofs.Common.{◌++◌, ◌∙◌, List, [], ℕ, Bool, true, false, Option, Result, Ok, Err, sym, true≢false, append-nil}
 use Rattle.stm_devices.specs.Transfers.{HasWritten}
 use Rattle.stm_messages.specs.Saying.{Says, IsExplained, SaysMore}
 
-says : {A E : Type 0} (before after : Option (List ℕ)) (failed : Bool) (result : Result A E) (text : List ℕ) → HasWritten before after failed result text
+-- what was written was said
+pub says : {A E : Type 0} (before after : Option (List ℕ)) (failed : Bool) (result : Result A E) (text : List ℕ) → HasWritten before after failed result text
     → Says before after failed text
 says before after failed (Ok u) text (works, done) = ((text, [], sym (append-nil text), done), λ _. done)
 says before after failed (Err e) text (fails, front) = (front, λ works. absurd (true≢false (sym fails ∙ works)))

@@ -21,3 +21,7 @@ IsExplained more = (name text : List ℕ) × ExplainsOrNothing name text more
 -- a message was written and its explanation behind it, or a front of the two where the sink then has failed
 abbrev pub SaysMore : Option (List ℕ) → Option (List ℕ) → Bool → List ℕ → Type 0
 SaysMore before after failed message = (more : List ℕ) × IsExplained more × Says before after failed (message ++ more)
+
+-- a text of this form was written, or a front of it where the sink then has failed
+abbrev pub SaysSome : (List ℕ → Type 0) → Option (List ℕ) → Option (List ℕ) → Bool → Type 0
+SaysSome Form before after failed = (more : List ℕ) × Form more × Says before after failed more

@@ -1,21 +1,20 @@
 -- Runs that are counted, one after the other.
 use Rattle.std.proofs.Common.{◌≡◌, ℕ, ◌+◌, List, [], ◌∷◌, ◌++◌, length, refl, sym, ◌∙◌, subst, arith, length-append}
-use Rattle.std.specs.Prelude.{All, sum}
+use Rattle.std.specs.Prelude.{sum}
 use Rattle.std.specs.Map.{values_of}
 use Rattle.std.proofs.lemmas.List.Elements.{All-nil, All-push}
 use Rattle.stm_world.specs.declared.event.WorldEvent.{WorldEvent}
 use Rattle.stm_job.specs.declared.job.Job.{Job}
 use Rattle.stm_jobs.specs.Outcomes.{Tally, Counts}
 use Rattle.stm_jobs.proofs.TallyLemmas.{no_text}
-use Rattle.stm_threading.specs.declared.shown.Shown.TheVariants.{Outcome}
-use Rattle.stm_threading.specs.Running.{AreCounted, HasCounted, IsOfRun}
+use Rattle.stm_threading.specs.Running.{AreCounted, HasCounted, IsOutcome}
 
 -- none was made
 pub none_made : (start : ℕ) (calls : List WorldEvent) (jobs : List Job) (tally : Tally) → tally ≡ [] → AreCounted 0 start calls jobs tally
 none_made start calls jobs tally none = record {
   texts = [];
   many = refl;
-  each = All-nil (IsOfRun Outcome start calls jobs);
+  each = All-nil (IsOutcome start calls jobs);
   counted = subst (λ (t : Tally). Counts [] t) (sym none) no_text;
 }
 
@@ -31,6 +30,6 @@ one_made runs start calls jobs before after made more = record {
   texts = made.texts ++ more.0 ∷ [];
   many = let long : length (made.texts ++ more.0 ∷ []) ≡ length made.texts + 1 = length-append made.texts (more.0 ∷ []) in
       let so_far = made.many in omega (arith, long, so_far);
-  each = All-push (IsOfRun Outcome start calls jobs) made.texts more.0 made.each more.1;
+  each = All-push (IsOutcome start calls jobs) made.texts more.0 made.each more.1;
   counted = more.2 made.texts made.counted;
 }

@@ -1,6 +1,6 @@
 -- From the run of the jobs to what is printed of it, and from there to what the devices saw.
 use Rattle.std.proofs.Common.{◌≡◌, ℕ, List, length, map, Result, Ok, Err, IfOk, IfErr, IfSome, false}
-use Rattle.std.proofs.Common.{refl, sym, ap, subst, ◌∙◌, take}
+use Rattle.std.proofs.Common.{refl, sym, ap, subst, ◌∙◌, take, string_bytes}
 use Rattle.std.specs.Io.KnownBytes.{Appends}
 use Rattle.stm_devices.specs.Transfers.{WritesFront}
 use Rattle.stm_devices.specs.declared.transfer.TheConstants.{MOST_READ}
@@ -21,6 +21,7 @@ use Rattle.stm_job.specs.declared.gathered.FaultCause.{FaultCause}
 use Rattle.stm_job.specs.declared.gathered.FaultCause.TheVariants.{OutOfMemory as NoMemory, Spawn as NoThread, Audit as AtFault}
 use Rattle.stm_workers.specs.Gathered.{RanTo, BrokeOff}
 use Rattle.stm_threading.specs.declared.running.JobsFault.{JobsFault}
+use Rattle.stm_threading.specs.declared.running.Printed.{Printed}
 use Rattle.stm_threading.specs.declared.running.JobsFault.TheVariants.{OutOfMemory, Bad, Read, Write, Spawn, Audit}
 use Rattle.stm_jobs.specs.Accepting.{Sorted, task_of, accepted, opening_of}
 use Rattle.stm_threading.specs.declared.shown.Printing.{Printing}
@@ -28,15 +29,19 @@ use Rattle.stm_threading.specs.declared.shown.Shown.{Shown}
 use Rattle.stm_threading.specs.Running.{IsTextOf, IsOfRun, IsPrintedOfJobs, IsBrokenOffFor, IsBrokenOff, IsBrokenOffOf, IsPrintedOf}
 use Rattle.stm_threading.specs.Running.{fault_told, fault_read, judged, Answers, Writes, Does}
 
+-- what follows of two things that hold of a value holds of it
+pub of_both : {T E : Type 0} (r : Result T E) (P Q R : T → Type 0) → IfOk r P → IfOk r Q → ((x : T) → P x → Q x → R x) → IfOk r R
+of_both (Ok x) P Q R p q follows = follows x p q
+of_both (Err e) P Q R p q follows = tt
+
 -- ---- the run
 
 -- the text is of the hall that the jobs were run to, from the one over this store
 pub is_of_run : (shown : Shown) (start : ℕ) (calls : List WorldEvent) (jobs : List Job) (text : List ℕ) (standing : Standing) (ends : List JobEnd)
     (attempts : List ℕ) (committed : ℕ) (before after : HallState) → standing ≡ (world_after calls (opened start)).standing → before ≡ made_over standing
     → RanTo before jobs ends attempts committed after → IsTextOf shown ends attempts (length jobs) committed after text
-    → IsOfRun shown start calls jobs text
+    → IsOfRun shown start calls jobs ends text
 is_of_run shown start calls jobs text standing ends attempts committed before after stands made ran shows = record {
-  ends = ends;
   attempts = attempts;
   committed = committed;
   after = after;
@@ -82,13 +87,15 @@ broken_at s sorted start calls jobs cause is_accepted opens called are_its broke
   },
 )
 
-module _ {X : Type 0} (printing : Printing) where
+module _ (printing : Printing) where
   -- of a scenario that was accepted: the lines of a run of its jobs, or a run that was broken off
-  pub answers_of : (view : X → List ℕ) (s : Scenario) (sorted : Sorted) (start : ℕ) (calls : List WorldEvent) (jobs : List Job) (result : Result X JobsFault)
+  pub answers_of : (s : Scenario) (sorted : Sorted) (start : ℕ) (calls : List WorldEvent) (jobs : List Job) (result : Result Printed JobsFault)
       → accepted s ≡ Ok sorted → start ≡ opening_of s → calls ≡ sorted.calls → map task_of jobs ≡ sorted.tasks
-      → IfOk result (λ x. IsPrintedOfJobs printing start calls jobs (view x)) → IfErr result (IsBrokenOff start calls jobs) → Answers printing view (Ok s) result
-  answers_of view s sorted start calls jobs (Ok x) is_accepted opens called are_its printed broken =
-      let from_there : IsPrintedOfJobs printing (opening_of s) calls jobs (view x) = subst (λ n. IsPrintedOfJobs printing n calls jobs (view x)) opens printed in (
+      → IfOk result (λ p. IsPrintedOfJobs printing start calls jobs p.ends (string_bytes p.text)) → IfErr result (IsBrokenOff start calls jobs)
+      → Answers printing (Ok s) result
+  answers_of s sorted start calls jobs (Ok p) is_accepted opens called are_its printed broken =
+      let from_there : IsPrintedOfJobs printing (opening_of s) calls jobs p.ends (string_bytes p.text) =
+      subst (λ n. IsPrintedOfJobs printing n calls jobs p.ends (string_bytes p.text)) opens printed in (
         s,
         refl,
         record {
@@ -96,26 +103,26 @@ module _ {X : Type 0} (printing : Printing) where
           is_accepted = is_accepted;
           jobs = jobs;
           are_its = are_its;
-          of_jobs = subst (λ (cs : List WorldEvent). IsPrintedOfJobs printing (opening_of s) cs jobs (view x)) called from_there;
+          of_jobs = subst (λ (cs : List WorldEvent). IsPrintedOfJobs printing (opening_of s) cs jobs p.ends (string_bytes p.text)) called from_there;
         },
       )
-  answers_of view s sorted start calls jobs (Err OutOfMemory) is_accepted opens called are_its printed broken = tt
-  answers_of view s sorted start calls jobs (Err Spawn) is_accepted opens called are_its printed broken =
+  answers_of s sorted start calls jobs (Err OutOfMemory) is_accepted opens called are_its printed broken = tt
+  answers_of s sorted start calls jobs (Err Spawn) is_accepted opens called are_its printed broken =
       broken_at s sorted start calls jobs NoThread is_accepted opens called are_its broken
-  answers_of view s sorted start calls jobs (Err (Audit job)) is_accepted opens called are_its printed broken =
+  answers_of s sorted start calls jobs (Err (Audit job)) is_accepted opens called are_its printed broken =
       broken_at s sorted start calls jobs (AtFault job) is_accepted opens called are_its broken
-  answers_of view s sorted start calls jobs (Err (Bad fault)) is_accepted opens called are_its printed broken = absurd broken
-  answers_of view s sorted start calls jobs (Err Read) is_accepted opens called are_its printed broken = absurd broken
-  answers_of view s sorted start calls jobs (Err Write) is_accepted opens called are_its printed broken = absurd broken
+  answers_of s sorted start calls jobs (Err (Bad fault)) is_accepted opens called are_its printed broken = absurd broken
+  answers_of s sorted start calls jobs (Err Read) is_accepted opens called are_its printed broken = absurd broken
+  answers_of s sorted start calls jobs (Err Write) is_accepted opens called are_its printed broken = absurd broken
 
   -- of one that was not accepted, and of an input that is none: its first fault
-  of_fault : (view : X → List ℕ) (reading : Reading Scenario) (e : ReadError) → TellsFault e (judged reading) → Answers printing view reading (Err (fault_read e))
-  of_fault view reading error.OutOfMemory told = tt
-  of_fault view reading (error.Bad fault) told = told
+  of_fault : (reading : Reading Scenario) (e : ReadError) → TellsFault e (judged reading) → Answers printing reading (Err (fault_read e))
+  of_fault reading error.OutOfMemory told = tt
+  of_fault reading (error.Bad fault) told = told
 
-  pub answers_fault : (view : X → List ℕ) (reading : Reading Scenario) (e : ReadError) (result : Result X JobsFault) → TellsFault e (judged reading)
-      → result ≡ Err (fault_read e) → Answers printing view reading result
-  answers_fault view reading e result told is = subst (λ (r : Result X JobsFault). Answers printing view reading r) (sym is) (of_fault view reading e told)
+  pub answers_fault : (reading : Reading Scenario) (e : ReadError) (result : Result Printed JobsFault) → TellsFault e (judged reading)
+      → result ≡ Err (fault_read e) → Answers printing reading result
+  answers_fault reading e result told is = subst (λ (r : Result Printed JobsFault). Answers printing reading r) (sym is) (of_fault reading e told)
 
 -- the fault of reading is that of what was read
 pub judged_unread : (reading : Reading Scenario) (e : ReadError) → TellsFault e reading → TellsFault e (judged reading)
@@ -125,14 +132,18 @@ judged_unread reading (error.Bad fault) told = ap judged told
 -- ---- the devices
 
 -- what was done for the bytes that were read was done for the input
-pub does_of : {A : Type 0} (printing : Printing) (d : Devices) (bytes : List ℕ) (result : Result A JobsFault) → IfSome d.input (λ all. bytes ≡ take MOST_READ all)
+pub does_of : (printing : Printing) (d : Devices) (bytes : List ℕ) (result : Result (List JobEnd) JobsFault) → IfSome d.input (λ all. bytes ≡ take MOST_READ all)
     → d.source_failed ≡ false → Writes printing bytes d.before d.after d.sink_failed result → Does printing d result
-does_of printing d bytes (Ok u) read works did =
-    (works, did.0, told_at bytes d.input (λ outcome. (text : List ℕ) × IsPrintedOf printing outcome text × Appends d.before d.after text) read (did.1, did.2, did.3))
+does_of printing d bytes (Ok ends) read works did =
+    (works, did.0, told_at bytes d.input (λ outcome. (text : List ℕ) × IsPrintedOf printing outcome ends text × Appends d.before d.after text) read (did.1, did.2, did.3))
 does_of printing d bytes (Err (Bad fault)) read works did = ((works, did.0, did.1), told_at bytes d.input (λ outcome. judged outcome ≡ Err fault) read did.2)
 does_of printing d bytes (Err Read) read works did = absurd did
-does_of printing d bytes (Err Write) read works did =
-    (works, did.0, told_at bytes d.input (λ outcome. (text : List ℕ) × IsPrintedOf printing outcome text × WritesFront d.before d.after text) read (did.1, did.2, did.3))
+does_of printing d bytes (Err Write) read works did = (
+  works,
+  did.0,
+  told_at bytes d.input (λ outcome. (text : List ℕ) × (ends : List JobEnd) × IsPrintedOf printing outcome ends text × WritesFront d.before d.after text) read
+      (did.1, did.2, did.3, did.4),
+)
 does_of printing d bytes (Err OutOfMemory) read works did = (works, did.0, did.1)
 does_of printing d bytes (Err Spawn) read works did =
     ((works, did.0, did.1), told_at bytes d.input (λ outcome. IsBrokenOffOf outcome NoThread) read did.2)

@@ -1,12 +1,17 @@
 -- What the command `threads` does to its devices, its statuses, and what it says.
-use Rattle.std.specs.Prelude.{◌≡◌, ℕ, List, ◌++◌, Bool, true, false, Option, Result, Ok, Err, codes, decimal}
+use Rattle.std.specs.Prelude.{◌≡◌, ℕ, suc, List, [], ◌∷◌, ◌++◌, Bool, true, false, Option, Result, Ok, Err, codes, decimal}
 use Rattle.std.specs.Io.KnownBytes.{Keeps}
 use Rattle.stm_devices.specs.Ends.{Devices}
+use Rattle.stm_texts.specs.Reading.{scenario_in}
+use Rattle.stm_job.specs.declared.job_end.JobEnd.{JobEnd}
+use Rattle.stm_job.specs.declared.job_end.JobEnd.TheVariants.{Faulted}
+use Rattle.stm_faulted_runs.specs.Lines.{OrNothing}
+use Rattle.stm_faulted_runs.specs.Jobs.{ToldJob, ExplainsJobs}
 use Rattle.stm_threading.specs.declared.running.JobsFault.{JobsFault}
 use Rattle.stm_threading.specs.declared.running.JobsFault.TheVariants.{OutOfMemory, Bad, Read, Write, Spawn, Audit}
 use Rattle.stm_threading.specs.declared.shown.Printing.{Printing}
 use Rattle.stm_threading.specs.Running.{Does}
-use Rattle.stm_messages.specs.Saying.{bad_input, Says, SaysMore}
+use Rattle.stm_messages.specs.Saying.{bad_input, Says, SaysMore, SaysSome}
 
 -- 2 for bad input, 3 for want of memory, a failed device, a thread that was refused and an end that does not stand
 abbrev pub fault_status : JobsFault → ℕ
@@ -38,12 +43,30 @@ abbrev pub SaysBy : Bool → Option (List ℕ) → Option (List ℕ) → Bool �
 SaysBy false before after failed fault status = SaysOf before after failed fault status
 SaysBy true before after failed fault status = SaysMoreOf before after failed fault status
 
-abbrev pub EndsBy : {A : Type 0} → Bool → Option (List ℕ) → Option (List ℕ) → Bool → Result A JobsFault → ℕ → Type 0
-EndsBy explained before after failed (Ok u) status = (status ≡ 0) × (failed ≡ false) × Keeps before after
-EndsBy explained before after failed (Err fault) status = SaysBy explained before after failed fault status
+-- the jobs that came to a fault, of those that ended so, of which the first has this number
+abbrev pub faulted_job : ℕ → JobEnd → List ToldJob
+faulted_job job (Faulted fault reads) = record { job = job; fault = fault; reads = reads } ∷ []
+faulted_job job other = []
 
--- What the command does to its devices, and its status: what is to be printed of the jobs is written, with status 0 and nothing said at a good end, and else it
--- is said what went wrong.
-abbrev pub Ends : Bool → Printing → Devices → Option (List ℕ) → Option (List ℕ) → Bool → ℕ → Type 0
-Ends explained printing devices before after failed status =
-    (ended : Result (Unit {0}) JobsFault) × Does printing devices ended × EndsBy explained before after failed ended status
+abbrev pub faulted_jobs : ℕ → List JobEnd → List ToldJob
+faulted_jobs job [] = []
+faulted_jobs job (end ∷ ends) = faulted_job job end ++ faulted_jobs (suc job) ends
+
+-- what is said of the jobs that came to a fault, of the scenario that was kept under this name as this text
+abbrev pub SaysJobs : List ℕ → List ℕ → List JobEnd → Option (List ℕ) → Option (List ℕ) → Bool → Type 0
+SaysJobs name text ends before after failed = SaysSome (OrNothing (ExplainsJobs name text (scenario_in text) (faulted_jobs 0 ends))) before after failed
+
+-- a good end: where faults are explained, those of the jobs are
+abbrev pub SaysOfEnds : Bool → List ℕ → List ℕ → List JobEnd → Option (List ℕ) → Option (List ℕ) → Bool → Type 0
+SaysOfEnds false name text ends before after failed = (failed ≡ false) × Keeps before after
+SaysOfEnds true name text ends before after failed = SaysJobs name text ends before after failed
+
+abbrev pub EndsBy : Bool → List ℕ → List ℕ → Option (List ℕ) → Option (List ℕ) → Bool → Result (List JobEnd) JobsFault → ℕ → Type 0
+EndsBy explained name text before after failed (Ok ends) status = (status ≡ 0) × SaysOfEnds explained name text ends before after failed
+EndsBy explained name text before after failed (Err fault) status = SaysBy explained before after failed fault status
+
+-- What the command does to its devices, and its status: what is to be printed of the jobs is written, with status 0 at a good end, at which the jobs that came to
+-- a fault are explained or nothing is said, and else it is said what went wrong.
+abbrev pub Ends : Bool → List ℕ → List ℕ → Printing → Devices → Option (List ℕ) → Option (List ℕ) → Bool → ℕ → Type 0
+Ends explained name text printing devices before after failed status =
+    (ended : Result (List JobEnd) JobsFault) × Does printing devices ended × EndsBy explained name text before after failed ended status

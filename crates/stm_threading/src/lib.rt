@@ -1,6 +1,7 @@
 //! The command `threads`, over devices: a scenario's starts are run as jobs by several threads, and what that comes to is printed.
 #![tactic(auto)]
 
+mod faults;
 mod messages;
 mod running;
 mod shown;

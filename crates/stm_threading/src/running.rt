@@ -14,12 +14,13 @@ ghost use Rattle.stm_threading.specs.Running.{AreCounted, HasCounted, IsOfRun, I
 use crate::shown::{Printing, Shown};
 use std::alloc::{AllocError, Global};
 use std::collections::BTreeMap;
+use std::mem::replace;
 use std::sync::Wait;
 use std::thread::Threads;
 use stm_devices::{ReadFault, Sink, Source, read_all, write_all};
 use stm_hall::Hall;
-use stm_history::Text;
-use stm_job::{FaultCause, Gathered, Job, RunFault};
+use stm_history::{Sequence, Text};
+use stm_job::{FaultCause, Gathered, Job, JobEnd, RunFault};
 use stm_jobs::{accept, count_one, front_of, lines, open_store, tally_text};
 use stm_json::{BadInput, ReadError};
 use stm_texts::{Scenario, read_scenario};
@@ -49,6 +50,15 @@ pub enum JobsFault {
     /// The end of this job is not what the hall says.
     #[error("audit {0}")]
     Audit(u64),
+}
+
+/// What is printed of jobs, and how they ended where it is of one run.
+#[derive(Drop)]
+pub(crate) struct Printed {
+    /// The text.
+    pub(crate) text: String,
+    /// The end of each job, at its place; none of more runs than one.
+    pub(crate) ends: Sequence<JobEnd>,
 }
 
 impl From<ReadError> for JobsFault {
@@ -103,21 +113,32 @@ fn shown_of(
     }
 }
 
-/// What is to be shown of a run of so many jobs, which is let go.
+/// How the jobs of a run ended. What else it came to is let go.
+fn ends_of(alloc: Global, gathered: Gathered) -> Sequence<JobEnd>
+    ensures { result ≡ gathered.ends.items }
+{
+    let mut gathered = gathered;
+    let ends = replace(&mut gathered.ends, Vec::new(alloc));
+    drop(gathered);
+    Sequence::of(ends)
+}
+
+/// What is to be shown of a run of so many jobs, and how they ended. What else it came to is let go.
 fn text_of_run(
     alloc: Global,
     jobs: usize,
     gathered: Gathered,
     shown: Shown,
-) -> Result<String, JobsFault>
+) -> Result<Printed, JobsFault>
     requires { length gathered.attempts.items ≡ length gathered.ends.items }
-    ensures shows { IfOk result (λ text. IsTextOf shown gathered.ends.items gathered.attempts.items jobs gathered.committed gathered.hall (string_bytes text)) }
+    ensures shows { IfOk result (λ p. IsTextOf shown gathered.ends.items gathered.attempts.items jobs gathered.committed gathered.hall (string_bytes p.text)) }
+    ensures ends { IfOk result (λ p. p.ends ≡ gathered.ends.items) }
     ensures fault { IfErr result (λ fault. fault ≡ OutOfMemory) }
 {
     let text = shown_of(alloc, jobs, &gathered, shown);
-    drop(gathered);
+    let ends = ends_of(alloc, gathered);
     match text {
-        Ok(text) => Ok(text),
+        Ok(text) => Ok(Printed { text, ends }),
         Err(_) => Err(JobsFault::OutOfMemory),
     }
 }
@@ -130,10 +151,10 @@ fn text_on<R: Threads + Wait + Sync>(
     jobs: &[Job],
     workers: usize,
     shown: Shown,
-) -> Result<String, JobsFault>
+) -> Result<Printed, JobsFault>
     requires { (1 ≤ workers) × (workers ≤ MOST_WORKERS) }
-    ensures shows { IfOk result (λ text. (start : ℕ) (calls : List WorldEvent) → store.standing ≡ (world_after calls (opened start)).standing
-        → IsOfRun shown start calls jobs.now (string_bytes text)) }
+    ensures shows { IfOk result (λ p. (start : ℕ) (calls : List WorldEvent) → store.standing ≡ (world_after calls (opened start)).standing
+        → IsOfRun shown start calls jobs.now p.ends (string_bytes p.text)) }
     ensures fault { IfErr result (λ fault. (start : ℕ) (calls : List WorldEvent) → store.standing ≡ (world_after calls (opened start)).standing
         → IsBrokenOff start calls jobs.now fault) }
 {
@@ -152,9 +173,9 @@ fn run_once<R: Threads + Wait + Sync>(
     jobs: &[Job],
     workers: usize,
     shown: Shown,
-) -> Result<String, JobsFault>
+) -> Result<Printed, JobsFault>
     requires { (1 ≤ workers) × (workers ≤ MOST_WORKERS) × (1 ≤ start) × (start ≤ HIGHEST_REVISION) }
-    ensures shows { IfOk result (λ text. IsOfRun shown start calls.now jobs.now (string_bytes text)) }
+    ensures shows { IfOk result (λ p. IsOfRun shown start calls.now jobs.now p.ends (string_bytes p.text)) }
     ensures fault { IfErr result (IsBrokenOff start calls.now jobs.now) }
 {
     match open_store(alloc, start, calls) {
@@ -180,7 +201,7 @@ fn count_run<R: Threads + Wait + Sync>(
     ensures fault { IfErr result (IsBrokenOff start calls.now jobs.now) }
 {
     let front = match run_once(rt, alloc, start, calls, jobs, workers, Shown::Outcome) {
-        Ok(front) => front,
+        Ok(printed) => printed.text,
         Err(fault) => return Err(fault),
     };
     match count_one(tally, Text::new(front), made) {
@@ -222,9 +243,9 @@ fn run_often<R: Threads + Wait + Sync>(
     jobs: &[Job],
     workers: usize,
     runs: u32,
-) -> Result<String, JobsFault>
+) -> Result<Printed, JobsFault>
     requires { (1 ≤ workers) × (workers ≤ MOST_WORKERS) × (1 ≤ start) × (start ≤ HIGHEST_REVISION) }
-    ensures printed { IfOk result (λ text. IsPrintedOfJobs (OfRuns runs) start calls.now jobs.now (string_bytes text)) }
+    ensures printed { IfOk result (λ p. IsPrintedOfJobs (OfRuns runs) start calls.now jobs.now p.ends (string_bytes p.text)) }
     ensures fault { IfErr result (IsBrokenOff start calls.now jobs.now) }
 {
     let tally = match count_runs(rt, alloc, start, calls, jobs, workers, runs) {
@@ -232,7 +253,10 @@ fn run_often<R: Threads + Wait + Sync>(
         Err(fault) => return Err(fault),
     };
     match tally_text(alloc, &tally, runs) {
-        Ok(text) => Ok(text),
+        Ok(text) => Ok(Printed {
+            text,
+            ends: Sequence::new(alloc),
+        }),
         Err(_) => Err(JobsFault::OutOfMemory),
     }
 }
@@ -246,9 +270,9 @@ fn text_of<R: Threads + Wait + Sync>(
     jobs: &[Job],
     workers: usize,
     printing: Printing,
-) -> Result<String, JobsFault>
+) -> Result<Printed, JobsFault>
     requires { (1 ≤ workers) × (workers ≤ MOST_WORKERS) × (1 ≤ start) × (start ≤ HIGHEST_REVISION) }
-    ensures printed { IfOk result (λ text. IsPrintedOfJobs printing start calls.now jobs.now (string_bytes text)) }
+    ensures printed { IfOk result (λ p. IsPrintedOfJobs printing start calls.now jobs.now p.ends (string_bytes p.text)) }
     ensures fault { IfErr result (IsBrokenOff start calls.now jobs.now) }
 {
     match printing {
@@ -265,10 +289,10 @@ fn text_of_scenario<R: Threads + Wait + Sync>(
     scenario: Scenario,
     workers: usize,
     printing: Printing,
-) -> Result<String, JobsFault>
+) -> Result<Printed, JobsFault>
     requires workers { (1 ≤ workers) × (workers ≤ MOST_WORKERS) }
     requires opening { IsOpening scenario.opening }
-    ensures { Answers printing string_bytes (Ok scenario) result }
+    ensures { Answers printing (Ok scenario) result }
 {
     let start = scenario.opening.unwrap_or(1);
     let sorted = accept(alloc, scenario)?;
@@ -290,15 +314,15 @@ fn text_of_bytes<R: Threads + Wait + Sync>(
     bytes: &[u8],
     workers: usize,
     printing: Printing,
-) -> Result<String, JobsFault>
+) -> Result<Printed, JobsFault>
     requires { (1 ≤ workers) × (workers ≤ MOST_WORKERS) }
-    ensures { Answers printing string_bytes (scenario_in bytes.now) result }
+    ensures { Answers printing (scenario_in bytes.now) result }
 {
     let scenario = read_scenario(alloc, bytes)?;
     text_of_scenario(rt, alloc, scenario, workers, printing)
 }
 
-/// Writes what is printed of the jobs of the scenario that bytes spell, once it is whole.
+/// Writes what is printed of the jobs of the scenario that bytes spell, once it is whole, and tells how they ended.
 fn write_text<R: Threads + Wait + Sync, W: Sink>(
     rt: &R,
     alloc: Global,
@@ -306,23 +330,23 @@ fn write_text<R: Threads + Wait + Sync, W: Sink>(
     workers: usize,
     printing: Printing,
     sink: &mut W,
-) -> Result<(), JobsFault>
+) -> Result<Sequence<JobEnd>, JobsFault>
     requires workers { (1 ≤ workers) × (workers ≤ MOST_WORKERS) }
     requires sink_works { W.failed sink.old ≡ false }
     ensures { Writes printing bytes.now (W.held sink.old) (W.held sink.new) (W.failed sink.new) result }
 {
-    let text = match text_of_bytes(rt, alloc, bytes, workers, printing) {
-        Ok(text) => text,
+    let printed = match text_of_bytes(rt, alloc, bytes, workers, printing) {
+        Ok(printed) => printed,
         Err(fault) => return Err(fault),
     };
-    match write_all(sink, text.as_str().as_bytes()) {
-        Ok(()) => Ok(()),
+    match write_all(sink, printed.text.as_str().as_bytes()) {
+        Ok(()) => Ok(printed.ends),
         Err(_) => Err(JobsFault::Write),
     }
 }
 
 /// Reads a scenario of jobs from a source to its end, runs the jobs by so many threads, and writes to a sink what is to be printed of the run, or of so
-/// many runs, one after another, each of them on a store of its own.
+/// many runs, one after another, each of them on a store of its own. Tells the end of each job, at its place, of one run, and none of more.
 ///
 /// The scenario is read whole, and then judged as one of jobs, before anything runs. Nothing is written before the last run has ended.
 /// Neither device has failed before. It fails as `Bad` with the first fault, as `OutOfMemory` where a growth was refused, as `Read` where the
@@ -336,7 +360,7 @@ pub fn run_jobs<R: Threads + Wait + Sync, S: Source, W: Sink>(
     workers: usize,
     printing: Printing,
     sink: &mut W,
-) -> Result<(), JobsFault>
+) -> Result<Sequence<JobEnd>, JobsFault>
     requires workers { (1 ≤ workers) × (workers ≤ MOST_WORKERS) }
     requires source_works { S.failed source.old ≡ false }
     requires sink_works { W.failed sink.old ≡ false }

@@ -1,10 +1,11 @@
 //! The command `threads` over devices.
-ghost use Rattle.std.specs.Prelude.{◌≡◌, ◌≤◌, ◌+◌, false};
+ghost use Rattle.std.specs.Prelude.{◌≡◌, ◌≤◌, ◌+◌, [], false};
 ghost use Rattle.stm_devices.specs.declared.transfer.TheConstants.{MOST_READ};
 ghost use Rattle.stm_workers.specs.declared.run.TheConstants.{MOST_WORKERS};
 ghost use Rattle.stm_threading.specs.declared.shown.Printing.TheVariants.{Values};
 ghost use Rattle.stm_threading.specs.Threading.{Ends};
 
+use crate::faults::tell_ends;
 use crate::messages::{tell, tell_by};
 use crate::running::run_jobs;
 use crate::shown::Printing;
@@ -21,7 +22,7 @@ pub struct ThreadsOptions {
     pub workers: usize,
     /// What is printed.
     pub printing: Printing,
-    /// Whether a bad scenario is explained.
+    /// Whether a bad scenario is explained, and jobs that came to a fault.
     pub explain: bool,
 }
 
@@ -46,7 +47,7 @@ pub fn threads_to<R: Threads + Wait + Sync, S: Source, W: Sink, E: Sink>(
     requires input_works { S.failed input.old ≡ false }
     requires out_works { W.failed out.old ≡ false }
     requires err_works { E.failed err.old ≡ false }
-    ensures ends { Ends false Values (record {
+    ensures ends { Ends false [] [] Values (record {
       input = S.left input.old;
       before = W.held out.old;
       after = W.held out.new;
@@ -56,7 +57,7 @@ pub fn threads_to<R: Threads + Wait + Sync, S: Source, W: Sink, E: Sink>(
     ensures bounded { S.reads input.new ≤ S.reads input.old + MOST_READ }
 {
     match run_jobs(rt, alloc, input, workers, Printing::Values, out) {
-        Ok(()) => 0,
+        Ok(_) => 0,
         Err(fault) => tell(err, &fault),
     }
 }
@@ -65,8 +66,8 @@ pub fn threads_to<R: Threads + Wait + Sync, S: Source, W: Sink, E: Sink>(
 /// or without, or of so many runs, each on a store of its own, a line for each outcome, once, with how often it came, and behind them their number. One run
 /// that is broken off breaks off all.
 ///
-/// Where the options say so there stands behind what is said of a bad scenario its explanation, as a line `NAME:LINE:COLUMN: WORDS`, or nothing where a
-/// growth was refused for it.
+/// Where the options say so there stands behind what is said of a bad scenario its explanation, as a line `NAME:LINE:COLUMN: WORDS`, and of one run a line
+/// for each job that came to a fault, in their order, `NAME:LINE:COLUMN: job JOB: FAULT at PLACE: REASON`; or nothing where a growth was refused for these.
 pub fn threads_as_to<R: Threads + Wait + Sync, S: Source, W: Sink, E: Sink>(
     rt: &R,
     alloc: Global,
@@ -79,7 +80,7 @@ pub fn threads_as_to<R: Threads + Wait + Sync, S: Source, W: Sink, E: Sink>(
     requires input_works { S.failed input.old.source ≡ false }
     requires out_works { W.failed out.old ≡ false }
     requires err_works { E.failed err.old ≡ false }
-    ensures ends { Ends options.explain options.printing (record {
+    ensures ends { Ends options.explain input.new.name.now input.new.bytes.items options.printing (record {
       input = S.left input.old.source;
       before = W.held out.old;
       after = W.held out.new;
@@ -89,7 +90,7 @@ pub fn threads_as_to<R: Threads + Wait + Sync, S: Source, W: Sink, E: Sink>(
     ensures bounded { S.reads input.new.source ≤ S.reads input.old.source + MOST_READ }
 {
     match run_jobs(rt, alloc, input, options.workers, options.printing, out) {
-        Ok(()) => 0,
+        Ok(ends) => tell_ends(alloc, options.explain, input, ends.as_slice(), err),
         Err(fault) => tell_by(alloc, options.explain, input, &fault, err),
     }
 }

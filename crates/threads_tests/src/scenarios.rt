@@ -214,6 +214,82 @@ fn an_explained_scenario(rt: HostRuntime) {
     leaves_as(&rt, rt.alloc(), "[[\"step\",1]]", options, 2, "", EXPLAINED);
 }
 
+/// Jobs of which one commits and two come to a fault, whichever goes first.
+const FAULTED: &str =
+    r#"[["txn",[],[["put","a","x",0]],[]],["start","Serializable",1,[["put","b",["get","a"],0]]],
+["start","Serializable",1,[["put","b",["text_of",["num_of",["get","a"]]],0]]],["start","Serializable",1,[["emit",["div",1,0]]]]]"#;
+
+/// What is printed of them with their ends.
+const FAULTED_ENDS: &str = r#"["jobs",3]
+["committed",1]
+["job",0,"committed",3,1]
+["job",1,"faulted","NotANumber",1]
+["job",2,"faulted","ZeroDivisor",1]
+["value","a","x"]
+["value","b","x"]
+["end",3]
+"#;
+
+/// What is printed of them without.
+const FAULTED_VALUES: &str = r#"["jobs",3]
+["committed",1]
+["value","a","x"]
+["value","b","x"]
+["end",3]
+"#;
+
+/// What three runs of them come to.
+const FAULTED_OUTCOMES: &str =
+    r#"["outcome",[["a","x"],["b","x"]],[["committed",[]],["faulted","NotANumber"],["faulted","ZeroDivisor"]],3]
+["runs",3]
+"#;
+
+/// What is said of them: where in the scenario each stopped, and on which values.
+const FAULTED_SAID: &str =
+    r#"s.json:2:50: job 1: NotANumber at /2/3/0/2/1: "x" is no whole number of 64 bits
+s.json:2:114: job 2: ZeroDivisor at /3/3/0/1: division by zero: 1 / 0
+"#;
+
+/// Jobs that came to a fault are explained beside what is printed of one run, with the ends or without, and not of many.
+#[test]
+fn explained_jobs(rt: HostRuntime) {
+    let ends = ThreadsOptions {
+        workers: 2,
+        printing: Printing::Ends,
+        explain: true,
+    };
+    leaves_as(
+        &rt,
+        rt.alloc(),
+        FAULTED,
+        ends,
+        0,
+        FAULTED_ENDS,
+        FAULTED_SAID,
+    );
+    let values = ThreadsOptions {
+        workers: 1,
+        printing: Printing::Values,
+        explain: true,
+    };
+    leaves_as(
+        &rt,
+        rt.alloc(),
+        FAULTED,
+        values,
+        0,
+        FAULTED_VALUES,
+        FAULTED_SAID,
+    );
+    let outcomes = ThreadsOptions {
+        workers: 2,
+        printing: Printing::Outcomes(3),
+        explain: true,
+    };
+    leaves_as(&rt, rt.alloc(), FAULTED, outcomes, 0, FAULTED_OUTCOMES, "");
+    leaves_as(&rt, rt.alloc(), FAULTED, with_ends(2), 0, FAULTED_ENDS, "");
+}
+
 /// The scenario of 64 transfers of 1 in a ring of eight accounts with 100 each.
 fn ring(alloc: Global) -> Result<String, AllocError> {
     let mut text = String::from_str(alloc, "[[\"txn\",[],[[\"put\",\"a0\",\"100\",0]")?;

@@ -10,7 +10,6 @@ returns c =
     IfOk-weaker c.line_of.result _ _ (λ s e. (
       c.in_ok-offset.offset,
       c.in_ok-offset.ensures,
-      words,
       e
           ∙ ap (λ (p : ℕ × ℕ). explanation c.args.name.now p.0 p.1 words)
           (c.position_of-at.ensures ∙ ap (λ (b : List ℕ). place_behind (take c.in_ok-offset.offset b)) c.as_bytes.ensures.value),

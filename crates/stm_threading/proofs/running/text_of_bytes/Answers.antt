@@ -1,4 +1,4 @@
-use Rattle.std.proofs.Common.{Err, sym, ap, ◌∙◌, subst, string_bytes}
+use Rattle.std.proofs.Common.{Err, sym, ap, ◌∙◌, subst}
 use Rattle.std.proofs.lemmas.Result.{err_from_is_err_and}
 use Rattle.stm_json.specs.Outcome.{Outcome as Reading}
 use Rattle.stm_texts.specs.declared.scenario.Scenario.{Scenario}
@@ -13,10 +13,10 @@ returns-in_err-scenario g c =
     let p = err_from_is_err_and c.from_residual.result c.from_residual.ensures.1 in
     let reading : Reading Scenario = scenario_in c.args.bytes.now in
     let fault = c.in_err-scenario.field-0.0 in
-    answers_fault c.args.printing string_bytes reading fault c.from_residual.result (judged_unread reading fault c.in_err-scenario.ensures.exact)
+    answers_fault c.args.printing reading fault c.from_residual.result (judged_unread reading fault c.in_err-scenario.ensures.exact)
     (p.1 ∙ ap (λ (f : JobsFault). Err f) p.2)
 
 pub returns : goal.returns
 returns g c =
-    subst (λ (reading : Reading Scenario). Answers c.args.printing string_bytes reading c.text_of_scenario.result) (sym c.in_ok-scenario.ensures.exact)
+    subst (λ (reading : Reading Scenario). Answers c.args.printing reading c.text_of_scenario.result) (sym c.in_ok-scenario.ensures.exact)
     c.text_of_scenario.ensures

@@ -1,4 +1,4 @@
-use Rattle.std.proofs.Common.{Ok, Err, map, ap, ◌∙◌, string_bytes}
+use Rattle.std.proofs.Common.{Ok, Err, map, ap, ◌∙◌}
 use Rattle.std.proofs.lemmas.Result.{err_from_is_err_and}
 use Rattle.stm_threading.specs.declared.running.JobsFault.{JobsFault}
 use Rattle.stm_jobs.specs.Accepting.{sorted_of, task_of}
@@ -8,11 +8,11 @@ use Rattle.stm_threading.proofs.running.text_of_scenario.Goals as goal
 pub returns-in_err-sorted : goal.returns-in_err-sorted
 returns-in_err-sorted g c =
     let p = err_from_is_err_and c.from_residual.result c.from_residual.ensures.1 in
-    answers_fault c.args.printing string_bytes (Ok c.args.scenario) c.in_err-sorted.field-0.0 c.from_residual.result c.in_err-sorted.ensures
+    answers_fault c.args.printing (Ok c.args.scenario) c.in_err-sorted.field-0.0 c.from_residual.result c.in_err-sorted.ensures
     (p.1 ∙ ap (λ (fault : JobsFault). Err fault) p.2)
 
 pub returns : goal.returns
 returns g c =
-    answers_of c.args.printing string_bytes c.args.scenario (sorted_of c.in_ok-sorted.sorted) c.unwrap_or-start.result c.as_slice.result.now
+    answers_of c.args.printing c.args.scenario (sorted_of c.in_ok-sorted.sorted) c.unwrap_or-start.result c.as_slice.result.now
     c.as_slice-2.result.now c.text_of.result c.in_ok-sorted.ensures c.unwrap_or-start.ensures c.as_slice.ensures (ap (map task_of) c.as_slice-2.ensures)
     c.text_of.ensures.printed c.text_of.ensures.fault

@@ -1,6 +1,8 @@
-use Rattle.std.proofs.Common.{string_bytes, sym, ◌∙◌}
-use Rattle.std.proofs.lemmas.Result.{IfOk-weaker, IfErr-weaker}
-use Rattle.stm_threading.proofs.RunLemmas.{is_of_run, broken_off, no_room}
+use Rattle.std.proofs.Common.{string_bytes, sym, subst, ◌∙◌, List}
+use Rattle.std.proofs.lemmas.Result.{IfErr-weaker}
+use Rattle.stm_job.specs.declared.job_end.JobEnd.{JobEnd}
+use Rattle.stm_threading.specs.Running.{IsOfRun}
+use Rattle.stm_threading.proofs.RunLemmas.{of_both, is_of_run, broken_off, no_room}
 use Rattle.stm_threading.proofs.running.text_on.Goals as goal
 
 -- there is a number of attempts for each end
@@ -9,12 +11,12 @@ text_of_run-requires g c = c.in-Ok.ensures.ok.attempted ∙ sym c.in-Ok.ensures.
 
 pub returns-in-Ok-clause-shows : goal.returns-in-Ok-clause-shows
 returns-in-Ok-clause-shows g c =
-    IfOk-weaker c.text_of_run.result _ _
-    (λ text printed start calls stands.
-    is_of_run c.args.shown start calls c.args.jobs.now (string_bytes text) c.args.store.standing c.in-Ok.gathered.ends.items
-    c.in-Ok.gathered.attempts.items c.in-Ok.gathered.committed c.new.result
-    c.in-Ok.gathered.hall stands c.new.ensures c.in-Ok.ensures.ok printed)
-    c.text_of_run.ensures.shows
+    let gathered = c.in-Ok.gathered in
+    of_both c.text_of_run.result _ _ _ c.text_of_run.ensures.shows c.text_of_run.ensures.ends
+    (λ p shows ended start calls stands.
+    subst (λ (ends : List JobEnd). IsOfRun c.args.shown start calls c.args.jobs.now ends (string_bytes p.text)) (sym ended)
+    (is_of_run c.args.shown start calls c.args.jobs.now (string_bytes p.text) c.args.store.standing gathered.ends.items gathered.attempts.items
+    gathered.committed c.new.result gathered.hall stands c.new.ensures c.in-Ok.ensures.ok shows))
 
 pub returns-in-Ok-clause-fault : goal.returns-in-Ok-clause-fault
 returns-in-Ok-clause-fault g c =

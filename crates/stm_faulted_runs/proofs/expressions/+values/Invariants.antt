@@ -1,0 +1,15 @@
+use Rattle.std.proofs.Common.{◌+◌, ◌*◌}
+use Rattle.stm_program.specs.Size.{expression_nodes}
+use Rattle.stm_faulted_runs.proofs.expressions.+values.Given as goal
+
+abbrev pub decreases-part_value : goal.decreases-part_value
+decreases-part_value g l = 3 * expression_nodes l.expression.now + 1
+
+abbrev pub decreases-value_of : goal.decreases-value_of
+decreases-value_of g l = 3 * expression_nodes l.expression.now
+
+abbrev pub decreases-combined : goal.decreases-combined
+decreases-combined g l = 3 * (expression_nodes l.left.now + expression_nodes l.right.now) + 2
+
+abbrev pub decreases-joined : goal.decreases-joined
+decreases-joined g l = 3 * (expression_nodes l.left.now + expression_nodes l.right.now) + 2

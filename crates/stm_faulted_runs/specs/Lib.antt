@@ -1,0 +1,15 @@
+pub use Rattle.stm_steps.specs.Meaning
+pub use Rattle.stm_explain.specs.Explaining
+pub use Rattle.stm_world.specs.World
+pub use Rattle.stm_texts.specs.Reading
+pub mod Sites
+pub mod Tells
+pub mod Found
+pub mod Laws
+pub mod Reads
+pub mod Places
+pub mod Lines
+pub mod Rules
+pub mod Origins
+pub mod Jobs
+pub mod ToldFaults

@@ -1,0 +1,93 @@
+-- The explanations of runs that came to a fault: a line for each of them, in order.
+use Rattle.std.specs.Prelude.{◌≡◌, ◌⊎◌, ℕ, suc, ◌-◌, List, [], ◌∷◌, ◌++◌, Bool, Option, None, Some, is_some, if◌then◌else◌, Result, Ok, Err, codes, decimal}
+use Rattle.std.specs.Prelude.{unwrap_or, slice_get}
+use Rattle.stm_history.specs.declared.key_state.ReadAnswer.{ReadAnswer}
+use Rattle.stm_steps.specs.declared.fault.Fault.{Fault}
+use Rattle.stm_steps.specs.Faults.{fault_name}
+use Rattle.stm_steps.specs.Answer.{Lookup}
+use Rattle.stm_world.specs.declared.reply.Reply.{Reply}
+use Rattle.stm_world.specs.declared.reply.Reply.TheVariants.{Faulted}
+use Rattle.stm_world.specs.declared.refusal.Denied.{Denied}
+use Rattle.stm_world.specs.declared.event.WorldEvent.{WorldEvent}
+use Rattle.stm_world.specs.World.{World, opened, replies_to}
+use Rattle.stm_json.specs.Outcome.{Outcome}
+use Rattle.stm_texts.specs.declared.scenario.Scenario.{Scenario}
+use Rattle.stm_explain.specs.Explaining.{IsExplanationOf}
+use Rattle.stm_faulted_runs.specs.Reads.{told_in}
+use Rattle.stm_faulted_runs.specs.Places.{Started, started_in, IsMoreOf}
+
+-- a text under a name, and the runs that begin in it
+pub record Origin : Type 0 where
+  pub name : List ℕ
+  pub text : List ℕ
+  pub runs : List Started
+
+-- a run that came to a fault: how its line begins, its number, counted from 0, and what it had read, where that is known
+pub record Told : Type 0 where
+  pub head : List ℕ
+  pub fault : Fault
+  pub number : ℕ
+  pub reads : Option (List ReadAnswer)
+
+-- over the answers that were read, where they are known, and else over some look-up
+abbrev pub OverReads : Option (List ReadAnswer) → (Lookup → Type 0) → Type 0
+OverReads None says = (look : Lookup) × says look
+OverReads (Some reads) says = says (told_in reads)
+
+-- what is told of the place of its fault
+abbrev pub IsMoreOfTold : Origin → Told → List ℕ → Type 0
+IsMoreOfTold origin told more = OverReads told.reads (λ look. IsMoreOf (slice_get origin.runs told.number) look told.fault more)
+
+-- a line of explanation that begins so, and tells the place
+abbrev pub IsLineOf : Origin → Told → List ℕ → Type 0
+IsLineOf origin told line = (more : List ℕ) × IsMoreOfTold origin told more × IsExplanationOf origin.name origin.text (told.head ++ more) line
+
+-- a line for each, in order
+abbrev pub ExplainsEach : Origin → List Told → List ℕ → Type 0
+ExplainsEach origin [] said = said ≡ []
+ExplainsEach origin (told ∷ others) said =
+    (line : List ℕ) × (rest : List ℕ) × (said ≡ line ++ rest) × IsLineOf origin told line × ExplainsEach origin others rest
+
+-- lines for these were added
+abbrev pub Adds : Origin → List Told → List ℕ → List ℕ → Type 0
+Adds origin tolds old new = (said : List ℕ) × (new ≡ old ++ said) × ExplainsEach origin tolds said
+
+-- said in this form, or nothing, where a growth was refused
+abbrev pub OrNothing : (List ℕ → Type 0) → List ℕ → Type 0
+OrNothing Form said = (said ≡ []) ⊎ Form said
+
+-- ---- runs of a scenario
+
+-- the number of the event that ended a run, its fault, and the number of its runner
+abbrev pub run_head : ℕ → Fault → ℕ → List ℕ
+run_head event fault runner = codes "event " ++ decimal event ++ codes ": " ++ fault_name fault ++ codes " of runner " ++ decimal runner
+
+-- the fault of a runner that the event with this number told; runners are numbered from 1
+abbrev pub told_of_run : ℕ → ℕ → Fault → Told
+told_of_run event runner fault = record { head = run_head event fault runner; fault = fault; number = runner - 1; reads = None }
+
+-- the reply to the event with this number, where it tells a fault
+abbrev pub told_by : ℕ → Result Reply Denied → List Told
+told_by event (Ok (Faulted runner fault)) = told_of_run event runner fault ∷ []
+told_by event other = []
+
+-- those of the replies that do, of which the first is to the event with this number
+abbrev pub faults_told : ℕ → List (Result Reply Denied) → List Told
+faults_told event [] = []
+faults_told event (reply ∷ replies) = told_by event reply ++ faults_told (suc event) replies
+
+-- those of the replies to these events, from a world
+abbrev pub faults_from : World → List WorldEvent → List Told
+faults_from w events = faults_told 1 (replies_to events w)
+
+-- how many elements stand before the events of a scenario: that with its opening, where it has one
+abbrev pub first_of : Bool → ℕ
+first_of opens = if opens then 1 else 0
+
+abbrev pub origin_of : List ℕ → List ℕ → Scenario → Origin
+origin_of name text s = record { name = name; text = text; runs = started_in (first_of (is_some s.opening)) s.events }
+
+-- what is said of the run of a scenario; nothing where there is no scenario
+abbrev pub ExplainsRun : List ℕ → List ℕ → Outcome Scenario → List ℕ → Type 0
+ExplainsRun name text (Ok s) said = ExplainsEach (origin_of name text s) (faults_from (opened (unwrap_or s.opening 1)) s.events) said
+ExplainsRun name text (Err bad) said = said ≡ []

@@ -1,0 +1,48 @@
+-- What is told of the place of a fault.
+use Rattle.std.specs.Prelude.{◌≡◌, ◌≢◌, ◌⊎◌, ℕ, suc, nat_eq, if◌then◌else◌, List, [], ◌∷◌, ◌++◌, Option, None, Some, codes}
+use Rattle.stm_json.specs.Outcome.{step}
+use Rattle.stm_program.specs.Syntax.{ProgramTree}
+use Rattle.stm_steps.specs.declared.fault.Fault.{Fault}
+use Rattle.stm_steps.specs.Answer.{Lookup}
+use Rattle.stm_world.specs.declared.event.WorldEvent.{WorldEvent}
+use Rattle.stm_world.specs.declared.event.WorldEvent.TheVariants.{Start}
+use Rattle.stm_faulted_runs.specs.declared.finding.FoundFault.{FoundFault}
+use Rattle.stm_faulted_runs.specs.Found.{fault_of}
+
+-- the JSON Pointer of these indices
+abbrev pub pointer : List ℕ → List ℕ
+pointer [] = []
+pointer (index ∷ indices) = step index ++ pointer indices
+
+-- a place and a reason are told
+abbrev pub TellsPlace : List ℕ → List ℕ → Type 0
+TellsPlace place more = (reason : List ℕ) × (more ≡ codes " at " ++ pointer place ++ codes ": " ++ reason)
+
+-- what is told of a fault that was found in the program of the start that is an element: its place, where it is the fault that is to be told, and else
+-- nothing
+abbrev pub IsMore : ℕ → Fault → Option FoundFault → List ℕ → Type 0
+IsMore element fault None more = more ≡ []
+IsMore element fault (Some found) more =
+    ((found.fault ≡ fault) × TellsPlace (element ∷ 3 ∷ found.site.place) more) ⊎ ((found.fault ≢ fault) × (more ≡ []))
+
+-- ---- the runs that events begin
+
+-- a run: the index of its start among the elements of its scenario, and its program
+pub record Started : Type 0 where
+  pub element : ℕ
+  pub program : ProgramTree
+
+-- the run that an event begins: it is a start that may send a commit, and the element with this index
+abbrev pub started_by : ℕ → WorldEvent → List Started
+started_by element (Start program level limit) = if nat_eq limit 0 then [] else record { element = element; program = program } ∷ []
+started_by element other = []
+
+-- the runs that events begin, in order; the first event is the element with this index
+abbrev pub started_in : ℕ → List WorldEvent → List Started
+started_in element [] = []
+started_in element (e ∷ es) = started_by element e ++ started_in (suc element) es
+
+-- what is told of a fault that a run comes to over a look-up; nothing where there is no such run
+abbrev pub IsMoreOf : Option Started → Lookup → Fault → List ℕ → Type 0
+IsMoreOf None look fault more = more ≡ []
+IsMoreOf (Some run) look fault more = IsMore run.element fault (fault_of look run.program.statements) more

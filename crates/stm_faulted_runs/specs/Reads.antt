@@ -1,0 +1,15 @@
+-- What the answers of a run tell of a key.
+use Rattle.std.specs.Prelude.{List, option_map, min}
+use Rattle.stm_history.specs.declared.key_state.ReadAnswer.{ReadAnswer}
+use Rattle.stm_history.specs.declared.revisions.TheConstants.{HIGHEST_NUMBER}
+use Rattle.stm_history.specs.History.{value_of, mod_of}
+use Rattle.stm_steps.specs.Answer.{Answer, Lookup}
+use Rattle.stm_compile.specs.Answers.{answer_in}
+
+-- the value of its key and its modification revision, which is at most `HIGHEST_NUMBER` in each answer of a store
+abbrev pub told_of : ReadAnswer → Answer
+told_of a = record { value = value_of a.kv; mod_rev = min (mod_of a.kv) HIGHEST_NUMBER }
+
+-- the look-up of a run over these answers, and nothing of other keys
+abbrev pub told_in : List ReadAnswer → Lookup
+told_in answers key = option_map told_of (answer_in key answers)

@@ -1,0 +1,89 @@
+//! The lines of the events of a scenario.
+ghost use Rattle.std.specs.Prelude.{◌≡◌, false, IfOk, OnOk, string_bytes};
+ghost use Rattle.stm_retry.specs.Tells.{ran_out};
+ghost use Rattle.stm_world.specs.World.{step};
+ghost use Rattle.stm_faulted_runs.specs.Lines.{told_by, faults_from, Adds};
+ghost use Rattle.stm_faulted_runs.specs.ToldFaults.{told_as};
+ghost use Rattle.stm_faulted_runs.specs.Origins.{origin_in};
+
+use crate::following::{begin, forget, note};
+use crate::lines::{ToldFault, fault_in, push_told};
+use crate::runs::Explained;
+use std::alloc::{AllocError, Global};
+use stm_retry::{Denied, Refusal, Reply, State, Store, StoreRefusal, World, WorldEvent};
+
+/// Whether an event was refused for want of memory.
+fn is_out_of_memory(reply: &Result<Reply, Denied>) -> bool
+    ensures { result ≡ ran_out reply.now }
+{
+    match reply {
+        Ok(_) => false,
+        Err(denied) => denied.cause == Refusal::Store(StoreRefusal::OutOfMemory),
+    }
+}
+
+/// Follows the reply to an event, which fails where that was refused for want of memory.
+fn follow(
+    alloc: Global,
+    runners: &mut Vec<State>,
+    store: &Store,
+    reply: &Result<Reply, Denied>,
+) -> Result<(), AllocError>
+    ensures { OnOk result (ran_out reply.now ≡ false) }
+{
+    if is_out_of_memory(reply) {
+        return Err(AllocError);
+    }
+    match reply {
+        Ok(Reply::Started { .. }) => begin(alloc, runners),
+        Ok(reply) => note(alloc, runners.as_mut_slice(), store, reply),
+        Err(_) => Ok(()),
+    }
+}
+
+/// Takes the event with this number in a world, follows its reply, and gives the fault that this tells.
+fn take(
+    alloc: Global,
+    runners: &mut Vec<State>,
+    world: &mut World,
+    event: &WorldEvent,
+    number: u64,
+) -> Result<Option<ToldFault>, AllocError>
+    ensures told { IfOk result (λ told. told_by number (step event.now world.old).reply ≡ told_as told) }
+    ensures next { OnOk result ((step event.now world.old).next ≡ world.new) }
+{
+    let reply = world.step(event);
+    let told = fault_in(number, &reply);
+    let followed = follow(alloc, runners, world.store(), &reply);
+    drop(reply);
+    match followed {
+        Ok(()) => Ok(told),
+        Err(_) => Err(AllocError),
+    }
+}
+
+/// Lets go of what a runner was told whose fault has its line.
+fn forget_told(alloc: Global, runners: &mut [State], told: Option<ToldFault>) {
+    if let Some(told) = told {
+        forget(alloc, runners, told.runner);
+    }
+}
+
+/// Takes events in a world, whose runners are followed, and adds a line for each run that comes to a fault.
+pub(crate) fn explain_events(
+    alloc: Global,
+    out: &mut String,
+    explained: &Explained<'_>,
+    runners: &mut Vec<State>,
+    world: &mut World,
+    events: &[WorldEvent],
+) -> Result<(), AllocError>
+    ensures { OnOk result (Adds (origin_in explained.now) (faults_from world.old events.now) (string_bytes out.old) (string_bytes out.new)) }
+{
+    for (index, event) in events.iter().enumerate() {
+        let told = take(alloc, runners, world, event, index as u64 + 1)?;
+        push_told(alloc, out, explained, runners.as_slice(), told)?;
+        forget_told(alloc, runners.as_mut_slice(), told);
+    }
+    Ok(())
+}

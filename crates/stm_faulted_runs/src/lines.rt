@@ -1,0 +1,141 @@
+//! Lines that explain runs.
+ghost use Rattle.std.specs.Prelude.{◌≡◌, ◌++◌, [], ◌∷◌, IfOk, OnOk, string_bytes};
+ghost use Rattle.stm_explain.specs.Explaining.{IsExplanationOf};
+ghost use Rattle.stm_faulted_runs.specs.Lines.{run_head, told_by, IsMoreOfTold, IsLineOf, Adds};
+ghost use Rattle.stm_faulted_runs.specs.ToldFaults.{told_run, told_as};
+ghost use Rattle.stm_faulted_runs.specs.Origins.{origin_in};
+
+use crate::following::index_of;
+use crate::places::{Place, place_of_run};
+use crate::runs::Explained;
+use std::alloc::{AllocError, Global};
+use stm_explain::Marked;
+use stm_retry::{Denied, Reply};
+use stm_steps::{Fault, Lookup, State};
+
+/// A fault that a reply tells.
+#[derive(Clone, Copy)]
+pub(crate) struct ToldFault {
+    /// The number of the event.
+    pub(crate) event: u64,
+    /// The number of the runner.
+    pub(crate) runner: u64,
+    /// The fault.
+    pub(crate) fault: Fault,
+}
+
+/// The words of a line.
+pub(crate) fn words_of(alloc: Global, head: &str, more: &str) -> Result<String, AllocError>
+    ensures { IfOk result (λ words. string_bytes words ≡ head.now ++ more.now) }
+{
+    let mut words = String::from_str(alloc, head)?;
+    words.push_str(more)?;
+    Ok(words)
+}
+
+/// A line that begins so, of a fault at a place.
+pub(crate) fn line_of(
+    alloc: Global,
+    marked: &Marked<'_>,
+    head: &str,
+    place: &Place,
+) -> Result<String, AllocError>
+    ensures { IfOk result (λ line. IsExplanationOf marked.now.name.now marked.now.text.now (head.now ++ string_bytes place.now.more) (string_bytes line)) }
+{
+    let words = words_of(alloc, head, place.more.as_str())?;
+    marked.explained_at(alloc, place.steps.as_slice(), words.as_str())
+}
+
+/// Where a run came to the fault that was told, over what its runner was told.
+fn place_over<L: Lookup>(
+    alloc: Global,
+    explained: &Explained<'_>,
+    told: ToldFault,
+    lookup: &L,
+) -> Result<Place, AllocError>
+    ensures { IfOk result (λ place. IsMoreOfTold (origin_in explained.now) (told_run told) (string_bytes place.more)) }
+{
+    let number = told.runner.saturating_sub(1);
+    place_of_run(alloc, explained, number, lookup, told.fault)
+}
+
+/// Where the run came to the fault that was told, by what runners were told.
+fn place_told(
+    alloc: Global,
+    explained: &Explained<'_>,
+    runners: &[State],
+    told: ToldFault,
+) -> Result<Place, AllocError>
+    ensures { IfOk result (λ place. IsMoreOfTold (origin_in explained.now) (told_run told) (string_bytes place.more)) }
+{
+    match index_of(runners, told.runner) {
+        Some(index) => place_over(alloc, explained, told, &runners[index]),
+        None => place_over(alloc, explained, told, &State::new(alloc)),
+    }
+}
+
+/// The head of a run's line.
+fn run_head(alloc: Global, event: u64, fault: Fault, runner: u64) -> Result<String, AllocError>
+    ensures { IfOk result (λ head. string_bytes head ≡ run_head event fault runner) }
+{
+    format!(in alloc; "event {event}: {fault} of runner {runner}")
+}
+
+/// The line of a run that came to a fault.
+fn run_line(
+    alloc: Global,
+    explained: &Explained<'_>,
+    runners: &[State],
+    told: ToldFault,
+) -> Result<String, AllocError>
+    ensures { IfOk result (λ line. IsLineOf (origin_in explained.now) (told_run told) (string_bytes line)) }
+{
+    let place = place_told(alloc, explained, runners, told)?;
+    let head = run_head(alloc, told.event, told.fault, told.runner)?;
+    line_of(alloc, &explained.marked, head.as_str(), &place)
+}
+
+/// Adds the line of a run that came to a fault.
+fn push_run(
+    alloc: Global,
+    out: &mut String,
+    explained: &Explained<'_>,
+    runners: &[State],
+    told: ToldFault,
+) -> Result<(), AllocError>
+    ensures { OnOk result (Adds (origin_in explained.now) (told_run told ∷ []) (string_bytes out.old) (string_bytes out.new)) }
+{
+    let line = run_line(alloc, explained, runners, told)?;
+    out.push_str(line.as_str())?;
+    Ok(())
+}
+
+/// The fault that the reply to the event with this number tells, if it tells one.
+pub(crate) fn fault_in(event: u64, reply: &Result<Reply, Denied>) -> Option<ToldFault>
+    ensures { told_by event reply.now ≡ told_as result }
+{
+    match reply {
+        Ok(Reply::Faulted { runner, fault }) => Some(ToldFault {
+            event,
+            runner: *runner,
+            fault: *fault,
+        }),
+        _ => None,
+    }
+}
+
+/// Adds the line of a fault that was told.
+pub(crate) fn push_told(
+    alloc: Global,
+    out: &mut String,
+    explained: &Explained<'_>,
+    runners: &[State],
+    told: Option<ToldFault>,
+) -> Result<(), AllocError>
+    ensures { OnOk result (Adds (origin_in explained.now) (told_as told) (string_bytes out.old) (string_bytes out.new)) }
+{
+    match told {
+        Some(told) => push_run(alloc, out, explained, runners, told),
+        None => Ok(()),
+    }
+}

@@ -1,0 +1,147 @@
+//! Where a fault stands in a text of JSON, and what is said of it.
+ghost use Rattle.std.specs.Prelude.{◌≡◌, ◌++◌, [], ◌∷◌, Some as SomeOf, codes, slice_get, IfOk, OnOk, string_bytes};
+ghost use Rattle.stm_json.specs.Outcome.{step};
+ghost use Rattle.stm_faulted_runs.specs.Found.{fault_of};
+ghost use Rattle.stm_faulted_runs.specs.Places.{pointer, TellsPlace, IsMore, IsMoreOf};
+ghost use Rattle.stm_faulted_runs.specs.Origins.{origin_in};
+
+use crate::finding::{FoundFault, find_fault};
+use crate::reasons::reason;
+use crate::runs::{Explained, StartedRun, run_at};
+use std::alloc::{AllocError, Global};
+use stm_steps::{Fault, Lookup};
+
+/// Where a fault stands, and what is said of that.
+#[derive(Drop)]
+pub(crate) struct Place {
+    /// The indices that lead there.
+    pub(crate) steps: Vec<usize>,
+    /// The words.
+    pub(crate) more: String,
+}
+
+/// Adds an index to a JSON Pointer.
+fn push_step(alloc: Global, text: &mut String, index: usize) -> Result<(), AllocError>
+    ensures { OnOk result (string_bytes text.new ≡ string_bytes text.old ++ step index) }
+{
+    let part = format!(in alloc; "/{index}")?;
+    text.push_str(part.as_str())?;
+    Ok(())
+}
+
+/// The JSON Pointer of these indices.
+fn pointer_of(alloc: Global, steps: &[usize]) -> Result<String, AllocError>
+    ensures { IfOk result (λ p. string_bytes p ≡ pointer steps.now) }
+{
+    let mut text = String::new(alloc);
+    for step in steps {
+        push_step(alloc, &mut text, *step)?;
+    }
+    Ok(text)
+}
+
+/// What is said of a fault at a place with this pointer.
+fn words_at(alloc: Global, pointer: &str, reason: &str) -> Result<String, AllocError>
+    ensures { IfOk result (λ more. string_bytes more ≡ codes " at " ++ pointer.now ++ codes ": " ++ reason.now) }
+{
+    format!(in alloc; " at {pointer}: {reason}")
+}
+
+/// What is said of a fault at a place.
+fn words_of(alloc: Global, steps: &[usize], reason: &str) -> Result<String, AllocError>
+    ensures { IfOk result (λ more. TellsPlace steps.now (string_bytes more)) }
+{
+    let pointer = pointer_of(alloc, steps)?;
+    words_at(alloc, pointer.as_str(), reason)
+}
+
+/// The place of a fault that was found in the program to which these indices lead.
+pub(crate) fn place_of_fault(
+    alloc: Global,
+    steps: Vec<usize>,
+    found: &FoundFault,
+) -> Result<Place, AllocError>
+    ensures { IfOk result (λ place. TellsPlace (steps.items ++ found.now.site.place) (string_bytes place.more)) }
+{
+    let mut steps = steps;
+    let site = &found.site;
+    steps.extend_from_slice(site.place.as_slice())?;
+    let reason = reason(alloc, found.fault, site.node, site.values.as_slice())?;
+    let more = words_of(alloc, steps.as_slice(), reason.as_str())?;
+    Ok(Place { steps, more })
+}
+
+/// A place of which nothing more is said.
+fn bare_place(alloc: Global, steps: Vec<usize>) -> Place
+    ensures { string_bytes result.more ≡ [] }
+{
+    let more = String::new(alloc);
+    Place { steps, more }
+}
+
+/// The place of an element.
+fn place_of_element(alloc: Global, element: usize) -> Result<Place, AllocError>
+    ensures { IfOk result (λ place. string_bytes place.more ≡ []) }
+{
+    let mut steps = Vec::new(alloc);
+    steps.push(element)?;
+    Ok(bare_place(alloc, steps))
+}
+
+/// The place of a fault that was found in the program of the start that is an element.
+fn place_in_element(alloc: Global, element: usize, found: &FoundFault) -> Result<Place, AllocError>
+    ensures { IfOk result (λ place. TellsPlace (element ∷ 3 ∷ found.now.site.place) (string_bytes place.more)) }
+{
+    let mut steps = Vec::new(alloc);
+    steps.push(element)?;
+    steps.push(3)?;
+    place_of_fault(alloc, steps, found)
+}
+
+/// The place of a fault that was found so, where it is this one; else that of its start.
+fn place_where_same(
+    alloc: Global,
+    element: usize,
+    fault: Fault,
+    found: &FoundFault,
+) -> Result<Place, AllocError>
+    ensures { IfOk result (λ place. IsMore element fault (SomeOf found.now) (string_bytes place.more)) }
+{
+    if found.fault == fault {
+        place_in_element(alloc, element, found)
+    } else {
+        place_of_element(alloc, element)
+    }
+}
+
+/// Where a run comes to this fault over a look-up: the node, or its start, where it comes to no such fault.
+fn place_in_run<L: Lookup>(
+    alloc: Global,
+    run: &StartedRun<'_>,
+    lookup: &L,
+    fault: Fault,
+) -> Result<Place, AllocError>
+    ensures { IfOk result (λ place. IsMore run.now.element fault (fault_of (L.answers lookup.now) run.now.program.now.statements) (string_bytes place.more)) }
+{
+    let found = find_fault(alloc, run.program, lookup)?;
+    match found {
+        Some(found) => place_where_same(alloc, run.element, fault, &found),
+        None => place_of_element(alloc, run.element),
+    }
+}
+
+/// Where the run with a number, counted from 0, comes to this fault over a look-up; the whole scenario, where there is no such run.
+pub(crate) fn place_of_run<L: Lookup>(
+    alloc: Global,
+    explained: &Explained<'_>,
+    number: u64,
+    lookup: &L,
+    fault: Fault,
+) -> Result<Place, AllocError>
+    ensures { IfOk result (λ place. IsMoreOf (slice_get (origin_in explained.now).runs number) (L.answers lookup.now) fault (string_bytes place.more)) }
+{
+    match run_at(explained.runs.as_slice(), number) {
+        Some(run) => place_in_run(alloc, &run, lookup, fault),
+        None => Ok(bare_place(alloc, Vec::new(alloc))),
+    }
+}

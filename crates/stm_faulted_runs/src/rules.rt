@@ -1,0 +1,155 @@
+//! The explanation of a rule that comes to a fault.
+ghost use Rattle.std.specs.Prelude.{◌≡◌, Ok as OkOf, IfOk, OnOk, string_bytes};
+ghost use Rattle.serde_json.specs.View.{view};
+ghost use Rattle.stm_calls.specs.StateOf.{IsStateOf};
+ghost use Rattle.stm_program_json.specs.Reading.{program_of};
+ghost use Rattle.stm_steps.specs.States.{state_answers};
+ghost use Rattle.stm_texts.specs.Reading.{IsOpening, scenario_in};
+ghost use Rattle.stm_world.specs.World.{world_after};
+ghost use Rattle.stm_faulted_runs.specs.Rules.{IsRuleLine, ExplainsProgram, ExplainsOver, ExplainsRule, rule_head, left_by};
+
+use crate::finding::{FoundFault, find_fault};
+use crate::lines::words_of;
+use crate::places::place_of_fault;
+use crate::scripts::Named;
+use serde_json::Value as Json;
+use std::alloc::{AllocError, Global};
+use stm_explain::explained_at;
+use stm_json::ReadError;
+use stm_program::Program;
+use stm_program_json::read_program;
+use stm_retry::{State, World, WorldEvent};
+use stm_steps::Fault;
+use stm_texts::{Scenario, read_scenario};
+
+/// The head of a rule's line.
+fn head_of_rule(alloc: Global, fault: Fault) -> Result<String, AllocError>
+    ensures { IfOk result (λ head. string_bytes head ≡ rule_head fault) }
+{
+    format!(in alloc; "{fault} of the rule")
+}
+
+/// The line of a rule that comes to a fault.
+fn fault_line(alloc: Global, rule: &Named<'_>, found: &FoundFault) -> Result<String, AllocError>
+    ensures { IfOk result (λ line. IsRuleLine rule.now.name.now rule.now.text.now found.now (string_bytes line)) }
+{
+    let place = place_of_fault(alloc, Vec::new(alloc), found)?;
+    let head = head_of_rule(alloc, found.fault)?;
+    let words = words_of(alloc, head.as_str(), place.more.as_str())?;
+    let steps = place.steps.as_slice();
+    explained_at(alloc, rule.name, rule.text, steps, words.as_str())
+}
+
+/// The line of a rule with this program, where that comes to a fault on a state.
+fn explained_with(
+    alloc: Global,
+    rule: &Named<'_>,
+    program: &Program,
+    state: &State,
+) -> Result<String, AllocError>
+    ensures { IfOk result (λ line. ExplainsProgram rule.now.name.now rule.now.text.now (state_answers state.now) (OkOf program.now) (string_bytes line)) }
+{
+    let found = find_fault(alloc, program, state)?;
+    match found {
+        Some(found) => fault_line(alloc, rule, &found),
+        None => Ok(String::new(alloc)),
+    }
+}
+
+/// The line of a rule with this JSON, where the program that it spells comes to a fault on a state.
+fn explained_on(
+    alloc: Global,
+    rule: &Named<'_>,
+    json: &Json,
+    state: &State,
+) -> Result<String, AllocError>
+    ensures { IfOk result (λ line. ExplainsProgram rule.now.name.now rule.now.text.now (state_answers state.now) (program_of (view json.now)) (string_bytes line)) }
+{
+    match read_program(alloc, json) {
+        Ok(program) => explained_with(alloc, rule, &program, state),
+        Err(ReadError::Bad(_)) => Ok(String::new(alloc)),
+        Err(ReadError::OutOfMemory) => Err(AllocError),
+    }
+}
+
+/// The line of a rule, where its text spells a program that comes to a fault on a state.
+fn explained_by(alloc: Global, rule: &Named<'_>, state: &State) -> Result<String, AllocError>
+    ensures { IfOk result (λ line. ExplainsOver rule.now.name.now rule.now.text.now (state_answers state.now) (string_bytes line)) }
+{
+    match Json::from_str(alloc, rule.text) {
+        Ok(json) => explained_on(alloc, rule, &json, state),
+        Err(error) => {
+            if error.is_memory() {
+                Err(AllocError)
+            } else {
+                Ok(String::new(alloc))
+            }
+        }
+    }
+}
+
+/// Takes these events in a world.
+fn run_all(world: &mut World, events: &[WorldEvent]) -> Result<(), AllocError>
+    ensures { OnOk result (world.new ≡ world_after events.now world.old) }
+{
+    match world.run(events) {
+        Ok(replies) => {
+            drop(replies);
+            Ok(())
+        }
+        Err(_) => Err(AllocError),
+    }
+}
+
+/// The state after a scenario's run.
+fn state_after(alloc: Global, scenario: &Scenario) -> Result<State, AllocError>
+    requires { IsOpening scenario.now.opening }
+    ensures { IfOk result (IsStateOf (left_by scenario.now)) }
+{
+    let start = scenario.opening.unwrap_or(1);
+    let mut world = World::with_revision(alloc, start)?;
+    let outcome = run_all(&mut world, scenario.events.as_slice());
+    let left = world.state();
+    drop(world);
+    match outcome {
+        Ok(()) => left,
+        Err(_) => Err(AllocError),
+    }
+}
+
+/// The same, of a scenario that is let go then.
+fn state_left(alloc: Global, scenario: Scenario) -> Result<State, AllocError>
+    requires { IsOpening scenario.opening }
+    ensures { IfOk result (IsStateOf (left_by scenario)) }
+{
+    let state = state_after(alloc, &scenario);
+    drop(scenario);
+    state
+}
+
+/// The line of a rule, where its program comes to a fault on the state that a scenario leaves.
+fn explained_after(
+    alloc: Global,
+    rule: &Named<'_>,
+    scenario: Scenario,
+) -> Result<String, AllocError>
+    requires { IsOpening scenario.opening }
+    ensures { IfOk result (λ line. ExplainsRule rule.now.name.now rule.now.text.now (OkOf scenario) (string_bytes line)) }
+{
+    let state = state_left(alloc, scenario)?;
+    explained_by(alloc, rule, &state)
+}
+
+/// A line for a rule, where its program comes to a fault on the state after the scenario that this text spells; nothing otherwise:
+/// `NAME:LINE:COLUMN: FAULT of the rule at PLACE: REASON`, as `faults_explained` has it of a run.
+///
+/// It fails where a growth was refused.
+pub fn rule_explained(alloc: Global, rule: &Named<'_>, scenario: &str) -> Result<String, AllocError>
+    ensures { IfOk result (λ line. ExplainsRule rule.now.name.now rule.now.text.now (scenario_in scenario.now) (string_bytes line)) }
+{
+    match read_scenario(alloc, scenario.as_bytes()) {
+        Ok(scenario) => explained_after(alloc, rule, scenario),
+        Err(ReadError::Bad(_)) => Ok(String::new(alloc)),
+        Err(ReadError::OutOfMemory) => Err(AllocError),
+    }
+}

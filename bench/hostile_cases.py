@@ -185,6 +185,61 @@ def leases_before_ranges(part):
     return scenario.text()
 
 
+# compactions
+
+
+def add_compactions(scenario, count):
+    """Puts of a key, behind each a compaction at its revision, where the store was at 1."""
+    for number in range(count):
+        scenario.add(txn(put("k")), ["compact", number + 2])
+
+
+@case()
+def compactions_behind_each_put(part):
+    """49,000 puts of a key, behind each a compaction at its revision."""
+    scenario = Scenario()
+    add_compactions(scenario, int(49000 * part))
+    return scenario.text()
+
+
+@case(command="check")
+def compactions_that_are_checked(part):
+    """49,000 puts of a key, behind each a compaction at its revision, and their report: a check drops nothing."""
+    scenario = Scenario()
+    add_compactions(scenario, int(49000 * part))
+    return scenario.text()
+
+
+@case()
+def compactions_beside_watchers(part):
+    """48,000 watchers of keys that are never put, beside 25,000 puts of another, behind each a compaction at its revision."""
+    scenario = Scenario()
+    scenario.add(*(["watch_key", f"w{number}", 0] for number in range(int(48000 * part))))
+    add_compactions(scenario, int(25000 * part))
+    return scenario.text()
+
+
+@case()
+def compaction_of_a_long_history(part):
+    """One compaction that drops 768,000 puts of 256 keys, and 90,000 that are refused behind it."""
+    scenario = Scenario()
+    count = int(6000 * part)
+    add_history(scenario, count)
+    scenario.add(*[["compact", count + 1]] * (1 + int(90000 * part)))
+    return scenario.text()
+
+
+@case()
+def polls_of_lost_watchers(part):
+    """49,000 watchers of a key that is put twice, all of them lost by a compaction, and a poll of each."""
+    scenario = Scenario()
+    count = int(49000 * part)
+    scenario.add(*[["watch_key", "k", 0]] * count)
+    scenario.add(txn(put("k")), txn(put("k")), ["compact", 3])
+    scenario.add(*(["poll", number + 1, 9] for number in range(count)))
+    return scenario.text()
+
+
 # leases
 
 

@@ -383,6 +383,7 @@ EVENTS = {
     "keep": (number,),
     "revoke": (number,),
     "advance": (number,),
+    "compact": (number,),
     "watch_key": (any_text, number),
     "watch_range": (any_text, any_text, number),
     "poll": (number, number),

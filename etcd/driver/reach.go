@@ -42,6 +42,10 @@ func checkEvent(one event, place string) error {
 		if e.ttl == 0 || e.ttl > mostLeaseTime {
 			return &outOfReach{within(place, 2), "TtlOutOfRange", "the lease's time is told to etcd as another one, from 1 to 9000000000"}
 		}
+	case *compactEvent:
+		if e.revision == 0 {
+			return &outOfReach{within(place, 1), "Compact", "etcd takes a compaction at 0 where it was never compacted"}
+		}
 	case *watchEvent:
 		if e.first == "" {
 			return &outOfReach{within(place, 1), "EmptyKey", "etcd takes the empty key for the key of one zero byte"}

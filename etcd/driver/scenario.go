@@ -38,6 +38,7 @@ type watchEvent struct {
 	end   string // "" for the one key
 	from  int64
 }
+type compactEvent struct{ revision int64 }
 type pollEvent struct{ watcher, most int64 }
 type cancelEvent struct{ watcher int64 }
 
@@ -56,7 +57,7 @@ var levels = map[string]concurrency.Isolation{
 }
 
 var eventLengths = map[string]int{
-	"start": 4, "step": 2, "txn": 4, "grant": 3, "keep": 2, "revoke": 2, "advance": 2,
+	"start": 4, "step": 2, "txn": 4, "grant": 3, "keep": 2, "revoke": 2, "advance": 2, "compact": 2,
 	"watch_key": 3, "watch_range": 4, "poll": 3, "cancel": 2,
 }
 
@@ -175,6 +176,8 @@ func readNumbers(word string, elements []interface{}, place string) (event, erro
 		return &revokeEvent{numbers[0]}, nil
 	case "advance":
 		return &advanceEvent{numbers[0]}, nil
+	case "compact":
+		return &compactEvent{numbers[0]}, nil
 	case "poll":
 		return &pollEvent{numbers[0], numbers[1]}, nil
 	}

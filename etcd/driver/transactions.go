@@ -121,7 +121,7 @@ type request struct {
 	then, otherwise []clientv3.Op
 }
 
-// refusals are the names of etcd's refusals of a transaction or a lease call.
+// refusals are the names of etcd's refusals of a transaction, a lease call or a compaction.
 var refusals = []struct {
 	cause error
 	name  string
@@ -130,6 +130,7 @@ var refusals = []struct {
 	{rpctypes.ErrEmptyKey, "EmptyKey"},
 	{rpctypes.ErrDuplicateKey, "DuplicateKey"},
 	{rpctypes.ErrFutureRev, "FutureRevision"},
+	{rpctypes.ErrCompacted, "Compacted"},
 	{rpctypes.ErrLeaseNotFound, "LeaseNotFound"},
 	{rpctypes.ErrLeaseExist, "LeaseExists"},
 	{rpctypes.ErrLeaseTTLTooLarge, "TtlOutOfRange"},

@@ -21,6 +21,7 @@ type watcher struct {
 	told     int64              // the polls have told everything up to this revision
 	received []*clientv3.Event  // what etcd told and no poll has
 	newest   int64              // the revision of the last event that etcd told
+	lost     int64              // the compacted revision where etcd has cancelled it for that, else 0
 }
 
 // change is what a revision changed.
@@ -44,6 +45,8 @@ func (e *watchEvent) take(w *world) (line, error) {
 		cancel()
 		return nil, errors.New("etcd made no watch")
 	}
+	for e.from > 0 && e.from < w.floor && made.receive(longestWait) {
+	}
 	w.watchers = append(w.watchers, made)
 	return line{"watching", int64(len(w.watchers))}, nil
 }
@@ -52,6 +55,9 @@ func (e *watchEvent) take(w *world) (line, error) {
 func (t *watcher) receive(patience time.Duration) bool {
 	select {
 	case response, isOpen := <-t.channel:
+		if isOpen && response.CompactRevision > 0 {
+			t.lost = response.CompactRevision
+		}
 		if !isOpen || response.Err() != nil {
 			return false
 		}
@@ -92,6 +98,9 @@ func (w *world) await(number int64, t *watcher) {
 	due := w.lastDue(t)
 	for until := time.Now().Add(longestWait); t.newest < due; {
 		if !t.receive(time.Until(until)) {
+			if t.lost > 0 {
+				return
+			}
 			fmt.Fprintf(os.Stderr, "etcd/run: watcher %d was not told of revision %d\n", number, due)
 			return
 		}
@@ -114,6 +123,11 @@ func (e *pollEvent) take(w *world) (line, error) {
 		return refused("NoWatcher"), nil
 	}
 	w.await(e.watcher, t)
+	if t.lost > 0 && len(t.received) == 0 {
+		t.cancel()
+		t.cancel = nil
+		return line{"lost", e.watcher, t.lost}, nil
+	}
 	count, revisions, last := 0, int64(0), int64(0)
 	events := line{}
 	for ; count < len(t.received); count++ {
@@ -151,4 +165,12 @@ func (e *cancelEvent) take(w *world) (line, error) {
 	t.cancel()
 	t.cancel = nil
 	return line{"cancelled", e.watcher}, nil
+}
+
+func (e *compactEvent) take(w *world) (line, error) {
+	if _, err := w.client.Compact(w.context, e.revision); err != nil {
+		return refusedBy(err)
+	}
+	w.floor = e.revision
+	return line{"compacted", e.revision}, nil
 }

@@ -19,6 +19,7 @@ type world struct {
 	moment   uint64
 	watchers []*watcher
 	revision int64 // the last one that an answer of etcd's carried
+	floor    int64 // the revision of the last compaction
 	changes  []change
 	entries  int64
 	event    int       // the number of the event that is taken

@@ -165,13 +165,13 @@ fn command_lines(rt: HostRuntime) {
 }
 
 /// What the help of a script has: every cause of a bad scenario, every refusal that a report may tell, and every fault of a program.
-const SCRIPT_HELP: [&str; 30] = [
+const SCRIPT_HELP: [&str; 31] = [
     "report",
     "stmrun: bad scenario at /0: Shape",
     "--explain",
     "NotJson",
     "Shape",
-    "  Range ",
+    "Range",
     "TooMany ",
     "TooLong ",
     "TooDeep",
@@ -182,6 +182,7 @@ const SCRIPT_HELP: [&str; 30] = [
     "EmptyKey",
     "DuplicateKey",
     "FutureRevision",
+    "Compacted",
     "LeaseIdOutOfRange",
     "TtlOutOfRange",
     "LeaseExists",

@@ -1,5 +1,5 @@
 //! Times transactions of one put each over few and over many keys, and reads of the past of keys with many versions,
-//! and holds a long history while its bytes are counted.
+//! and holds a long history while its bytes are counted, and longer ones that are compacted as they grow.
 //!
 //! The figures go to standard error. They are of one machine at one moment: no proof is about time.
 #![tactic(auto)]
@@ -18,11 +18,15 @@ const PUTS: u32 = 1_000_000;
 /// How many revisions are held while their bytes are counted.
 const REVISIONS: u32 = 100_000;
 
+/// Behind how many revisions a store is compacted that is compacted as it grows.
+const BETWEEN: u32 = 1_000;
+
 /// How many keys are put in turn before reads are timed.
 const KEYS: u32 = 8;
 
 fn main(rt: HostRuntime) -> Result<()> {
     hold_revisions(&rt, rt.alloc(), REVISIONS)?;
+    hold_compacted(&rt, rt.alloc())?;
     time_puts(&rt, rt.alloc(), 8)?;
     time_puts(&rt, rt.alloc(), 2_000)?;
     time_puts(&rt, rt.alloc(), 100_000)?;
@@ -147,6 +151,42 @@ fn print_beside(rt: &impl Eprint, alloc: Global, store: &mut Store, revisions: u
 fn hold_revisions(rt: &impl Eprint, alloc: Global, revisions: u32) -> Result<()> {
     let mut store = Store::new(alloc)?;
     let outcome = print_beside(rt, alloc, &mut store, revisions);
+    drop(store);
+    outcome
+}
+
+/// Puts a few keys in turn, so many times in all. Behind every thousandth put the store is compacted at its newest revision.
+fn put_compacting(alloc: Global, store: &mut Store, count: u32) -> Result<()> {
+    for number in 0..count {
+        put(alloc, store, number % KEYS)?;
+        if number % BETWEEN == BETWEEN - 1 {
+            let newest = store.keys().revision();
+            store.compact(newest)?;
+        }
+    }
+    Ok(())
+}
+
+/// Adds so many revisions to a store that is compacted as it grows, and prints a line, beside which the bytes are counted.
+fn print_compacted(rt: &impl Eprint, alloc: Global, store: &mut Store, more: u32) -> Result<()> {
+    put_compacting(alloc, store, more)?;
+    let counter = store.keys().revision();
+    let floor = store.floor();
+    eprintln!(rt; "held at revision {counter}, compacted at {floor}")?;
+    Ok(())
+}
+
+/// The lines of a store that has come to 10,000, to 100,000 and to 1,000,000 puts.
+fn print_growing(rt: &impl Eprint, alloc: Global, store: &mut Store) -> Result<()> {
+    print_compacted(rt, alloc, store, 10_000)?;
+    print_compacted(rt, alloc, store, 90_000)?;
+    print_compacted(rt, alloc, store, 900_000)
+}
+
+/// The same in a store of its own.
+fn hold_compacted(rt: &impl Eprint, alloc: Global) -> Result<()> {
+    let mut store = Store::new(alloc)?;
+    let outcome = print_growing(rt, alloc, &mut store);
     drop(store);
     outcome
 }

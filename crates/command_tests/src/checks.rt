@@ -173,8 +173,12 @@ const DENIED: &str = "[1,\"started\",1]
 [\"end\",1,0]
 ";
 
+/// A put, a compaction at its revision, a read of the one before, and a poll of a watcher that is not there.
+const COMPACT: &str =
+    "[[\"txn\",[],[[\"put\",\"a\",\"1\",0]],[]],[\"compact\",2],[\"txn\",[],[[\"get\",\"a\",1]],[]],[\"poll\",1,9]]";
+
 /// Reports beside a scenario, each with whether it is checked as a whole and what that comes to. The scenario is judged first.
-static JUDGED: [(&str, &str, bool, u8, &str, &str); 6] = [
+static JUDGED: [(&str, &str, bool, u8, &str, &str); 11] = [
     (SKEW, "", false, 1, "no 1 Count\n", ""),
     ("{}", "[", false, 2, "", "stmrun: bad scenario at : Shape\n"),
     (PUT, DENIED, false, 0, "yes\n", ""),
@@ -195,6 +199,49 @@ static JUDGED: [(&str, &str, bool, u8, &str, &str); 6] = [
         "stmrun: expected [1,\"started\",1]\n",
     ),
     ("{}", "[", true, 2, "", "stmrun: bad scenario at : Shape\n"),
+    // Of a compaction the replay says whether it is taken and why it is refused.
+    (
+        COMPACT,
+        "[1,\"txn\",true,2,[[\"put\"]]]\n[2,\"refused\",\"Compacted\",[]]\n",
+        false,
+        1,
+        "no 2 Replay\n",
+        "",
+    ),
+    (
+        COMPACT,
+        "[1,\"txn\",true,2,[[\"put\"]]]\n[2,\"compacted\",1]\n",
+        false,
+        1,
+        "no 2 Replay\n",
+        "",
+    ),
+    // A read below it is refused, as the replay has it.
+    (
+        COMPACT,
+        "[1,\"txn\",true,2,[[\"put\"]]]\n[2,\"compacted\",2]\n[3,\"txn\",true,2,[[\"get\",2,null]]]\n",
+        false,
+        1,
+        "no 3 Replay\n",
+        "",
+    ),
+    // Of a poll it says nothing: a watcher is said to be lost that is none.
+    (
+        COMPACT,
+        "[1,\"txn\",true,2,[[\"put\"]]]\n[2,\"compacted\",2]\n[3,\"refused\",\"Compacted\",[]]\n[4,\"lost\",1,9]\n[\"key\",\"a\",\"1\",2,2,1,0]\n[\"end\",2,1]\n",
+        false,
+        0,
+        "yes\n",
+        "",
+    ),
+    (
+        COMPACT,
+        "[1,\"txn\",true,2,[[\"put\"]]]\n[2,\"compacted\",2]\n[3,\"refused\",\"Compacted\",[]]\n[4,\"lost\",2,2]\n",
+        false,
+        1,
+        "no 4 Event\n",
+        "",
+    ),
 ];
 
 /// The skew's report with such a text in the place of a line comes to this.

@@ -112,7 +112,7 @@ s.json:1:36: found 16, where a variable, which is a whole number from 0 to 15, i
     (
         "[[\"strat\",\"Serializable\",1,[]]]",
         "stmrun: bad scenario at /0: Shape
-s.json:1:2: unknown event \"strat\": one of \"start\", \"step\", \"txn\", \"grant\", \"keep\", \"revoke\", \"advance\", \"watch_key\", \"watch_range\", \"poll\", \"cancel\"; the nearest is \"start\"\n",
+s.json:1:2: unknown event \"strat\": one of \"start\", \"step\", \"txn\", \"grant\", \"keep\", \"revoke\", \"advance\", \"compact\", \"watch_key\", \"watch_range\", \"poll\", \"cancel\"; the nearest is \"start\"\n",
     ),
     (
         "[[\"txn\",[[\"mod\",\"a\",\"==\",0]],[],[]]]",
@@ -148,7 +148,7 @@ fn reports_with_a_fault(rt: HostRuntime) {
         alloc,
         "[1,\"started\",1]\n[2,\"comitted\",1,2,1,[],[],[]]\n",
         "stmrun: bad report at /1: Shape
-r.txt:2:1: unknown line \"comitted\": one of \"started\", \"fetched\", \"committed\", \"conflict\", \"gaveup\", \"aborted\", \"faulted\", \"ended\", \"txn\", \"granted\", \"kept\", \"revoked\", \"advanced\", \"watching\", \"cancelled\", \"batch\", \"refused\", \"key\", \"lease\", \"end\"; the nearest is \"committed\"\n",
+r.txt:2:1: unknown line \"comitted\": one of \"started\", \"fetched\", \"committed\", \"conflict\", \"gaveup\", \"aborted\", \"faulted\", \"ended\", \"txn\", \"granted\", \"kept\", \"revoked\", \"advanced\", \"compacted\", \"watching\", \"cancelled\", \"batch\", \"lost\", \"refused\", \"key\", \"lease\", \"end\"; the nearest is \"committed\"\n",
     );
     says_of_report(
         &rt,

@@ -208,10 +208,39 @@ const LEASED_OBJECTS: &str = r#"{"event":1,"kind":"granted","lease":7}
 {"entries":2,"kind":"end","revision":2}
 "#;
 
+/// A watcher that is lost, and a compaction that is refused.
+const COMPACTED: &str =
+    r#"[["watch_key","a",0],["txn",[],[["put","a","1",0]],[]],["txn",[],[["put","b","1",0]],[]],["compact",3],["poll",1,9],["compact",3]]"#;
+
+const COMPACTED_OBJECTS: &str = r#"{"event":1,"kind":"watching","watcher":1}
+{"answers":[["put"]],"event":2,"kind":"txn","revision":2,"succeeded":true}
+{"answers":[["put"]],"event":3,"kind":"txn","revision":3,"succeeded":true}
+{"event":4,"kind":"compacted","revision":3}
+{"event":5,"floor":3,"kind":"lost","watcher":1}
+{"cause":"Compacted","event":6,"expired":[],"kind":"refused"}
+{"create_rev":2,"key":"a","kind":"key","lease":0,"mod_rev":2,"value":"1","version":1}
+{"create_rev":3,"key":"b","kind":"key","lease":0,"mod_rev":3,"value":"1","version":1}
+{"entries":2,"kind":"end","revision":3}
+"#;
+
+const COMPACTED_TEXT: &str = " event  store
+     1  watch 1
+     2  txn succeeded @2
+     3  txn succeeded @3
+     4  compact @3
+     5  LOST watcher 1: kept from @3
+     6  REFUSED compact: Compacted
+
+key a = 1 @2
+key b = 1 @3
+revision 3, entries 2
+";
+
 #[test]
 fn reports_as_text(rt: HostRuntime) {
     has(&rt, rt.alloc(), Format::Text, SKEW, SKEW_TEXT);
     has(&rt, rt.alloc(), Format::Text, ODD, ODD_TEXT);
+    has(&rt, rt.alloc(), Format::Text, COMPACTED, COMPACTED_TEXT);
     has(
         &rt,
         rt.alloc(),
@@ -231,6 +260,7 @@ fn reports_as_pictures(rt: HostRuntime) {
 fn reports_as_objects(rt: HostRuntime) {
     has(&rt, rt.alloc(), Format::Json, FIRST_PUT, FIRST_PUT_OBJECTS);
     has(&rt, rt.alloc(), Format::Json, LEASED, LEASED_OBJECTS);
+    has(&rt, rt.alloc(), Format::Json, COMPACTED, COMPACTED_OBJECTS);
 }
 
 /// The statuses and messages are those of a script that writes lines.

@@ -10,7 +10,7 @@ pub const FIRST_PUT_REPORT: &str = r#"[1,"started",1]
 "#;
 
 /// Scenarios by name, each with its report.
-pub static REPORTS: [(&str, &str, &str); 30] = [
+pub static REPORTS: [(&str, &str, &str); 33] = [
     // An empty scenario.
     (
         "no_events",
@@ -435,6 +435,76 @@ pub static REPORTS: [(&str, &str, &str); 30] = [
 [11,"batch",4,8,[]]
 ["key","b","1",2,2,1,0]
 ["end",2,1]
+"#,
+    ),
+    // Below the revision of a compaction nothing is read: a run whose answers are of an older revision ends, and a read of one is
+    // refused; so is a compaction at the floor, and one above the counter.
+    (
+        "reads_below_a_compaction",
+        r#"[["txn",[],[["put","a","1",0]],[]],["txn",[],[["put","a","2",0]],[]],
+ ["start","Serializable",3,[["emit",["get","a"]],["emit",["get","b"]]]],["step",1],["txn",[],[["put","b","1",0]],[]],["compact",4],
+ ["step",1],["txn",[],[["get","a",3]],[]],["txn",[],[["get","a",4]],[]],["compact",4],["compact",5]]"#,
+        r#"[1,"txn",true,2,[["put"]]]
+[2,"txn",true,3,[["put"]]]
+[3,"started",1]
+[4,"fetched",1,"a",3,3,3]
+[5,"txn",true,4,[["put"]]]
+[6,"compacted",4]
+[7,"ended",1,"Compacted"]
+[8,"refused","Compacted",[]]
+[9,"txn",true,4,[["get",4,["2",2,3,2,0]]]]
+[10,"refused","Compacted",[]]
+[11,"refused","FutureRevision",[]]
+["key","a","2",2,3,2,0]
+["key","b","1",4,4,1,0]
+["end",4,3]
+"#,
+    ),
+    // A watcher that was still to be told of a revision below a compaction is lost, and so is one that is to begin there. One for
+    // which nothing was pending goes on.
+    (
+        "watchers_lost_by_a_compaction",
+        r#"[["watch_key","a",0],["watch_key","c",0],["txn",[],[["put","a","1",0]],[]],["txn",[],[["put","b","1",0]],[]],["compact",3],
+ ["poll",1,9],["poll",1,9],["poll",2,9],["watch_key","a",2],["poll",3,9]]"#,
+        r#"[1,"watching",1]
+[2,"watching",2]
+[3,"txn",true,2,[["put"]]]
+[4,"txn",true,3,[["put"]]]
+[5,"compacted",3]
+[6,"lost",1,3]
+[7,"refused","NoWatcher",[]]
+[8,"batch",2,3,[]]
+[9,"watching",3]
+[10,"lost",3,3]
+["key","a","1",2,2,1,0]
+["key","b","1",3,3,1,0]
+["end",3,2]
+"#,
+    ),
+    // The revision of a compaction keeps its events. A key goes on from what it was there: a deleted one begins anew, and another one keeps its create
+    // revision and counts on. A lost watcher can be given up.
+    (
+        "what_a_compaction_keeps",
+        r#"[["txn",[],[["put","a","1",0]],[]],["txn",[],[["del","a"]],[]],["txn",[],[["put","b","1",0]],[]],["txn",[],[["put","b","2",0]],[]],
+ ["watch_key","b",5],["compact",5],["poll",1,9],["txn",[],[["get","a",5],["get","b",5]],[]],["txn",[],[["put","a","3",0]],[]],
+ ["txn",[],[["put","b","3",0]],[]],["watch_key","a",4],["cancel",2],["compact",0],["poll",1,9]]"#,
+        r#"[1,"txn",true,2,[["put"]]]
+[2,"txn",true,3,[["del",1]]]
+[3,"txn",true,4,[["put"]]]
+[4,"txn",true,5,[["put"]]]
+[5,"watching",1]
+[6,"compacted",5]
+[7,"batch",1,5,[["PUT","b","2",4,5,2,0]]]
+[8,"txn",true,5,[["get",5,null],["get",5,["2",4,5,2,0]]]]
+[9,"txn",true,6,[["put"]]]
+[10,"txn",true,7,[["put"]]]
+[11,"watching",2]
+[12,"cancelled",2]
+[13,"refused","Compacted",[]]
+[14,"batch",1,7,[["PUT","b","3",4,7,3,0]]]
+["key","a","3",6,6,1,0]
+["key","b","3",4,7,3,0]
+["end",7,6]
 "#,
     ),
 ];

@@ -67,7 +67,7 @@ pub const AT_LEVEL: (&str, &str, &str) = (
 );
 
 /// Scenarios, each with the outcomes that are printed.
-pub const OUTCOMES: [(&str, &str); 6] = [
+pub const OUTCOMES: [(&str, &str); 7] = [
     // The write skew.
     (
         r#"[["txn",[],[["put","x","1",0],["put","y","1",0]],[]],["start","ReadCommitted",1,[["if",["less",1,["add",["num_of",["get","x"]],["num_of",["get","y"]]]],[["put","x","0",0]],[]]]],["start","ReadCommitted",1,[["if",["less",1,["add",["num_of",["get","x"]],["num_of",["get","y"]]]],[["put","y","0",0]],[]]]]]"#,
@@ -121,6 +121,16 @@ pub const OUTCOMES: [(&str, &str); 6] = [
 ["outcome",[],[["committed",[]],["aborted","held"]]]
 ["outcome",[],[["committed",[]],["gaveup","s"]]]
 ["outcomes",6]
+"#,
+    ),
+    // A compaction at any point: it ends a run between two reads, where the first is of a revision below it.
+    (
+        r#"[["txn",[],[["put","a","1",0]],[]],["start","Serializable",1,[["emit",["get","a"]],["emit",["get","b"]]]],["txn",[],[["put","a","2",0]],[]],["compact",3]]"#,
+        r#"["outcome",[["a","2"]],[["committed",["1",""]]]]
+["outcome",[["a","2"]],[["committed",["2",""]]]]
+["outcome",[["a","2"]],[["ended","Compacted"]]]
+["outcome",[["a","2"]],[["gaveup","a"]]]
+["outcomes",4]
 "#,
     ),
 ];

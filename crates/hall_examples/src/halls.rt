@@ -1,6 +1,7 @@
 //! Worked examples of halls.
 
 mod attempts;
+mod compacted;
 mod expiries;
 mod making;
 mod player;

@@ -20,9 +20,11 @@ fn word(line: &ReportLine) -> &'static str {
         ReportLine::Kept { .. } => "kept",
         ReportLine::Revoked { .. } => "revoked",
         ReportLine::Advanced { .. } => "advanced",
+        ReportLine::Compacted { .. } => "compacted",
         ReportLine::Watching { .. } => "watching",
         ReportLine::Cancelled { .. } => "cancelled",
         ReportLine::Batch { .. } => "batch",
+        ReportLine::Lost { .. } => "lost",
         ReportLine::Refused { .. } => "refused",
         ReportLine::Key { .. } => "key",
         ReportLine::Lease { .. } => "lease",
@@ -31,7 +33,7 @@ fn word(line: &ReportLine) -> &'static str {
 }
 
 /// Lines of each kind, with what is told of them.
-const LINES: [(&str, &str); 25] = [
+const LINES: [(&str, &str); 28] = [
     (r#"[1,"started",1]"#, "started"),
     (r#"[5,"fetched",1,"x",2,3,3]"#, "fetched"),
     (
@@ -60,6 +62,9 @@ const LINES: [(&str, &str); 25] = [
     (r#"[1,"kept",7]"#, "kept"),
     (r#"[1,"revoked",7,2]"#, "revoked"),
     (r#"[1,"advanced",60,[[7,3],[8,3]]]"#, "advanced"),
+    (r#"[6,"compacted",4]"#, "compacted"),
+    (r#"[7,"ended",1,"Compacted"]"#, "ended"),
+    (r#"[6,"lost",1,3]"#, "lost"),
     (r#"[1,"watching",1]"#, "watching"),
     (r#"[1,"cancelled",1]"#, "cancelled"),
     (

@@ -150,7 +150,7 @@ a rule that did, at which place the program stopped and on which values:
 
   s.json:3:38: event 4: NotANumber of runner 1 at /1/3/0/2/1/1: \"seven\" is no whole number of 64 bits
 
-In a report the line refused says why an event was refused, and the line ended why a commit was:
+In a report the line refused says why an event was refused, and the line ended why a fetch or a commit was:
 
   BadLimit            the limit is 0
   NoRunner            there is no such runner, or its run is over
@@ -158,6 +158,7 @@ In a report the line refused says why an event was refused, and the line ended w
   EmptyKey            a key is empty
   DuplicateKey        a list of the transaction puts a key twice, or puts and deletes it
   FutureRevision      a read is of a revision that the store has not reached
+  Compacted           the revision is one that a compaction forgot, or is to be compacted again
   LeaseIdOutOfRange   the id is 0
   TtlOutOfRange       the time to live is not from 1 to 9000000000
   LeaseExists         there is such a lease already

@@ -2,7 +2,7 @@
 ghost use Rattle.std.specs.Prelude.{◌≡◌, ◌<◌, ◌≤◌, length, IfOk};
 ghost use Rattle.stm_history.specs.History.{now};
 ghost use Rattle.stm_outcome.specs.Numbers.{ReadFits};
-ghost use Rattle.stm_calls.specs.Fetched.{fetched, fetch_of};
+ghost use Rattle.stm_calls.specs.Fetched.{fetch_of, fetch_told, IsFetch};
 
 use crate::answers::take_only_read;
 use std::alloc::{AllocError, Global};
@@ -27,23 +27,19 @@ pub fn read_one(alloc: Global, key: &str, at: u64) -> Result<Txn, AllocError>
 /// Fetches a key, which is not empty, at a revision that the store has reached, 0 for the current one. It is one
 /// transaction, which reads and nothing else.
 ///
-/// The answer shows the key at that revision, and carries the store's. Want of memory is the only refusal. The
-/// store is as it was, refused or not. (etcd's API reference, "Range".)
-pub fn fetch(alloc: Global, store: &mut Store, key: &str, at: u64) -> Result<ReadAnswer, AllocError>
+/// The answer shows the key at that revision, and carries the store's. `Compacted`: the revision is not 0 and below the
+/// store's floor. `OutOfMemory` may come before it. The store is as it was, refused or not. (etcd's API reference,
+/// "Range".)
+pub fn fetch(alloc: Global, store: &mut Store, key: &str, at: u64) -> Result<ReadAnswer, Refusal>
     requires named { 0 < length key.now }
     requires reached { at ≤ now store.old.standing.history }
-    ensures answer { IfOk result (λ answer. answer ≡ fetched store.old.standing.history key.now at) }
+    ensures told { IsFetch (fetch_told store.old.standing key.now at) result }
     ensures in_range { IfOk result ReadFits }
     ensures store { store.new.standing ≡ store.old.standing }
 {
     let txn = read_one(alloc, key, at)?;
-    match store.txn(&txn) {
-        Ok(done) => {
-            drop(txn);
-            let read = take_only_read(done.answers)?;
-            Ok(read)
-        }
-        Err(Refusal::OutOfMemory) => Err(AllocError),
-        Err(_) => unreachable!(),
-    }
+    let answer = store.txn(&txn)?;
+    drop(txn);
+    let read = take_only_read(answer.answers)?;
+    Ok(read)
 }

@@ -26,19 +26,21 @@ use Rattle.stm_outcome.specs.Outcome.{Done, outcome, chosen, unless, finished, i
 use Rattle.stm_txn.specs.Standing.{Standing, Step, Advance, IsRefusalOf, IsCutShort, step_of, transacted, granted, kept_alive, ended, revoked}
 use Rattle.stm_txn.specs.Standing.{with_lease, without_lease, with_revision, after, expired_in, expire_up_to, expire_all, at_moment, advanced}
 use Rattle.stm_outcome.specs.Terms.{Terms}
-use Rattle.stm_txn.specs.Standing.{terms_of}
+use Rattle.stm_txn.specs.Standing.{terms_of, compaction_refusal, with_floor, floor_step, raised}
 use Rattle.stm_reports.specs.declared.line.ReportLine.{ReportLine}
-use Rattle.stm_reports.specs.declared.line.ReportLine.TheVariants.{Refused}
+use Rattle.stm_reports.specs.declared.line.ReportLine.TheVariants.{Refused, Compacted}
+use Rattle.stm_reports.specs.declared.causes.RefusalName.{RefusalName}
 use Rattle.stm_entries.specs.declared.entry.Entry.{Entry}
+use Rattle.stm_entries.specs.Replayed.{without_moment}
 use Rattle.stm_entries.specs.declared.entry.Entry.TheVariants.{Foreign, Grant as GrantEntry, Renew, Revoke as RevokeEntry}
 use Rattle.stm_reports.specs.Told.{cause_told, txn_line}
-use Rattle.stm_world.specs.declared.event.WorldEvent.TheVariants.{Advance as AdvanceEvent}
+use Rattle.stm_world.specs.declared.event.WorldEvent.TheVariants.{Advance as AdvanceEvent, Compact as CompactEvent}
 use Rattle.stm_world.specs.declared.reply.Reply.{Reply}
 use Rattle.stm_world.specs.Told.{reply_to, store_after_call, advance_reply}
 use Rattle.stm_world.specs.World.{if_taken, if_changed}
 use Rattle.stm_world.proofs.Entered.{EntriesFollow}
 use Rattle.stm_world.proofs.Calls.{txn_follows, grant_follows, keep_follows, revoke_follows, advance_follows}
-use Rattle.stm_check.specs.Point.{led_by, moment_after, txn_entries, advance_entries, expiries}
+use Rattle.stm_check.specs.Point.{led_by, moment_after, with_replayed, txn_entries, advance_entries, expiries, raised_by}
 use Rattle.stm_lines.specs.Lines.{reply_told, line_told}
 
 -- ---- lines
@@ -80,14 +82,15 @@ pub cut_line : (n : ℕ) (s left : Standing) (moment : ℕ) (expired : List Expi
 cut_line n s left moment expired cause (inl whole) other = whole
 cut_line n s left moment expired cause (inr stopped) other = absurd (other stopped.0)
 
--- ---- what no call but an advance changes: the moment and the watchers
+-- ---- what no call but an advance changes, or a compaction: the moment, the watchers and the floor
 
 pub record KeepsRest (s next : Standing) : Type 0 where
   pub moment : next.moment ≡ s.moment
   pub watchers : next.watchers ≡ s.watchers
+  pub floor : next.floor ≡ s.floor
 
 keeps_itself : (s : Standing) → KeepsRest s s
-keeps_itself s = record { moment = refl; watchers = refl }
+keeps_itself s = record { moment = refl; watchers = refl; floor = refl }
 
 abbrev pub StepKeepsRest : {A : Type 0} → Standing → Result (Step A) Refusal → Type 0
 StepKeepsRest s (Ok done) = KeepsRest s done.next
@@ -108,6 +111,7 @@ led s next entries follow rest =
       live = (sym follow.replays k).live;
       moment = rest.moment k;
       watchers = rest.watchers k;
+      floor = rest.floor k;
     }
 
 -- the store behind a call that was taken, whose one entry is this
@@ -132,7 +136,7 @@ granted_by s id ttl o =
     ]
 
 granted_rest : (s : Standing) (id ttl : ℕ) (o : Option GrantError) → StepKeepsRest s (granted_by s id ttl o)
-granted_rest s id ttl None = record { moment = refl; watchers = refl }
+granted_rest s id ttl None = record { moment = refl; watchers = refl; floor = refl }
 granted_rest s id ttl (Some cause) = tt
 
 pub grant_led : (s next : Standing) (id ttl : ℕ) → granted s id ttl ≡ Ok record { answer = tt; next = next } →
@@ -151,7 +155,7 @@ kept_by s id o =
 
 kept_rest : (s : Standing) (id : ℕ) (o : Option Term) → StepKeepsRest s (kept_by s id o)
 kept_rest s id None = tt
-kept_rest s id (Some term) = record { moment = refl; watchers = refl }
+kept_rest s id (Some term) = record { moment = refl; watchers = refl; floor = refl }
 
 pub keep_led : (s next : Standing) (id : ℕ) → kept_alive s id ≡ Ok record { answer = tt; next = next } →
     next ≡ led_by (Renew id s.moment ∷ []) s s.moment
@@ -163,7 +167,7 @@ revoked_rest : (s : Standing) (id : ℕ) (live used : Bool) →
     StepKeepsRest s (cond live (with_revision (cond used (Err RevisionsUsedUp) (Ok (without_lease s id)))) (Err LeaseNotFound))
 revoked_rest s id false used = tt
 revoked_rest s id true true = tt
-revoked_rest s id true false = record { moment = refl; watchers = refl }
+revoked_rest s id true false = record { moment = refl; watchers = refl; floor = refl }
 
 pub revoke_led : (s next : Standing) (id revision : ℕ) → revoked s id ≡ Ok record { answer = revision; next = next } →
     next ≡ led_by (RevokeEntry id ∷ []) s s.moment
@@ -207,7 +211,7 @@ StepIsTransacted s (Ok step) = IsTransacted s step.answer step.next
 StepIsTransacted s (Err cause) = Unit {0}
 
 transacted_by : (s : Standing) (o : Result Done Refusal) → TellsCounter o → StepIsTransacted s (step_of s o)
-transacted_by s (Ok done) tells = record { rest = record { moment = refl; watchers = refl }; counter = tells }
+transacted_by s (Ok done) tells = record { rest = record { moment = refl; watchers = refl; floor = refl }; counter = tells }
 transacted_by s (Err cause) tells = tt
 
 pub is_transacted : (s : Standing) (txn : Txn) → StepIsTransacted s (transacted s txn)
@@ -226,10 +230,11 @@ txn_led n s next txn answer is =
 
 -- ---- an advance
 
--- what an advance leaves: the watchers as they were, at this moment
+-- what an advance leaves: the watchers and the floor as they were, at this moment
 pub record IsAdvanced (s next : Standing) (moment : ℕ) : Type 0 where
   pub moment_is : next.moment ≡ moment
   pub watchers : next.watchers ≡ s.watchers
+  pub floor : next.floor ≡ s.floor
 
 abbrev EndedKeepsRest : Standing → Result Standing Refusal → Type 0
 EndedKeepsRest s (Ok next) = KeepsRest s next
@@ -238,11 +243,11 @@ EndedKeepsRest s (Err cause) = Unit {0}
 ended_rest : (s : Standing) (id : ℕ) (used : Bool) (next : Standing) → cond used (Err RevisionsUsedUp) (Ok (without_lease s id)) ≡ Ok next →
     KeepsRest s next
 ended_rest s id true next is = absurd (cc)
-ended_rest s id false next is = subst (EndedKeepsRest s) is (record { moment = refl; watchers = refl })
+ended_rest s id false next is = subst (EndedKeepsRest s) is (record { moment = refl; watchers = refl; floor = refl })
 
 keeps_then : (s next last : Standing) → KeepsRest s next → KeepsRest next last → KeepsRest s last
 keeps_then s next last first second =
-    record { moment = second.moment ∙ first.moment; watchers = second.watchers ∙ first.watchers }
+    record { moment = second.moment ∙ first.moment; watchers = second.watchers ∙ first.watchers; floor = second.floor ∙ first.floor }
 
 abbrev expired_by : ℕ → Standing → ℕ → Result Standing Refusal → Advance
 expired_by many s id o =
@@ -276,10 +281,10 @@ expiries_rest (suc many) s = due_rest many s (first_due s.live s.moment) (λ nex
 advanced_by : (s : Standing) (moment : ℕ) (back : Bool) →
     IsAdvanced s (cond back (record { expired = []; leaves = s; cause = Some TimeGoesBack }) (expire_all (at_moment s moment))).leaves
     (cond back s.moment moment)
-advanced_by s moment true = record { moment_is = refl; watchers = refl }
+advanced_by s moment true = record { moment_is = refl; watchers = refl; floor = refl }
 advanced_by s moment false =
     let rest = expiries_rest (finmap.len s.live) (at_moment s moment) in
-    record { moment_is = rest.moment; watchers = rest.watchers }
+    record { moment_is = rest.moment; watchers = rest.watchers; floor = rest.floor }
 
 -- the store behind an advance, whose entries are its expiries
 pub advance_led : (s next : Standing) (moment : ℕ) (expired : List Expired) (cause : Option Refusal) →
@@ -295,6 +300,7 @@ advance_led s next moment expired cause is =
       live = (sym follow.replays k).live;
       moment = came.moment_is k;
       watchers = came.watchers k;
+      floor = came.floor k;
     }
 
 -- the line of an advance
@@ -318,3 +324,31 @@ cut_next (Ok b) n s next moment expired cause l test other cut =
     led_where b (Refused n (cause_told cause) expired) l advance_entries s next (moment_after s (AdvanceEvent moment)) test
     (advance_led s next moment expired (Some cause) (cut_line n s next moment expired cause cut other))
 cut_next (Err e) n s next moment expired cause l test other cut = tt
+
+-- ---- a compaction
+
+-- the store behind a compaction that was told
+pub compact_led : (b : Bool) (n revision : ℕ) (l : ReportLine) (s next : Standing) → (IsTrue b ↔ Compacted n revision ≡ l) →
+    raised s revision ≡ Ok record { answer = tt; next = next } → IsTrue b → next ≡ raised_by (CompactEvent revision) l s
+compact_led b n revision l s next test is t =
+    sym (ap (λ (r : Result (Step (Unit {0})) Refusal). store_after_call s r) is)
+    ∙ ap (λ (x : ReportLine). raised_by (CompactEvent revision) x s) (test.0 t)
+
+-- and behind one that was refused
+pub compact_stays : (r : Result Bool AllocError) (n revision : ℕ) (cause : RefusalName) (l : ReportLine) (s next : Standing) →
+    IfOk r (λ b. IsTrue b ↔ Refused n cause [] ≡ l) → next ≡ s → IfOk r (λ b. IsTrue b → next ≡ raised_by (CompactEvent revision) l s)
+compact_stays (Ok b) n revision cause l s next test same =
+    λ t. same ∙ ap (λ (x : ReportLine). raised_by (CompactEvent revision) x s) (test.0 t)
+compact_stays (Err e) n revision cause l s next test same = tt
+
+-- beside the floor, and the watchers that are lost by it, a compaction leaves the store of a check as it was
+raised_keeps : (s : Standing) (revision : ℕ) (o : Option Refusal) →
+    with_replayed (without_moment s) s.moment (store_after_call s (floor_step o (with_floor s revision)))
+    ≡ store_after_call s (floor_step o (with_floor s revision))
+raised_keeps s revision None = refl
+raised_keeps s revision (Some cause) = refl
+
+pub line_keeps : (s : Standing) (revision : ℕ) (l : ReportLine) →
+    with_replayed (without_moment s) s.moment (raised_by (CompactEvent revision) l s) ≡ raised_by (CompactEvent revision) l s
+line_keeps s revision (Compacted n told) = raised_keeps s revision (compaction_refusal s revision)
+line_keeps s revision _ = refl

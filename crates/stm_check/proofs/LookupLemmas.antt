@@ -1,14 +1,12 @@
 -- Answers that are looked up one after another.
 use Rattle.std.proofs.Common.{◌≡◌, ℕ, zero, suc, ◌+◌, ◌<◌, ◌≤◌, Bool, true, false, cond, List, [], ◌∷◌, ◌++◌, length, drop, get_or, Option, Some, None}
 use Rattle.std.proofs.Common.{option_map, refl, sym, ◌∙◌, ap, subst, arith}
-use Rattle.std.proofs.lemmas.Bool.{leb-true}
 use Rattle.std.proofs.lemmas.List.{drop_all}
 use Rattle.std.proofs.lemmas.Slice.Eq.{bytes_eq-Decides}
-use Rattle.std.specs.Prelude.{bytes_eq, is_some, nat_le}
+use Rattle.std.specs.Prelude.{bytes_eq, is_some}
 use Rattle.std.specs.Option.{option_or}
-use Rattle.stm_history.specs.declared.change.Change.{Change}
 use Rattle.stm_history.specs.declared.key_state.ReadAnswer.{ReadAnswer}
-use Rattle.stm_history.specs.History.{History, key_at, key_after, number_of_last, revisions_up_to}
+use Rattle.stm_history.specs.History.{History}
 use Rattle.stm_compile.specs.Answers.{answer_in, look_up, said}
 use Rattle.stm_reports.specs.declared.line.ToldAnswer.{ToldAnswer}
 use Rattle.stm_check.specs.Replays.{IsTrulyTold, AreTrulyTold}
@@ -65,25 +63,6 @@ pub left_out : (key : List ℕ) (so_far : List ReadAnswer) (a : ReadAnswer) → 
     answer_in key so_far ≡ answer_in key (so_far ++ a ∷ [])
 left_out key so_far a known =
     sym (answer_in-append key so_far (a ∷ []) ∙ left_out_by (bytes_eq a.key key) key so_far a refl known)
-
--- ---- what a key was at a revision
-
-above_zero : (b : Bool) (opening : ℕ) (changes : List Change) (older : List (List Change)) →
-    nat_le (number_of_last opening (changes ∷ older)) 0 ≡ b → revisions_up_to opening 0 older ≡ [] →
-    cond b (changes ∷ older) (revisions_up_to opening 0 older) ≡ []
-above_zero true opening changes older at none =
-    let small : number_of_last opening (changes ∷ older) ≤ 0 = leb-true (number_of_last opening (changes ∷ older)) 0 at in
-    absurd (omega (arith, small))
-above_zero false opening changes older at none = none
-
-none_up_to : (opening : ℕ) (revisions : List (List Change)) → revisions_up_to opening 0 revisions ≡ []
-none_up_to opening [] = refl
-none_up_to opening (changes ∷ older) =
-    above_zero (nat_le (number_of_last opening (changes ∷ older)) 0) opening changes older refl (none_up_to opening older)
-
--- no key was there at revision 0
-pub none_at_zero : (h : History) (key : List ℕ) → key_at h key 0 ≡ None
-none_at_zero h key = ap (key_after h.opening key) (none_up_to h.opening h.revisions)
 
 -- ---- true answers, one after another
 

@@ -7,18 +7,19 @@ use Rattle.stm_program.specs.declared.operator.Operator.TheVariants.{Add}
 use Rattle.stm_program.specs.declared.level.Level.TheVariants.{Serializable}
 use Rattle.stm_meaning.specs.declared.trace_item.TraceItem.{TraceItem}
 use Rattle.stm_meaning.specs.declared.trace_item.TraceItem.TheVariants as seen
-use Rattle.stm_outcome.specs.declared.txn.Op.TheVariants.{Put}
+use Rattle.stm_outcome.specs.declared.txn.Op.{Op}
+use Rattle.stm_outcome.specs.declared.txn.Op.TheVariants.{Put, Get as GetOperation}
 use Rattle.stm_world.specs.declared.event.WorldEvent.{WorldEvent}
-use Rattle.stm_world.specs.declared.event.WorldEvent.TheVariants.{Start, Step, Txn, Poll, Cancel, WatchKey}
-use Rattle.stm_reports.specs.declared.causes.RefusalName.TheVariants.{NoWatcher, LeaseIdOutOfRange}
+use Rattle.stm_world.specs.declared.event.WorldEvent.TheVariants.{Start, Step, Txn, Compact, Poll, Cancel, WatchKey}
+use Rattle.stm_reports.specs.declared.causes.RefusalName.TheVariants.{NoWatcher, LeaseIdOutOfRange, FutureRevision, Compacted as BelowTheFloor}
 use Rattle.stm_reports.specs.declared.line.ReportLine.{ReportLine}
 use Rattle.stm_reports.specs.declared.line.ReportLine.TheVariants as line
 use Rattle.stm_reports.specs.declared.line.ToldOp.TheVariants as told
 use Rattle.stm_check.specs.declared.cause.WrongCause.TheVariants.{Count, Final}
-use Rattle.stm_check.specs.Point.{Point, beginning}
+use Rattle.stm_check.specs.Point.{Point, beginning, after}
 use Rattle.stm_check.specs.Fits.{fits}
-use Rattle.stm_txn.specs.Standing.{transacted, granted}
-use Rattle.stm_world.specs.declared.reply.Reply.TheVariants.{Txn as TxnDone, Granted}
+use Rattle.stm_txn.specs.Standing.{Standing, transacted, granted, raised}
+use Rattle.stm_world.specs.declared.reply.Reply.TheVariants.{Txn as TxnDone, Granted, Compacted}
 use Rattle.stm_world.specs.Told.{reply_to}
 use Rattle.stm_lines.specs.Lines.{line_told}
 use Rattle.stm_check.specs.Wrong.{IsOff, IsFirstWrong, point_after}
@@ -111,6 +112,15 @@ own_watcher = refl
 other_watcher : fits 1 [] (Cancel 7) (line.Cancelled 1 8) ≡ false
 other_watcher = refl
 
+lost_watcher : fits 1 [] (Poll 7 0) (line.Lost 1 7 3) ≡ true
+lost_watcher = refl
+
+other_is_lost : fits 1 [] (Poll 7 0) (line.Lost 1 8 3) ≡ false
+other_is_lost = refl
+
+only_a_poll_tells_of_loss : fits 1 [] (Cancel 7) (line.Lost 1 7 3) ≡ false
+only_a_poll_tells_of_loss = refl
+
 any_watcher : fits 1 [] (WatchKey (codes "a") 0) (line.Watching 1 9) ≡ true
 any_watcher = refl
 
@@ -126,6 +136,34 @@ first_txn = refl
 
 bad_grant : line_told 1 (reply_to (λ _. Granted 0) (granted (beginning 1).standing 0 5)) ≡ line.Refused 1 LeaseIdOutOfRange []
 bad_grant = refl
+
+-- ---- a compaction behind the four first lines, where the counter is 3
+
+abbrev compacted : Standing
+compacted = (after started (Compact 3) (line.Compacted 5 3)).standing
+
+raises_the_floor : compacted.floor ≡ 3
+raises_the_floor = refl
+
+keeps_the_history : compacted.history ≡ started.standing.history
+keeps_the_history = refl
+
+compact_line : line_told 5 (reply_to (λ _. Compacted 3) (raised started.standing 3)) ≡ line.Compacted 5 3
+compact_line = refl
+
+above_the_counter : line_told 5 (reply_to (λ _. Compacted 4) (raised started.standing 4)) ≡ line.Refused 5 FutureRevision []
+above_the_counter = refl
+
+at_the_floor : line_told 6 (reply_to (λ _. Compacted 3) (raised compacted 3)) ≡ line.Refused 6 BelowTheFloor []
+at_the_floor = refl
+
+-- a read of a revision below it
+abbrev read_at_two : Op
+read_at_two = GetOperation (codes "x") 2
+
+below_the_floor : line_told 6 (reply_to TxnDone (transacted compacted (record { compares = []; success = read_at_two ∷ []; failure = [] })))
+    ≡ line.Refused 6 BelowTheFloor []
+below_the_floor = refl
 
 -- ---- the end
 

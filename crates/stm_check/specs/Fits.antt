@@ -3,7 +3,7 @@
 use Rattle.std.specs.Prelude.{ℕ, nat_eq, Bool, true, false, ◌&&◌, not, is_some, List, Option, Some, None}
 use Rattle.stm_world.specs.declared.event.WorldEvent.{WorldEvent}
 use Rattle.stm_world.specs.declared.event.WorldEvent.TheVariants.{Start, Step, Txn, Grant, Keep, Revoke, Advance}
-use Rattle.stm_world.specs.declared.event.WorldEvent.TheVariants.{WatchKey, WatchRange, Poll, Cancel}
+use Rattle.stm_world.specs.declared.event.WorldEvent.TheVariants.{Compact, WatchKey, WatchRange, Poll, Cancel}
 use Rattle.stm_reports.specs.declared.line.ReportLine.{ReportLine}
 use Rattle.stm_reports.specs.declared.line.ReportLine.TheVariants as line
 use Rattle.stm_check.specs.declared.runner.Runner.{Runner}
@@ -24,9 +24,11 @@ number_of (line.Granted n id) = Some n
 number_of (line.Kept n id) = Some n
 number_of (line.Revoked n id revision) = Some n
 number_of (line.Advanced n now expired) = Some n
+number_of (line.Compacted n revision) = Some n
 number_of (line.Watching n id) = Some n
 number_of (line.Cancelled n id) = Some n
 number_of (line.Batch n id up_to events) = Some n
+number_of (line.Lost n id floor) = Some n
 number_of (line.Refused n cause expired) = Some n
 number_of (line.Key key state) = None
 number_of (line.Lease id ttl renewed) = None
@@ -64,10 +66,11 @@ is_watching (line.Refused n cause expired) = true
 is_watching (line.Watching n watcher) = true
 is_watching other = false
 
--- a poll is told of its own watcher, or refused
+-- a poll is told of its own watcher, which may be lost, or refused
 abbrev pub is_batch_of : ℕ → ReportLine → Bool
 is_batch_of id (line.Refused n cause expired) = true
 is_batch_of id (line.Batch n watcher up_to events) = nat_eq watcher id
+is_batch_of id (line.Lost n watcher floor) = nat_eq watcher id
 is_batch_of id other = false
 
 -- a cancellation is told of its own watcher, or refused
@@ -95,6 +98,9 @@ can_have runners (Revoke id) other = false
 can_have runners (Advance moment) (line.Refused n cause expired) = true
 can_have runners (Advance moment) (line.Advanced n told expired) = true
 can_have runners (Advance moment) other = false
+can_have runners (Compact revision) (line.Refused n cause expired) = true
+can_have runners (Compact revision) (line.Compacted n told) = true
+can_have runners (Compact revision) other = false
 can_have runners (WatchKey key from) l = is_watching l
 can_have runners (WatchRange first end from) l = is_watching l
 can_have runners (Poll watcher most) l = is_batch_of watcher l

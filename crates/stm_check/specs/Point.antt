@@ -1,20 +1,22 @@
 -- What a check knows at a point of a report: the store that the lines before it told, the moment, how many entries there were, and
 -- the runners.
 --
--- The store is the replay of the entries that the lines told. A moment is no part of a replay, and is kept beside it, in seconds.
--- Watchers change no store, and a check has none.
+-- The store is the replay of the entries that the lines told. A moment is no part of a replay, and is kept beside it, in seconds; nor is
+-- the floor, which compactions raise: what they drop in a store stays here, where answers that were given before are looked up. Watchers change
+-- no store, and a check has none.
 use Rattle.std.specs.Prelude.{ℕ, ◌+◌, nat_lt, if◌then◌else◌, List, [], ◌∷◌, map, length, Option, Some, None}
 use Rattle.stm_history.specs.declared.key_state.ReadAnswer.{ReadAnswer}
 use Rattle.stm_history.specs.History.{History, now, key_at}
 use Rattle.stm_outcome.specs.declared.advance.Expired.{Expired}
 use Rattle.stm_outcome.specs.declared.txn.Txn.{Txn as StoreTxn}
-use Rattle.stm_txn.specs.Standing.{Standing, opening}
+use Rattle.stm_txn.specs.Standing.{Standing, opening, raised}
 use Rattle.stm_entries.specs.declared.entry.Entry.{Entry}
 use Rattle.stm_entries.specs.declared.entry.Entry.TheVariants.{Program, Foreign, Grant as GrantEntry, Renew, Revoke as RevokeEntry, Expire}
 use Rattle.stm_entries.specs.Replayed.{Replayed, without_moment}
 use Rattle.stm_entries.specs.Replay.{replay}
 use Rattle.stm_world.specs.declared.event.WorldEvent.{WorldEvent}
-use Rattle.stm_world.specs.declared.event.WorldEvent.TheVariants.{Step, Txn, Grant, Keep, Revoke, Advance}
+use Rattle.stm_world.specs.declared.event.WorldEvent.TheVariants.{Step, Txn, Grant, Keep, Revoke, Advance, Compact}
+use Rattle.stm_world.specs.Told.{store_after_call}
 use Rattle.stm_reports.specs.declared.line.ReportLine.{ReportLine}
 use Rattle.stm_reports.specs.declared.line.ReportLine.TheVariants as line
 use Rattle.stm_reports.specs.declared.line.ToldAnswer.{ToldAnswer}
@@ -75,7 +77,7 @@ advance_entries (line.Advanced n told expired) = expiries expired
 advance_entries (line.Refused n cause expired) = expiries expired
 advance_entries other = []
 
--- what the line of an event tells as entries: a start and what is about watchers are none
+-- what the line of an event tells as entries: a start, a compaction and what is about watchers are none
 abbrev pub entries_told : Standing → List Runner → WorldEvent → ReportLine → List Entry
 entries_told s runners (Step id) l = commit_entries s.history l (running id runners)
 entries_told s runners (Txn txn) l = txn_entries (now s.history) txn l
@@ -98,10 +100,20 @@ with_replayed r moment s = record s { history = r.history; live = r.live; moment
 abbrev pub led_by : List Entry → Standing → ℕ → Standing
 led_by entries s moment = with_replayed (replay entries (without_moment s)) moment s
 
+-- a compaction that was told raises the floor, and no other line does
+abbrev pub raised_by : WorldEvent → ReportLine → Standing → Standing
+raised_by (Compact revision) (line.Compacted n told) s = store_after_call s (raised s revision)
+raised_by other l s = s
+
+-- the store behind the line of an event
+abbrev pub standing_after : Standing → List Runner → WorldEvent → ReportLine → Standing
+standing_after s runners event l =
+    with_replayed (replay (entries_told s runners event l) (without_moment s)) (moment_after s event) (raised_by event l s)
+
 -- the point behind the line of an event
 abbrev pub after : Point → WorldEvent → ReportLine → Point
 after p event l = record {
-  standing = led_by (entries_told p.standing p.runners event l) p.standing (moment_after p.standing event);
+  standing = standing_after p.standing p.runners event l;
   entries = p.entries + length (entries_told p.standing p.runners event l);
   runners = runners_after event l p.runners;
 }

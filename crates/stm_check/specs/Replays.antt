@@ -8,12 +8,12 @@ use Rattle.stm_program.specs.declared.level.Level.{Level}
 use Rattle.stm_meaning.specs.declared.value.Value.{Value}
 use Rattle.stm_meaning.specs.declared.trace_item.TraceItem.{TraceItem}
 use Rattle.stm_compile.specs.Levels.{is_comparing}
-use Rattle.stm_txn.specs.Standing.{Standing, transacted, granted, kept_alive, revoked, advanced}
+use Rattle.stm_txn.specs.Standing.{Standing, transacted, granted, kept_alive, revoked, advanced, raised}
 use Rattle.stm_entries.specs.Replayed.{without_moment}
 use Rattle.stm_entries.specs.Legal.{IsCommit}
 use Rattle.stm_world.specs.declared.event.WorldEvent.{WorldEvent}
-use Rattle.stm_world.specs.declared.event.WorldEvent.TheVariants.{Start, Step, Txn, Grant, Keep, Revoke, Advance}
-use Rattle.stm_world.specs.declared.reply.Reply.TheVariants.{Txn as TxnDone, Granted, Kept, Revoked}
+use Rattle.stm_world.specs.declared.event.WorldEvent.TheVariants.{Start, Step, Txn, Grant, Keep, Revoke, Advance, Compact}
+use Rattle.stm_world.specs.declared.reply.Reply.TheVariants.{Txn as TxnDone, Granted, Kept, Revoked, Compacted}
 use Rattle.stm_world.specs.Told.{reply_to, advance_reply}
 use Rattle.stm_lines.specs.Lines.{line_told}
 use Rattle.stm_reports.specs.declared.causes.RefusalName.TheVariants.{BadLimit, NoRunner}
@@ -83,4 +83,5 @@ Replays n s runners (Keep id) l = line_told n (reply_to (λ _. Kept id) (kept_al
 Replays n s runners (Revoke id) l = line_told n (reply_to (Revoked id) (revoked s id)) ≡ l
 Replays n s runners (Advance moment) l =
     line_told n (advance_reply moment (advanced s moment).expired (advanced s moment).cause) ≡ l
+Replays n s runners (Compact revision) l = line_told n (reply_to (λ _. Compacted revision) (raised s revision)) ≡ l
 Replays n s runners other l = Unit {0}

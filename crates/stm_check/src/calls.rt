@@ -1,19 +1,20 @@
 //! Whether a line tells what a call of the store comes to. The call is made.
 ghost use Rattle.std.specs.Prelude.{◌≡◌, ◌≢◌, ◌↔◌, IsTrue, IfOk, OnOk};
-ghost use Rattle.stm_check.specs.Point.{led_by, moment_after, txn_entries, grant_entries, keep_entries, revoke_entries, advance_entries};
+ghost use Rattle.stm_check.specs.Point.{led_by, moment_after, txn_entries, grant_entries, keep_entries, revoke_entries, advance_entries, raised_by};
 ghost use Rattle.stm_lines.specs.Lines.{line_told};
 ghost use Rattle.stm_history.specs.History.{now};
 ghost use Rattle.stm_reports.specs.Told.{cause_told};
 ghost use Rattle.stm_reports.specs.declared.line.ReportLine.TheVariants.{Refused};
-ghost use Rattle.stm_txn.specs.Standing.{transacted, granted, kept_alive, revoked, advanced};
+ghost use Rattle.stm_txn.specs.Standing.{transacted, granted, kept_alive, revoked, advanced, raised};
 ghost use Rattle.stm_outcome.specs.declared.refusal.Refusal.TheVariants.{OutOfMemory};
 ghost use Rattle.stm_world.specs.Told.{reply_to, advance_reply};
-ghost use Rattle.stm_world.specs.declared.reply.Reply.TheVariants.{Txn as TxnDone, Granted, Kept, Revoked};
-ghost use Rattle.stm_world.specs.declared.event.WorldEvent.TheVariants.{Advance as AdvanceEvent};
+ghost use Rattle.stm_world.specs.declared.reply.Reply.TheVariants.{Txn as TxnDone, Granted, Kept, Revoked, Compacted};
+ghost use Rattle.stm_world.specs.declared.event.WorldEvent.TheVariants.{Advance as AdvanceEvent, Compact as CompactEvent};
 
 use std::alloc::AllocError;
 use stm_reports::{
-    ReportLine, is_advanced, is_granted, is_kept, is_refused, is_revoked, is_txn, told_cause,
+    ReportLine, is_advanced, is_compacted, is_granted, is_kept, is_refused, is_revoked, is_txn,
+    told_cause,
 };
 use stm_txn::{Expired, Refusal, Store, Txn};
 
@@ -111,5 +112,21 @@ pub(crate) fn replay_advance(
     match store.advance(moment) {
         Ok(expired) => Ok(is_advanced(line, number, moment, expired.as_slice())),
         Err(refused) => { tells_refusal(line, number, refused.cause, refused.expired.as_slice()) }
+    }
+}
+
+/// Raises the floor to a revision, and tells whether a line tells the compaction. Nothing is dropped.
+pub(crate) fn replay_compact(
+    store: &mut Store,
+    number: u64,
+    revision: u64,
+    line: &ReportLine,
+) -> Result<bool, AllocError>
+    ensures right { IfOk result (λ b. IsTrue b ↔ line_told number (reply_to (λ _. Compacted revision) (raised store.old.standing revision)) ≡ line.now) }
+    ensures next { IfOk result (λ b. IsTrue b → store.new.standing ≡ raised_by (CompactEvent revision) line.now store.old.standing) }
+{
+    match store.raise_floor(revision) {
+        Ok(()) => Ok(is_compacted(line, number, revision)),
+        Err(cause) => tells_refusal(line, number, cause, &[]),
     }
 }

@@ -25,9 +25,11 @@ fn number_of(line: &ReportLine) -> Option<u64>
         ReportLine::Kept { number, .. } => Some(*number),
         ReportLine::Revoked { number, .. } => Some(*number),
         ReportLine::Advanced { number, .. } => Some(*number),
+        ReportLine::Compacted { number, .. } => Some(*number),
         ReportLine::Watching { number, .. } => Some(*number),
         ReportLine::Cancelled { number, .. } => Some(*number),
         ReportLine::Batch { number, .. } => Some(*number),
+        ReportLine::Lost { number, .. } => Some(*number),
         ReportLine::Refused { number, .. } => Some(*number),
         ReportLine::Key { .. } => None,
         ReportLine::Lease { .. } => None,
@@ -93,13 +95,14 @@ fn is_watching(line: &ReportLine) -> bool
     }
 }
 
-/// Whether a line tells a poll of this watcher.
+/// Whether a line tells a poll of this watcher, or that it is lost.
 fn is_batch_of(watcher: u64, line: &ReportLine) -> bool
     ensures { result ≡ is_batch_of watcher line.now }
 {
     match line {
         ReportLine::Refused { .. } => true,
         ReportLine::Batch { id, .. } => *id == watcher,
+        ReportLine::Lost { id, .. } => *id == watcher,
         _ => false,
     }
 }
@@ -145,6 +148,11 @@ fn can_have(runners: &[Runner], event: &WorldEvent, line: &ReportLine) -> bool
         WorldEvent::Advance { .. } => match line {
             ReportLine::Refused { .. } => true,
             ReportLine::Advanced { .. } => true,
+            _ => false,
+        },
+        WorldEvent::Compact { .. } => match line {
+            ReportLine::Refused { .. } => true,
+            ReportLine::Compacted { .. } => true,
             _ => false,
         },
         WorldEvent::WatchKey { .. } => is_watching(line),

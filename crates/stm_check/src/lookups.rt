@@ -2,7 +2,7 @@
 ghost use Rattle.std.specs.Prelude.{◌≡◌, ◌↔◌, ◌≤◌, ◌++◌, ◌∷◌, [], ℕ, List, IsTrue, IfOk, OnOk, is_some, option_copied, option_map};
 ghost use Rattle.stm_history.specs.declared.key_state.ReadAnswer.{ReadAnswer as Read};
 ghost use Rattle.stm_history.specs.declared.key_state.KeyState.{KeyState as State};
-ghost use Rattle.stm_history.specs.History.{now, key_at, mod_of};
+ghost use Rattle.stm_history.specs.History.{now, mod_of};
 ghost use Rattle.stm_outcome.specs.Numbers.{StatesFit, ReadFits};
 ghost use Rattle.stm_compile.specs.Answers.{answer_in};
 ghost use Rattle.stm_check.specs.Point.{read_in, reads_in};
@@ -41,20 +41,6 @@ impl Lookup for KeysNow<'_> {
     }
 }
 
-/// What a key was at a revision that the store has reached. At revision 0 no key was there.
-fn state_at<'a>(keys: &'a Keys, key: &str, revision: u64) -> Option<&'a KeyState>
-    requires { revision ≤ now keys.now.history }
-    ensures { option_copied result ≡ key_at keys.now.history key.now revision }
-{
-    if revision == 0 {
-        return None;
-    }
-    match keys.get_at(key, revision) {
-        Ok(state) => state,
-        Err(_) => None,
-    }
-}
-
 /// Whether a value is told as a key had it, and as none where the key was absent.
 fn has_value(told: &Option<Text>, state: Option<&KeyState>) -> bool
     ensures { IsTrue result ↔ told.now ≡ option_map (λ (s : State). s.value) (option_copied state.entry) }
@@ -85,7 +71,7 @@ fn is_truly_told(keys: &Keys, answer: &ToldAnswer) -> bool
     if answer.of_rev > keys.revision() {
         return false;
     }
-    let state = state_at(keys, answer.key.as_str(), answer.of_rev);
+    let state = keys.look_back(answer.key.as_str(), answer.of_rev);
     has_value(&answer.value, state) && answer.mod_rev == mod_rev_of(state)
 }
 
@@ -123,7 +109,7 @@ fn read_told(keys: &Keys, answer: &ToldAnswer) -> Result<ReadAnswer, AllocError>
 {
     let _counter = keys.revision();
     let key = answer.key.clone()?;
-    let kv = copy_of(state_at(keys, answer.key.as_str(), answer.of_rev))?;
+    let kv = copy_of(keys.look_back(answer.key.as_str(), answer.of_rev))?;
     Ok(ReadAnswer {
         key,
         kv,

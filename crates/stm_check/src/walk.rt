@@ -1,13 +1,15 @@
 //! What a check knows at a point of a report, and what the line of an event makes of it.
 ghost use Rattle.std.specs.Prelude.{◌≡◌, ◌≤◌, ◌↔◌, IsTrue, IfOk, IfSome, None, option_copied};
 ghost use Rattle.stm_history.specs.declared.revisions.TheConstants.{HIGHEST_REVISION};
-ghost use Rattle.stm_check.specs.Point.{commit_entries, entries_told, led_by, moment_after, beginning, after};
+ghost use Rattle.stm_check.specs.Point.{commit_entries, led_by, standing_after, beginning, after};
 ghost use Rattle.stm_check.specs.Replays.{StartReplays, StepReplays, Replays};
 ghost use Rattle.stm_check.specs.Wrong.{IsRight, IsWrong};
 ghost use Rattle.stm_entries.specs.LiveLeases.{HasLeases};
 ghost use Rattle.stm_check.specs.Walks.{point_of};
 
-use crate::calls::{replay_advance, replay_grant, replay_keep, replay_revoke, replay_txn};
+use crate::calls::{
+    replay_advance, replay_compact, replay_grant, replay_keep, replay_revoke, replay_txn,
+};
 use crate::cause::WrongCause;
 use crate::commits::{Told, replay_commit};
 use crate::count::{add_count, count_told};
@@ -92,8 +94,7 @@ fn replays(
     line: &ReportLine,
 ) -> Result<bool, AllocError>
     ensures right { IfOk result (λ b. IsTrue b ↔ Replays number store.old.standing runners.now event.now line.now) }
-    ensures next { IfOk result (λ b. IsTrue b → store.new.standing
-        ≡ led_by (entries_told store.old.standing runners.now event.now line.now) store.old.standing (moment_after store.old.standing event.now)) }
+    ensures next { IfOk result (λ b. IsTrue b → store.new.standing ≡ standing_after store.old.standing runners.now event.now line.now) }
 {
     match event {
         WorldEvent::Start { limit, .. } => Ok(start_replays(*limit, line)),
@@ -105,6 +106,7 @@ fn replays(
         WorldEvent::Keep { id } => replay_keep(store, number, *id, line),
         WorldEvent::Revoke { id } => replay_revoke(store, number, *id, line),
         WorldEvent::Advance { now } => replay_advance(store, number, *now, line),
+        WorldEvent::Compact { revision } => replay_compact(store, number, *revision, line),
         _ => Ok(true),
     }
 }

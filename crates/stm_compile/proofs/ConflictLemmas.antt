@@ -1,14 +1,15 @@
 -- A failed compare is a conflict.
-use Rattle.std.proofs.Common.{◌≡◌, ◌≢◌, ◌⊎◌, inl, inr, ℕ, suc, zero, ◌+◌, ◌<◌, ◌≤◌, List, [], ◌∷◌, ◌++◌, map, length, Bool, true, false, cond}
-use Rattle.std.proofs.Common.{Option, Some, None, IfSome, refl, sym, ◌∙◌, ap, subst, arith}
+use Rattle.std.proofs.Common.{◌≡◌, ◌≢◌, ◌⊎◌, inl, inr, ℕ, suc, zero, ◌+◌, ◌<◌, ◌≤◌, List, [], ◌∷◌, ◌++◌, map, Bool, true, false, cond}
+use Rattle.std.proofs.Common.{Option, Some, None, refl, sym, ◌∙◌, ap, subst, arith}
 use Rattle.std.specs.Prelude.{nat_lt, nat_le, is_some, ◌&&◌, ◌||◌, slice_get}
-use Rattle.std.proofs.lemmas.Bool.{lt-ltb, ltb-true, ltb-false, leb-true, leb-false}
+use Rattle.std.proofs.lemmas.Bool.{lt-ltb, ltb-true, ltb-false, leb-true, leb-false, or_right}
 use Rattle.std.proofs.lemmas.Option.{same_Some}
 use Rattle.stm_history.specs.declared.change.Change.{Change}
 use Rattle.stm_history.specs.declared.key_state.KeyState.{KeyState}
 use Rattle.stm_history.specs.declared.key_state.ReadAnswer.{ReadAnswer}
-use Rattle.stm_history.specs.History.{History, now, key_now, key_at, key_after, mod_of, number_of_last, change_of, revisions_up_to, after_change, IsTrueAnswer}
-use Rattle.stm_history.proofs.HistoryLaws.{one_more, last_revision_is_now, numbers_stay_small}
+use Rattle.stm_history.specs.Opening.{Opening, opened_state}
+use Rattle.stm_history.specs.History.{History, key_now, key_at, key_after, mod_of, number_of_last, change_of, revisions_up_to, after_change, IsTrueAnswer}
+use Rattle.stm_history.proofs.HistoryLaws.{one_more, mod_is_reached}
 use Rattle.stm_program.specs.declared.level.Level.TheVariants.{SerializableSnapshot, Serializable, RepeatableReads, ReadCommitted}
 use Rattle.stm_program.specs.declared.write.Write.{Write}
 use Rattle.stm_program.specs.Writes.{key_of}
@@ -33,7 +34,7 @@ neither_above true true deeper e = absurd (cc)
 neither_above true false deeper e = (λ p. refl, e)
 neither_above false changed deeper e = (λ p. absurd (cc), e)
 
-pub unchanged_above : (opening r : ℕ) (key : List ℕ) (revisions : List (List Change)) → changes_above opening r key revisions ≡ false →
+pub unchanged_above : (opening : Opening) (r : ℕ) (key : List ℕ) (revisions : List (List Change)) → changes_above opening r key revisions ≡ false →
     key_after opening key (revisions_up_to opening r revisions) ≡ key_after opening key revisions
 unchanged_above opening r key [] none = refl
 unchanged_above opening r key (changes ∷ older) none =
@@ -52,10 +53,6 @@ unchanged_above opening r key (changes ∷ older) none =
         let absent : change_of key changes ≡ None = no_change_of (change_of key changes) (quiet (lt-ltb r number below)) in
         deeper ∙ sym (one_more opening key changes older ∙ ap (λ c. after_change number c (key_after opening key older)) absent)
 
-either_way : (b : Bool) → (b ≡ true) ⊎ (b ≡ false)
-either_way true = inl refl
-either_way false = inr refl
-
 -- the history changes a key whose modification revision is another one than it was
 changed_since : (h : History) (r : ℕ) (key : List ℕ) → mod_of (key_now h key) ≢ mod_of (key_at h key r) → IsChangedAbove h r key
 changed_since h r key other = by (changes_above h.opening r key h.revisions) refl
@@ -66,27 +63,12 @@ changed_since h r key other = by (changes_above h.opening r key h.revisions) ref
 
 -- ---- a key is modified at most where it is looked at
 
-mod_of_small : (n : ℕ) (s : Option KeyState) → IfSome s (λ k. k.mod_rev ≤ n) → mod_of s ≤ n
-mod_of_small n None small = omega arith
-mod_of_small n (Some s) small = small
-
-weaker_small : (h : History) (n : ℕ) (s : Option KeyState) →
-    IfSome s (λ s. (s.version ≤ length h.revisions) × (s.mod_rev ≤ n) × (s.create_rev ≤ s.mod_rev) × (h.opening + 1 ≤ s.create_rev)) →
-    IfSome s (λ k. k.mod_rev ≤ n)
-weaker_small h n None small = small
-weaker_small h n (Some s) small = small.1
-
-mod_now_small : (h : History) (key : List ℕ) → mod_of (key_now h key) ≤ now h
-mod_now_small h key =
-    let last : key_at h key (now h) ≡ key_now h key = last_revision_is_now h key (now h) (omega arith) in
-    subst (λ (s : Option KeyState). mod_of s ≤ now h) last
-    (mod_of_small (now h) (key_at h key (now h)) (weaker_small h (now h) (key_at h key (now h)) (numbers_stay_small h key (now h))))
-
-pub mod_at_small : (opening r : ℕ) (key : List ℕ) (revisions : List (List Change)) →
+-- no later than at a revision, where what it was at the opening is so
+pub mod_at_small : (opening : Opening) (r : ℕ) (key : List ℕ) (revisions : List (List Change)) → mod_of (opened_state opening key) ≤ r →
     mod_of (key_after opening key (revisions_up_to opening r revisions)) ≤ r
-mod_at_small opening r key [] = omega arith
-mod_at_small opening r key (changes ∷ older) =
-    by (nat_le (number_of_last opening (changes ∷ older)) r) refl (mod_at_small opening r key older)
+mod_at_small opening r key [] opened = opened
+mod_at_small opening r key (changes ∷ older) opened =
+    by (nat_le (number_of_last opening (changes ∷ older)) r) refl (mod_at_small opening r key older opened)
   where
     by : (b : Bool) → nat_le (number_of_last opening (changes ∷ older)) r ≡ b →
         mod_of (key_after opening key (revisions_up_to opening r older)) ≤ r →
@@ -94,16 +76,26 @@ mod_at_small opening r key (changes ∷ older) =
     by true at deeper =
         let within : number_of_last opening (changes ∷ older) ≤ r = leb-true (number_of_last opening (changes ∷ older)) r at in
         let small : mod_of (key_after opening key (changes ∷ older)) ≤ number_of_last opening (changes ∷ older) =
-        mod_now_small (record { opening = opening; revisions = changes ∷ older }) key in
+        mod_is_reached opening key (changes ∷ older) in
         omega (arith, within, small)
     by false at deeper = deeper
 
--- the history changes a key above a revision that its modification revision is above
-modified_above : (h : History) (r : ℕ) (key : List ℕ) → r < mod_of (key_now h key) → IsChangedAbove h r key
-modified_above h r key above = changed_since h r key (λ same.
-    let small : mod_of (key_at h key r) ≤ r = mod_at_small h.opening r key h.revisions in
-    let here : mod_of (key_now h key) ≤ r = subst (λ n. n ≤ r) (sym same) small in
-    absurd (omega (arith, above, here)))
+-- one more change, or none, of a key that is modified above a revision
+either_above : (r number : ℕ) (change : Option Change) (before : Option KeyState) (deeper : Bool) → r < number →
+    (r < mod_of before → deeper ≡ true) → r < mod_of (after_change number change before) → ((nat_lt r number && is_some change) || deeper) ≡ true
+either_above r number None before deeper reached rest above = or_right (nat_lt r number && false) deeper (rest above)
+either_above r number (Some c) before deeper reached rest above = ap (λ b. (b && true) || deeper) (lt-ltb r number reached)
+
+-- a modification revision is that of a revision, or of the state that the history opens with
+modified_above : (opening : Opening) (r : ℕ) (key : List ℕ) (revisions : List (List Change)) → r < mod_of (key_after opening key revisions) →
+    changes_above opening r key revisions ≡ true
+modified_above opening r key [] above = lt-ltb r (mod_of (opened_state opening key)) above
+modified_above opening r key (changes ∷ older) above =
+    let number : ℕ = number_of_last opening (changes ∷ older) in
+    let reached : mod_of (key_after opening key (changes ∷ older)) ≤ number = mod_is_reached opening key (changes ∷ older) in
+    either_above r number (change_of key changes) (key_after opening key older) (changes_above opening r key older)
+    (omega (arith, reached, above)) (modified_above opening r key older)
+    (subst (λ (s : Option KeyState). r < mod_of s) (one_more opening key changes older) above)
 
 -- ---- what a compare at a place is about
 
@@ -150,7 +142,7 @@ read_changed h a t fails = changed_since h a.of_rev a.key (λ same.
 
 write_modified : (h : History) (first : ℕ) (w : Write) → holds (is_unmodified first w) (key_now h (key_of w)) ≡ false →
     IsChangedAbove h first (key_of w)
-write_modified h first w fails = modified_above h first (key_of w) (by (nat_lt first (mod_of (key_now h (key_of w)))) refl)
+write_modified h first w fails = modified_above h.opening first (key_of w) h.revisions (by (nat_lt first (mod_of (key_now h (key_of w)))) refl)
   where
     by : (b : Bool) → nat_lt first (mod_of (key_now h (key_of w))) ≡ b → first < mod_of (key_now h (key_of w))
     by true e = ltb-true first (mod_of (key_now h (key_of w))) e

@@ -3,7 +3,7 @@ use Rattle.std.proofs.Common.{◌≡◌, ℕ, ◌+◌, ◌<◌, List, [], ◌∷
 use Rattle.std.proofs.Common.{refl, sym, ◌∙◌, ap, subst, arith, length-append}
 use Rattle.std.proofs.lemmas.List.{length-map}
 use Rattle.std.proofs.lemmas.Bool.{lt-ltb, le-ltb, ltb-true}
-use Rattle.std.specs.Prelude.{bytes_eq, nat_lt, ◌||◌}
+use Rattle.std.specs.Prelude.{bytes_eq, nat_lt, ◌||◌, Result}
 use Rattle.std.specs.List.{IsDistinct, AllByRecursion}
 use Rattle.std.proofs.lemmas.List.Elements.{recursion_from_All}
 use Rattle.stm_history.specs.declared.change.Change.{Change}
@@ -26,7 +26,7 @@ use Rattle.stm_outcome.specs.declared.refusal.Refusal.{Refusal}
 use Rattle.stm_outcome.specs.declared.refusal.Refusal.TheVariants.{TooManyOps}
 use Rattle.stm_outcome.specs.Checks.{has_too_many, fault_of}
 use Rattle.stm_outcome.specs.Effect.{op_of, changes_something}
-use Rattle.stm_outcome.specs.Outcome.{outcome, chosen, unless, branch_outcome}
+use Rattle.stm_outcome.specs.Outcome.{Done, outcome, chosen, unless, branch_outcome}
 use Rattle.stm_outcome.specs.Compares.{first_failed}
 use Rattle.stm_outcome.specs.Commits.{read_now, AreNamed, effective, shown, reads_now}
 use Rattle.stm_outcome.specs.Terms.{Terms}
@@ -35,7 +35,7 @@ use Rattle.stm_compile.specs.Answers.{answer_now}
 use Rattle.stm_compile.specs.Now.{as_change, is_present}
 use Rattle.stm_compile.specs.CommitTxn.{first_carried, is_as_read, is_unmodified, compares_of, write_op, reread_keys, commit_of}
 use Rattle.stm_compile.specs.Committed.{compared, sends_too_many, conflict_now, judged}
-use Rattle.stm_compile.specs.Laws.{CommitComesTo, AppliedIsEffect, FailedCommitRereads}
+use Rattle.stm_compile.specs.Laws.{CommitComesTo, AppliedIsEffect, FailedCommitRereads, CommitHasNoFloor}
 use Rattle.stm_compile.proofs.AgreeLemmas.{now_are_true}
 
 -- ---- writes as changes
@@ -245,6 +245,18 @@ commit_comes_to terms level reads run reads_named writes_named =
     (fault_is terms.limit level reads ws (latest_writes-distinct run.writes)
     (recursion_from_All (λ (a : ReadAnswer). 0 < length a.key) reads reads_named)
     (recursion_from_All (λ w. 0 < length (key_of w)) ws writes_named))
+
+-- ---- at every floor
+
+judged_at : (terms : Terms) (floor : ℕ) (level : Level) (reads : List ReadAnswer) (run : Run) (failed : Option FailedCompare) →
+    judged (record terms { floor = floor }) level reads run failed ≡ judged terms level reads run failed
+judged_at terms floor level reads run None = refl
+judged_at terms floor level reads run (Some failed) = refl
+
+pub commit_has_no_floor : CommitHasNoFloor
+commit_has_no_floor terms floor level reads run =
+    ap (λ (o : Result Done Refusal). cond (sends_too_many terms.limit level reads (latest_writes run.writes)) (Err TooManyOps) o)
+    (judged_at terms floor level reads run (conflict_now terms.history level reads (latest_writes run.writes)))
 
 -- ---- what a failed commit tells
 

@@ -1,8 +1,10 @@
 -- Worked examples of commits, which compute.
-use Rattle.std.proofs.Common.{◌≡◌, ℕ, List, [], ◌∷◌, Some, None, refl}
+use Rattle.std.proofs.Common.{◌≡◌, ℕ, List, [], ◌∷◌, Some, None, false, refl}
 use Rattle.stm_history.specs.declared.change.Change.TheVariants.{Put as PutChange}
 use Rattle.stm_history.specs.declared.key_state.ReadAnswer.{ReadAnswer}
+use Rattle.stm_history.specs.Opening.{opening_at}
 use Rattle.stm_history.specs.History.{History}
+use Rattle.stm_history.specs.Cut.{cut}
 use Rattle.stm_program.specs.declared.level.Level.TheVariants.{SerializableSnapshot, Serializable, RepeatableReads, ReadCommitted}
 use Rattle.stm_program.specs.declared.write.Write.{Write}
 use Rattle.stm_program.specs.declared.write.Write.TheVariants.{Put, Del}
@@ -11,7 +13,7 @@ use Rattle.stm_outcome.specs.declared.txn.Op.TheVariants.{Get, Put as PutOp, Del
 use Rattle.stm_outcome.specs.Commits.{mod_is, mod_is_below}
 use Rattle.stm_compile.specs.CommitTxn.{compares_of, commit_of}
 use Rattle.stm_compile.specs.Committed.{conflict_now}
-use Rattle.stm_compile.specs.Conflicts.{IsChangedAbove, seen_by}
+use Rattle.stm_compile.specs.Conflicts.{changes_above, IsChangedAbove, seen_by}
 
 abbrev a : List ℕ
 a = 97 ∷ []
@@ -62,10 +64,10 @@ nothing_read = refl
 -- ---- one revision put a and b; then b was put again
 
 abbrev both_put : History
-both_put = record { opening = 1; revisions = (PutChange a nine 0 ∷ PutChange b nine 0 ∷ []) ∷ [] }
+both_put = record { opening = opening_at 1; revisions = (PutChange a nine 0 ∷ PutChange b nine 0 ∷ []) ∷ [] }
 
 abbrev b_again : History
-b_again = record { opening = 1; revisions = (PutChange b nine 0 ∷ []) ∷ (PutChange a nine 0 ∷ PutChange b nine 0 ∷ []) ∷ [] }
+b_again = record { opening = opening_at 1; revisions = (PutChange b nine 0 ∷ []) ∷ (PutChange a nine 0 ∷ PutChange b nine 0 ∷ []) ∷ [] }
 
 -- at once, the commit of a put of b finds no conflict
 at_once : conflict_now both_put SerializableSnapshot (read_a ∷ []) (Put b nine 0 ∷ []) ≡ None
@@ -84,3 +86,16 @@ b_is_changed = refl
 -- at serializable the written key is not compared
 unread_key : conflict_now b_again Serializable (read_a ∷ []) (Put b nine 0 ∷ []) ≡ None
 unread_key = refl
+
+-- ---- the revisions up to 3 are dropped, the second put of b among them
+
+-- the commit is told the same conflict
+after_a_compaction : conflict_now (cut 3 b_again) SerializableSnapshot (read_a ∷ []) (Put b nine 0 ∷ []) ≡ Some (record { index = 1; mod_rev = 3 })
+after_a_compaction = refl
+
+-- and the state that the history opens with tells that b was changed above revision 2, but not above 3
+b_was_changed : IsChangedAbove (cut 3 b_again) 2 b
+b_was_changed = refl
+
+b_is_unchanged : changes_above (cut 3 b_again).opening 3 b (cut 3 b_again).revisions ≡ false
+b_is_unchanged = refl

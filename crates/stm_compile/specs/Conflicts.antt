@@ -2,18 +2,20 @@
 --
 -- The documentation of the Go package `clientv3/concurrency`, "STM": a commit fails only where a key that was read, or at
 -- serializable snapshot one that was written, has been changed since.
-use Rattle.std.specs.Prelude.{◌≡◌, ℕ, Bool, false, true, is_some, nat_lt, ◌&&◌, ◌||◌, List, [], ◌∷◌, ◌++◌, map, Some, slice_get}
+use Rattle.std.specs.Prelude.{◌≡◌, ℕ, Bool, true, is_some, nat_lt, ◌&&◌, ◌||◌, List, [], ◌∷◌, ◌++◌, map, Some, slice_get}
 use Rattle.stm_history.specs.declared.change.Change.{Change}
 use Rattle.stm_history.specs.declared.key_state.ReadAnswer.{ReadAnswer}
+use Rattle.stm_history.specs.Opening.{Opening, opened_state}
 use Rattle.stm_history.specs.History.{History, key_now, mod_of, number_of_last, change_of}
 use Rattle.stm_program.specs.declared.write.Write.{Write}
 use Rattle.stm_program.specs.Writes.{key_of}
 use Rattle.stm_outcome.specs.declared.answer.FailedCompare.{FailedCompare}
 use Rattle.stm_compile.specs.CommitTxn.{first_carried}
 
--- one of these revisions above a number changes the key
-abbrev pub changes_above : ℕ → ℕ → List ℕ → List (List Change) → Bool
-changes_above opening r key [] = false
+-- One of these revisions above a number changes the key, or one above it that was dropped before them has left what the key is at the
+-- opening.
+abbrev pub changes_above : Opening → ℕ → List ℕ → List (List Change) → Bool
+changes_above opening r key [] = nat_lt r (mod_of (opened_state opening key))
 changes_above opening r key (changes ∷ older) =
     (nat_lt r (number_of_last opening (changes ∷ older)) && is_some (change_of key changes)) || changes_above opening r key older
 

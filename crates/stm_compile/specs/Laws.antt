@@ -31,6 +31,12 @@ CommitComesTo =
     All (λ (a : ReadAnswer). 0 < length a.key) reads → All (λ w. 0 < length (key_of w)) (latest_writes run.writes)
     → outcome terms (commit_of level reads (latest_writes run.writes)) ≡ committed terms level reads run
 
+-- A commit reads no revision by its number, so it comes to the same at every floor.
+abbrev pub CommitHasNoFloor : Type 0
+CommitHasNoFloor =
+    (terms : Terms) (floor : ℕ) (level : Level) (reads : List ReadAnswer) (run : Run) →
+    committed (record terms { floor = floor }) level reads run ≡ committed terms level reads run
+
 -- At a comparing level, where no compare fails, the run on true answers is the run of the program on the state now.
 abbrev pub CommitIsTheRunNow : Type 0
 CommitIsTheRunNow =

@@ -1,11 +1,16 @@
 //! The laws of commits. Each function does nothing: its contract is the law.
 ghost use Rattle.stm_compile.specs.Laws.{CommitComesTo, CommitIsTheRunNow, TrueReadsAreNow, FailedComparesConflict, WrittenKeysAreUnmodified};
-ghost use Rattle.stm_compile.specs.Laws.{AnswersOfOneRevision, TrueAnswersStay, AppliedIsEffect, FailedCommitRereads};
+ghost use Rattle.stm_compile.specs.Laws.{AnswersOfOneRevision, TrueAnswersStay, AppliedIsEffect, FailedCommitRereads, CommitHasNoFloor};
 
 /// The transaction of a run comes to the run's commit: `TooManyOps` exactly where it compares or writes too
 /// much, else a failed compare is told and nothing changes, else its latest writes are applied.
 pub fn commit_comes_to()
     ensures { CommitComesTo }
+{}
+
+/// The run's commit comes to the same whatever revisions a compaction has dropped: it reads none by its number.
+pub fn commit_has_no_floor()
+    ensures { CommitHasNoFloor }
 {}
 
 /// At a comparing level, where no compare fails, a run on true answers is the run of its program on the

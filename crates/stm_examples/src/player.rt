@@ -49,6 +49,8 @@ pub enum Example {
     Attempt(u8),
     /// Counter, number of entries, modification revisions of "a" and "b", and number of keys of a world after a put of "a".
     Put,
+    /// Counter, number of entries and floor of a world that was compacted at revision 3, the second put of "a", and "a" at revisions 2 and 3.
+    Compaction,
     /// A recipe as the language spells it.
     Spelled(Recipe),
     /// The end of a recipe's run on a state, what it emitted, and the effect of its writes.
@@ -75,6 +77,7 @@ fn tell(alloc: Global, told: &mut String, example: Example) -> Result<(), Fail> 
         Example::Commit(level) => commits::tell_commit(alloc, told, level),
         Example::Attempt(revision) => attempts::tell_attempt(alloc, told, u64::from(revision)),
         Example::Put => worlds::tell_put(alloc, told),
+        Example::Compaction => worlds::tell_compaction(alloc, told),
         Example::Spelled(recipe) => recipe_runs::tell_spelled(alloc, told, recipe),
         Example::Recipe(recipe, entries) => recipe_runs::tell_recipe(alloc, told, recipe, entries),
         Example::Readers(entries) => recipe_runs::tell_readers_of(alloc, told, entries),

@@ -4,8 +4,12 @@
 use crate::player::{Example, Recipe, are_told};
 use std::test::Fail;
 
-/// A put is the second revision of a world, and its commit the first entry.
-const PUT: [(Example, &str); 1] = [(Example::Put, "2 1 2 0 1")];
+/// A put is the second revision of a world, and its commit the first entry. A compaction is no entry; what was below its revision can't be
+/// read any more, and a key keeps its numbers.
+const STORES: [(Example, &str); 2] = [
+    (Example::Put, "2 1 2 0 1"),
+    (Example::Compaction, "3 2 3; Compacted; 2 3 2"),
+];
 
 /// Accounts of 100 each, and what is paid from one to the other.
 const ACCOUNTS: [(Example, &str); 4] = [
@@ -69,7 +73,7 @@ const SLOTS: [(Example, &str); 2] = [
 
 #[test]
 fn a_world_tells_its_store(rt: HostRuntime) -> Result<(), Fail> {
-    are_told(&rt, rt.alloc(), &PUT)
+    are_told(&rt, rt.alloc(), &STORES)
 }
 
 #[test]

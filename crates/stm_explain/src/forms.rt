@@ -141,7 +141,7 @@ pub const ORDERS: [(&str, Parts); 4] = [
 ];
 
 /// The events of a scenario.
-pub const EVENTS: [(&str, Parts); 11] = [
+pub const EVENTS: [(&str, Parts); 12] = [
     (
         "start",
         Parts::Three(Part::Level, Part::Limit, Part::Program),
@@ -155,6 +155,7 @@ pub const EVENTS: [(&str, Parts); 11] = [
     ("keep", Parts::One(Part::Number)),
     ("revoke", Parts::One(Part::Number)),
     ("advance", Parts::One(Part::Number)),
+    ("compact", Parts::One(Part::Number)),
     ("watch_key", Parts::Two(Part::Text, Part::Number)),
     (
         "watch_range",
@@ -231,7 +232,7 @@ pub const OPERATIONS: [(&str, Parts); 3] = [
 ];
 
 /// The lines of a report, by their word. What stands behind it is not said here.
-pub const LINES: [(&str, Parts); 20] = [
+pub const LINES: [(&str, Parts); 22] = [
     ("started", Parts::Nothing),
     ("fetched", Parts::Nothing),
     ("committed", Parts::Nothing),
@@ -245,9 +246,11 @@ pub const LINES: [(&str, Parts); 20] = [
     ("kept", Parts::Nothing),
     ("revoked", Parts::Nothing),
     ("advanced", Parts::Nothing),
+    ("compacted", Parts::Nothing),
     ("watching", Parts::Nothing),
     ("cancelled", Parts::Nothing),
     ("batch", Parts::Nothing),
+    ("lost", Parts::Nothing),
     ("refused", Parts::Nothing),
     ("key", Parts::Nothing),
     ("lease", Parts::Nothing),

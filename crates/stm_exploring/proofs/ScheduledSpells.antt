@@ -45,6 +45,7 @@ level_spelled level (event.Grant id ttl) s = s
 level_spelled level (event.Keep id) s = s
 level_spelled level (event.Revoke id) s = s
 level_spelled level (event.Advance now) s = s
+level_spelled level (event.Compact revision) s = s
 level_spelled level (event.WatchKey key from) s = s
 level_spelled level (event.WatchRange first end from) s = s
 level_spelled level (event.Poll watcher most) s = s

@@ -7,7 +7,7 @@ use Rattle.std.proofs.lemmas.List.{reverse-append, length-append}
 use Rattle.std.proofs.lemmas.Option.{same_Some, slice_get_within}
 use Rattle.stm_world.specs.declared.event.WorldEvent.{WorldEvent}
 use Rattle.stm_world.specs.declared.event.WorldEvent.TheVariants.{Start, Step, Txn, Grant, Keep, Revoke, Advance}
-use Rattle.stm_world.specs.declared.event.WorldEvent.TheVariants.{WatchKey, WatchRange, Poll, Cancel}
+use Rattle.stm_world.specs.declared.event.WorldEvent.TheVariants.{WatchKey, WatchRange, Poll, Cancel, Compact}
 use Rattle.stm_world.specs.declared.reply.Reply.{Reply}
 use Rattle.stm_world.specs.declared.reply.Reply.TheVariants as variant
 use Rattle.stm_world.specs.declared.refusal.Denied.{Denied}
@@ -42,6 +42,8 @@ step_silent at (Ok (variant.Advanced moment expired)) right = refl
 step_silent at (Ok (variant.Watching watcher)) right = refl
 step_silent at (Ok (variant.Batch watcher upto events)) right = refl
 step_silent at (Ok (variant.Cancelled watcher)) right = refl
+step_silent at (Ok (variant.Compacted revision)) right = refl
+step_silent at (Ok (variant.Lost watcher floor)) right = refl
 
 abbrev starts : WorldEvent → Bool
 starts (Start program level limit) = true
@@ -156,6 +158,8 @@ by_line start element older runs (Poll watcher most) told right c =
     quiet (Poll watcher most) told older runs (silent start older (Poll watcher most) told right refl) c
 by_line start element older runs (Cancel watcher) told right c =
     quiet (Cancel watcher) told older runs (silent start older (Cancel watcher) told right refl) c
+by_line start element older runs (Compact revision) told right c =
+    quiet (Compact revision) told older runs (silent start older (Compact revision) told right refl) c
 
 -- ---- all lines
 

@@ -19,11 +19,12 @@ use Rattle.stm_txn.specs.LeaseKeys.{deletions_of}
 use Rattle.stm_txn.specs.Standing.{Standing, Step, Advance, IsRefusalOf, refusal_of, with_history, transacted, without_lease, ended}
 use Rattle.stm_txn.specs.Standing.{at_moment, after, expired_in, expire_up_to, expire_all, advanced, HasCome, IsCutShort as StoreCutShort}
 use Rattle.stm_txn.specs.Standing.{terms_of}
+use Rattle.stm_outcome.proofs.Lowering.{floor_only_refuses}
 use Rattle.stm_outcome.proofs.Applying.{history_grows}
 use Rattle.stm_txn.proofs.Ending.{ended_is, due_lives}
 use Rattle.stm_entries.specs.declared.entry.Entry.{Entry}
 use Rattle.stm_entries.specs.declared.entry.Entry.TheVariants.{Foreign, Expire}
-use Rattle.stm_entries.specs.Replayed.{without_moment, with_history as replayed_with}
+use Rattle.stm_entries.specs.Replayed.{replay_terms, without_moment, with_history as replayed_with}
 use Rattle.stm_entries.specs.Alone.{history_left}
 use Rattle.stm_entries.specs.Replay.{replay}
 use Rattle.stm_hall.specs.HallState.{HallState, HallStep, hall_of, gone_on}
@@ -42,10 +43,12 @@ same_history h after (c ∷ cs) is still =
 
 changed_follows : (s : Standing) (txn : Txn) (done : Done) (b : Bool) → outcome (terms_of s) txn ≡ Ok done →
     nat_lt (now s.history) (now done.history) ≡ b → Follows s (with_history s done.history) (cond b (Foreign txn ∷ []) [])
-changed_follows s txn done true is changed = record {
-  replays = ap (λ o. replayed_with (without_moment s) (history_left s.history o)) is;
-  there = (record { done = done; taken = is; changed = ltb-true (now s.history) (now done.history) changed }, tt);
-}
+changed_follows s txn done true is changed =
+    let anywhere : outcome (replay_terms (without_moment s)) txn ≡ Ok done = floor_only_refuses (terms_of s) txn done is in
+    record {
+      replays = ap (λ o. replayed_with (without_moment s) (history_left s.history o)) anywhere;
+      there = (record { done = done; taken = anywhere; changed = ltb-true (now s.history) (now done.history) changed }, tt);
+    }
 changed_follows s txn done false is changed =
     let grown : (changes : List Change) × HasDistinctKeys changes × (done.history ≡ with_changes s.history changes) =
     history_grows (terms_of s) txn done is in

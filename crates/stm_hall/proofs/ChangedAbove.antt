@@ -6,8 +6,9 @@ use Rattle.std.specs.Prelude.{bytes_eq, nat_lt}
 use Rattle.stm_history.specs.declared.change.Change.{Change}
 use Rattle.stm_history.specs.declared.change.Change.TheVariants.{Put, Del}
 use Rattle.stm_history.specs.declared.key_state.KeyState.{KeyState}
-use Rattle.stm_history.specs.History.{History, now, number_of_last, revisions_up_to, key_of, key_after, change_of}
-use Rattle.stm_history.proofs.HistoryLaws.{all_up_to, last_is_above}
+use Rattle.stm_history.specs.Opening.{Opening, opened_state}
+use Rattle.stm_history.specs.History.{History, now, number_of_last, revisions_up_to, key_of, key_at, key_after, change_of, mod_of}
+use Rattle.stm_history.proofs.HistoryLaws.{all_up_to, last_is_above, mod_is_reached}
 use Rattle.stm_keys.specs.declared.event.Event.{Event}
 use Rattle.stm_keys.specs.Events.{event_of, events_above, events_numbered, events_of, event_about, key_of_event}
 use Rattle.stm_compile.specs.Conflicts.{changes_above}
@@ -33,7 +34,7 @@ shown_alike n before key (c ∷ cs) =
 
 -- ---- the revision with a number, and those below it
 
-record Newest (opening n : ℕ) (revisions : List (List Change)) : Type 0 where
+record Newest (opening : Opening) (n : ℕ) (revisions : List (List Change)) : Type 0 where
   pub changes : List Change
   pub older : List (List Change)
   pub is : revisions_up_to opening (suc n) revisions ≡ changes ∷ older
@@ -41,7 +42,7 @@ record Newest (opening n : ℕ) (revisions : List (List Change)) : Type 0 where
   pub events : events_numbered opening (suc n) revisions ≡ events_above opening changes older
   pub below : revisions_up_to opening n revisions ≡ older
 
-newest : (opening n : ℕ) (revisions : List (List Change)) → opening ≤ n → suc n ≤ number_of_last opening revisions → Newest opening n revisions
+newest : (opening : Opening) (n : ℕ) (revisions : List (List Change)) → opening.number ≤ n → suc n ≤ number_of_last opening revisions → Newest opening n revisions
 newest opening n [] low high = absurd (omega arith)
 newest opening n (c ∷ revisions) low high = ⊎_elim
     (λ (same : number_of_last opening (c ∷ revisions) ≡ suc n). record {
@@ -70,7 +71,7 @@ newest opening n (c ∷ revisions) low high = ⊎_elim
     (cases_order (number_of_last opening (c ∷ revisions)) (suc n))
 
 -- whether the revision changes the key is told by its events
-next_up : (opening since n : ℕ) (key : List ℕ) (revisions : List (List Change)) (r : Newest opening n revisions) → since ≤ n →
+next_up : (opening : Opening) (since n : ℕ) (key : List ℕ) (revisions : List (List Change)) (r : Newest opening n revisions) → since ≤ n →
     changes_above opening since key (revisions_up_to opening (suc n) revisions)
     ≡ (is_some (event_about key (events_numbered opening (suc n) revisions)) || changes_above opening since key (revisions_up_to opening n revisions))
 next_up opening since n key revisions r low =
@@ -89,14 +90,14 @@ either_false : (a b : Bool) → a ≡ false → (a || b) ≡ b
 either_false a b is = ap (λ x. x || b) is
 
 -- an event of the key in the revision with this number
-pub found_above : (h : History) (since n : ℕ) (key : List ℕ) → h.opening ≤ n → since ≤ n → suc n ≤ now h →
+pub found_above : (h : History) (since n : ℕ) (key : List ℕ) → h.opening.number ≤ n → since ≤ n → suc n ≤ now h →
     is_some (event_about key (events_of h (suc n))) ≡ true → changes_above h.opening since key (revisions_up_to h.opening (suc n) h.revisions) ≡ true
 found_above h since n key low under high found =
     next_up h.opening since n key h.revisions (newest h.opening n h.revisions low high) under
     ∙ either_true (is_some (event_about key (events_of h (suc n)))) (changes_above h.opening since key (revisions_up_to h.opening n h.revisions)) found
 
 -- or none
-pub passed_above : (h : History) (since n : ℕ) (key : List ℕ) → h.opening ≤ n → since ≤ n → suc n ≤ now h →
+pub passed_above : (h : History) (since n : ℕ) (key : List ℕ) → h.opening.number ≤ n → since ≤ n → suc n ≤ now h →
     is_some (event_about key (events_of h (suc n))) ≡ false →
     changes_above h.opening since key (revisions_up_to h.opening (suc n) h.revisions)
     ≡ changes_above h.opening since key (revisions_up_to h.opening n h.revisions)
@@ -105,12 +106,12 @@ passed_above h since n key low under high none =
     ∙ either_false (is_some (event_about key (events_of h (suc n)))) (changes_above h.opening since key (revisions_up_to h.opening n h.revisions)) none
 
 -- the same, of a number above the start of the search
-pub found_at : (h : History) (start number : ℕ) (key : List ℕ) → h.opening ≤ start → start < number → number ≤ now h →
+pub found_at : (h : History) (start number : ℕ) (key : List ℕ) → h.opening.number ≤ start → start < number → number ≤ now h →
     is_some (event_about key (events_of h number)) ≡ true → changes_above h.opening start key (revisions_up_to h.opening number h.revisions) ≡ true
 found_at h start zero key opened above reached found = absurd (omega arith)
 found_at h start (suc n) key opened above reached found = found_above h start n key (omega arith) (omega arith) reached found
 
-pub passed_at : (h : History) (start number next : ℕ) (key : List ℕ) → suc next ≡ number → h.opening ≤ start → start ≤ next → number ≤ now h →
+pub passed_at : (h : History) (start number next : ℕ) (key : List ℕ) → suc next ≡ number → h.opening.number ≤ start → start ≤ next → number ≤ now h →
     is_some (event_about key (events_of h number)) ≡ false →
     changes_above h.opening start key (revisions_up_to h.opening number h.revisions)
     ≡ changes_above h.opening start key (revisions_up_to h.opening next h.revisions)
@@ -122,15 +123,17 @@ passed_at h start number next key step opened above =
     (λ reached none. passed_above h start next key (omega arith) above reached none)
 
 -- revisions up to the one that was seen are not above it
-nothing_above : (opening since : ℕ) (key : List ℕ) (revisions : List (List Change)) → number_of_last opening revisions ≤ since →
+nothing_above : (opening : Opening) (since : ℕ) (key : List ℕ) (revisions : List (List Change)) → number_of_last opening revisions ≤ since →
     changes_above opening since key revisions ≡ false
-nothing_above opening since key [] low = refl
+nothing_above opening since key [] low =
+    let small : mod_of (opened_state opening key) ≤ number_of_last opening [] = mod_is_reached opening key [] in
+    le-ltb since (mod_of (opened_state opening key)) (omega (arith, small, low))
 nothing_above opening since key (c ∷ revisions) low =
     ap (λ b. (b && is_some (change_of key c)) || changes_above opening since key revisions)
     (le-ltb since (number_of_last opening (c ∷ revisions)) low)
     ∙ nothing_above opening since key revisions (omega arith)
 
-short_enough : (opening n : ℕ) (revisions : List (List Change)) → opening ≤ n → number_of_last opening (revisions_up_to opening n revisions) ≤ n
+short_enough : (opening : Opening) (n : ℕ) (revisions : List (List Change)) → opening.number ≤ n → number_of_last opening (revisions_up_to opening n revisions) ≤ n
 short_enough opening n [] low = omega arith
 short_enough opening n (c ∷ revisions) low = ⊎_elim
     (λ (above : n < number_of_last opening (c ∷ revisions)).
@@ -143,7 +146,7 @@ short_enough opening n (c ∷ revisions) low = ⊎_elim
     (cases_lt n (number_of_last opening (c ∷ revisions)))
 
 -- once the number is at the start, nothing is left
-pub seen_all : (h : History) (since n : ℕ) (key : List ℕ) → h.opening ≤ n → n ≤ since →
+pub seen_all : (h : History) (since n : ℕ) (key : List ℕ) → h.opening.number ≤ n → n ≤ since →
     changes_above h.opening since key (revisions_up_to h.opening n h.revisions) ≡ false
 seen_all h since n key low seen =
     let short = short_enough h.opening n h.revisions low in
@@ -154,6 +157,16 @@ pub from_the_last : (h : History) (since : ℕ) (key : List ℕ) →
     changes_above h.opening since key h.revisions ≡ changes_above h.opening since key (revisions_up_to h.opening (now h) h.revisions)
 from_the_last h since key = ap (changes_above h.opening since key) (sym (all_up_to h.opening (now h) h.revisions (omega arith)))
 
+-- ---- below the opening
+
+none_up_to : (opening : Opening) (revisions : List (List Change)) → revisions_up_to opening opening.number revisions ≡ []
+none_up_to opening [] = refl
+none_up_to opening (c ∷ revisions) = last_is_above opening opening.number c revisions (omega arith) ∙ none_up_to opening revisions
+
+-- what a key is at the opening
+pub at_the_opening : (h : History) (key : List ℕ) → key_at h key h.opening.number ≡ opened_state h.opening key
+at_the_opening h key = ap (key_after h.opening key) (none_up_to h.opening h.revisions)
+
 -- every revision is above the opening
 later_test : (opening since n : ℕ) → opening < n → nat_lt since n ≡ nat_lt (max since opening) n
 later_test opening since n above = ⊎_elim
@@ -161,11 +174,42 @@ later_test opening since n above = ⊎_elim
     (λ (reached : n ≤ since). le-ltb since n reached ∙ sym (le-ltb (max since opening) n (omega arith)))
     (cases_lt since n)
 
-pub above_the_opening : (opening since : ℕ) (key : List ℕ) (revisions : List (List Change)) →
-    changes_above opening since key revisions ≡ changes_above opening (max since opening) key revisions
-above_the_opening opening since key [] = refl
+with_none : (a b : Bool) → b ≡ false → a ≡ (a || b)
+with_none true b none = refl
+with_none false b none = sym none
+
+moved_up : (a b c : Bool) → (a || (b || c)) ≡ (b || (a || c))
+moved_up true true c = refl
+moved_up true false c = refl
+moved_up false b c = refl
+
+-- so a change above a number is one that the state at the opening tells, or one above both
+pub above_the_opening : (opening : Opening) (since : ℕ) (key : List ℕ) (revisions : List (List Change)) →
+    changes_above opening since key revisions
+    ≡ (nat_lt since (mod_of (opened_state opening key)) || changes_above opening (max since opening.number) key revisions)
+above_the_opening opening since key [] =
+    with_none (nat_lt since (mod_of (opened_state opening key))) (changes_above opening (max since opening.number) key [])
+    (nothing_above opening (max since opening.number) key [] (omega arith))
 above_the_opening opening since key (c ∷ revisions) =
+    let opened : Bool = nat_lt since (mod_of (opened_state opening key)) in
+    let last : ℕ = number_of_last opening (c ∷ revisions) in
     ap (λ b. (b && is_some (change_of key c)) || changes_above opening since key revisions)
-    (later_test opening since (number_of_last opening (c ∷ revisions)) (omega arith))
-    ∙ ap (λ b. (nat_lt (max since opening) (number_of_last opening (c ∷ revisions)) && is_some (change_of key c)) || b)
+    (later_test opening.number since last (omega arith))
+    ∙ ap (λ b. (nat_lt (max since opening.number) last && is_some (change_of key c)) || b)
     (above_the_opening opening since key revisions)
+    ∙ moved_up (nat_lt (max since opening.number) last && is_some (change_of key c)) opened
+    (changes_above opening (max since opening.number) key revisions)
+
+-- the state at the opening tells a change
+pub told_opened : (h : History) (since : ℕ) (key : List ℕ) → nat_lt since (mod_of (opened_state h.opening key)) ≡ true →
+    changes_above h.opening since key h.revisions ≡ true
+told_opened h since key is =
+    above_the_opening h.opening since key h.revisions
+    ∙ ap (λ b. b || changes_above h.opening (max since h.opening.number) key h.revisions) is
+
+-- or none
+pub told_since : (h : History) (since : ℕ) (key : List ℕ) → nat_lt since (mod_of (opened_state h.opening key)) ≡ false →
+    changes_above h.opening since key h.revisions ≡ changes_above h.opening (max since h.opening.number) key h.revisions
+told_since h since key is =
+    above_the_opening h.opening since key h.revisions
+    ∙ ap (λ b. b || changes_above h.opening (max since h.opening.number) key h.revisions) is

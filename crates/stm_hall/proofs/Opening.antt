@@ -8,6 +8,7 @@ use Rattle.std.specs.Prelude.{nat_eq}
 use Rattle.std.specs.Cmp.{nat_cmp_total}
 use Rattle.std.specs.FinMap as finmap
 use Rattle.stm_history.specs.declared.change.Change.{Change}
+use Rattle.stm_history.specs.Opening.{Opening as HistoryOpening}
 use Rattle.stm_history.specs.History.{History, now, number_of_last, revisions_up_to}
 use Rattle.stm_history.proofs.HistoryLaws.{all_up_to, last_is_above}
 use Rattle.stm_leases.specs.LeaseLog.{Term}
@@ -34,11 +35,11 @@ use Rattle.stm_hall.specs.Laws.{GoesOn, HallsOpenAsTheirStore}
 
 -- ---- the history that it began with
 
-abbrev history_of : ℕ → List (List Change) → History
+abbrev history_of : HistoryOpening → List (List Change) → History
 history_of opening revisions = record { opening = opening; revisions = revisions }
 
 -- of revisions added to others, those up to the last of the others are the others
-cut_back : (added older : List (List Change)) (opening r : ℕ) → number_of_last opening older ≡ r → revisions_up_to opening r (added ++ older) ≡ older
+cut_back : (added older : List (List Change)) (opening : HistoryOpening) (r : ℕ) → number_of_last opening older ≡ r → revisions_up_to opening r (added ++ older) ≡ older
 cut_back [] older opening r is = all_up_to opening r older (omega (arith, is))
 cut_back (c ∷ added) older opening r is =
     last_is_above opening r c (added ++ older) (omega (arith, length-append added older, is)) ∙ cut_back added older opening r is
@@ -46,7 +47,7 @@ cut_back (c ∷ added) older opening r is =
 -- what was added is cut off again
 cut_is : (before after : History) (r : ℕ) → AddsTo before after → now before ≡ r → cut_at r after ≡ before
 cut_is before after r adds is =
-    ap (λ (o : ℕ). history_of o (revisions_up_to o r after.revisions)) adds.opening
+    ap (λ (o : HistoryOpening). history_of o (revisions_up_to o r after.revisions)) adds.opening
     ∙ ap (λ (l : List (List Change)). history_of before.opening (revisions_up_to before.opening r l)) adds.revisions
     ∙ ap (λ (l : List (List Change)). history_of before.opening l) (cut_back adds.added before.revisions before.opening r is)
 

@@ -5,6 +5,7 @@ use Rattle.std.specs.FinMap as finmap
 use Rattle.stm_history.specs.declared.change.Change.TheVariants.{Put as PutChange}
 use Rattle.stm_history.specs.declared.key_state.KeyState.{KeyState}
 use Rattle.stm_history.specs.declared.key_state.ReadAnswer.{ReadAnswer}
+use Rattle.stm_history.specs.Opening.{opening_at}
 use Rattle.stm_program.specs.Syntax.{ProgramTree}
 use Rattle.stm_program.specs.declared.level.Level.{Level}
 use Rattle.stm_program.specs.declared.level.Level.TheVariants.{Serializable, ReadCommitted}
@@ -25,7 +26,8 @@ use Rattle.stm_hall.specs.Verdicts.{verdict_of}
 
 abbrev store : Standing
 store = record {
-  history = record { opening = 1; revisions = (PutChange (codes "a") (codes "1") 0 ∷ []) ∷ [] };
+  history = record { opening = opening_at 1; revisions = (PutChange (codes "a") (codes "1") 0 ∷ []) ∷ [] };
+  floor = 0;
   live = finmap.empty;
   moment = 0;
   watchers = [];
@@ -94,7 +96,7 @@ unnamed p = refl
 abbrev two_revisions : HallState
 two_revisions = hall_of (record store {
   history = record {
-    opening = 1;
+    opening = opening_at 1;
     revisions =
         (PutChange (codes "b") (codes "1") 0 ∷ []) ∷ (PutChange (codes "a") (codes "1") 0 ∷ []) ∷ [];
   };

@@ -155,6 +155,9 @@ impl Hall {
 
     /// Whether the history changes a key above a revision, by a put or a deletion. It takes no memory, and a step for each
     /// change above that.
+    ///
+    /// Revisions that the store has dropped are known by what they left: they changed the key where it is present after them, and its last put
+    /// is above.
     pub fn is_changed_above(&self, key: &str, since: u64) -> bool
         ensures { result ≡ changes_above self.now.standing.history.opening since key.now self.now.standing.history.revisions }
     {

@@ -34,11 +34,11 @@ fn is_same_state(left: Option<&KeyState>, right: &Option<KeyState>) -> bool
 pub(crate) fn is_shown(keys: &Keys, answer: &ReadAnswer) -> bool
     ensures { IsTrue result ↔ IsShown keys.now.history answer.now }
 {
-    if answer.of_rev == 0 {
+    if answer.of_rev == 0 || keys.revision() < answer.of_rev {
         return false;
     }
-    match keys.get_at(answer.key.as_str(), answer.of_rev) {
-        Ok(found) => is_same_state(found, &answer.kv),
-        Err(_) => false,
-    }
+    is_same_state(
+        keys.look_back(answer.key.as_str(), answer.of_rev),
+        &answer.kv,
+    )
 }

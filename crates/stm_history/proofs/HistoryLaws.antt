@@ -1,44 +1,60 @@
 -- The laws of histories, by induction on the revisions.
 use Rattle.std.proofs.Common.{◌≡◌, ℕ, ◌+◌, ◌≤◌, ◌<◌, Bool, true, false, List, [], ◌∷◌, length, Option, Some, None, suc, refl, sym, ◌∙◌, ap, subst, arith}
-use Rattle.std.proofs.Common.{cond, IfSome}
+use Rattle.std.proofs.Common.{cond, IfSome, ◌&&◌}
 use Rattle.std.specs.Prelude.{nat_le}
-use Rattle.std.proofs.lemmas.Bool.{le-leb, lt-leb}
+use Rattle.std.proofs.lemmas.Bool.{le-leb, lt-leb, leb-true, and_parts, and_from}
 use Rattle.stm_history.specs.declared.change.Change.{Change}
 use Rattle.stm_history.specs.declared.change.Change.TheVariants.{Put, Del}
 use Rattle.stm_history.specs.declared.key_state.KeyState.{KeyState}
-use Rattle.stm_history.specs.History.{Dated, DatedPut, number_of_last, revisions_up_to, changes_of, with_change, puts_since_deletion, state_of, key_after}
-use Rattle.stm_history.specs.History.{key_at, mod_of, change_of, after_change, state_after_put}
-use Rattle.stm_history.specs.Laws.{SameModMeansSameState, OlderRevisionsStay, OneMoreRevision, LastRevisionIsNow, NumbersStaySmall}
+use Rattle.std.specs.Ordering.{nat_cmp}
+use Rattle.std.specs.Cmp.Lexicographic.{slice_cmp}
+use Rattle.std.specs.FinMap.{find}
+use Rattle.stm_history.specs.Opening.{Opening, is_reached, if_reached, opened_state}
+use Rattle.stm_history.specs.History.{History, Dated, DatedPut, number_of_last, revisions_up_to, changes_of, with_change, puts_since_deletion}
+use Rattle.stm_history.specs.History.{state_before_puts, state_after_puts, state_after, first_number, key_after}
+use Rattle.stm_history.specs.History.{key_at, now, mod_of, change_of, after_change, state_after_put}
+use Rattle.stm_history.specs.Laws.{SameModMeansSameState, OlderRevisionsStay, OneMoreRevision, LastRevisionIsNow, NumbersStaySmall, AreSmallIn}
 
 -- a put on top of the puts of a key
-put_on_top : (n : ℕ) (value : List ℕ) (lease : ℕ) (puts : List DatedPut) →
-    state_of (record { number = n; value = value; lease = lease } ∷ puts) ≡ Some (state_after_put n value lease (state_of puts))
-put_on_top n value lease [] = refl
-put_on_top n value lease (p ∷ ps) = refl
+counted_on : (value : List ℕ) (create_rev mod_rev lease more less : ℕ) → more ≡ less →
+    Some (let s : KeyState = record { value = value; create_rev = create_rev; mod_rev = mod_rev; version = more; lease = lease } in s)
+    ≡ Some (let s : KeyState = record { value = value; create_rev = create_rev; mod_rev = mod_rev; version = less; lease = lease } in s)
+counted_on value create_rev mod_rev lease more less same =
+    ap (λ (n : ℕ). Some (let s : KeyState = record { value = value; create_rev = create_rev; mod_rev = mod_rev; version = n; lease = lease } in s)) same
+
+put_on_top : (n : ℕ) (value : List ℕ) (lease : ℕ) (before : Option KeyState) (puts : List DatedPut) →
+    state_after_puts before (record { number = n; value = value; lease = lease } ∷ puts)
+    ≡ Some (state_after_put n value lease (state_after_puts before puts))
+put_on_top n value lease None [] = counted_on value n n lease (0 + suc 0) 1 (omega arith)
+put_on_top n value lease (Some s) [] = counted_on value s.create_rev n lease (s.version + suc 0) (suc s.version) (omega arith)
+put_on_top n value lease None (p ∷ ps) =
+    counted_on value (first_number p.number ps) n lease (0 + suc (suc (length ps))) (suc (0 + suc (length ps))) (omega arith)
+put_on_top n value lease (Some s) (p ∷ ps) =
+    counted_on value s.create_rev n lease (s.version + suc (suc (length ps))) (suc (s.version + suc (length ps))) (omega arith)
 
 -- one more change, or none, on top of the changes of a key
-change_on_top : (n : ℕ) (c : Option Change) (dated : List Dated) →
-    state_of (puts_since_deletion (with_change n c dated)) ≡ after_change n c (state_of (puts_since_deletion dated))
-change_on_top n None dated = refl
-change_on_top n (Some (Put key value lease)) dated = put_on_top n value lease (puts_since_deletion dated)
-change_on_top n (Some (Del key)) dated = refl
+change_on_top : (n : ℕ) (c : Option Change) (opened : Option KeyState) (dated : List Dated) →
+    state_after opened (with_change n c dated) ≡ after_change n c (state_after opened dated)
+change_on_top n None opened dated = refl
+change_on_top n (Some (Put key value lease)) opened dated = put_on_top n value lease (state_before_puts opened dated) (puts_since_deletion dated)
+change_on_top n (Some (Del key)) opened dated = refl
 
-pub one_more : (opening : ℕ) (key : List ℕ) (changes : List Change) (older : List (List Change)) →
+pub one_more : (opening : Opening) (key : List ℕ) (changes : List Change) (older : List (List Change)) →
     key_after opening key (changes ∷ older) ≡ after_change (number_of_last opening (changes ∷ older)) (change_of key changes) (key_after opening key older)
 one_more opening key changes older =
-    change_on_top (number_of_last opening (changes ∷ older)) (change_of key changes) (changes_of opening key older)
+    change_on_top (number_of_last opening (changes ∷ older)) (change_of key changes) (opened_state opening key) (changes_of opening key older)
 
 pub one_more_revision : OneMoreRevision
 one_more_revision h changes key = one_more h.opening key changes h.revisions
 
 -- the revisions up to a number that the last one doesn't pass are all of them
-pub all_up_to : (opening r : ℕ) (revisions : List (List Change)) → number_of_last opening revisions ≤ r → revisions_up_to opening r revisions ≡ revisions
+pub all_up_to : (opening : Opening) (r : ℕ) (revisions : List (List Change)) → number_of_last opening revisions ≤ r → revisions_up_to opening r revisions ≡ revisions
 all_up_to opening r [] h = refl
 all_up_to opening r (changes ∷ older) h =
     ap (λ b. cond b (changes ∷ older) (revisions_up_to opening r older)) (le-leb (number_of_last opening (changes ∷ older)) r h)
 
 -- the last revision is not among those up to a smaller number
-pub last_is_above : (opening r : ℕ) (changes : List Change) (older : List (List Change)) → r < number_of_last opening (changes ∷ older) →
+pub last_is_above : (opening : Opening) (r : ℕ) (changes : List Change) (older : List (List Change)) → r < number_of_last opening (changes ∷ older) →
     revisions_up_to opening r (changes ∷ older) ≡ revisions_up_to opening r older
 last_is_above opening r changes older h =
     ap (λ b. cond b (changes ∷ older) (revisions_up_to opening r older)) (lt-leb (number_of_last opening (changes ∷ older)) r h)
@@ -51,74 +67,117 @@ older_revisions_stay h changes key r below =
     let above : r < number_of_last h.opening (changes ∷ h.revisions) = omega arith in
     ap (λ l. key_after h.opening key l) (last_is_above h.opening r changes h.revisions above)
 
--- the numbers of a present key
-pub record AreSmall (opening count : ℕ) (s : KeyState) : Type 0 where
-  pub version : s.version ≤ count
-  pub modified : s.mod_rev ≤ opening + count
+-- the numbers of a present key, in a history that has reached a number
+pub record AreSmall (last : ℕ) (s : KeyState) : Type 0 where
+  pub version : s.version ≤ last
+  pub counted : 1 ≤ s.version
+  pub modified : s.mod_rev ≤ last
   pub created : s.create_rev ≤ s.mod_rev
-  pub above : opening + 1 ≤ s.create_rev
+  pub above : 1 ≤ s.create_rev
 
-abbrev SmallIfPresent : ℕ → ℕ → Option KeyState → Type 0
-SmallIfPresent opening count s = IfSome s (AreSmall opening count)
+abbrev pub SmallIfPresent : ℕ → Option KeyState → Type 0
+SmallIfPresent last s = IfSome s (AreSmall last)
 
-put_keeps_small : (opening count : ℕ) (value : List ℕ) (lease : ℕ) (s : Option KeyState) → SmallIfPresent opening count s →
-    AreSmall opening (suc count) (state_after_put (opening + suc count) value lease s)
-put_keeps_small opening count value lease None h = record { version = omega arith; modified = omega arith; created = omega arith; above = omega arith }
-put_keeps_small opening count value lease (Some s) h =
-    let version : s.version ≤ count = h.version in
-    let modified : s.mod_rev ≤ opening + count = h.modified in
+put_keeps_small : (last n : ℕ) (value : List ℕ) (lease : ℕ) (s : Option KeyState) → last < n → SmallIfPresent last s →
+    AreSmall n (state_after_put n value lease s)
+put_keeps_small last n value lease None less h =
+    record { version = omega (arith, less); counted = omega arith; modified = omega arith; created = omega arith; above = omega (arith, less) }
+put_keeps_small last n value lease (Some s) less h =
+    let version : s.version ≤ last = h.version in
+    let modified : s.mod_rev ≤ last = h.modified in
     let created : s.create_rev ≤ s.mod_rev = h.created in
-    let above : opening + 1 ≤ s.create_rev = h.above in
-    record { version = omega arith; modified = omega arith; created = omega arith; above = omega arith }
+    let above : 1 ≤ s.create_rev = h.above in
+    record { version = omega (arith, less); counted = omega arith; modified = omega arith; created = omega (arith, less); above = above }
 
-stays_small : (opening count : ℕ) (s : Option KeyState) → SmallIfPresent opening count s → SmallIfPresent opening (suc count) s
-stays_small opening count None h = h
-stays_small opening count (Some s) h =
-    let version : s.version ≤ count = h.version in
-    let modified : s.mod_rev ≤ opening + count = h.modified in
-    record { version = omega arith; modified = omega arith; created = h.created; above = h.above }
+pub stays_small : (last n : ℕ) (s : Option KeyState) → last ≤ n → SmallIfPresent last s → SmallIfPresent n s
+stays_small last n None less h = h
+stays_small last n (Some s) less h =
+    let version : s.version ≤ last = h.version in
+    let modified : s.mod_rev ≤ last = h.modified in
+    record { version = omega (arith, less); counted = h.counted; modified = omega (arith, less); created = h.created; above = h.above }
 
-change_keeps_small : (opening count : ℕ) (c : Option Change) (s : Option KeyState) → SmallIfPresent opening count s →
-    SmallIfPresent opening (suc count) (after_change (opening + suc count) c s)
-change_keeps_small opening count None s h = stays_small opening count s h
-change_keeps_small opening count (Some (Put key value lease)) s h = put_keeps_small opening count value lease s h
-change_keeps_small opening count (Some (Del key)) s h = tt
+change_keeps_small : (last n : ℕ) (c : Option Change) (s : Option KeyState) → last < n → SmallIfPresent last s → SmallIfPresent n (after_change n c s)
+change_keeps_small last n None s less h = stays_small last n s (omega (arith, less)) h
+change_keeps_small last n (Some (Put key value lease)) s less h = put_keeps_small last n value lease s less h
+change_keeps_small last n (Some (Del key)) s less h = tt
 
-pub are_small : (opening : ℕ) (key : List ℕ) (revisions : List (List Change)) → SmallIfPresent opening (length revisions) (key_after opening key revisions)
-are_small opening key [] = tt
+-- what a test of a state's numbers says of them, and the other way round
+reached_small : (number : ℕ) (s : KeyState) → is_reached number s ≡ true → AreSmall number s
+reached_small number s is =
+    let first = and_parts (nat_le 1 s.create_rev) (nat_le s.create_rev s.mod_rev && (nat_le s.mod_rev number && (nat_le 1 s.version && nat_le s.version number))) is in
+    let second = and_parts (nat_le s.create_rev s.mod_rev) (nat_le s.mod_rev number && (nat_le 1 s.version && nat_le s.version number)) first.1 in
+    let third = and_parts (nat_le s.mod_rev number) (nat_le 1 s.version && nat_le s.version number) second.1 in
+    let fourth = and_parts (nat_le 1 s.version) (nat_le s.version number) third.1 in
+    record {
+      version = leb-true s.version number fourth.1;
+      counted = leb-true 1 s.version fourth.0;
+      modified = leb-true s.mod_rev number third.0;
+      created = leb-true s.create_rev s.mod_rev second.0;
+      above = leb-true 1 s.create_rev first.0;
+    }
+
+small_reached : (number : ℕ) (s : KeyState) → AreSmall number s → is_reached number s ≡ true
+small_reached number s small =
+    and_from (nat_le 1 s.create_rev) (nat_le s.create_rev s.mod_rev && (nat_le s.mod_rev number && (nat_le 1 s.version && nat_le s.version number)))
+    (le-leb 1 s.create_rev small.above)
+    (and_from (nat_le s.create_rev s.mod_rev) (nat_le s.mod_rev number && (nat_le 1 s.version && nat_le s.version number))
+    (le-leb s.create_rev s.mod_rev small.created)
+    (and_from (nat_le s.mod_rev number) (nat_le 1 s.version && nat_le s.version number)
+    (le-leb s.mod_rev number small.modified)
+    (and_from (nat_le 1 s.version) (nat_le s.version number) (le-leb 1 s.version small.counted) (le-leb s.version number small.version))))
+
+-- what a key is at an opening has small numbers, and a state with small numbers can stand there
+opened_small : (number : ℕ) (o : Option KeyState) → SmallIfPresent number (if_reached number o)
+opened_small number None = tt
+opened_small number (Some s) = by_test (is_reached number s) refl
+  where
+    by_test : (b : Bool) → is_reached number s ≡ b → SmallIfPresent number (cond b (Some s) None)
+    by_test true is = reached_small number s is
+    by_test false is = tt
+
+pub small_opened : (number : ℕ) (o : Option KeyState) → SmallIfPresent number o → if_reached number o ≡ o
+small_opened number None small = refl
+small_opened number (Some s) small = ap (λ b. cond b (Some s) None) (small_reached number s small)
+
+pub are_small : (opening : Opening) (key : List ℕ) (revisions : List (List Change)) →
+    SmallIfPresent (number_of_last opening revisions) (key_after opening key revisions)
+are_small opening key [] =
+    stays_small opening.number (number_of_last opening []) (opened_state opening key) (omega arith)
+    (opened_small opening.number (find (slice_cmp nat_cmp) key opening.states))
 are_small opening key (changes ∷ older) =
-    subst (SmallIfPresent opening (suc (length older))) (sym (one_more opening key changes older))
-    (change_keeps_small opening (length older) (change_of key changes) (key_after opening key older) (are_small opening key older))
+    subst (SmallIfPresent (number_of_last opening (changes ∷ older))) (sym (one_more opening key changes older))
+    (change_keeps_small (number_of_last opening older) (number_of_last opening (changes ∷ older)) (change_of key changes) (key_after opening key older)
+    (omega arith) (are_small opening key older))
 
 -- the modification revision of a key is at most the last revision
-pub mod_is_reached : (opening : ℕ) (key : List ℕ) (revisions : List (List Change)) → mod_of (key_after opening key revisions) ≤ number_of_last opening revisions
+pub mod_is_reached : (opening : Opening) (key : List ℕ) (revisions : List (List Change)) → mod_of (key_after opening key revisions) ≤ number_of_last opening revisions
 mod_is_reached opening key revisions = bounded (key_after opening key revisions) (are_small opening key revisions)
   where
-    bounded : (s : Option KeyState) → SmallIfPresent opening (length revisions) s → mod_of s ≤ opening + length revisions
+    bounded : (s : Option KeyState) → SmallIfPresent (number_of_last opening revisions) s → mod_of s ≤ number_of_last opening revisions
     bounded None h = omega arith
     bounded (Some s) h = h.modified
 
 -- a key whose modification revision is 0 is absent
-pub absent_at_zero : (opening : ℕ) (key : List ℕ) (revisions : List (List Change)) →
+pub absent_at_zero : (opening : Opening) (key : List ℕ) (revisions : List (List Change)) →
     mod_of (key_after opening key revisions) ≡ 0 → key_after opening key revisions ≡ None
 absent_at_zero opening key revisions zero = absent (key_after opening key revisions) (are_small opening key revisions) zero
   where
-    absent : (s : Option KeyState) → SmallIfPresent opening (length revisions) s → mod_of s ≡ 0 → s ≡ None
+    absent : (s : Option KeyState) → SmallIfPresent (number_of_last opening revisions) s → mod_of s ≡ 0 → s ≡ None
     absent None h zero = refl
     absent (Some s) h zero =
         let created : s.create_rev ≤ s.mod_rev = h.created in
-        let above : opening + 1 ≤ s.create_rev = h.above in
+        let above : 1 ≤ s.create_rev = h.above in
         absurd (omega arith)
 
 -- whichever a test chooses of all revisions and a part of the older ones, the last is not passed
-chosen_is_reached : (opening : ℕ) (changes : List Change) (older part : List (List Change)) (b : Bool) →
+chosen_is_reached : (opening : Opening) (changes : List Change) (older part : List (List Change)) (b : Bool) →
     number_of_last opening part ≤ number_of_last opening older →
     number_of_last opening (cond b (changes ∷ older) part) ≤ number_of_last opening (changes ∷ older)
 chosen_is_reached opening changes older part true h = omega arith
 chosen_is_reached opening changes older part false h = omega arith
 
 -- the revisions up to a number don't pass the last
-pub up_to_is_reached : (opening r : ℕ) (revisions : List (List Change)) →
+pub up_to_is_reached : (opening : Opening) (r : ℕ) (revisions : List (List Change)) →
     number_of_last opening (revisions_up_to opening r revisions) ≤ number_of_last opening revisions
 up_to_is_reached opening r [] = omega arith
 up_to_is_reached opening r (changes ∷ older) =
@@ -146,12 +205,12 @@ by_both P all r_part s_part false true both left right neither = right
 by_both P all r_part s_part false false both left right neither = neither
 
 -- equal modification revisions after two lists of revisions mean the same state
-abbrev SameIfModIs : ℕ → List ℕ → List (List Change) → List (List Change) → Type 0
+abbrev SameIfModIs : Opening → List ℕ → List (List Change) → List (List Change) → Type 0
 SameIfModIs opening key a b =
     mod_of (key_after opening key a) ≡ mod_of (key_after opening key b) → key_after opening key a ≡ key_after opening key b
 
 -- of the last revision and a part of the older ones
-last_and_older : (opening : ℕ) (key : List ℕ) (changes : List Change) (older : List (List Change)) (s : ℕ) →
+last_and_older : (opening : Opening) (key : List ℕ) (changes : List Change) (older : List (List Change)) (s : ℕ) →
     SameIfModIs opening key older (revisions_up_to opening s older) → SameIfModIs opening key (changes ∷ older) (revisions_up_to opening s older)
 last_and_older opening key changes older s same equal =
     one_more opening key changes older ∙
@@ -163,7 +222,7 @@ last_and_older opening key changes older s same equal =
     same
     (ap mod_of (sym (one_more opening key changes older)) ∙ equal)
 
-same_if_mod_is : (opening : ℕ) (key : List ℕ) (revisions : List (List Change)) (r s : ℕ) →
+same_if_mod_is : (opening : Opening) (key : List ℕ) (revisions : List (List Change)) (r s : ℕ) →
     SameIfModIs opening key (revisions_up_to opening r revisions) (revisions_up_to opening s revisions)
 same_if_mod_is opening key [] r s = λ equal. refl
 same_if_mod_is opening key (changes ∷ older) r s =
@@ -186,16 +245,15 @@ pub same_mod_means_same_state : SameModMeansSameState
 same_mod_means_same_state h key r s = same_if_mod_is h.opening key h.revisions r s
 
 -- fewer revisions make smaller numbers
-pub small_in_more : (opening count more : ℕ) (s : Option KeyState) → count ≤ more → SmallIfPresent opening count s →
-    IfSome s (λ k. (k.version ≤ more) × (k.mod_rev ≤ opening + more) × (k.create_rev ≤ k.mod_rev) × (opening + 1 ≤ k.create_rev))
-small_in_more opening count more None h small = tt
-small_in_more opening count more (Some s) h small =
-    let version : s.version ≤ count = small.version in
-    let modified : s.mod_rev ≤ opening + count = small.modified in
-    (omega arith, omega arith, small.created, small.above)
+small_in : (h : History) (last : ℕ) (s : Option KeyState) → last ≤ now h → SmallIfPresent last s → IfSome s (AreSmallIn h)
+small_in h last None reached small = tt
+small_in h last (Some s) reached small =
+    let version : s.version ≤ last = small.version in
+    let modified : s.mod_rev ≤ last = small.modified in
+    (omega (arith, reached), omega (arith, reached), small.created, small.above)
 
 pub numbers_stay_small : NumbersStaySmall
 numbers_stay_small h key r =
-    small_in_more h.opening (length (revisions_up_to h.opening r h.revisions)) (length h.revisions) (key_at h key r)
-    (omega (arith, up_to_is_reached h.opening r h.revisions))
+    small_in h (number_of_last h.opening (revisions_up_to h.opening r h.revisions)) (key_at h key r)
+    (up_to_is_reached h.opening r h.revisions)
     (are_small h.opening key (revisions_up_to h.opening r h.revisions))

@@ -1,3 +1,5 @@
+pub mod CutLaws
 pub mod HistoryLaws
+pub mod StatesLaws
 pub mod Walking
 pub mod WorkedExamples

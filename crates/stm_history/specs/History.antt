@@ -7,16 +7,17 @@ use Rattle.stm_history.specs.declared.change.Change.{Change}
 use Rattle.stm_history.specs.declared.change.Change.TheVariants.{Put, Del}
 use Rattle.stm_history.specs.declared.key_state.KeyState.{KeyState}
 use Rattle.stm_history.specs.declared.key_state.ReadAnswer.{ReadAnswer}
+use Rattle.stm_history.specs.Opening.{Opening, opening_at, opened_state}
 
 -- A store opens at a number. Each revision is a list of changes, in the order of operations; the newest
 -- revision stands first, and their numbers follow the opening number without a gap.
 pub record History : Type 0 where
-  pub opening : ℕ
+  pub opening : Opening
   pub revisions : List (List Change)
 
 -- the number of the last revision, or the opening number
-abbrev pub number_of_last : ℕ → List (List Change) → ℕ
-number_of_last opening revisions = opening + length revisions
+abbrev pub number_of_last : Opening → List (List Change) → ℕ
+number_of_last opening revisions = opening.number + length revisions
 
 abbrev pub now : History → ℕ
 now h = number_of_last h.opening h.revisions
@@ -25,9 +26,9 @@ now h = number_of_last h.opening h.revisions
 abbrev pub add_revision : History → List Change → History
 add_revision h changes = record { opening = h.opening; revisions = changes ∷ h.revisions }
 
--- the history of a store that opens at a number
+-- the history of a store that opens at a number, without a key
 abbrev pub opened_at : ℕ → History
-opened_at number = record { opening = number; revisions = [] }
+opened_at number = record { opening = opening_at number; revisions = [] }
 
 -- the key that a change is about
 abbrev pub key_of : Change → List ℕ
@@ -57,7 +58,7 @@ AreRevisions [] = Unit {0}
 AreRevisions (r ∷ older) = IsRevision r × AreRevisions older
 
 -- the revisions up to a number
-abbrev pub revisions_up_to : ℕ → ℕ → List (List Change) → List (List Change)
+abbrev pub revisions_up_to : Opening → ℕ → List (List Change) → List (List Change)
 revisions_up_to opening r [] = []
 revisions_up_to opening r (changes ∷ older) =
     if nat_le (number_of_last opening (changes ∷ older)) r then changes ∷ older else revisions_up_to opening r older
@@ -72,7 +73,7 @@ with_change number None dated = dated
 with_change number (Some c) dated = record { number = number; change = c } ∷ dated
 
 -- the changes of a key, the newest first
-abbrev pub changes_of : ℕ → List ℕ → List (List Change) → List Dated
+abbrev pub changes_of : Opening → List ℕ → List (List Change) → List Dated
 changes_of opening key [] = []
 changes_of opening key (changes ∷ older) =
     with_change (number_of_last opening (changes ∷ older)) (change_of key changes) (changes_of opening key older)
@@ -92,29 +93,52 @@ puts_since_deletion (d ∷ older) = since d.number d.change (puts_since_deletion
     since number (Put key value lease) puts = record { number = number; value = value; lease = lease } ∷ puts
     since number (Del key) puts = []
 
+-- What a key was before its puts since its last deletion: where it was never deleted, what it was at the opening.
+abbrev pub state_before_puts : Option KeyState → List Dated → Option KeyState
+state_before_puts opened [] = opened
+state_before_puts opened (d ∷ older) = before d.change (state_before_puts opened older)
+  where
+    before : Change → Option KeyState → Option KeyState
+    before (Put key value lease) s = s
+    before (Del key) s = None
+
 -- the number of the oldest of a put and those before it
 abbrev pub first_number : ℕ → List DatedPut → ℕ
 first_number number [] = number
 first_number number (p ∷ older) = first_number p.number older
 
--- Without a put since its last deletion a key is absent. Otherwise value and lease are the last put's,
--- the modification revision is its number, the version counts the puts, and the create revision is the
--- number of the first of them.
-abbrev pub state_of : List DatedPut → Option KeyState
-state_of [] = None
-state_of (p ∷ older) = Some record {
+-- the create revision of a key's state, where it is absent the number of the put that makes it present
+abbrev pub create_of : Option KeyState → ℕ → ℕ
+create_of None number = number
+create_of (Some s) number = s.create_rev
+
+-- the version of a key's state, 0 where it is absent
+abbrev pub version_of : Option KeyState → ℕ
+version_of None = 0
+version_of (Some s) = s.version
+
+-- What puts make of a key that was in a state before them, or absent. Value and lease are the last put's, and the modification
+-- revision is its number. A key that was absent before them has the number of the first as its create revision, and its version counts
+-- the puts; one that was present keeps its create revision, and its version counts on.
+abbrev pub state_after_puts : Option KeyState → List DatedPut → Option KeyState
+state_after_puts before [] = before
+state_after_puts before (p ∷ older) = Some record {
   value = p.value;
-  create_rev = first_number p.number older;
+  create_rev = create_of before (first_number p.number older);
   mod_rev = p.number;
-  version = suc (length older);
+  version = version_of before + suc (length older);
   lease = p.lease;
 }
 
--- what a key is after these revisions
-abbrev pub key_after : ℕ → List ℕ → List (List Change) → Option KeyState
-key_after opening key revisions = state_of (puts_since_deletion (changes_of opening key revisions))
+-- what a key is after these changes of it
+abbrev pub state_after : Option KeyState → List Dated → Option KeyState
+state_after opened dated = state_after_puts (state_before_puts opened dated) (puts_since_deletion dated)
 
--- the key at a revision
+-- what a key is after these revisions
+abbrev pub key_after : Opening → List ℕ → List (List Change) → Option KeyState
+key_after opening key revisions = state_after (opened_state opening key) (changes_of opening key revisions)
+
+-- The key at a revision. What it was below the opening is not known: it is told there as it is at the opening.
 abbrev pub key_at : History → List ℕ → ℕ → Option KeyState
 key_at h key r = key_after h.opening key (revisions_up_to h.opening r h.revisions)
 

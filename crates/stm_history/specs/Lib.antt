@@ -1,4 +1,6 @@
+pub mod Cut
 pub mod History
 pub mod Laws
+pub mod Opening
 pub mod Texts
 pub mod Walk

@@ -1,11 +1,7 @@
 -- A walk back over the puts of a key, from the newest.
 use Rattle.std.specs.Prelude.{ℕ, ◌+◌, List, Option, Some, None}
 use Rattle.stm_history.specs.declared.key_state.KeyState.{KeyState}
-
--- how many puts a walk has found
-abbrev pub version_of : Option KeyState → ℕ
-version_of None = 0
-version_of (Some s) = s.version
+pub use Rattle.stm_history.specs.History.{version_of}
 
 -- the state that a walk has found, with one more put before it
 abbrev pub put_before : Option KeyState → ℕ → List ℕ → ℕ → KeyState

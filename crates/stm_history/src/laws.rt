@@ -1,5 +1,6 @@
 //! The laws of histories. Each function does nothing: its contract is the law.
 ghost use Rattle.stm_history.specs.Laws.{SameModMeansSameState, OlderRevisionsStay, OneMoreRevision, LastRevisionIsNow, NumbersStaySmall};
+ghost use Rattle.stm_history.specs.Laws.{CutShowsTheSame, CutKeepsKeysNow, CutKeepsNow, CutKeepsRevisions, CutGoesOn, CutAtTheOpening, CutTwice};
 
 /// Older revisions don't change: one more revision leaves every key at the revisions before it.
 pub fn older_revisions_stay()
@@ -26,4 +27,20 @@ pub fn same_mod_means_same_state()
 /// The numbers of a present key are at most the numbers of the history, so they fit where those fit.
 pub fn numbers_stay_small()
     ensures { NumbersStaySmall }
+{}
+
+/// A history without its revisions up to a number, which it has reached, opens there with what each key is there: it shows
+/// the keys at every revision from there on as they were, and goes on as it would have.
+pub fn cut_shows_the_same()
+    ensures keys { CutShowsTheSame }
+    ensures keys_now { CutKeepsKeysNow }
+    ensures now { CutKeepsNow }
+    ensures revisions { CutKeepsRevisions }
+    ensures goes_on { CutGoesOn }
+{}
+
+/// At its opening and below nothing of a history is cut off, and to cut it twice is to cut it at the higher number.
+pub fn cut_twice()
+    ensures opening { CutAtTheOpening }
+    ensures twice { CutTwice }
 {}

@@ -1,5 +1,6 @@
 //! The plain list of revisions: the history itself, searched from its end.
 ghost use Rattle.std.specs.Prelude.{◌≡◌, ◌+◌, ◌<◌, ◌≤◌, ◌^◌, IfOk, OnOk, OnErr, IfSome, List, reverse, length, Some, is_some};
+ghost use Rattle.stm_history.specs.Opening.{opening_at};
 ghost use Rattle.stm_history.specs.History.{History, opened_at, now, add_revision, key_after, key_at, key_now, mod_of, AreRevisions};
 ghost use Rattle.stm_history.specs.Walk.{put_before, version_of};
 
@@ -29,14 +30,15 @@ pub struct Revisions {
 
 impl Model for Revisions {
     ghost use Rattle.std.specs.Prelude.{◌≤◌, reverse};
+    ghost use Rattle.stm_history.specs.Opening.{opening_at};
     ghost use Rattle.stm_history.specs.History.{History, now, AreRevisions};
     ghost use Rattle.stm_history.specs.declared.revisions.TheConstants.{HIGHEST_REVISION};
 
     ghost Value = { History };
 
-    ghost view = { λ a. record { opening = a.opening; revisions = reverse a.revisions.items } };
+    ghost view = { λ a. record { opening = opening_at a.opening; revisions = reverse a.revisions.items } };
 
-    ghost invariant = { λ a. (now (record { opening = a.opening; revisions = reverse a.revisions.items }) ≤ HIGHEST_REVISION) × AreRevisions (reverse a.revisions.items) };
+    ghost invariant = { λ a. (now (record { opening = opening_at a.opening; revisions = reverse a.revisions.items }) ≤ HIGHEST_REVISION) × AreRevisions (reverse a.revisions.items) };
 }
 
 /// The state that a walk back has found for a key, when it meets one more put.
@@ -77,7 +79,7 @@ fn key_after_all(
     key: &str,
 ) -> Result<Option<KeyState>, AllocError>
     requires { opening + length revisions.now < 2 ^ 63 }
-    ensures { IfOk result (λ s. s ≡ key_after opening key.now (reverse revisions.now)) }
+    ensures { IfOk result (λ s. s ≡ key_after (opening_at opening) key.now (reverse revisions.now)) }
 {
     let mut found: Option<KeyState> = None;
     let mut left = revisions.len();
@@ -97,7 +99,7 @@ fn key_after_all(
 
 /// Whether a key is present after these revisions, of which the last is the newest.
 fn is_present_after(opening: u64, revisions: &[Revision], key: &str) -> bool
-    ensures { result ≡ is_some (key_after opening key.now (reverse revisions.now)) }
+    ensures { result ≡ is_some (key_after (opening_at opening) key.now (reverse revisions.now)) }
 {
     let mut left = revisions.len();
     while left > 0 {
@@ -125,7 +127,7 @@ impl Revisions {
 
     /// The opening number: the revision that the store had before any change.
     pub fn opening(&self) -> u64
-        ensures { result ≡ self.now.opening }
+        ensures { result ≡ self.now.opening.number }
     {
         self.opening
     }

@@ -6,7 +6,7 @@ use Rattle.stm_json.specs.declared.cause.Cause.TheVariants.{Shape}
 use Rattle.stm_json.specs.Outcome.{Outcome, bad, ◌>>=◌, within}
 use Rattle.stm_world.specs.declared.event.WorldEvent.{WorldEvent}
 use Rattle.stm_world.specs.declared.event.WorldEvent.TheVariants.{Start, Step, Txn, Grant, Keep, Revoke, Advance}
-use Rattle.stm_world.specs.declared.event.WorldEvent.TheVariants.{WatchKey, WatchRange, Poll, Cancel}
+use Rattle.stm_world.specs.declared.event.WorldEvent.TheVariants.{WatchKey, WatchRange, Poll, Cancel, Compact}
 use Rattle.stm_world.specs.Task.{Task}
 use Rattle.stm_texts.specs.declared.scenario.Scenario.{Scenario}
 use Rattle.stm_job.specs.declared.job.Job.{Job}
@@ -43,6 +43,7 @@ add_event s (Grant id ttl) = add_call s (Grant id ttl)
 add_event s (Keep id) = add_call s (Keep id)
 add_event s (Revoke id) = add_call s (Revoke id)
 add_event s (Advance moment) = add_call s (Advance moment)
+add_event s (Compact revision) = bad Shape
 add_event s (WatchKey key from) = bad Shape
 add_event s (WatchRange first end from) = bad Shape
 add_event s (Poll watcher most) = bad Shape

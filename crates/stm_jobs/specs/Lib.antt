@@ -1,3 +1,4 @@
 pub mod Accepting
 pub mod Lines
 pub mod Outcomes
+pub mod StoreAfter

@@ -1,7 +1,8 @@
 //! The store that the jobs are run on.
 ghost use Rattle.std.specs.Prelude.{◌≡◌, ◌≤◌, IfOk, OnOk};
 ghost use Rattle.stm_history.specs.declared.revisions.TheConstants.{HIGHEST_REVISION};
-ghost use Rattle.stm_world.specs.World.{opened, world_after};
+ghost use Rattle.stm_world.specs.World.{world_after};
+ghost use Rattle.stm_jobs.specs.StoreAfter.{store_after};
 
 use std::alloc::{AllocError, Global};
 use stm_retry::World;
@@ -25,7 +26,7 @@ fn run_calls(world: &mut World, calls: &[WorldEvent]) -> Result<(), AllocError>
 /// advance that stopped on its way. Want of memory is the only refusal.
 pub fn open_store(alloc: Global, start: u64, calls: &[WorldEvent]) -> Result<Store, AllocError>
     requires { (1 ≤ start) × (start ≤ HIGHEST_REVISION) }
-    ensures { IfOk result (λ store. store.standing ≡ (world_after calls.now (opened start)).standing) }
+    ensures { IfOk result (λ store. store.standing ≡ store_after start calls.now) }
 {
     let mut world = World::with_revision(alloc, start)?;
     let outcome = run_calls(&mut world, calls);

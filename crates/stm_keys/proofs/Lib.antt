@@ -11,3 +11,6 @@ pub mod Order
 pub mod Newest
 pub mod Later
 pub mod Copied
+pub mod Forgetting
+pub mod Dropping
+pub mod WorkedExamples

@@ -4,23 +4,24 @@ use Rattle.std.proofs.lemmas.List.{length-map}
 use Rattle.stm_history.specs.declared.key_state.KeyState.{KeyState}
 use Rattle.stm_history.specs.declared.revisions.TheConstants.{HIGHEST_REVISION}
 use Rattle.stm_history.specs.History.{History, now, key_at, key_now}
+use Rattle.stm_history.specs.Laws.{AreSmallIn}
+use Rattle.stm_history.specs.Opening.{Opening}
 use Rattle.stm_history.specs.Walk.{version_of}
 use Rattle.stm_history.proofs.HistoryLaws.{numbers_stay_small, last_revision_is_now}
 use Rattle.stm_keys.specs.declared.event.Event.{Event}
 use Rattle.stm_keys.specs.Events.{change_of_event}
-use Rattle.stm_keys.specs.Places.{Places}
+use Rattle.stm_keys.specs.Chains.{Chain}
 use Rattle.stm_keys.specs.Keys.{HasSmallNumbers, IsKept, changes_of, key_read}
 
 small_case : (h : History) (o : Option KeyState) → now h ≤ HIGHEST_REVISION →
-    IfSome o (λ s. (s.version ≤ length h.revisions) × (s.mod_rev ≤ now h) × (s.create_rev ≤ s.mod_rev) × (h.opening + 1 ≤ s.create_rev))
-    → IfSome o HasSmallNumbers
+    IfSome o (AreSmallIn h) → IfSome o HasSmallNumbers
 small_case h None bounded small = tt
 small_case h (Some s) bounded small =
     record { version = omega (arith, small.0); mod_rev = omega (arith, small.1); create_rev = omega (arith, small.1, small.2) }
 
 -- the counter of the fields fits
-pub now_fits : (opening : ℕ) (recorded : List (List Event)) (chains : List ℕ → Option Places) → IsKept opening recorded chains
-    → opening + length (changes_of recorded) ≤ HIGHEST_REVISION
+pub now_fits : (opening : Opening) (recorded : List (List Event)) (chains : List ℕ → Option Chain) → IsKept opening recorded chains
+    → opening.number + length (changes_of recorded) ≤ HIGHEST_REVISION
 now_fits opening recorded chains kept = omega (arith, kept.bounded, length-map recorded (map change_of_event))
 
 pub at_small : (h : History) (key : List ℕ) (r : ℕ) → now h ≤ HIGHEST_REVISION → IfSome (key_at h key r) HasSmallNumbers

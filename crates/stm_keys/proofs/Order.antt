@@ -26,7 +26,7 @@ use Rattle.indexmap.specs.IndexMap.{get_by_text, with_value_at, IsUnique}
 use Rattle.stm_history.specs.declared.key_state.KeyState.{KeyState}
 use Rattle.stm_keys.specs.declared.event.Event.{Event}
 use Rattle.stm_keys.specs.Events.{key_of_event, event_about, is_put}
-use Rattle.stm_keys.specs.Places.{StandFirst, KeepsPresent, is_left, names_of, present_among, with_state}
+use Rattle.stm_keys.specs.Chains.{Versions, no_versions, StandFirst, KeepsPresent, is_left, names_of, present_among, with_state}
 use Rattle.stm_keys.proofs.Present.{present_push}
 use Rattle.stm_keys.proofs.Steps.{text_at}
 
@@ -192,20 +192,20 @@ first_push p n keys key absent first = record {
 }
 
 -- keys that stay as they are, and more keys after more keys
-pub keeps_same : (places_at : List ℕ → List ℕ) (old new : List (List ℕ)) → new ≡ old → KeepsPresent places_at old new
-keeps_same places_at old new same =
-    subst (KeepsPresent places_at old) (sym same) (record { listed = λ state absent. refl; first = λ p n absent first. first; longer = omega arith })
+pub keeps_same : (versions_at : List ℕ → Versions) (old new : List (List ℕ)) → new ≡ old → KeepsPresent versions_at old new
+keeps_same versions_at old new same =
+    subst (KeepsPresent versions_at old) (sym same) (record { listed = λ state absent. refl; first = λ p n absent first. first; longer = omega arith })
 
-pub keeps_push : (places_at : List ℕ → List ℕ) (old : List (List ℕ)) (key : List ℕ) → places_at key ≡ [] → KeepsPresent places_at old (old ++ key ∷ [])
-keeps_push places_at old key none = record {
+pub keeps_push : (versions_at : List ℕ → Versions) (old : List (List ℕ)) (key : List ℕ) → versions_at key ≡ no_versions → KeepsPresent versions_at old (old ++ key ∷ [])
+keeps_push versions_at old key none = record {
   listed = λ state absent. present_push state old key (absent key none);
   first = λ p n absent first. first_push p n old key (absent key none) first;
   longer = omega (arith, length-append old (key ∷ []));
 }
 
-pub keeps_more : (places_at again : List ℕ → List ℕ) (a b c : List (List ℕ)) → ((key : List ℕ) → again key ≡ places_at key) → KeepsPresent places_at a b →
-    KeepsPresent again b c → KeepsPresent places_at a c
-keeps_more places_at again a b c same one two = record {
+pub keeps_more : (versions_at again : List ℕ → Versions) (a b c : List (List ℕ)) → ((key : List ℕ) → again key ≡ versions_at key) → KeepsPresent versions_at a b →
+    KeepsPresent again b c → KeepsPresent versions_at a c
+keeps_more versions_at again a b c same one two = record {
   listed = λ state absent. two.listed state (λ key none. absent key (sym (same key) ∙ none)) ∙ one.listed state absent;
   first = λ p n absent first. two.first p n (λ key none. absent key (sym (same key) ∙ none)) (one.first p n absent first);
   longer = omega (arith, one.longer, two.longer);
@@ -239,7 +239,7 @@ first_below n = lt-ltb 0 (suc n) (omega arith)
 below_none : (place : ℕ) → nat_lt (suc place) 0 ≡ nat_lt place 0
 below_none place = grind (arith, nat_tests)
 
-tail_first : (state : List ℕ → Option KeyState) (n : ℕ) (k : List ℕ) (keys : List (List ℕ)) → StandFirst (λ key. is_some (state key)) (suc n) (k ∷ keys) →
+pub tail_first : (state : List ℕ → Option KeyState) (n : ℕ) (k : List ℕ) (keys : List (List ℕ)) → StandFirst (λ key. is_some (state key)) (suc n) (k ∷ keys) →
     StandFirst (λ key. is_some (state key)) n keys
 tail_first state n k keys first =
     record { within = omega (arith, first.within); each = λ place key is. first.each (suc place) key is ∙ one_less place n }

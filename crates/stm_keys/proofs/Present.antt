@@ -5,7 +5,7 @@ use Rattle.std.specs.List.{IsDistinct, AllByRecursion, list_any}
 use Rattle.std.specs.Map.{lookup, keys_of}
 use Rattle.std.proofs.lemmas.Slice.Eq.{bytes_eq-Decides}
 use Rattle.stm_history.specs.declared.key_state.KeyState.{KeyState}
-use Rattle.stm_keys.specs.Places.{present_among, with_state}
+use Rattle.stm_keys.specs.Chains.{present_among, with_state}
 
 -- a key that comes without a state adds nothing
 with_nothing : (s : Option KeyState) (key : List ℕ) (present : List (List ℕ × KeyState)) → s ≡ None → with_state key s present ≡ present

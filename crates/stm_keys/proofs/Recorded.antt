@@ -8,13 +8,14 @@ use Rattle.stm_history.specs.declared.change.Change.{Change}
 use Rattle.stm_history.specs.declared.change.Change.TheVariants.{Put, Del}
 use Rattle.stm_history.specs.declared.key_state.KeyState.{KeyState}
 use Rattle.stm_history.specs.declared.revisions.TheConstants.{HIGHEST_REVISION}
+use Rattle.stm_history.specs.Opening.{Opening, opened_state}
 use Rattle.stm_history.specs.History.{number_of_last, key_of, change_of, key_after, after_change, state_after_put, HasDistinctKeys, IsRevision}
 use Rattle.stm_history.proofs.HistoryLaws.{one_more}
 use Rattle.stm_keys.specs.declared.event.Event.{Event}
 use Rattle.stm_keys.specs.declared.event.Event.TheVariants.{Put as PutEvent}
 use Rattle.stm_keys.specs.Events.{event_of, events_above, events_numbered, key_of_event, event_about, after_event, change_of_event, AreApart}
 use Rattle.stm_keys.specs.Keys.{changes_of, all_events, state_recorded, IsKept}
-use Rattle.stm_keys.specs.Places.{Places, places_in, with_place}
+use Rattle.stm_keys.specs.Chains.{Chain, versions_in, with_version}
 
 -- equal bytes are one text
 same_text : (a b : List ℕ) → bytes_eq a b ≡ true → a ≡ b
@@ -73,8 +74,8 @@ after_about n before key (c ∷ cs) =
     (after_about n before key cs)
 
 -- a walk back over the recorded events finds what the key is
-pub recorded_state : (opening : ℕ) (key : List ℕ) (revisions : List (List Change)) →
-    state_recorded key (all_events opening revisions) ≡ key_after opening key revisions
+pub recorded_state : (opening : Opening) (key : List ℕ) (revisions : List (List Change)) →
+    state_recorded (opened_state opening key) key (all_events opening revisions) ≡ key_after opening key revisions
 recorded_state opening key [] = refl
 recorded_state opening key (changes ∷ older) =
     ap (after_event (event_about key (events_above opening changes older))) (recorded_state opening key older)
@@ -82,7 +83,7 @@ recorded_state opening key (changes ∷ older) =
     ∙ sym (one_more opening key changes older)
 
 -- the older of recorded revisions are recorded as they are without the newer ones
-pub older_recorded : (opening : ℕ) (newer older : List (List Event)) → newer ++ older ≡ all_events opening (changes_of (newer ++ older)) →
+pub older_recorded : (opening : Opening) (newer older : List (List Event)) → newer ++ older ≡ all_events opening (changes_of (newer ++ older)) →
     older ≡ all_events opening (changes_of older)
 older_recorded opening [] older is = is
 older_recorded opening (r ∷ newer) older is = older_recorded opening newer older (cc)
@@ -99,26 +100,26 @@ later_case false events rest x fails same = same
 length-changes_of : (recorded : List (List Event)) → length (changes_of recorded) ≡ length recorded
 length-changes_of recorded = length-map recorded (map change_of_event)
 
-pub numbered : (opening r : ℕ) (newer : List (List Event)) (x : List Event) (older : List (List Event))
+pub numbered : (opening : Opening) (r : ℕ) (newer : List (List Event)) (x : List Event) (older : List (List Event))
     → newer ++ x ∷ older ≡ all_events opening (changes_of (newer ++ x ∷ older)) →
-    r ≡ opening + suc (length older) → events_numbered opening r (changes_of (newer ++ x ∷ older)) ≡ x
+    r ≡ opening.number + suc (length older) → events_numbered opening r (changes_of (newer ++ x ∷ older)) ≡ x
 numbered opening r [] x older is place =
-    number_case (nat_eq (opening + suc (length (changes_of older))) r) (events_above opening (map change_of_event x) (changes_of older))
+    number_case (nat_eq (opening.number + suc (length (changes_of older))) r) (events_above opening (map change_of_event x) (changes_of older))
     (events_numbered opening r (changes_of older)) x
     (eq-eqb _ _ (omega (arith, length-changes_of older)))
     (cc)
 numbered opening r (y ∷ newer) x older is place =
-    later_case (nat_eq (opening + suc (length (changes_of (newer ++ x ∷ older)))) r)
+    later_case (nat_eq (opening.number + suc (length (changes_of (newer ++ x ∷ older)))) r)
     (events_above opening (map change_of_event y) (changes_of (newer ++ x ∷ older)))
     (events_numbered opening r (changes_of (newer ++ x ∷ older))) x
     (ne_eqb _ _ (λ e. absurd (omega (arith, length-changes_of (newer ++ x ∷ older), length-append newer (x ∷ older)))))
     (numbered opening r newer x older (cc) place)
 
 -- no revision has a number at or below the opening one
-pub none_numbered : (opening r : ℕ) (revisions : List (List Change)) → r ≤ opening → events_numbered opening r revisions ≡ []
+pub none_numbered : (opening : Opening) (r : ℕ) (revisions : List (List Change)) → r ≤ opening.number → events_numbered opening r revisions ≡ []
 none_numbered opening r [] below = refl
 none_numbered opening r (changes ∷ older) below =
-    later_case (nat_eq (opening + suc (length older)) r) (events_above opening changes older) (events_numbered opening r older) []
+    later_case (nat_eq (opening.number + suc (length older)) r) (events_above opening changes older) (events_numbered opening r older) []
     (ne_eqb _ _ (λ e. absurd (omega arith)))
     (none_numbered opening r older below)
 
@@ -143,17 +144,18 @@ events_apart n before (c ∷ cs) distinct = (
 )
 
 -- one more revision keeps what a key store keeps
-pub kept_after : (opening : ℕ) (recorded : List (List Event)) (chains next : List ℕ → Option Places) (before : List ℕ → Option KeyState)
+pub kept_after : (opening : Opening) (recorded : List (List Event)) (chains next : List ℕ → Option Chain) (before : List ℕ → Option KeyState)
     (changes : List Change) (events : List Event) →
-    IsKept opening recorded chains → opening + length recorded < HIGHEST_REVISION → IsRevision changes →
+    IsKept opening recorded chains → opening.number + length recorded < HIGHEST_REVISION → IsRevision changes →
     ((key : List ℕ) → before key ≡ key_after opening key (changes_of recorded)) →
-    events ≡ map (event_of (opening + suc (length recorded)) before) changes →
-    ((key : List ℕ) → places_in (next key) ≡ with_place (is_some (event_about key events)) (length recorded) (places_in (chains key))) →
+    events ≡ map (event_of (opening.number + suc (length recorded)) before) changes →
+    ((key : List ℕ) → versions_in (next key)
+    ≡ with_version (is_some (event_about key events)) (opening.number + suc (length recorded)) (versions_in (chains key))) →
     IsKept opening (events ∷ recorded) next
 kept_after opening recorded chains next before changes events kept room revision now made noted =
-    let n : ℕ = opening + suc (length recorded) in
+    let n : ℕ = opening.number + suc (length recorded) in
     let older : List (List Change) = changes_of recorded in
-    let number : n ≡ opening + suc (length older) = omega (arith, length-changes_of recorded) in
+    let number : n ≡ opening.number + suc (length older) = omega (arith, length-changes_of recorded) in
     let shown : map change_of_event events ≡ changes = ap (map change_of_event) made ∙ changes_shown n before changes in
     let above : events ≡ events_above opening changes older =
     made ∙ events_same n before (λ key. key_after opening key older) changes now
@@ -166,13 +168,11 @@ kept_after opening recorded chains next before changes events kept room revision
           ap (λ e. e ∷ recorded) above
           ∙ ap (λ r. events_above opening changes older ∷ r) kept.events
           ∙ ap (λ cs. events_above opening cs older ∷ all_events opening older) (sym shown);
-      places = λ key.
-          noted key ∙ ap (λ ps. with_place (is_some (event_about key events)) (length recorded) ps) (kept.places key);
+      versions = λ key. noted key ∙ ap (with_version (is_some (event_about key events)) n) (kept.versions key);
     }
 
 -- the history after one more recorded revision
-pub shown_after : (opening : ℕ) (recorded : List (List Event)) (before : List ℕ → Option KeyState) (changes : List Change) (events : List Event) →
-    events ≡ map (event_of (opening + suc (length recorded)) before) changes →
-    changes_of (events ∷ recorded) ≡ changes ∷ changes_of recorded
-shown_after opening recorded before changes events made =
-    ap (λ cs. cs ∷ changes_of recorded) (ap (map change_of_event) made ∙ changes_shown (opening + suc (length recorded)) before changes)
+pub shown_after : (number : ℕ) (recorded : List (List Event)) (before : List ℕ → Option KeyState) (changes : List Change) (events : List Event) →
+    events ≡ map (event_of number before) changes → changes_of (events ∷ recorded) ≡ changes ∷ changes_of recorded
+shown_after number recorded before changes events made =
+    ap (λ cs. cs ∷ changes_of recorded) (ap (map change_of_event) made ∙ changes_shown number before changes)

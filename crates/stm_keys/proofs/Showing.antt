@@ -8,6 +8,7 @@ use Rattle.std.proofs.lemmas.Slice.Eq.{bytes_eq-Decides}
 use Rattle.stm_history.specs.declared.change.Change.{Change}
 use Rattle.stm_history.specs.declared.change.Change.TheVariants.{Put, Del}
 use Rattle.stm_history.specs.declared.key_state.KeyState.{KeyState}
+use Rattle.stm_history.specs.Opening.{Opening}
 use Rattle.stm_history.specs.History.{History, number_of_last, key_of, change_of, key_after, key_at, after_change, HasDistinctKeys, AreRevisions}
 use Rattle.stm_history.proofs.HistoryLaws.{one_more, all_up_to, last_is_above}
 use Rattle.stm_keys.specs.declared.event.Event.{Event}
@@ -50,7 +51,7 @@ shows_change h n before (Put key value lease) is = is
 shows_change h n before (Del key) is = (refl, is)
 
 -- the last revision's events
-last_shows : (opening : ℕ) (changes : List Change) (older : List (List Change)) (number : ℕ) → HasDistinctKeys changes
+last_shows : (opening : Opening) (changes : List Change) (older : List (List Change)) (number : ℕ) → HasDistinctKeys changes
     → number_of_last opening (changes ∷ older) ≡ number →
     AllByRecursion (Shows (record { opening = opening; revisions = changes ∷ older }) number) (events_above opening changes older)
 last_shows opening changes older number apart same =
@@ -66,7 +67,7 @@ last_shows opening changes older number apart same =
     (found changes apart))
 
 -- there are no events above the last revision
-none_above : (opening number : ℕ) (revisions : List (List Change)) → number_of_last opening revisions < number → events_numbered opening number revisions ≡ []
+none_above : (opening : Opening) (number : ℕ) (revisions : List (List Change)) → number_of_last opening revisions < number → events_numbered opening number revisions ≡ []
 none_above opening number [] above = refl
 none_above opening number (changes ∷ older) above =
     by_test (nat_eq (number_of_last opening (changes ∷ older)) number) refl (none_above opening number older (omega arith))
@@ -82,7 +83,7 @@ still_shows : (h newer : History) (number : ℕ) → ((key : List ℕ) → key_a
 still_shows h newer number same (PutEvent key state) is = same key ∙ is
 still_shows h newer number same (DeleteEvent key revision) is = (is.0, same key ∙ is.1)
 
-shows : (opening number : ℕ) (revisions : List (List Change)) → AreRevisions revisions →
+shows : (opening : Opening) (number : ℕ) (revisions : List (List Change)) → AreRevisions revisions →
     AllByRecursion (Shows (record { opening = opening; revisions = revisions }) number) (events_numbered opening number revisions)
 shows opening number [] are = tt
 shows opening number (changes ∷ older) are = by_test (nat_eq (number_of_last opening (changes ∷ older)) number) refl (shows opening number older are.1)

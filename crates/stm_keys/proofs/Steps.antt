@@ -1,13 +1,12 @@
--- One event after another: room for its key's chain, and its place there.
+-- One event after another: room for its key's chain, and its version there.
 use Rattle.std.proofs.Common.{◌≡◌, ℕ, ◌≤◌, ◌<◌, Bool, true, false, List, [], ◌∷◌, ◌++◌, map, zero, suc, slice_get}
-use Rattle.std.proofs.Common.{option_map, Option, Some, None, refl, sym, ◌∙◌, ap, subst, cond, is_some, IfSome, arith}
+use Rattle.std.proofs.Common.{option_map, Option, Some, None, refl, sym, ◌∙◌, ap, subst, cond, is_some, arith}
 use Rattle.std.specs.Prelude.{bytes_eq}
-use Rattle.std.proofs.lemmas.Bool.{lt-ltb}
 use Rattle.std.specs.Map.{keys_of}
 use Rattle.std.proofs.lemmas.Slice.Eq.{bytes_eq-Decides}
 use Rattle.stm_keys.specs.declared.event.Event.{Event}
 use Rattle.stm_keys.specs.Events.{key_of_event, event_about}
-use Rattle.stm_keys.specs.Places.{Places, places_in, room_in, with_place, newest_below}
+use Rattle.stm_keys.specs.Chains.{Versions, Chain, versions_in, room_in, with_version}
 
 -- a key that events are about is that of the last one, or one of those before
 last_some : {P : Type 0} (c : Event) (b : Bool) → (b ≡ true → P) → is_some (cond b (Some c) None) ≡ true → P
@@ -32,7 +31,7 @@ room_made cs c old new before more room k some =
     ((bytes_eq-Decides (key_of_event c) k).0 same) room)
     some
 
--- a place that was added to the chain of one key leaves the room of the others
+-- a version that was added to the chain of one key leaves the room of the others
 pub room_left : (c : Event) (cs : List Event) (old new : List ℕ → ℕ) → event_about (key_of_event c) cs ≡ None →
     ((k : List ℕ) → is_some (event_about k (c ∷ cs)) ≡ true → 0 < old k) → ((k : List ℕ) → bytes_eq (key_of_event c) k ≡ false → new k ≡ old k) →
     (k : List ℕ) → is_some (event_about k cs) ≡ true → 0 < new k
@@ -47,28 +46,28 @@ room_left c cs old new apart room others k some = by_test (bytes_eq (key_of_even
         (room k (ap (λ b. is_some (cond b (Some c) (event_about k cs))) differs ∙ some))
 
 -- and the rest of the events adds what is left to add
-pub places_left : (c : Event) (cs : List Event) (place : ℕ) (old new all : List ℕ → List ℕ) → event_about (key_of_event c) cs ≡ None →
-    ((k : List ℕ) → with_place (is_some (event_about k (c ∷ cs))) place (old k) ≡ all k) →
-    ((k : List ℕ) → new k ≡ with_place (bytes_eq (key_of_event c) k) place (old k)) →
-    (k : List ℕ) → with_place (is_some (event_about k cs)) place (new k) ≡ all k
-places_left c cs place old new all apart told added k = by_test (bytes_eq (key_of_event c) k) refl
+pub versions_left : (c : Event) (cs : List Event) (number : ℕ) (old new all : List ℕ → Versions) → event_about (key_of_event c) cs ≡ None →
+    ((k : List ℕ) → with_version (is_some (event_about k (c ∷ cs))) number (old k) ≡ all k) →
+    ((k : List ℕ) → new k ≡ with_version (bytes_eq (key_of_event c) k) number (old k)) →
+    (k : List ℕ) → with_version (is_some (event_about k cs)) number (new k) ≡ all k
+versions_left c cs number old new all apart told added k = by_test (bytes_eq (key_of_event c) k) refl
   where
-    by_test : (b : Bool) → bytes_eq (key_of_event c) k ≡ b → with_place (is_some (event_about k cs)) place (new k) ≡ all k
+    by_test : (b : Bool) → bytes_eq (key_of_event c) k ≡ b → with_version (is_some (event_about k cs)) number (new k) ≡ all k
     by_test true same =
         let gone : event_about k cs ≡ None = ap (λ (l : List ℕ). event_about l cs) (sym ((bytes_eq-Decides (key_of_event c) k).0 same)) ∙ apart in
-        ap (λ (o : Option Event). with_place (is_some o) place (new k)) gone
+        ap (λ (o : Option Event). with_version (is_some o) number (new k)) gone
         ∙ added k
-        ∙ ap (λ b. with_place b place (old k)) same
-        ∙ sym (ap (λ b. with_place (is_some (cond b (Some c) (event_about k cs))) place (old k)) same)
+        ∙ ap (λ b. with_version b number (old k)) same
+        ∙ sym (ap (λ b. with_version (is_some (cond b (Some c) (event_about k cs))) number (old k)) same)
         ∙ told k
     by_test false differs =
-        ap (with_place (is_some (event_about k cs)) place) (added k ∙ ap (λ b. with_place b place (old k)) differs)
-        ∙ sym (ap (λ b. with_place (is_some (cond b (Some c) (event_about k cs))) place (old k)) differs)
+        ap (with_version (is_some (event_about k cs)) number) (added k ∙ ap (λ b. with_version b number (old k)) differs)
+        ∙ sym (ap (λ b. with_version (is_some (cond b (Some c) (event_about k cs))) number (old k)) differs)
         ∙ told k
 
 -- a chain that was written under its key, and every other as it was
-module _ (get new : List ℕ → Option Places) (key : List ℕ) (w : Places) (written : (k : List ℕ) → new k ≡ cond (bytes_eq key k) (Some w) (get k)) where
-  written_case : (P : Option Places → Option Places → Type 0) (k : List ℕ) → P (get key) (Some w) → P (get k) (get k) → P (get k) (new k)
+module _ (get new : List ℕ → Option Chain) (key : List ℕ) (w : Chain) (written : (k : List ℕ) → new k ≡ cond (bytes_eq key k) (Some w) (get k)) where
+  written_case : (P : Option Chain → Option Chain → Type 0) (k : List ℕ) → P (get key) (Some w) → P (get k) (get k) → P (get k) (new k)
   written_case P k here there = by_test (bytes_eq key k) refl
     where
       by_test : (b : Bool) → bytes_eq key k ≡ b → P (get k) (new k)
@@ -77,24 +76,34 @@ module _ (get new : List ℕ → Option Places) (key : List ℕ) (w : Places) (w
           (subst (λ (l : List ℕ). P (get l) (Some w)) ((bytes_eq-Decides key k).0 same) here)
       by_test false differs = subst (P (get k)) (sym (written k ∙ ap (λ b. cond b (Some w) (get k)) differs)) there
 
-  pub places_kept : w.places ≡ places_in (get key) → (k : List ℕ) → places_in (new k) ≡ places_in (get k)
-  places_kept same k = written_case (λ o n. places_in n ≡ places_in o) k same refl
+  pub versions_kept : w.versions ≡ versions_in (get key) → (k : List ℕ) → versions_in (new k) ≡ versions_in (get k)
+  versions_kept same k = written_case (λ o n. versions_in n ≡ versions_in o) k same refl
 
   pub room_grows : room_in (get key) ≤ w.room → (k : List ℕ) → room_in (get k) ≤ room_in (new k)
   room_grows more k = written_case (λ o n. room_in o ≤ room_in n) k more (omega arith)
 
-  pub place_added : (place : ℕ) → w.places ≡ place ∷ places_in (get key) → (k : List ℕ) →
-      places_in (new k) ≡ with_place (bytes_eq key k) place (places_in (get k))
-  place_added place added k = by_test (bytes_eq key k) refl
+  -- what was made of the versions of the key
+  pub versions_made : (f : Versions → Versions) → w.versions ≡ f (versions_in (get key)) → (k : List ℕ) →
+      versions_in (new k) ≡ cond (bytes_eq key k) (f (versions_in (get k))) (versions_in (get k))
+  versions_made f made k = by_test (bytes_eq key k) refl
     where
-      by_test : (b : Bool) → bytes_eq key k ≡ b → places_in (new k) ≡ with_place (bytes_eq key k) place (places_in (get k))
+      by_test : (b : Bool) → bytes_eq key k ≡ b → versions_in (new k) ≡ cond (bytes_eq key k) (f (versions_in (get k))) (versions_in (get k))
       by_test true same =
-          ap places_in (written k ∙ ap (λ b. cond b (Some w) (get k)) same)
-          ∙ added
-          ∙ ap (λ (l : List ℕ). place ∷ places_in (get l)) ((bytes_eq-Decides key k).0 same)
-          ∙ sym (ap (λ b. with_place b place (places_in (get k))) same)
+          ap versions_in (written k ∙ ap (λ b. cond b (Some w) (get k)) same)
+          ∙ made
+          ∙ ap (λ (l : List ℕ). f (versions_in (get l))) ((bytes_eq-Decides key k).0 same)
+          ∙ sym (ap (λ b. cond b (f (versions_in (get k))) (versions_in (get k))) same)
       by_test false differs =
-          ap places_in (written k ∙ ap (λ b. cond b (Some w) (get k)) differs) ∙ sym (ap (λ b. with_place b place (places_in (get k))) differs)
+          ap versions_in (written k ∙ ap (λ b. cond b (Some w) (get k)) differs)
+          ∙ sym (ap (λ b. cond b (f (versions_in (get k))) (versions_in (get k))) differs)
+
+  pub version_added : (number : ℕ) → w.versions ≡ with_version true number (versions_in (get key)) → (k : List ℕ) →
+      versions_in (new k) ≡ with_version (bytes_eq key k) number (versions_in (get k))
+  version_added number added k = versions_made (with_version true number) added k ∙ sym (chosen (bytes_eq key k))
+    where
+      chosen : (b : Bool) → with_version b number (versions_in (get k)) ≡ cond b (with_version true number (versions_in (get k))) (versions_in (get k))
+      chosen true = refl
+      chosen false = refl
 
   pub room_elsewhere : (k : List ℕ) → bytes_eq key k ≡ false → room_in (new k) ≡ room_in (get k)
   room_elsewhere k differs = ap room_in (written k ∙ ap (λ b. cond b (Some w) (get k)) differs)
@@ -114,14 +123,3 @@ texts_push text (e ∷ es) k x = ap (λ l. text e.0 ∷ l) (texts_push text es k
 -- the first event is found by its key
 pub found_first : (c : Event) (cs : List Event) → is_some (event_about (key_of_event c) (c ∷ cs)) ≡ true
 found_first c cs = ap (λ b. is_some (cond b (Some c) (event_about (key_of_event c) cs))) ((bytes_eq-Decides (key_of_event c) (key_of_event c)).1 refl)
-
--- a chain's first place is its newest one
-pub newest_within : (places : List ℕ) (n : ℕ) → ((count : ℕ) → IfSome (newest_below count places) (λ q. q < n)) → IfSome (slice_get places 0) (λ q. q < n)
-newest_within [] n within = tt
-newest_within (p ∷ ps) n within =
-    subst (λ (o : Option ℕ). IfSome o (λ q. q < n)) (ap (λ b. cond b (Some p) (newest_below (suc p) ps)) (lt-ltb p (suc p) (omega arith))) (within (suc p))
-
-pub newest_first : (places : List ℕ) (n : ℕ) → ((count : ℕ) → IfSome (newest_below count places) (λ q. q < n)) → newest_below n places ≡ slice_get places 0
-newest_first [] n within = refl
-newest_first (p ∷ ps) n within =
-    ap (λ b. cond b (Some p) (newest_below n ps)) (lt-ltb p n (newest_within (p ∷ ps) n within))

@@ -1,4 +1,4 @@
--- A chain's versions against their places.
+-- A chain's versions against their numbers.
 use Rattle.std.proofs.Common.{◌≡◌, ℕ, ◌≤◌, ◌<◌, true, false, List, [], ◌∷◌, length, map, sym, ◌∙◌, ap, subst, arith, ltb}
 use Rattle.std.proofs.Common.{Option, Some, None, IfSome, option_map}
 use Rattle.std.specs.List.Sorted.{IsNonDecreasing, IsNonDecreasingBy, IsPartitionPoint}
@@ -22,7 +22,7 @@ cut_by f (x ∷ xs) count i within cut = (
       ap (λ m. ltb m count) (get_or-map f (x ∷ xs) j x d below) ∙ cut.1 j x low below,
 )
 
--- what is below a number once it is read off a version
-pub if_read : {V : Type 0} (f : V → ℕ) (n : ℕ) (o : Option V) → IfSome (option_map f o) (λ q. q < n) → IfSome o (λ v. f v < n)
-if_read f n None within = tt
-if_read f n (Some v) within = within
+-- what holds of what is read off a version
+pub if_read : {V : Type 0} (f : V → ℕ) (P : ℕ → Type 0) (o : Option V) → IfSome (option_map f o) P → IfSome o (λ v. P (f v))
+if_read f P None within = tt
+if_read f P (Some v) within = within

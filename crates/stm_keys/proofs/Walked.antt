@@ -1,269 +1,359 @@
--- What the places of a chain tell of its key.
-use Rattle.std.proofs.Common.{◌≡◌, ℕ, ◌+◌, ◌≤◌, ◌<◌, Bool, true, false, List, [], ◌∷◌, ◌++◌, length, reverse, take, drop, get_or, Option, Some, None}
-use Rattle.std.proofs.Common.{suc, refl, sym, ◌∙◌, ap, subst}
+-- What the versions of a chain tell of its key.
+use Rattle.std.proofs.Common.{◌≡◌, ℕ, ◌+◌, ◌≤◌, ◌<◌, Bool, true, false, List, [], ◌∷◌, ◌++◌, length, map, reverse, take, drop, get_or, Option, Some, None}
+use Rattle.std.proofs.Common.{suc, refl, sym, ◌∙◌, ap, subst, inl, inr}
 use Rattle.std.proofs.Common.{Result, Ok, Err, OnErr, ◌-◌, zero, arith, cond, IfSome, is_some, ne_eqb, eq-eqb, ltb}
-use Rattle.std.specs.Prelude.{nat_lt, nat_eq, min}
-use Rattle.std.proofs.lemmas.Bool.{ltb-true, lt-ltb, le-ltb}
+use Rattle.std.specs.Prelude.{nat_lt, nat_eq, slice_get, string_bytes}
+use Rattle.std.specs.HashMap.{HashMap}
+use Rattle.std.specs.declared.string.String.{String}
+use Rattle.std.specs.Ordering.{nat_cmp}
+use Rattle.std.specs.Cmp.Lexicographic.{slice_cmp}
+use Rattle.std.specs.FinMap.{find}
+use Rattle.std.proofs.lemmas.Bool.{cases_lt, ltb-true, lt-ltb, le-ltb}
 use Rattle.std.specs.List.Sorted.{IsNonDecreasing, IsPartitionPoint}
-use Rattle.std.proofs.Math.Seq.{drop-cons}
-use Rattle.std.proofs.lemmas.List.{length-reverse, length-take-le, length-append, reverse-append, append_assoc, get_or_push, take_all, take_more}
+use Rattle.std.proofs.lemmas.List.{length-map, length-reverse, length-take-le, length-append, reverse-append, get_or_push, get_or_default, take_all, take_more}
 use Rattle.std.proofs.lemmas.List.Sorted.{IsNonDecreasingBy-push, IsNonDecreasingBy-short}
+use Rattle.indexmap.specs.IndexMap.{get_by_text}
 use Rattle.stm_history.specs.declared.key_state.KeyState.{KeyState}
+use Rattle.stm_history.specs.Opening.{Opening, States, opened_state}
+use Rattle.stm_history.specs.History.{key_after, revisions_up_to}
+use Rattle.stm_history.proofs.HistoryLaws.{all_up_to, last_is_above}
+use Rattle.stm_history.proofs.StatesLaws.{state_found, same_states}
 use Rattle.stm_keys.specs.declared.event.Event.{Event}
 use Rattle.stm_keys.specs.declared.event.Event.TheVariants.{Put as PutEvent, Delete as DeleteEvent}
-use Rattle.stm_keys.specs.Events.{event_about, after_event}
-use Rattle.stm_keys.specs.Keys.{Contents, state_recorded, changes_of, IsKept}
-use Rattle.stm_history.specs.History.{key_after, revisions_up_to}
-use Rattle.stm_keys.proofs.Recorded.{recorded_state}
+use Rattle.stm_keys.specs.Events.{event_about, after_event, change_of_event}
+use Rattle.stm_keys.specs.Keys.{Contents, state_recorded, changes_of, all_events, IsKept}
+use Rattle.stm_keys.specs.Chains.{Versions, Chain, no_versions, versions_in, versions_of, with_version, newest_below, event_from, state_from, found_below, found_now}
+use Rattle.stm_keys.specs.Chains.{IsKeptNumber, present_among, AreSearchable, StandFirst, is_left, names_of, opening_of}
 use Rattle.stm_keys.proofs.Apart.{apart_there}
-use Rattle.stm_keys.proofs.Fields.{reverse-split, found_at}
-use Rattle.stm_keys.specs.Places.{Places, places_in, places_of, with_place, newest_below}
-use Rattle.stm_keys.specs.Places.{state_from, found_in, present_among, AreSearchable, StandFirst, is_left}
+use Rattle.stm_keys.proofs.Fields.{split_at}
 use Rattle.stm_keys.proofs.Order.{same_presence, present_count}
+use Rattle.stm_keys.proofs.Present.{not_found}
+use Rattle.stm_keys.proofs.Recorded.{recorded_state, older_recorded}
 
--- the events at a place, of revisions with the newest first
-abbrev pub events_there : ℕ → List (List Event) → List Event
-events_there place [] = []
-events_there place (events ∷ older) = cond (nat_eq place (length older)) events (events_there place older)
+-- ---- the numbers of a chain
 
-abbrev pub state_there : List (List Event) → List ℕ → Option ℕ → Option KeyState
-state_there recorded key None = None
-state_there recorded key (Some place) = after_event (event_about key (events_there place recorded)) None
+-- the events of the revision with a number, of revisions with the newest first
+abbrev pub events_there : ℕ → ℕ → List (List Event) → List Event
+events_there below number [] = []
+events_there below number (events ∷ older) = cond (nat_eq number (below + suc (length older))) events (events_there below number older)
 
--- the oldest revisions, so many
-abbrev pub oldest : ℕ → List (List Event) → List (List Event)
-oldest count [] = []
-oldest count (events ∷ older) = cond (nat_lt (length older) count) (events ∷ older) (oldest count older)
+abbrev pub event_there : ℕ → List (List Event) → List ℕ → Option ℕ → Option Event
+event_there below recorded key None = None
+event_there below recorded key (Some number) = event_about key (events_there below number recorded)
 
--- each place of a chain is below the number of revisions
-abbrev pub AreBelow : ℕ → List ℕ → Type 0
-AreBelow count [] = Unit {0}
-AreBelow count (place ∷ older) = (place < count) × AreBelow count older
+-- the revisions whose numbers are below a bound
+abbrev pub recorded_below : ℕ → ℕ → List (List Event) → List (List Event)
+recorded_below below bound [] = []
+recorded_below below bound (events ∷ older) =
+    cond (nat_lt (below + suc (length older)) bound) (events ∷ older) (recorded_below below bound older)
 
-below_more : (count more : ℕ) (places : List ℕ) → count ≤ more → AreBelow count places → AreBelow more places
-below_more count more [] le all = tt
-below_more count more (p ∷ ps) le all = (omega (arith, all.0), below_more count more ps le all.1)
+-- each is the number of one of so many revisions
+abbrev pub AreKept : ℕ → ℕ → List ℕ → Type 0
+AreKept below count [] = Unit {0}
+AreKept below count (number ∷ older) = IsKeptNumber below count number × AreKept below count older
 
-with_below : (b : Bool) (n : ℕ) (places : List ℕ) → AreBelow n places → AreBelow (suc n) (with_place b n places)
-with_below false n places all = below_more n (suc n) places (omega arith) all
-with_below true n places all = (omega arith, below_more n (suc n) places (omega arith) all)
+kept_more : (below count more : ℕ) (numbers : List ℕ) → count ≤ more → AreKept below count numbers → AreKept below more numbers
+kept_more below count more [] le all = tt
+kept_more below count more (n ∷ ns) le all = ((all.0.0, omega (arith, le, all.0.1)), kept_more below count more ns le all.1)
 
-pub are_below : (key : List ℕ) (recorded : List (List Event)) → AreBelow (length recorded) (places_of key recorded)
-are_below key [] = tt
-are_below key (events ∷ older) = with_below (is_some (event_about key events)) (length older) (places_of key older) (are_below key older)
+kept_with : (b : Bool) (below count : ℕ) (versions : Versions) → AreKept below count versions.numbers →
+    AreKept below (suc count) (with_version b (below + suc count) versions).numbers
+kept_with false below count versions all = kept_more below count (suc count) versions.numbers (omega arith) all
+kept_with true below count versions all = ((omega arith, omega arith), kept_more below count (suc count) versions.numbers (omega arith) all)
 
-newest_case : (b : Bool) (n p : ℕ) (o : Option ℕ) → p < n → IfSome o (λ q. q < n) → IfSome (cond b (Some p) o) (λ q. q < n)
-newest_case true n p o lt rest = lt
-newest_case false n p o lt rest = rest
+pub are_kept : (opening : Opening) (key : List ℕ) (recorded : List (List Event)) →
+    AreKept opening.number (length recorded) (versions_of opening key recorded).numbers
+are_kept opening key [] = tt
+are_kept opening key (events ∷ older) =
+    kept_with (is_some (event_about key events)) opening.number (length older) (versions_of opening key older) (are_kept opening key older)
 
-pub newest_is_below : (count n : ℕ) (places : List ℕ) → AreBelow n places → IfSome (newest_below count places) (λ q. q < n)
-newest_is_below count n [] all = tt
-newest_is_below count n (p ∷ ps) all = newest_case (nat_lt p count) n p (newest_below count ps) all.0 (newest_is_below count n ps all.1)
+newest_case : (b : Bool) (below count n : ℕ) (o : Option ℕ) → IsKeptNumber below count n → IfSome o (IsKeptNumber below count) →
+    IfSome (cond b (Some n) o) (IsKeptNumber below count)
+newest_case true below count n o here rest = here
+newest_case false below count n o here rest = rest
 
--- the places rise from the oldest on
-last_at_most : (n : ℕ) (places : List ℕ) (d : ℕ) → AreBelow n places → 0 < length (reverse places) → get_or (reverse places) (length (reverse places) - 1) d ≤ n
-last_at_most n [] d all some = absurd (omega arith)
-last_at_most n (p ∷ ps) d all some =
-    let push : reverse (p ∷ ps) ≡ reverse ps ++ p ∷ [] = reverse-append (p ∷ []) ps in
-    let count : length (reverse ps) ≡ length (reverse (p ∷ ps)) - 1 = omega (arith, length-reverse ps, length-reverse (p ∷ ps)) in
-    let last : get_or (reverse (p ∷ ps)) (length (reverse (p ∷ ps)) - 1) d ≡ p =
-    ap (λ (l : List ℕ). get_or l (length (reverse (p ∷ ps)) - 1) d) push ∙ get_or_push (reverse ps) p d (length (reverse (p ∷ ps)) - 1) count in
-    omega (arith, last, all.0)
+pub newest_is_kept : (bound below count : ℕ) (numbers : List ℕ) → AreKept below count numbers → IfSome (newest_below bound numbers) (IsKeptNumber below count)
+newest_is_kept bound below count [] all = tt
+newest_is_kept bound below count (n ∷ ns) all =
+    newest_case (nat_lt n bound) below count n (newest_below bound ns) all.0 (newest_is_kept bound below count ns all.1)
 
-rising_with : (b : Bool) (n : ℕ) (places : List ℕ) → AreBelow n places → IsNonDecreasing (reverse places) → IsNonDecreasing (reverse (with_place b n places))
-rising_with false n places all rising = rising
-rising_with true n places all rising =
-    subst IsNonDecreasing (sym (reverse-append (n ∷ []) places))
-    (IsNonDecreasingBy-push (λ m. m) (reverse places) n rising (λ d some. last_at_most n places d all some))
+first_is_kept : (below count : ℕ) (numbers : List ℕ) → AreKept below count numbers → IfSome (slice_get numbers 0) (IsKeptNumber below count)
+first_is_kept below count [] all = tt
+first_is_kept below count (n ∷ ns) all = all.0
 
-pub are_rising : (key : List ℕ) (recorded : List (List Event)) → IsNonDecreasing (reverse (places_of key recorded))
-are_rising key [] = IsNonDecreasingBy-short (λ m. m) [] (omega arith)
-are_rising key (events ∷ older) =
-    rising_with (is_some (event_about key events)) (length older) (places_of key older) (are_below key older) (are_rising key older)
+-- above all numbers the newest is the first
+newest_first : (below count bound : ℕ) (numbers : List ℕ) → AreKept below count numbers → below + count < bound →
+    newest_below bound numbers ≡ slice_get numbers 0
+newest_first below count bound [] all above = refl
+newest_first below count bound (n ∷ ns) all above =
+    ap (λ b. cond b (Some n) (newest_below bound ns)) (lt-ltb n bound (omega (arith, all.0.1, above)))
+
+-- the numbers rise from the oldest on
+last_at_most : (below count : ℕ) (numbers : List ℕ) (d : ℕ) → AreKept below count numbers → 0 < length (reverse numbers) →
+    get_or (reverse numbers) (length (reverse numbers) - 1) d ≤ below + suc count
+last_at_most below count [] d all some = absurd (omega arith)
+last_at_most below count (n ∷ ns) d all some =
+    let push : reverse (n ∷ ns) ≡ reverse ns ++ n ∷ [] = reverse-append (n ∷ []) ns in
+    let place : length (reverse ns) ≡ length (reverse (n ∷ ns)) - 1 = omega (arith, length-reverse ns, length-reverse (n ∷ ns)) in
+    let last : get_or (reverse (n ∷ ns)) (length (reverse (n ∷ ns)) - 1) d ≡ n =
+    ap (λ (l : List ℕ). get_or l (length (reverse (n ∷ ns)) - 1) d) push ∙ get_or_push (reverse ns) n d (length (reverse (n ∷ ns)) - 1) place in
+    omega (arith, last, all.0.1)
+
+rising_with : (b : Bool) (below count : ℕ) (versions : Versions) → AreKept below count versions.numbers → IsNonDecreasing (reverse versions.numbers) →
+    IsNonDecreasing (reverse (with_version b (below + suc count) versions).numbers)
+rising_with false below count versions all rising = rising
+rising_with true below count versions all rising =
+    subst IsNonDecreasing (sym (reverse-append ((below + suc count) ∷ []) versions.numbers))
+    (IsNonDecreasingBy-push (λ m. m) (reverse versions.numbers) (below + suc count) rising (λ d some. last_at_most below count versions.numbers d all some))
+
+are_rising : (opening : Opening) (key : List ℕ) (recorded : List (List Event)) → IsNonDecreasing (reverse (versions_of opening key recorded).numbers)
+are_rising opening key [] = IsNonDecreasingBy-short (λ m. m) [] (omega arith)
+are_rising opening key (events ∷ older) =
+    rising_with (is_some (event_about key events)) opening.number (length older) (versions_of opening key older) (are_kept opening key older)
+    (are_rising opening key older)
+
+-- what a key was before its versions is what it was at the opening
+pub before_with : (b : Bool) (number : ℕ) (versions : Versions) → (with_version b number versions).before ≡ versions.before
+before_with false number versions = refl
+before_with true number versions = refl
+
+pub before_opened : (opening : Opening) (key : List ℕ) (recorded : List (List Event)) → (versions_of opening key recorded).before ≡ opened_state opening key
+before_opened opening key [] = refl
+before_opened opening key (events ∷ older) =
+    before_with (is_some (event_about key events)) (opening.number + suc (length older)) (versions_of opening key older) ∙ before_opened opening key older
+
+-- ---- what is found
 
 -- an older revision's events stand where they stood
-skipped : (key : List ℕ) (events : List Event) (older : List (List Event)) (o : Option ℕ) → IfSome o (λ q. q < length older) →
-    state_there (events ∷ older) key o ≡ state_there older key o
-skipped key events older None below = refl
-skipped key events older (Some q) below =
-    ap (λ b. after_event (event_about key (cond b events (events_there q older))) None) (ne_eqb q (length older) (λ e. absurd (omega arith)))
+skipped : (below : ℕ) (key : List ℕ) (events : List Event) (older : List (List Event)) (o : Option ℕ) → IfSome o (IsKeptNumber below (length older)) →
+    event_there below (events ∷ older) key o ≡ event_there below older key o
+skipped below key events older None kept = refl
+skipped below key events older (Some q) kept =
+    ap (λ b. event_about key (cond b events (events_there below q older))) (ne_eqb q (below + suc (length older)) (λ e. absurd (omega (arith, kept.1, e))))
 
-all_oldest : (count : ℕ) (recorded : List (List Event)) → length recorded ≤ count → oldest count recorded ≡ recorded
-all_oldest count [] le = refl
-all_oldest count (events ∷ older) le = ap (λ b. cond b (events ∷ older) (oldest count older)) (lt-ltb (length older) count (omega arith))
+all_below : (below bound : ℕ) (recorded : List (List Event)) → below + length recorded < bound → recorded_below below bound recorded ≡ recorded
+all_below below bound [] above = refl
+all_below below bound (events ∷ older) above =
+    ap (λ b. cond b (events ∷ older) (recorded_below below bound older)) (lt-ltb (below + suc (length older)) bound (omega (arith, above)))
 
--- one more revision, with an event of the key or with none, among the oldest or not
-walked_step : (key : List ℕ) (count : ℕ) (events : List Event) (older : List (List Event)) →
-    state_there (events ∷ older) key (newest_below count (places_of key older)) ≡ state_recorded key (oldest count older) →
-    (o : Option Event) → event_about key events ≡ o → (b : Bool) → nat_lt (length older) count ≡ b →
-    state_there (events ∷ older) key (newest_below count (with_place (is_some (event_about key events)) (length older) (places_of key older)))
-    ≡ state_recorded key (cond (nat_lt (length older) count) (events ∷ older) (oldest count older))
-walked_step key count events older told None about true less =
-    ap (λ (o : Option Event). state_there (events ∷ older) key (newest_below count (with_place (is_some o) (length older) (places_of key older)))) about
+-- one more revision, with an event of the key or with none, below the bound or not
+walked_step : (before : Option KeyState) (key : List ℕ) (below bound : ℕ) (events : List Event) (older : List (List Event)) (versions : Versions) →
+    after_event (event_there below (events ∷ older) key (newest_below bound versions.numbers)) before
+    ≡ state_recorded before key (recorded_below below bound older) →
+    (o : Option Event) → event_about key events ≡ o → (b : Bool) → nat_lt (below + suc (length older)) bound ≡ b →
+    after_event (event_there below (events ∷ older) key
+    (newest_below bound (with_version (is_some (event_about key events)) (below + suc (length older)) versions).numbers)) before
+    ≡ state_recorded before key (cond (nat_lt (below + suc (length older)) bound) (events ∷ older) (recorded_below below bound older))
+walked_step before key below bound events older versions told None about true less =
+    ap (λ (o : Option Event). after_event (event_there below (events ∷ older) key
+    (newest_below bound (with_version (is_some o) (below + suc (length older)) versions).numbers)) before) about
     ∙ told
-    ∙ ap (state_recorded key) (all_oldest count older (omega (arith, ltb-true (length older) count less)))
-    ∙ sym (ap (λ (o : Option Event). after_event o (state_recorded key older)) about)
-    ∙ sym (ap (λ b. state_recorded key (cond b (events ∷ older) (oldest count older))) less)
-walked_step key count events older told None about false more =
-    ap (λ (o : Option Event). state_there (events ∷ older) key (newest_below count (with_place (is_some o) (length older) (places_of key older)))) about
+    ∙ ap (state_recorded before key) (all_below below bound older (omega (arith, ltb-true (below + suc (length older)) bound less)))
+    ∙ sym (ap (λ (o : Option Event). after_event o (state_recorded before key older)) about)
+    ∙ sym (ap (λ b. state_recorded before key (cond b (events ∷ older) (recorded_below below bound older))) less)
+walked_step before key below bound events older versions told None about false more =
+    ap (λ (o : Option Event). after_event (event_there below (events ∷ older) key
+    (newest_below bound (with_version (is_some o) (below + suc (length older)) versions).numbers)) before) about
     ∙ told
-    ∙ sym (ap (λ b. state_recorded key (cond b (events ∷ older) (oldest count older))) more)
-walked_step key count events older told (Some e) about true less =
-    ap (λ (o : Option Event). state_there (events ∷ older) key (newest_below count (with_place (is_some o) (length older) (places_of key older)))) about
-    ∙ ap (λ b. state_there (events ∷ older) key (cond b (Some (length older)) (newest_below count (places_of key older)))) less
-    ∙ ap (λ b. after_event (event_about key (cond b events (events_there (length older) older))) None) (eq-eqb (length older) (length older) refl)
-    ∙ ap (λ (o : Option Event). after_event o None) about
-    ∙ sym (ap (λ (o : Option Event). after_event o (state_recorded key older)) about)
-    ∙ sym (ap (λ b. state_recorded key (cond b (events ∷ older) (oldest count older))) less)
-walked_step key count events older told (Some e) about false more =
-    ap (λ (o : Option Event). state_there (events ∷ older) key (newest_below count (with_place (is_some o) (length older) (places_of key older)))) about
-    ∙ ap (λ b. state_there (events ∷ older) key (cond b (Some (length older)) (newest_below count (places_of key older)))) more
+    ∙ sym (ap (λ b. state_recorded before key (cond b (events ∷ older) (recorded_below below bound older))) more)
+walked_step before key below bound events older versions told (Some e) about true less =
+    ap (λ (o : Option Event). after_event (event_there below (events ∷ older) key
+    (newest_below bound (with_version (is_some o) (below + suc (length older)) versions).numbers)) before) about
+    ∙ ap (λ b. after_event (event_there below (events ∷ older) key (cond b (Some (below + suc (length older))) (newest_below bound versions.numbers))) before) less
+    ∙ ap (λ b. after_event (event_about key (cond b events (events_there below (below + suc (length older)) older))) before)
+    (eq-eqb (below + suc (length older)) (below + suc (length older)) refl)
+    ∙ ap (λ (o : Option Event). after_event o before) about
+    ∙ sym (ap (λ (o : Option Event). after_event o (state_recorded before key older)) about)
+    ∙ sym (ap (λ b. state_recorded before key (cond b (events ∷ older) (recorded_below below bound older))) less)
+walked_step before key below bound events older versions told (Some e) about false more =
+    ap (λ (o : Option Event). after_event (event_there below (events ∷ older) key
+    (newest_below bound (with_version (is_some o) (below + suc (length older)) versions).numbers)) before) about
+    ∙ ap (λ b. after_event (event_there below (events ∷ older) key (cond b (Some (below + suc (length older))) (newest_below bound versions.numbers))) before) more
     ∙ told
-    ∙ sym (ap (λ b. state_recorded key (cond b (events ∷ older) (oldest count older))) more)
+    ∙ sym (ap (λ b. state_recorded before key (cond b (events ∷ older) (recorded_below below bound older))) more)
 
--- the newest place below a count tells what the key was after so many revisions
-walked : (key : List ℕ) (count : ℕ) (recorded : List (List Event)) →
-    state_there recorded key (newest_below count (places_of key recorded)) ≡ state_recorded key (oldest count recorded)
-walked key count [] = refl
-walked key count (events ∷ older) =
-    walked_step key count events older (skipped key events older (newest_below count (places_of key older))
-    (newest_is_below count (length older) (places_of key older) (are_below key older)) ∙ walked key count older)
-    (event_about key events) refl (nat_lt (length older) count) refl
+-- the newest number below a bound tells what the key was after the revisions below it
+walked : (opening : Opening) (before : Option KeyState) (key : List ℕ) (bound : ℕ) (recorded : List (List Event)) →
+    after_event (event_there opening.number recorded key (newest_below bound (versions_of opening key recorded).numbers)) before
+    ≡ state_recorded before key (recorded_below opening.number bound recorded)
+walked opening before key bound [] = refl
+walked opening before key bound (events ∷ older) =
+    let found : Option ℕ = newest_below bound (versions_of opening key older).numbers in
+    walked_step before key opening.number bound events older (versions_of opening key older)
+    (ap (λ (o : Option Event). after_event o before) (skipped opening.number key events older found
+    (newest_is_kept bound opening.number (length older) (versions_of opening key older).numbers (are_kept opening key older)))
+    ∙ walked opening before key bound older)
+    (event_about key events) refl (nat_lt (opening.number + suc (length older)) bound) refl
 
 -- the same over revisions with the oldest first
-there : (place : ℕ) (newer : List (List Event)) (events : List Event) (older : List (List Event)) → place ≡ length older →
-    events_there place (newer ++ events ∷ older) ≡ events
-there place [] events older is = ap (λ b. cond b events (events_there place older)) (eq-eqb place (length older) is)
-there place (x ∷ newer) events older is =
-    ap (λ b. cond b x (events_there place (newer ++ events ∷ older)))
-    (ne_eqb place (length (newer ++ events ∷ older)) (λ e. absurd (omega (arith, length-append newer (events ∷ older)))))
-    ∙ there place newer events older is
+there : (below number : ℕ) (newer : List (List Event)) (events : List Event) (older : List (List Event)) → number ≡ below + suc (length older) →
+    events_there below number (newer ++ events ∷ older) ≡ events
+there below number [] events older is = ap (λ b. cond b events (events_there below number older)) (eq-eqb number (below + suc (length older)) is)
+there below number (x ∷ newer) events older is =
+    ap (λ b. cond b x (events_there below number (newer ++ events ∷ older)))
+    (ne_eqb number (below + suc (length (newer ++ events ∷ older))) (λ e. absurd (omega (arith, e, is, length-append newer (events ∷ older)))))
+    ∙ there below number newer events older is
 
-oldest_split : (count : ℕ) (newer older : List (List Event)) → length older ≡ count → oldest count (newer ++ older) ≡ older
-oldest_split count [] older is = all_oldest count older (omega arith)
-oldest_split count (x ∷ newer) older is =
-    ap (λ b. cond b (x ∷ newer ++ older) (oldest count (newer ++ older))) (le-ltb (length (newer ++ older)) count (omega (arith, length-append newer older)))
-    ∙ oldest_split count newer older is
+told_there : (below : ℕ) (xs : List (List Event)) (key : List ℕ) (o : Option ℕ) → IfSome o (IsKeptNumber below (length xs)) →
+    event_from below xs key o ≡ event_there below (reverse xs) key o
+told_there below xs key None kept = refl
+told_there below xs key (Some q) kept =
+    let place : ℕ = q - below - 1 in
+    let within : place < length xs = omega (arith, kept.0, kept.1) in
+    let x : List Event = get_or xs place [] in
+    let split : reverse xs ≡ reverse (drop (suc place) xs) ++ x ∷ reverse (take place xs) = split_at xs place x within (get_or_default xs place [] x within) in
+    sym (ap (λ es. event_about key es)
+    (ap (events_there below q) split
+    ∙ there below q (reverse (drop (suc place) xs)) x (reverse (take place xs))
+    (omega (arith, kept.0, length-reverse (take place xs), length-take-le place xs (omega (arith, within))))))
 
-told_there : (xs : List (List Event)) (key : List ℕ) (o : Option ℕ) → IfSome o (λ q. q < length xs) →
-    state_from xs key o ≡ state_there (reverse xs) key o
-told_there xs key None within = refl
-told_there xs key (Some q) within =
-    let newer : List (List Event) = reverse (drop (suc q) xs) in
-    let older : List (List Event) = reverse (take q xs) in
-    let x : List Event = get_or xs q [] in
-    let split : reverse xs ≡ newer ++ x ∷ older =
-    reverse-split q xs
-    ∙ ap (λ l. reverse l ++ older) (drop-cons xs q [] within)
-    ∙ ap (λ l. l ++ older) (reverse-append (x ∷ []) (drop (suc q) xs))
-    ∙ append_assoc newer (x ∷ []) older in
-    sym (ap (λ es. after_event (event_about key es) None)
-    (ap (events_there q) split ∙ there q newer x older (omega (arith, length-reverse (take q xs), length-take-le q xs (omega arith)))))
+-- what is found below a bound is what a walk over the revisions below it finds
+found_recorded : (opening : Opening) (xs : List (List Event)) (key : List ℕ) (bound : ℕ) (versions : Versions) → versions ≡ versions_of opening key (reverse xs) →
+    found_below opening.number xs key bound versions ≡ state_recorded (opened_state opening key) key (recorded_below opening.number bound (reverse xs))
+found_recorded opening xs key bound versions is =
+    let chain : Versions = versions_of opening key (reverse xs) in
+    let kept : AreKept opening.number (length xs) chain.numbers =
+    subst (λ n. AreKept opening.number n chain.numbers) (length-reverse xs) (are_kept opening key (reverse xs)) in
+    ap (found_below opening.number xs key bound) is
+    ∙ ap (λ (o : Option Event). after_event o chain.before)
+    (told_there opening.number xs key (newest_below bound chain.numbers) (newest_is_kept bound opening.number (length xs) chain.numbers kept))
+    ∙ ap (after_event (event_there opening.number (reverse xs) key (newest_below bound chain.numbers))) (before_opened opening key (reverse xs))
+    ∙ walked opening (opened_state opening key) key bound (reverse xs)
 
--- the newest place of a key's chain below a count tells what the key was after so many revisions
-pub found_place : (xs : List (List Event)) (key : List ℕ) (count : ℕ) (places : List ℕ) → places ≡ places_of key (reverse xs) → count ≤ length xs →
-    state_from xs key (newest_below count places) ≡ state_recorded key (reverse (take count xs))
-found_place xs key count places is within =
-    let chain : List ℕ = places_of key (reverse xs) in
-    ap (λ ps. state_from xs key (newest_below count ps)) is
-    ∙ told_there xs key (newest_below count chain)
-    (newest_is_below count (length xs) chain (subst (λ n. AreBelow n chain) (length-reverse xs) (are_below key (reverse xs))))
-    ∙ walked key count (reverse xs)
-    ∙ ap (state_recorded key)
-    (ap (oldest count) (reverse-split count xs)
-    ∙ oldest_split count (reverse (drop count xs)) (reverse (take count xs)) (length-reverse (take count xs) ∙ length-take-le count xs within))
+-- the revisions below a bound are those up to the number below it
+below_up_to : (opening : Opening) (r bound : ℕ) (recorded : List (List Event)) → bound ≡ r + 1 →
+    changes_of (recorded_below opening.number bound recorded) ≡ revisions_up_to opening r (changes_of recorded)
+below_up_to opening r bound [] is = refl
+below_up_to opening r bound (events ∷ older) is =
+    let n : ℕ = opening.number + suc (length older) in
+    let long : length (changes_of older) ≡ length older = length-map older (map change_of_event) in
+    elim (cases_lt r n) [
+      | inl above ↦
+          ap (λ b. changes_of (cond b (events ∷ older) (recorded_below opening.number bound older))) (le-ltb n bound (omega (arith, above, is)))
+          ∙ below_up_to opening r bound older is
+          ∙ sym (last_is_above opening r (map change_of_event events) (changes_of older) (omega (arith, above, long)))
+      | inr within ↦
+          ap (λ b. changes_of (cond b (events ∷ older) (recorded_below opening.number bound older))) (lt-ltb n bound (omega (arith, within, is)))
+          ∙ sym (all_up_to opening r (map change_of_event events ∷ changes_of older) (omega (arith, within, long)))
+    ]
 
-pub place_within : (xs : List (List Event)) (key : List ℕ) (count : ℕ) (places : List ℕ) → places ≡ places_of key (reverse xs) →
-    IfSome (newest_below count places) (λ q. q < length xs)
-place_within xs key count places is =
-    subst (λ ps. IfSome (newest_below count ps) (λ q. q < length xs)) (sym is)
-    (newest_is_below count (length xs) (places_of key (reverse xs))
-    (subst (λ n. AreBelow n (places_of key (reverse xs))) (length-reverse xs) (are_below key (reverse xs))))
+-- and they are recorded as they are without the newer ones
+still_recorded : (opening : Opening) (bound : ℕ) (recorded : List (List Event)) → recorded ≡ all_events opening (changes_of recorded) →
+    recorded_below opening.number bound recorded ≡ all_events opening (changes_of (recorded_below opening.number bound recorded))
+still_recorded opening bound [] is = refl
+still_recorded opening bound (events ∷ older) is =
+    by_test (nat_lt (opening.number + suc (length older)) bound) (still_recorded opening bound older (older_recorded opening (events ∷ []) older is))
+  where
+    by_test : (b : Bool) →
+        recorded_below opening.number bound older ≡ all_events opening (changes_of (recorded_below opening.number bound older)) →
+        cond b (events ∷ older) (recorded_below opening.number bound older)
+        ≡ all_events opening (changes_of (cond b (events ∷ older) (recorded_below opening.number bound older)))
+    by_test true rest = is
+    by_test false rest = rest
 
--- a search by halves finds the newest place below a count
-search_case : (xs : List ℕ) (count : ℕ) (k : ℕ) → k < length xs → ltb (get_or xs k 0) count ≡ false →
-    newest_below count (reverse (take (k + 1) xs)) ≡ newest_below count (reverse (take k xs))
-search_case xs count k within above =
-    ap (newest_below count) (ap reverse (take_more xs k 0 within) ∙ reverse-append (take k xs) (get_or xs k 0 ∷ []))
-    ∙ ap (λ b. cond b (Some (get_or xs k 0)) (newest_below count (reverse (take k xs)))) above
+-- the newest number below a bound tells what the key was at the revision below it
+pub found_then : (opening : Opening) (r : ℕ) (xs : List (List Event)) (chains : List ℕ → Option Chain) (key : List ℕ) (bound : ℕ) →
+    IsKept opening (reverse xs) chains → bound ≡ r + 1 →
+    found_below opening.number xs key bound (versions_in (chains key)) ≡ key_after opening key (revisions_up_to opening r (changes_of (reverse xs)))
+found_then opening r xs chains key bound kept is =
+    let part : List (List Event) = recorded_below opening.number bound (reverse xs) in
+    found_recorded opening xs key bound (versions_in (chains key)) (kept.versions key)
+    ∙ ap (state_recorded (opened_state opening key) key) (still_recorded opening bound (reverse xs) kept.events)
+    ∙ recorded_state opening key (changes_of part)
+    ∙ ap (key_after opening key) (below_up_to opening r bound (reverse xs) is)
 
-none_above : (xs : List ℕ) (count i k : ℕ) → i + k ≤ length xs → ((j : ℕ) → i ≤ j → j < length xs → ltb (get_or xs j 0) count ≡ false) →
-    newest_below count (reverse (take (i + k) xs)) ≡ newest_below count (reverse (take i xs))
-none_above xs count i zero within above = ap (λ n. newest_below count (reverse (take n xs))) (omega arith)
-none_above xs count i (suc k) within above =
-    ap (λ n. newest_below count (reverse (take n xs))) (omega arith)
-    ∙ search_case xs count (i + k) (omega arith) (above (i + k) (omega arith) (omega arith))
-    ∙ none_above xs count i k (omega arith) above
-
-pub none_found : (xs : List ℕ) (count : ℕ) → IsPartitionPoint (λ y. ltb y count ≡ true) (λ y. ltb y count ≡ false) xs 0 →
-    None ≡ newest_below count (reverse xs)
-none_found xs count cut =
-    sym (ap (λ (l : List ℕ). newest_below count (reverse l)) (sym (take_all (0 + length xs) xs (omega arith)))
-    ∙ none_above xs count 0 (length xs) (omega arith) (λ j low high. cut.1 j 0 low high))
-
-pub one_found : (xs : List ℕ) (count m : ℕ) (place : ℕ) → m + 1 ≤ length xs → place ≡ get_or xs m 0 →
-    IsPartitionPoint (λ y. ltb y count ≡ true) (λ y. ltb y count ≡ false) xs (m + 1) → Some place ≡ newest_below count (reverse xs)
-one_found xs count m place within is cut =
-    sym (ap (λ (l : List ℕ). newest_below count (reverse l)) (sym (take_all (m + 1 + (length xs - (m + 1))) xs (omega arith)))
-    ∙ none_above xs count (m + 1) (length xs - (m + 1)) (omega arith) (λ j low high. cut.1 j 0 low high)
-    ∙ ap (newest_below count) (ap reverse (take_more xs m 0 (omega (arith, within))) ∙ reverse-append (take m xs) (get_or xs m 0 ∷ []))
-    ∙ ap (λ b. cond b (Some (get_or xs m 0)) (newest_below count (reverse (take m xs)))) (cut.0 m 0 (omega arith) (omega arith))
-    ∙ ap Some (sym is))
-
--- the newest place of a key's chain tells what the key is
-pub found_now : (opening : ℕ) (xs : List (List Event)) (chains : List ℕ → Option Places) (key : List ℕ) → IsKept opening (reverse xs) chains →
-    found_in chains xs (length xs) key ≡ key_after opening key (changes_of (reverse xs))
-found_now opening xs chains key kept =
-    found_place xs key (length xs) (places_in (chains key)) (kept.places key) (omega arith)
-    ∙ ap (λ l. state_recorded key (reverse l)) (take_all (length xs) xs (omega arith))
-    ∙ ap (state_recorded key) kept.events
-    ∙ recorded_state opening key (changes_of (reverse xs))
-
--- the newest place below a count tells what the key was at a revision
-pub found_then : (opening r : ℕ) (xs : List (List Event)) (chains : List ℕ → Option Places) (key : List ℕ) (count : ℕ) →
-    IsKept opening (reverse xs) chains → count ≡ min (r - opening) (length xs) →
-    found_in chains xs count key ≡ key_after opening key (revisions_up_to opening r (changes_of (reverse xs)))
-found_then opening r xs chains key count kept is =
-    found_place xs key count (places_in (chains key)) (kept.places key) (omega (arith, is))
-    ∙ found_at opening r xs chains key count kept is
+-- the newest number of a key's chain tells what the key is
+pub found_all : (opening : Opening) (xs : List (List Event)) (chains : List ℕ → Option Chain) (key : List ℕ) → IsKept opening (reverse xs) chains →
+    found_now opening.number xs key (versions_in (chains key)) ≡ key_after opening key (changes_of (reverse xs))
+found_all opening xs chains key kept =
+    let r : ℕ = opening.number + length (reverse xs) in
+    let versions : Versions = versions_in (chains key) in
+    let all : AreKept opening.number (length (reverse xs)) versions.numbers =
+    subst (λ (v : Versions). AreKept opening.number (length (reverse xs)) v.numbers) (sym (kept.versions key)) (are_kept opening key (reverse xs)) in
+    sym (ap (state_from opening.number xs key versions.before)
+    (newest_first opening.number (length (reverse xs)) (r + 1) versions.numbers all (omega arith)))
+    ∙ found_then opening r xs chains key (r + 1) kept refl
+    ∙ ap (key_after opening key) (all_up_to opening r (changes_of (reverse xs)) (omega (arith, length-map (reverse xs) (map change_of_event))))
 
 -- the chains that a key store keeps can be searched
-pub searchable : (opening : ℕ) (xs : List (List Event)) (chains : List ℕ → Option Places) → IsKept opening (reverse xs) chains → AreSearchable chains xs
+pub searchable : (opening : Opening) (xs : List (List Event)) (chains : List ℕ → Option Chain) → IsKept opening (reverse xs) chains →
+    AreSearchable chains opening.number xs
 searchable opening xs chains kept = record {
-  rising = λ key. subst (λ (ps : List ℕ). IsNonDecreasing (reverse ps)) (sym (kept.places key)) (are_rising key (reverse xs));
-  within = λ key count. place_within xs key count (places_in (chains key)) (kept.places key);
+  rising = λ key. subst (λ (v : Versions). IsNonDecreasing (reverse v.numbers)) (sym (kept.versions key)) (are_rising opening key (reverse xs));
+  within = λ key bound. newest_is_kept bound opening.number (length xs) (versions_in (chains key)).numbers (all key);
+  newest = λ key. first_is_kept opening.number (length xs) (versions_in (chains key)).numbers (all key);
   apart = λ place within. apart_there xs place kept.shaped within;
 }
+  where
+    all : (key : List ℕ) → AreKept opening.number (length xs) (versions_in (chains key)).numbers
+    all key =
+        subst (λ (v : Versions). AreKept opening.number (length xs) v.numbers) (sym (kept.versions key))
+        (subst (λ n. AreKept opening.number n (versions_of opening key (reverse xs)).numbers) (length-reverse xs) (are_kept opening key (reverse xs)))
 
--- a key without a place was never changed
-no_place : (key : List ℕ) (recorded : List (List Event)) → places_of key recorded ≡ [] → state_recorded key recorded ≡ None
-no_place key recorded none =
-    sym (ap (state_recorded key) (all_oldest (length recorded) recorded (omega arith)))
-    ∙ sym (walked key (length recorded) recorded)
-    ∙ ap (λ ps. state_there recorded key (newest_below (length recorded) ps)) none
+-- a search by halves finds the newest number below a bound
+search_case : (xs : List ℕ) (bound : ℕ) (k : ℕ) → k < length xs → ltb (get_or xs k 0) bound ≡ false →
+    newest_below bound (reverse (take (k + 1) xs)) ≡ newest_below bound (reverse (take k xs))
+search_case xs bound k within above =
+    ap (newest_below bound) (ap reverse (take_more xs k 0 within) ∙ reverse-append (take k xs) (get_or xs k 0 ∷ []))
+    ∙ ap (λ b. cond b (Some (get_or xs k 0)) (newest_below bound (reverse (take k xs)))) above
 
-pub unchanged_key : (opening : ℕ) (recorded : List (List Event)) (chains : List ℕ → Option Places) (key : List ℕ) → IsKept opening recorded chains →
-    places_in (chains key) ≡ [] → key_after opening key (changes_of recorded) ≡ None
+none_above : (xs : List ℕ) (bound i k : ℕ) → i + k ≤ length xs → ((j : ℕ) → i ≤ j → j < length xs → ltb (get_or xs j 0) bound ≡ false) →
+    newest_below bound (reverse (take (i + k) xs)) ≡ newest_below bound (reverse (take i xs))
+none_above xs bound i zero within above = ap (λ n. newest_below bound (reverse (take n xs))) (omega arith)
+none_above xs bound i (suc k) within above =
+    ap (λ n. newest_below bound (reverse (take n xs))) (omega arith)
+    ∙ search_case xs bound (i + k) (omega arith) (above (i + k) (omega arith) (omega arith))
+    ∙ none_above xs bound i k (omega arith) above
+
+pub none_found : (xs : List ℕ) (bound : ℕ) → IsPartitionPoint (λ y. ltb y bound ≡ true) (λ y. ltb y bound ≡ false) xs 0 →
+    None ≡ newest_below bound (reverse xs)
+none_found xs bound cut =
+    sym (ap (λ (l : List ℕ). newest_below bound (reverse l)) (sym (take_all (0 + length xs) xs (omega arith)))
+    ∙ none_above xs bound 0 (length xs) (omega arith) (λ j low high. cut.1 j 0 low high))
+
+pub one_found : (xs : List ℕ) (bound m : ℕ) (number : ℕ) → m + 1 ≤ length xs → number ≡ get_or xs m 0 →
+    IsPartitionPoint (λ y. ltb y bound ≡ true) (λ y. ltb y bound ≡ false) xs (m + 1) → Some number ≡ newest_below bound (reverse xs)
+one_found xs bound m number within is cut =
+    sym (ap (λ (l : List ℕ). newest_below bound (reverse l)) (sym (take_all (m + 1 + (length xs - (m + 1))) xs (omega arith)))
+    ∙ none_above xs bound (m + 1) (length xs - (m + 1)) (omega arith) (λ j low high. cut.1 j 0 low high)
+    ∙ ap (newest_below bound) (ap reverse (take_more xs m 0 (omega (arith, within))) ∙ reverse-append (take m xs) (get_or xs m 0 ∷ []))
+    ∙ ap (λ b. cond b (Some (get_or xs m 0)) (newest_below bound (reverse (take m xs)))) (cut.0 m 0 (omega arith) (omega arith))
+    ∙ ap Some (sym is))
+
+told_state : (opening : Opening) (recorded : List (List Event)) (chains : List ℕ → Option Chain) (key : List ℕ) → IsKept opening recorded chains →
+    key_after opening key (changes_of recorded) ≡ state_recorded (opened_state opening key) key recorded
+told_state opening recorded chains key kept =
+    sym (ap (state_recorded (opened_state opening key) key) kept.events ∙ recorded_state opening key (changes_of recorded))
+
+-- a key without a version was absent at the opening, and never changed
+pub unchanged_key : (opening : Opening) (recorded : List (List Event)) (chains : List ℕ → Option Chain) (key : List ℕ) → IsKept opening recorded chains →
+    versions_in (chains key) ≡ no_versions → key_after opening key (changes_of recorded) ≡ None
 unchanged_key opening recorded chains key kept none =
-    sym (ap (state_recorded key) kept.events ∙ recorded_state opening key (changes_of recorded))
-    ∙ no_place key recorded (sym (kept.places key) ∙ none)
+    let bound : ℕ = opening.number + length recorded + 1 in
+    let is : versions_of opening key recorded ≡ no_versions = sym (kept.versions key) ∙ none in
+    let before : Option KeyState = opened_state opening key in
+    told_state opening recorded chains key kept
+    ∙ sym (ap (state_recorded before key) (all_below opening.number bound recorded (omega arith)))
+    ∙ sym (walked opening before key bound recorded)
+    ∙ ap (λ (v : Versions). after_event (event_there opening.number recorded key (newest_below bound v.numbers)) before) is
+    ∙ sym (before_opened opening key recorded)
+    ∙ ap (λ (v : Versions). v.before) is
 
 -- more room leaves what is kept
-pub kept_with_room : (opening : ℕ) (recorded : List (List Event)) (chains next : List ℕ → Option Places) → IsKept opening recorded chains →
-    ((key : List ℕ) → places_in (next key) ≡ places_in (chains key)) → IsKept opening recorded next
+pub kept_with_room : (opening : Opening) (recorded : List (List Event)) (chains next : List ℕ → Option Chain) → IsKept opening recorded chains →
+    ((key : List ℕ) → versions_in (next key) ≡ versions_in (chains key)) → IsKept opening recorded next
 kept_with_room opening recorded chains next kept same = record {
   positive = kept.positive;
   bounded = kept.bounded;
   shaped = kept.shaped;
   events = kept.events;
-  places = λ key. same key ∙ kept.places key;
+  versions = λ key. same key ∙ kept.versions key;
 }
 
--- and so do the chains over a slice of the revisions
-pub told_now : (opening : ℕ) (xs slice : List (List Event)) (chains : List ℕ → Option Places) (key : List ℕ) → IsKept opening (reverse xs) chains → slice ≡ xs →
-    found_in chains slice (length slice) key ≡ key_after opening key (changes_of (reverse xs))
-told_now opening xs slice chains key kept same =
-    ap (λ (l : List (List Event)). found_in chains l (length l) key) same ∙ found_now opening xs chains key kept
+-- and so do the chains over revisions that are the same
+pub told_now : (opening : Opening) (xs : List (List Event)) (chains : List ℕ → Option Chain) (key : List ℕ) → IsKept opening (reverse xs) chains →
+    found_now opening.number xs key (versions_in (chains key)) ≡ key_after opening key (changes_of (reverse xs))
+told_now opening xs chains key kept = found_all opening xs chains key kept
 
 -- one more recorded revision leaves present what its events leave
 left_case : (o : Option Event) (s : Option KeyState) → is_left o (is_some s) ≡ is_some (after_event o s)
@@ -271,11 +361,7 @@ left_case None s = refl
 left_case (Some (PutEvent key state)) s = refl
 left_case (Some (DeleteEvent key revision)) s = refl
 
-told_state : (opening : ℕ) (recorded : List (List Event)) (chains : List ℕ → Option Places) (key : List ℕ) → IsKept opening recorded chains →
-    key_after opening key (changes_of recorded) ≡ state_recorded key recorded
-told_state opening recorded chains key kept = sym (ap (state_recorded key) kept.events ∙ recorded_state opening key (changes_of recorded))
-
-pub first_after : (opening : ℕ) (xs ys : List (List Event)) (chains next : List ℕ → Option Places) (events : List Event) (n : ℕ) (names : List (List ℕ)) →
+pub first_after : (opening : Opening) (xs ys : List (List Event)) (chains next : List ℕ → Option Chain) (events : List Event) (n : ℕ) (names : List (List ℕ)) →
     IsKept opening (reverse xs) chains → IsKept opening (reverse ys) next → ys ≡ xs ++ events ∷ [] →
     StandFirst (λ key. is_left (event_about key events) (is_some (key_after opening key (changes_of (reverse xs))))) n names →
     StandFirst (λ key. is_some (key_after opening key (changes_of (reverse ys)))) n names
@@ -284,41 +370,63 @@ first_after opening xs ys chains next events n names kept more is first =
     (λ key. is_some (key_after opening key (changes_of (reverse ys)))) n names
     (λ key.
     ap is_some (told_state opening (reverse ys) next key more
-    ∙ ap (state_recorded key) (ap reverse is ∙ reverse-append xs (events ∷ [])))
-    ∙ sym (left_case (event_about key events) (state_recorded key (reverse xs)))
+    ∙ ap (state_recorded (opened_state opening key) key) (ap reverse is ∙ reverse-append xs (events ∷ [])))
+    ∙ sym (left_case (event_about key events) (state_recorded (opened_state opening key) key (reverse xs)))
     ∙ ap (λ (s : Option KeyState). is_left (event_about key events) (is_some s)) (sym (told_state opening (reverse xs) chains key kept)))
     first
 
--- a key without a place is absent
-pub no_place_absent : (opening : ℕ) (recorded : List (List Event)) (chains : List ℕ → Option Places) (key : List ℕ) → IsKept opening recorded chains →
-    places_in (chains key) ≡ [] → is_some (key_after opening key (changes_of recorded)) ≡ false
-no_place_absent opening recorded chains key kept none = ap is_some (unchanged_key opening recorded chains key kept none)
+-- a key without a version is absent
+pub no_version_absent : (opening : Opening) (recorded : List (List Event)) (chains : List ℕ → Option Chain) (key : List ℕ) → IsKept opening recorded chains →
+    versions_in (chains key) ≡ no_versions → is_some (key_after opening key (changes_of recorded)) ≡ false
+no_version_absent opening recorded chains key kept none = ap is_some (unchanged_key opening recorded chains key kept none)
 
--- what contracts see of fields
-abbrev pub seen : ℕ → List (List Event) → List (List ℕ) → Contents
-seen opening xs keys = record {
+-- ---- what contracts see of fields
+
+abbrev pub seen : Opening → ℕ → ℕ → List (List Event) → List (List ℕ) → Contents
+seen opening opened floor xs keys = record {
   history = record { opening = opening; revisions = changes_of (reverse xs) };
   present = present_among (λ key. key_after opening key (changes_of (reverse xs))) keys;
+  opened = opened;
+  floor = floor;
 }
 
 -- an index of the list of present keys is below their number
-pub below_count : (opening : ℕ) (xs : List (List Event)) (n index : ℕ) (names : List (List ℕ)) (v : Contents) → seen opening xs names ≡ v →
+pub below_count : (opening : Opening) (opened floor : ℕ) (xs : List (List Event)) (n index : ℕ) (names : List (List ℕ)) (v : Contents) →
+    seen opening opened floor xs names ≡ v →
     StandFirst (λ key. is_some (key_after opening key (changes_of (reverse xs)))) n names → index < length v.present → index < n
-below_count opening xs n index names v is first below =
+below_count opening opened floor xs n index names v is first below =
     subst (λ m. index < m) (sym (ap (λ (w : Contents). length w.present) is)
     ∙ present_count (λ key. key_after opening key (changes_of (reverse xs))) n names first) below
 
-abbrev contents : ℕ → List (List Event) → List (List ℕ × KeyState) → Contents
-contents opening xs present = record { history = record { opening = opening; revisions = changes_of (reverse xs) }; present = present }
-
--- keys without a place are not seen
-pub view_kept : (opening : ℕ) (xs ys : List (List Event)) (keys more : List (List ℕ)) (v : Contents) → ys ≡ xs →
+-- keys without a version are not seen
+pub view_kept : (opening next : Opening) (opened floor : ℕ) (xs ys : List (List Event)) (keys more : List (List ℕ)) (v : Contents) → next ≡ opening → ys ≡ xs →
     present_among (λ key. key_after opening key (changes_of (reverse xs))) more ≡ present_among (λ key. key_after opening key (changes_of (reverse xs))) keys →
-    seen opening xs keys ≡ v → seen opening ys more ≡ v
-view_kept opening xs ys keys more v same present is =
-    ap (λ (l : List (List Event)). seen opening l more) same
-    ∙ ap (contents opening xs) present
+    seen opening opened floor xs keys ≡ v → seen next opened floor ys more ≡ v
+view_kept opening next opened floor xs ys keys more v alike same present is =
+    ap (λ (o : Opening). seen o opened floor ys more) alike
+    ∙ ap (λ (l : List (List Event)). seen opening opened floor l more) same
+    ∙ ap (λ (p : List (List ℕ × KeyState)). let c : Contents = record {
+      history = record { opening = opening; revisions = changes_of (reverse xs) };
+      present = p;
+      opened = opened;
+      floor = floor;
+    } in c) present
     ∙ is
+
+-- what a store with these chains opens with is what they tell of before
+module _ {Y S : Type 0} (m : HashMap (String Y) Chain S) (below : ℕ) where
+  pub before_found : (key : List ℕ) → find (slice_cmp nat_cmp) key (opening_of below m).states ≡ (versions_in (get_by_text m key)).before
+  before_found key =
+      state_found (λ k. (versions_in (get_by_text m k)).before) key (names_of m)
+      (λ others. ap (λ (o : Option Chain). (versions_in o).before) (not_found string_bytes key m.entries others))
+
+-- chains with the same versions open with the same
+pub opening_kept : {Y S R : Type 0} (m : HashMap (String Y) Chain S) (n : HashMap (String Y) Chain R) (below : ℕ) →
+    ((key : List ℕ) → (versions_in (get_by_text n key)).before ≡ (versions_in (get_by_text m key)).before) → opening_of below n ≡ opening_of below m
+opening_kept m n below same =
+    ap (λ (states : States). let o : Opening = record { number = below; states = states } in o)
+    (same_states (λ key. (versions_in (get_by_text n key)).before) (λ key. (versions_in (get_by_text m key)).before) (names_of n) (names_of m)
+    (λ key. before_found n below key ∙ same key ∙ sym (before_found m below key)))
 
 -- what holds anyway holds where a call is refused
 pub on_any : {T E P : Type 0} (r : Result T E) → P → OnErr r P

@@ -5,6 +5,7 @@ use Rattle.std.specs.Prelude.{◌≡◌, ℕ, ◌==◌, Bool, true, false, bytes
 use Rattle.stm_history.specs.declared.change.Change.{Change}
 use Rattle.stm_history.specs.declared.change.Change.TheVariants.{Put, Del}
 use Rattle.stm_history.specs.declared.key_state.KeyState.{KeyState}
+use Rattle.stm_history.specs.Opening.{Opening}
 use Rattle.stm_history.specs.History.{History, number_of_last, key_after, key_at, state_after_put}
 use Rattle.stm_keys.specs.declared.event.Event.{Event}
 use Rattle.stm_keys.specs.declared.event.Event.TheVariants.{Put as PutEvent, Delete as DeleteEvent}
@@ -15,12 +16,12 @@ event_of number before (Put key value lease) = PutEvent key (state_after_put num
 event_of number before (Del key) = DeleteEvent key number
 
 -- the events of a revision above these older ones, in the order of operations
-abbrev pub events_above : ℕ → List Change → List (List Change) → List Event
+abbrev pub events_above : Opening → List Change → List (List Change) → List Event
 events_above opening changes older =
     map (event_of (number_of_last opening (changes ∷ older)) (λ key. key_after opening key older)) changes
 
 -- the events of the revision with a number, none where there is no such revision
-abbrev pub events_numbered : ℕ → ℕ → List (List Change) → List Event
+abbrev pub events_numbered : Opening → ℕ → List (List Change) → List Event
 events_numbered opening number [] = []
 events_numbered opening number (changes ∷ older) =
     if number_of_last opening (changes ∷ older) == number then events_above opening changes older else events_numbered opening number older

@@ -2,6 +2,7 @@
 use Rattle.std.specs.Prelude.{ℕ, ◌&&◌, nat_lt, if◌then◌else◌, List, [], ◌∷◌, Option, Some, None, is_some}
 use Rattle.std.specs.Option.{option_or}
 use Rattle.stm_history.specs.declared.change.Change.{Change}
+use Rattle.stm_history.specs.Opening.{Opening}
 use Rattle.stm_history.specs.History.{History, number_of_last, change_of}
 
 -- the number of a revision, where it is above another and the revision changes the key
@@ -9,7 +10,7 @@ abbrev pub changed_above : ℕ → List ℕ → ℕ → List Change → Option �
 changed_above above key number changes = if nat_lt above number && is_some (change_of key changes) then Some number else None
 
 -- the first of these revisions above a number that changes the key, if there is one; the newest of them stands first
-abbrev pub first_change : ℕ → ℕ → List ℕ → List (List Change) → Option ℕ
+abbrev pub first_change : Opening → ℕ → List ℕ → List (List Change) → Option ℕ
 first_change opening above key [] = None
 first_change opening above key (changes ∷ older) =
     option_or (first_change opening above key older) (changed_above above key (number_of_last opening (changes ∷ older)) changes)

@@ -32,6 +32,16 @@ impl Event {
         }
     }
 
+    /// What the key is since the event, `None` where it is absent.
+    pub(crate) fn into_state(self) -> Option<KeyState>
+        ensures { result ≡ after_event (Some self) None }
+    {
+        match self {
+            Event::Put { key: _key, state } => Some(state),
+            Event::Delete { .. } => None,
+        }
+    }
+
     /// The key that the event is about, as it can be shared.
     pub(crate) fn shared_key(&self) -> &SharedText
         ensures { result.now ≡ key_of_event self.now }

@@ -1,5 +1,6 @@
 //! The events of one revision.
 ghost use Rattle.std.specs.Prelude.{◌≡◌, [], ◌∷◌, IfOk};
+ghost use Rattle.stm_keys.specs.Held.{events_held};
 
 use crate::event::Event;
 use std::alloc::AllocError;
@@ -78,6 +79,14 @@ impl Events {
         Events {
             held: Held::More(events),
         }
+    }
+
+    /// The events, where they stand.
+    pub(crate) fn into_held(self) -> Held
+        ensures { events_held result ≡ self }
+    {
+        let Events { held } = self;
+        held
     }
 
     /// The events in order.

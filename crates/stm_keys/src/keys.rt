@@ -1,16 +1,18 @@
 //! The key store.
-ghost use Rattle.std.specs.Prelude.{◌≡◌, ◌+◌, ◌<◌, ◌≤◌, vec_len, vec_capacity, IfOk, OnOk, OnErr, IfSome, List, ℕ, Bool, false, length, Some, None, ◌↔◌, slice_get, option_copied, [], ◌∷◌, ◌++◌, ◌≢◌, ◌^◌, map, is_some};
+ghost use Rattle.std.specs.Prelude.{◌≡◌, ◌+◌, ◌<◌, ◌≤◌, IfOk, OnOk, OnErr, IfSome, List, ℕ, Bool, false, length, Some, None, ◌↔◌, slice_get, option_copied, [], ◌∷◌, ◌++◌, ◌≢◌, ◌^◌, map, is_some};
+ghost use Rattle.std.specs.VecDeque.{deque_len, deque_capacity};
 ghost use Rattle.indexmap.specs.IndexMap.{get_by_text};
+ghost use Rattle.stm_history.specs.Opening.{opened_state};
 ghost use Rattle.stm_history.specs.History.{History, opened_at, now, add_revision, key_at, key_now, AreRevisions, IsRevision, state_after_put};
 ghost use Rattle.stm_history.specs.Walk.{version_of};
 ghost use Rattle.stm_keys.specs.Events.{event_of, events_of, event_about, key_of_event, after_event, AreApart};
-ghost use Rattle.stm_keys.specs.Places.{places_in, with_place, StandFirst, KeepsPresent, is_left, names_of};
+ghost use Rattle.stm_keys.specs.Chains.{versions_in, with_version, no_versions, StandFirst, KeepsPresent, is_left, names_of};
 ghost use Rattle.stm_keys.specs.NextChange.{next_change};
-ghost use Rattle.stm_keys.specs.Keys.{key_read, DeletePresent, HasSmallNumbers, ListsPresent};
+ghost use Rattle.stm_keys.specs.Keys.{key_read, DeletePresent, HasSmallNumbers, ListsPresent, with_floor, without_up_to, compacted_at};
 
 use crate::chains::{
-    Chains, NO_HINT, add_places, find_newest, find_now, find_place_from, find_present, find_state,
-    hint_of, make_room,
+    Chains, NO_HINT, Revisions, add_versions, find_before, find_newest, find_now, find_number_from,
+    find_present, find_state, forget_events, hint_of, make_room,
 };
 use crate::copies::{copy_chains, copy_revisions};
 use crate::event::Event;
@@ -19,43 +21,45 @@ use crate::refusal::{ApplyRefusal, ReadRefusal};
 use crate::shared_text::SharedText;
 use indexmap::IndexMap;
 use std::alloc::{AllocError, Global};
+use std::collections::VecDeque;
 use std::marker::Model;
 use stm_history::{Change, HIGHEST_REVISION, KeyState, Text};
 
-/// The keys of a store at every revision.
+/// The keys of a store, at every revision that is kept.
 ///
-/// Contracts see the store's history, and the list of its present keys. The fields are the revisions
-/// since the opening, the oldest first, each put with its key's full state, for each key that was ever
-/// changed the places of the revisions that changed it, and how many keys are present: theirs are the
-/// first chains.
+/// Contracts see the history that is kept, the list of the present keys, the revision that the store had before any change, and the
+/// floor. The fields are the number below the kept revisions, these revisions, the oldest first, each put with its key's full state, for
+/// each key what it was before them and the numbers of those that changed it, and how many keys are present: theirs are the first chains.
 #[derive(Debug, Drop)]
 pub struct Keys {
-    opening: u64,
-    revisions: Vec<Events>,
+    opened: u64,
+    floor: u64,
+    below: u64,
+    revisions: Revisions,
     chains: Chains,
     present: usize,
 }
 
 impl Model for Keys {
-    ghost use Rattle.std.specs.Prelude.{reverse, is_some};
+    ghost use Rattle.std.specs.Prelude.{◌≤◌, ◌+◌, length, reverse, is_some};
     ghost use Rattle.indexmap.specs.IndexMap.{get_by_text};
     ghost use Rattle.stm_history.specs.History.{key_after};
     ghost use Rattle.stm_keys.specs.Keys.{Contents, IsKept, changes_of};
-    ghost use Rattle.stm_keys.specs.Places.{present_among, StandFirst, names_of};
+    ghost use Rattle.stm_keys.specs.Chains.{present_among, StandFirst, names_of, opening_of};
 
     ghost Value = { Contents };
 
     ghost view = { λ a. record {
-      history = record { opening = a.opening; revisions = changes_of (reverse a.revisions.items) };
-      present = present_among (λ key. key_after a.opening key (changes_of (reverse a.revisions.items))) (names_of a.chains);
+      history = record { opening = opening_of a.below a.chains; revisions = changes_of (reverse a.revisions.items) };
+      present = present_among (λ key. key_after (opening_of a.below a.chains) key (changes_of (reverse a.revisions.items))) (names_of a.chains);
+      opened = a.opened;
+      floor = a.floor;
     } };
 
-    ghost invariant = { λ a. IsKept a.opening (reverse a.revisions.items) (get_by_text a.chains)
-        × StandFirst (λ key. is_some (key_after a.opening key (changes_of (reverse a.revisions.items)))) a.present (names_of a.chains) };
+    ghost invariant = { λ a. IsKept (opening_of a.below a.chains) (reverse a.revisions.items) (get_by_text a.chains)
+        × StandFirst (λ key. is_some (key_after (opening_of a.below a.chains) key (changes_of (reverse a.revisions.items)))) a.present (names_of a.chains)
+        × (a.floor ≤ a.below + length a.revisions.items) };
 }
-
-/// The floor of a store that drops nothing.
-const FLOOR: u64 = 0;
 
 /// What a put makes of a key: it begins anew where the key was absent, and counts on where it was present.
 fn state_put(before: Option<&KeyState>, number: u64, value: Text, lease: u64) -> KeyState
@@ -72,16 +76,6 @@ fn state_put(before: Option<&KeyState>, number: u64, value: Text, lease: u64) ->
         mod_rev: number,
         version,
         lease,
-    }
-}
-
-/// What a key is since its newest event, `None` where it is absent.
-fn state_since(newest: Option<&Event>) -> Option<&KeyState>
-    ensures { option_copied result ≡ after_event (option_copied newest.entry) None }
-{
-    match newest {
-        Some(event) => event.state(),
-        None => None,
     }
 }
 
@@ -120,9 +114,9 @@ fn copy_events(alloc: Global, events: &[Event]) -> Result<Vec<Event>, AllocError
 }
 
 /// Makes room for one more revision. A full list grows by a quarter, so that little of it stands empty.
-fn make_room_in(revisions: &mut Vec<Events>) -> Result<(), AllocError>
+fn make_room_in(revisions: &mut Revisions) -> Result<(), AllocError>
     ensures same { revisions.new.items ≡ revisions.old.items }
-    ensures room { OnOk result (vec_len revisions.new < vec_capacity revisions.new) }
+    ensures room { OnOk result (deque_len revisions.new < deque_capacity revisions.new) }
 {
     let count = revisions.len();
     if count < revisions.capacity() {
@@ -132,32 +126,33 @@ fn make_room_in(revisions: &mut Vec<Events>) -> Result<(), AllocError>
     Ok(())
 }
 
-/// Adds a recorded revision, and its place to the chains of its keys, which are looked for at the hint first. Every
+/// Adds a recorded revision, and its number to the chains of its keys, which are looked for at the hint first. Every
 /// growth comes before the first change.
 fn add_recorded(
-    revisions: &mut Vec<Events>,
+    revisions: &mut Revisions,
     chains: &mut Chains,
     present: &mut usize,
     events: Events,
+    number: u64,
     hint: usize,
 ) -> Result<(), AllocError>
     requires apart { AreApart events }
     requires bound { present.old ≤ length chains.old.entries }
     ensures recorded { OnOk result (revisions.new.items ≡ revisions.old.items ++ events ∷ []) }
-    ensures told { OnOk result ((k : _) → places_in (get_by_text chains.new k) ≡
-        with_place (is_some (event_about k events)) (length revisions.old.items) (places_in (get_by_text chains.old k))) }
-    ensures first { OnOk result ((is_present : List ℕ → Bool) → ((k : _) → places_in (get_by_text chains.old k) ≡ [] → is_present k ≡ false) →
+    ensures told { OnOk result ((k : _) → versions_in (get_by_text chains.new k) ≡
+        with_version (is_some (event_about k events)) number (versions_in (get_by_text chains.old k))) }
+    ensures first { OnOk result ((is_present : List ℕ → Bool) → ((k : _) → versions_in (get_by_text chains.old k) ≡ no_versions → is_present k ≡ false) →
         StandFirst is_present present.old (names_of chains.old) →
         StandFirst (λ k. is_left (event_about k events) (is_present k)) present.new (names_of chains.new)) }
     ensures err { OnErr result (revisions.new.items ≡ revisions.old.items) }
     ensures count { OnErr result (present.new ≡ present.old) }
-    ensures same { OnErr result ((k : List ℕ) → places_in (get_by_text chains.new k) ≡ places_in (get_by_text chains.old k)) }
-    ensures kept { OnErr result (KeepsPresent (λ k. places_in (get_by_text chains.old k)) (names_of chains.old) (names_of chains.new)) }
+    ensures same { OnErr result ((k : List ℕ) → versions_in (get_by_text chains.new k) ≡ versions_in (get_by_text chains.old k)) }
+    ensures kept { OnErr result (KeepsPresent (λ k. versions_in (get_by_text chains.old k)) (names_of chains.old) (names_of chains.new)) }
 {
     make_room(chains, *revisions.allocator(), events.as_slice(), hint)?;
     make_room_in(revisions)?;
-    add_places(chains, present, events.as_slice(), revisions.len(), hint);
-    revisions.push_reserved(events);
+    add_versions(chains, present, events.as_slice(), number, hint);
+    revisions.push_back_reserved(events);
     Ok(())
 }
 
@@ -166,6 +161,8 @@ impl Keys {
     pub fn new(alloc: Global) -> Keys
         ensures history { result.history ≡ opened_at 1 }
         ensures present { result.present ≡ [] }
+        ensures opened { result.opened ≡ 1 }
+        ensures floor { result.floor ≡ 0 }
     {
         Keys::with_revision(alloc, 1)
     }
@@ -178,38 +175,50 @@ impl Keys {
         requires bounded { start ≤ HIGHEST_REVISION }
         ensures history { result.history ≡ opened_at start }
         ensures present { result.present ≡ [] }
+        ensures opened { result.opened ≡ start }
+        ensures floor { result.floor ≡ 0 }
     {
         Keys {
-            opening: start,
-            revisions: Vec::new(alloc),
+            opened: start,
+            floor: 0,
+            below: start,
+            revisions: VecDeque::new(alloc),
             chains: IndexMap::new(alloc),
             present: 0,
         }
     }
 
     /// The counter: the number of the last revision, at least 1. Every revision changes something, and no
-    /// key twice.
+    /// key twice. The floor is at most the counter.
     pub fn revision(&self) -> u64
         ensures value { result ≡ now self.now.history }
         ensures positive { 1 ≤ result }
         ensures bounded { result ≤ HIGHEST_REVISION }
         ensures revisions { AreRevisions self.now.history.revisions }
+        ensures floor { self.now.floor ≤ result }
     {
-        self.revisions.len() as u64 + self.opening
+        self.below + self.revisions.len() as u64
     }
 
     /// The revision that the store had before any change.
     pub fn opening(&self) -> u64
-        ensures { result ≡ self.now.history.opening }
+        ensures { result ≡ self.now.opened }
     {
-        self.opening
+        self.opened
     }
 
-    /// The lowest revision that can be read. It is 0, as nothing is dropped.
-    pub fn floor(&self) -> u64
-        ensures { result ≡ 0 }
+    /// The number below the revisions that are kept: that of the last one that was dropped, and the opening where none was.
+    pub fn below(&self) -> u64
+        ensures { result ≡ self.now.history.opening.number }
     {
-        FLOOR
+        self.below
+    }
+
+    /// The floor: the lowest revision that can be read. It is 0 in a store that was never compacted.
+    pub fn floor(&self) -> u64
+        ensures { result ≡ self.now.floor }
+    {
+        self.floor
     }
 
     /// What a key is now, `None` where it is absent.
@@ -217,29 +226,38 @@ impl Keys {
         ensures value { option_copied result ≡ key_now self.now.history key.now }
         ensures fits { IfSome (key_now self.now.history key.now) HasSmallNumbers }
     {
-        find_now(&self.chains, self.revisions.as_slice(), key, NO_HINT)
+        find_now(&self.chains, &self.revisions, self.below, key, NO_HINT)
     }
 
     /// What a key was at a revision, `None` where it was absent. Revision 0 names the current one.
     ///
-    /// `FutureRevision` is answered where the revision is above the counter. `Compacted` is kept for
-    /// revisions below the floor, of which there are none. (etcd's API reference, "Range": `revision`.)
+    /// `FutureRevision` is answered where the revision is above the counter, `Compacted` where it is another than 0 and
+    /// below the floor. (etcd's API reference, "Range": `revision`.)
     pub fn get_at(&self, key: &str, revision: u64) -> Result<Option<&KeyState>, ReadRefusal>
         ensures future { (result ≡ Err ReadRefusal.FutureRevision) ↔ (now self.now.history < revision) }
-        ensures compacted { result ≢ Err ReadRefusal.Compacted }
+        ensures compacted { (result ≡ Err ReadRefusal.Compacted) ↔ ((0 < revision) × (revision < self.now.floor)) }
         ensures found { IfOk result (λ s. option_copied s ≡ key_read self.now.history key.now revision) }
         ensures fits { IfSome (key_read self.now.history key.now revision) HasSmallNumbers }
     {
         if revision == 0 {
             return Ok(self.get(key));
         }
+        if revision < self.floor {
+            return Err(ReadRefusal::Compacted);
+        }
         if revision > self.revision() {
             return Err(ReadRefusal::FutureRevision);
         }
-        let count = revision
-            .saturating_sub(self.opening)
-            .min(self.revisions.len() as u64) as usize;
-        Ok(find_state(&self.chains, self.revisions.as_slice(), key, count))
+        Ok(self.look_back(key, revision))
+    }
+
+    /// What a key was at a revision that has come, below the floor too: at one below those that are kept it is told as it was before these.
+    pub fn look_back(&self, key: &str, revision: u64) -> Option<&KeyState>
+        requires { revision ≤ now self.now.history }
+        ensures { option_copied result ≡ key_at self.now.history key.now revision }
+    {
+        let _now = self.revision();
+        find_state(&self.chains, &self.revisions, self.below, key, revision + 1)
     }
 
     /// What a put in the next revision would make of a key.
@@ -250,13 +268,35 @@ impl Keys {
         Ok(state_put(self.get(key), self.revision() + 1, value, lease))
     }
 
-    /// The newest event of a key, if it was ever changed. Its chain is looked for at the hint first.
+    /// The newest event of a key, if a kept revision changed it. Its chain is looked for at the hint first.
     fn newest_event(&self, key: &str, hint: usize) -> Option<&Event>
         ensures about { IfSome (option_copied result) (λ event. key_of_event event ≡ key.now) }
-        ensures value { after_event (option_copied result) None ≡ key_now self.now.history key.now }
+        ensures value { after_event (option_copied result) (opened_state self.now.history.opening key.now) ≡ key_now self.now.history key.now }
         ensures fits { IfSome (key_now self.now.history key.now) HasSmallNumbers }
     {
-        find_newest(&self.chains, self.revisions.as_slice(), key, hint)
+        find_newest(&self.chains, &self.revisions, self.below, key, hint)
+    }
+
+    /// What a key was before the revisions that are kept. Its chain is looked for at the hint first.
+    fn state_before(&self, key: &str, hint: usize) -> Option<&KeyState>
+        ensures { option_copied result ≡ opened_state self.now.history.opening key.now }
+    {
+        find_before(&self.chains, key, hint)
+    }
+
+    /// What a key is since its newest event, and without one what it was before the revisions that are kept.
+    fn state_since<'a>(
+        &'a self,
+        newest: Option<&'a Event>,
+        key: &str,
+        hint: usize,
+    ) -> Option<&'a KeyState>
+        ensures { option_copied result ≡ after_event (option_copied newest.entry) (opened_state self.now.history.opening key.now) }
+    {
+        match newest {
+            Some(event) => event.state(),
+            None => self.state_before(key, hint),
+        }
     }
 
     /// What a change shows in the next revision. Its key's chain is looked for at the hint first.
@@ -267,8 +307,10 @@ impl Keys {
         let number = self.revision() + 1;
         match change {
             Change::Put { key, value, lease } => {
-                let newest = self.newest_event(key.as_str(), hint);
-                let state = state_put(state_since(newest), number, value, lease);
+                let name = key.as_str();
+                let newest = self.newest_event(name, hint);
+                let before = self.state_since(newest, name, hint);
+                let state = state_put(before, number, value, lease);
                 let key = share_key(alloc, key, newest)?;
                 Ok(Event::Put { key, state })
             }
@@ -333,6 +375,7 @@ impl Keys {
         requires present { DeletePresent self.old.history changes.items }
         ensures number { IfOk result (λ number. number ≡ now self.new.history) }
         ensures ok { OnOk result (self.new.history ≡ add_revision self.old.history changes.items) }
+        ensures kept { (self.new.opened ≡ self.old.opened) × (self.new.floor ≡ self.old.floor) }
         ensures used_up { (result ≡ Err ApplyRefusal.RevisionsUsedUp) ↔ (now self.old.history ≡ HIGHEST_REVISION) }
         ensures err { OnErr result (self.new ≡ self.old) }
     {
@@ -347,21 +390,22 @@ impl Keys {
             &mut self.chains,
             &mut self.present,
             events,
+            before + 1,
             hint,
         )?;
         Ok(before + 1)
     }
 
-    /// The events of a revision, in the order of operations: none at the opening revision and below. They are not
+    /// The events of a revision, in the order of operations: none where it is below those that are kept. They are not
     /// copied, and it takes no memory.
     pub fn events_at(&self, revision: u64) -> &[Event]
         requires { revision ≤ now self.now.history }
         ensures { result.now ≡ events_of self.now.history revision }
     {
-        if revision <= self.opening {
+        if revision <= self.below {
             return &[];
         }
-        let index = (revision - self.opening - 1) as usize;
+        let index = (revision - self.below - 1) as usize;
         self.revisions[index].as_slice()
     }
 
@@ -373,17 +417,13 @@ impl Keys {
         copy_events(*self.revisions.allocator(), self.events_at(revision))
     }
 
-    /// The first revision above a number that changes a key, `None` where no later one does.
+    /// The first revision above a number that changes a key, of those that are kept, `None` where no later one does.
     ///
     /// It is found by halves among the revisions that changed the key, and takes no memory.
     pub fn next_change(&self, key: &str, above: u64) -> Option<u64>
         ensures { result ≡ next_change self.now.history key.now above }
     {
-        let count = above.saturating_sub(self.opening) as usize;
-        match find_place_from(&self.chains, key, count) {
-            None => None,
-            Some(place) => Some(self.opening + 1 + place as u64),
-        }
+        find_number_from(&self.chains, key, above.saturating_add(1))
     }
 
     /// The events of the last revision, in the order of operations: none where there is no revision yet.
@@ -407,7 +447,70 @@ impl Keys {
         requires { index < length self.now.present }
         ensures { slice_get self.now.present index ≡ Some (result.0.now, result.1.now) }
     {
-        find_present(&self.chains, self.revisions.as_slice(), index)
+        find_present(&self.chains, &self.revisions, self.below, index)
+    }
+}
+
+impl Keys {
+    /// Makes a revision the floor, below which no revision is read any more, and drops nothing.
+    ///
+    /// `Compacted` is answered where it is not above the floor, `FutureRevision` where it is above the counter. A refused call changes nothing.
+    pub fn raise_floor(&mut self, revision: u64) -> Result<(), ReadRefusal>
+        ensures compacted { (result ≡ Err ReadRefusal.Compacted) ↔ (revision ≤ self.old.floor) }
+        ensures future { (result ≡ Err ReadRefusal.FutureRevision) ↔ (now self.old.history < revision) }
+        ensures above { OnOk result (self.old.floor < revision) }
+        ensures reached { OnOk result (revision ≤ now self.old.history) }
+        ensures ok { OnOk result (self.new ≡ with_floor revision self.old) }
+        ensures err { OnErr result (self.new ≡ self.old) }
+    {
+        if revision <= self.floor {
+            return Err(ReadRefusal::Compacted);
+        }
+        if revision > self.revision() {
+            return Err(ReadRefusal::FutureRevision);
+        }
+        self.floor = revision;
+        Ok(())
+    }
+
+    /// Drops the oldest revision. What its events left is what their keys were before.
+    fn forget_oldest(&mut self)
+        requires { self.old.history.opening.number < now self.old.history }
+        ensures { self.new ≡ without_up_to (self.old.history.opening.number + 1) self.old }
+    {
+        match self.revisions.pop_front() {
+            Some(events) => {
+                forget_events(&mut self.chains, events);
+                self.below += 1;
+            }
+            None => unreachable!(),
+        }
+    }
+
+    /// Drops the revisions up to one that has come.
+    fn forget_up_to(&mut self, number: u64)
+        requires { number ≤ now self.old.history }
+        ensures { self.new ≡ without_up_to number self.old }
+    {
+        'revisions: while self.below() < number {
+            self.forget_oldest();
+        }
+    }
+
+    /// Makes a revision the floor, and drops the revisions below it: what each key was at the floor, the events of the floor's own revision
+    /// and all later ones stay.
+    ///
+    /// `Compacted` is answered where it is not above the floor, `FutureRevision` where it is above the counter. A refused call changes nothing. It
+    /// takes no memory, and a step for each change that it drops. (etcd's API reference, "Compact".)
+    pub fn compact(&mut self, revision: u64) -> Result<(), ReadRefusal>
+        ensures compacted { (result ≡ Err ReadRefusal.Compacted) ↔ (revision ≤ self.old.floor) }
+        ensures future { (result ≡ Err ReadRefusal.FutureRevision) ↔ (now self.old.history < revision) }
+        ensures ok { OnOk result (self.new ≡ compacted_at revision self.old) }
+        ensures err { OnErr result (self.new ≡ self.old) }
+    {
+        self.raise_floor(revision)?;
+        self.forget_up_to(revision - 1);
+        Ok(())
     }
 }
 
@@ -421,7 +524,9 @@ impl Keys {
         let chains = copy_chains(&self.chains)?;
         let revisions = copy_revisions(&self.revisions)?;
         Ok(Keys {
-            opening: self.opening,
+            opened: self.opened,
+            floor: self.floor,
+            below: self.below,
             revisions,
             chains,
             present: self.present,

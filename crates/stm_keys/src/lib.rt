@@ -1,16 +1,16 @@
 //! The keys of a store, at every revision.
 //!
-//! `Keys` is a history: the list of revisions since the store opened, each put with its key's full
-//! state, beside a chain for each key, of the places of the revisions that changed it.
+//! `Keys` is a history: the revisions that are kept, each put with its key's full state, beside a chain
+//! for each key, of what it was before these revisions and of the numbers of those that changed it.
 #![tactic(auto)]
 
+mod chain;
 mod chains;
 mod copies;
 mod event;
 mod events;
 mod keys;
 pub mod laws;
-mod places;
 mod refusal;
 mod shared_text;
 

@@ -7,12 +7,12 @@ use std::alloc::AllocError;
 use std::error::Error;
 use std::fmt;
 
-/// Why a key can't be read at a revision.
+/// Why a key can't be read at a revision, or a store not be compacted at it.
 #[derive(Debug, Drop, Clone, Copy, PartialEq, Eq)]
 pub enum ReadRefusal {
     /// The revision is above the store's counter.
     FutureRevision,
-    /// The revision is below the store's floor.
+    /// The revision is below the store's floor; one that a store is to be compacted at may not be the floor either.
     Compacted,
 }
 

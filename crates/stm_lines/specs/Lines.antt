@@ -23,7 +23,7 @@ use Rattle.stm_reports.specs.Told.{cause_told, op_told, txn_line}
 use Rattle.stm_outcome.specs.declared.answer.OpAnswer.{OpAnswer}
 use Rattle.stm_world.specs.declared.reply.Reply.{Reply}
 use Rattle.stm_world.specs.declared.reply.Reply.TheVariants.{Started, Fetched, Committed, Conflict, GaveUp, Aborted, Faulted, Ended}
-use Rattle.stm_world.specs.declared.reply.Reply.TheVariants.{Txn, Granted, Kept, Revoked, Advanced, Watching, Batch, Cancelled}
+use Rattle.stm_world.specs.declared.reply.Reply.TheVariants.{Txn, Granted, Kept, Revoked, Advanced, Compacted, Watching, Batch, Lost, Cancelled}
 use Rattle.stm_world.specs.declared.refusal.Denied.{Denied}
 use Rattle.stm_world.specs.declared.refusal.Refusal.{Refusal}
 use Rattle.stm_world.specs.declared.refusal.Refusal.TheVariants as refusal
@@ -59,8 +59,10 @@ reply_told n (Granted id) = line.Granted n id
 reply_told n (Kept id) = line.Kept n id
 reply_told n (Revoked id revision) = line.Revoked n id revision
 reply_told n (Advanced now expired) = line.Advanced n now expired
+reply_told n (Compacted revision) = line.Compacted n revision
 reply_told n (Watching watcher) = line.Watching n watcher
 reply_told n (Batch watcher upto events) = line.Batch n watcher upto (map event_told events)
+reply_told n (Lost watcher floor) = line.Lost n watcher floor
 reply_told n (Cancelled watcher) = line.Cancelled n watcher
 
 -- the line of the event with this number, by the reply to it

@@ -3,7 +3,7 @@ ghost use Rattle.std.specs.Prelude.{◌≡◌, [], ◌∷◌, false, IfOk};
 ghost use Rattle.serde_json.specs.View.{view};
 ghost use Rattle.serde_json.specs.Data.{string};
 ghost use Rattle.serde_json.specs.Written.{has_float};
-ghost use Rattle.stm_world.specs.declared.reply.Reply.TheVariants.{Txn, Revoked, Advanced, Batch};
+ghost use Rattle.stm_world.specs.declared.reply.Reply.TheVariants.{Txn, Revoked, Advanced, Batch, Lost};
 ghost use Rattle.stm_reports.specs.LineData.{list, whole};
 ghost use Rattle.stm_lines.specs.Lines.{refusal_told, reply_line, event_line, IsOfRunner, IsOfCommit};
 
@@ -18,7 +18,7 @@ use stm_outcome::{Expired, TxnAnswer};
 use stm_reports::{RefusalName, told_cause};
 use stm_world::{Denied, Refusal, Reply};
 
-/// The line of a runner, a lease or a watcher that is named and no more.
+/// The line of a runner, a lease, a revision or a watcher that is named and no more.
 fn named_json(alloc: Global, number: u64, word: &str, id: u64) -> Result<Json, AllocError>
     ensures { IfOk result (λ v. view v ≡ list (whole number ∷ string word.now ∷ whole id ∷ [])) }
 {
@@ -82,6 +82,14 @@ fn batch_json(
     let parts = Parts::numbered(alloc, number, "batch")?;
     let parts = parts.whole(watcher)?.whole(upto)?;
     Ok(with_events(alloc, parts, events)?.array())
+}
+
+/// The line of a watcher that was lost.
+fn lost_json(alloc: Global, number: u64, watcher: u64, floor: u64) -> Result<Json, AllocError>
+    ensures { IfOk result (λ v. view v ≡ reply_line number (Lost watcher floor)) }
+{
+    let parts = Parts::numbered(alloc, number, "lost")?;
+    Ok(parts.whole(watcher)?.whole(floor)?.array())
 }
 
 /// The line of a commit that the store took, or that failed.
@@ -167,12 +175,14 @@ fn reply_json(alloc: Global, number: u64, reply: &Reply) -> Result<Json, AllocEr
         Reply::Advanced { now, expired } => {
             advanced_json(alloc, number, *now, expired.as_slice())
         }
+        Reply::Compacted { revision } => named_json(alloc, number, "compacted", *revision),
         Reply::Watching { watcher } => named_json(alloc, number, "watching", *watcher),
         Reply::Batch {
             watcher,
             upto,
             events,
         } => batch_json(alloc, number, *watcher, *upto, events.as_slice()),
+        Reply::Lost { watcher, floor } => lost_json(alloc, number, *watcher, *floor),
         Reply::Cancelled { watcher } => named_json(alloc, number, "cancelled", *watcher),
         _ => runner_json(alloc, number, reply),
     }

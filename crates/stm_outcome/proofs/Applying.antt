@@ -24,7 +24,7 @@ use Rattle.stm_outcome.specs.declared.answer.OpAnswer.{OpAnswer}
 use Rattle.stm_outcome.specs.declared.answer.OpAnswer.TheVariants.{Get as GetAnswer, Put as PutAnswer, Del as DelAnswer}
 use Rattle.stm_outcome.specs.declared.answer.FailedCompare.{FailedCompare}
 use Rattle.stm_outcome.specs.declared.refusal.Refusal.{Refusal}
-use Rattle.stm_outcome.specs.declared.refusal.Refusal.TheVariants.{LeaseNotFound, TooManyOps, EmptyKey, DuplicateKey, FutureRevision, RevisionsUsedUp}
+use Rattle.stm_outcome.specs.declared.refusal.Refusal.TheVariants.{LeaseNotFound, TooManyOps, EmptyKey, DuplicateKey, FutureRevision, Compacted, RevisionsUsedUp}
 use Rattle.stm_outcome.specs.Operations.{key_of_op, clash}
 use Rattle.stm_outcome.specs.Compares.{holds, first_failed}
 use Rattle.stm_outcome.specs.Checks.{has_too_many, is_empty_key, has_empty_key, has_clash, fault_of}
@@ -41,7 +41,7 @@ use Rattle.stm_outcome.proofs.Folding.{changes_agree, by_look_up}
 use Rattle.stm_outcome.specs.Branches.{begun, answers_after, changes_of_branch}
 use Rattle.stm_outcome.specs.LookUps.{outcome_copied}
 use Rattle.stm_outcome.specs.Effect.{BranchIsEffect}
-use Rattle.stm_outcome.specs.Terms.{Terms}
+use Rattle.stm_outcome.specs.Terms.{Terms, is_below_floor}
 use Rattle.stm_outcome.proofs.Branching.{effect_copied, changes_are_distinct, apart_case, apart_back, all_absent, absent_push}
 
 -- the outcome, where the whole transaction has no fault
@@ -140,8 +140,10 @@ writes_apply terms txn ws is distinct whole first =
 no_refusal : (terms : Terms) (reads : List Read) → AreReached terms reads → branch_refusal terms (map read_op reads) ≡ None
 no_refusal terms [] reached = refl
 no_refusal terms (r ∷ rs) reached =
-    ap (λ b. option_or (cond b (Some FutureRevision) None) (branch_refusal terms (map read_op rs))) (le-ltb (now terms.history) r.rev reached.0)
-    ∙ no_refusal terms rs reached.1
+    ap (λ b. option_or (cond b (Some FutureRevision) (cond (is_below_floor terms.floor r.rev) (Some Compacted) None)) (branch_refusal terms (map read_op rs)))
+    (le-ltb (now terms.history) r.rev reached.0)
+    ∙ ap (λ b. option_or (cond b (Some Compacted) None) (branch_refusal terms (map read_op rs))) reached.1
+    ∙ no_refusal terms rs reached.2
 
 no_changes : (h : History) (reads : List Read) → changes_copied h [] (map read_op reads) ≡ []
 no_changes h [] = refl
@@ -186,7 +188,7 @@ as_reads (k ∷ ks) = ap (λ l. Get k 0 ∷ l) (as_reads ks)
 
 now_reached : (terms : Terms) (keys : List (List ℕ)) → AreReached terms (reads_now keys)
 now_reached terms [] = tt
-now_reached terms (k ∷ ks) = (omega arith, now_reached terms ks)
+now_reached terms (k ∷ ks) = (omega arith, refl, now_reached terms ks)
 
 pub failed_compare_reads : FailedCompareReads
 failed_compare_reads terms txn keys failed is whole first =

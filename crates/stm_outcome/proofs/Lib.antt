@@ -1,3 +1,4 @@
 pub mod Branching
 pub mod Folding
+pub mod Lowering
 pub mod Applying

@@ -2,7 +2,7 @@
 --
 -- etcd's API reference, "Transaction": the operations run in order, each sees what those before it did, and all changes
 -- carry one revision, the next one; and "Range": a read that names a revision shows that revision, and one above the
--- store's is refused. This store's own choices are the revision that each answer carries, that a read of a named revision
+-- store's, or below the compacted one, is refused. This store's own choices are the revision that each answer carries, that a read of a named revision
 -- is judged by the counter before the transaction and shows none of the branch's changes, that a second deletion of a key
 -- deletes nothing, and that the first refusal along the branch decides, whichever it is.
 use Rattle.std.specs.Prelude.{ℕ, ◌+◌, Bool, true, false, ◌||◌, ◌&&◌, bytes_eq, nat_eq, nat_lt, nat_le, if◌then◌else◌, List, [], ◌∷◌, ◌++◌, Option, Some, None}
@@ -17,8 +17,8 @@ use Rattle.stm_outcome.specs.declared.txn.Op.TheVariants.{Get, Put, Del}
 use Rattle.stm_outcome.specs.declared.answer.OpAnswer.{OpAnswer}
 use Rattle.stm_outcome.specs.declared.answer.OpAnswer.TheVariants.{Get as GetAnswer, Put as PutAnswer, Del as DelAnswer}
 use Rattle.stm_outcome.specs.declared.refusal.Refusal.{Refusal}
-use Rattle.stm_outcome.specs.declared.refusal.Refusal.TheVariants.{FutureRevision, LeaseNotFound}
-use Rattle.stm_outcome.specs.Terms.{Terms}
+use Rattle.stm_outcome.specs.declared.refusal.Refusal.TheVariants.{FutureRevision, Compacted, LeaseNotFound}
+use Rattle.stm_outcome.specs.Terms.{Terms, is_below_floor}
 
 -- a branch on its way: what each key is by now, and the changes so far
 pub record Progress : Type 0 where
@@ -88,10 +88,15 @@ answers_after h p (op ∷ ops) = op_answer h p op ∷ answers_after h (with_chan
 abbrev pub changes_of_branch : History → List Op → List Change
 changes_of_branch h ops = (progress_after h (begun h) ops).changes
 
--- Why an operation is refused: a revision above the counter, which is that before the transaction, or a lease that is
--- not live. No revision is below the floor, since nothing is dropped.
+-- why a read of a revision is refused: it is above the counter, which is that before the transaction, or below the floor
+abbrev pub read_refusal : ℕ → ℕ → ℕ → Option Refusal
+read_refusal counter floor rev =
+    if nat_lt counter rev then Some FutureRevision else (
+    if is_below_floor floor rev then Some Compacted else None)
+
+-- why an operation is refused: a revision that can't be read, or a lease that is not live
 abbrev pub op_refusal : Terms → Op → Option Refusal
-op_refusal terms (Get key rev) = if nat_lt (now terms.history) rev then Some FutureRevision else None
+op_refusal terms (Get key rev) = read_refusal (now terms.history) terms.floor rev
 op_refusal terms (Put key value lease) = if nat_eq lease 0 || terms.is_live lease then None else Some LeaseNotFound
 op_refusal terms (Del key) = None
 

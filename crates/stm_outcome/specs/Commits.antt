@@ -2,7 +2,7 @@
 --
 -- etcd's API reference, "Transaction": where all compares hold the success list runs, else the failure list, and all
 -- changes carry one revision. What stands here is no second definition: it is what the outcome is, by the laws.
-use Rattle.std.specs.Prelude.{ℕ, ◌<◌, ◌≤◌, Bool, false, ◌||◌, nat_eq, not, if◌then◌else◌, List, [], ◌∷◌, length, map, filter, Option, Some, None, is_none}
+use Rattle.std.specs.Prelude.{◌≡◌, ℕ, ◌<◌, ◌≤◌, Bool, false, ◌||◌, nat_eq, not, if◌then◌else◌, List, [], ◌∷◌, length, map, filter, Option, Some, None, is_none}
 use Rattle.std.specs.Prelude.{Result, Err}
 use Rattle.std.specs.List.{list_any}
 use Rattle.stm_history.specs.declared.change.Change.{Change}
@@ -19,7 +19,7 @@ use Rattle.stm_outcome.specs.declared.answer.OpAnswer.TheVariants.{Get as GetAns
 use Rattle.stm_outcome.specs.declared.answer.FailedCompare.{FailedCompare}
 use Rattle.stm_outcome.specs.declared.refusal.Refusal.{Refusal}
 use Rattle.stm_outcome.specs.declared.refusal.Refusal.TheVariants.{LeaseNotFound}
-use Rattle.stm_outcome.specs.Terms.{Terms}
+use Rattle.stm_outcome.specs.Terms.{Terms, is_below_floor}
 use Rattle.stm_outcome.specs.Branches.{deletion_of, count_of}
 use Rattle.stm_outcome.specs.Effect.{changes_something}
 use Rattle.stm_outcome.specs.Outcome.{Done, finished}
@@ -66,10 +66,10 @@ read_op read = Get read.key read.rev
 abbrev pub read_now : List ℕ → Op
 read_now key = Get key 0
 
--- no read names a revision above the counter
+-- no read names a revision above the counter or below the floor
 abbrev pub AreReached : Terms → List Read → Type 0
 AreReached terms [] = Unit {0}
-AreReached terms (read ∷ reads) = (read.rev ≤ now terms.history) × AreReached terms reads
+AreReached terms (read ∷ reads) = (read.rev ≤ now terms.history) × (is_below_floor terms.floor read.rev ≡ false) × AreReached terms reads
 
 -- none of these keys is empty
 abbrev pub AreNamed : List (List ℕ) → Type 0

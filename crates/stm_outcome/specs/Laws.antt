@@ -77,6 +77,10 @@ HistoryGrows =
     (terms : Terms) (txn : Txn) (done : Done) → outcome terms txn ≡ Ok done
     → (changes : List Change) × HasDistinctKeys changes × (done.history ≡ with_changes terms.history changes)
 
+-- A transaction that is taken at a floor is taken where there is none, and comes to the same.
+abbrev pub FloorOnlyRefuses : Type 0
+FloorOnlyRefuses = (terms : Terms) (txn : Txn) (done : Done) → outcome terms txn ≡ Ok done → outcome (record terms { floor = 0 }) txn ≡ Ok done
+
 -- Where no two operations of a branch clash, what a key is by now is what its change in the list makes of it.
 abbrev pub LookUpIsTheState : Type 0
 LookUpIsTheState =

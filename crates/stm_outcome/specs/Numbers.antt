@@ -5,6 +5,7 @@ use Rattle.stm_history.specs.declared.change.Change.TheVariants.{Put as PutChang
 use Rattle.stm_history.specs.declared.key_state.KeyState.{KeyState}
 use Rattle.stm_history.specs.declared.key_state.ReadAnswer.{ReadAnswer}
 use Rattle.stm_history.specs.declared.revisions.TheConstants.{HIGHEST_NUMBER}
+use Rattle.stm_history.specs.Opening.{Opening, opened_state}
 use Rattle.stm_history.specs.History.{History, key_at}
 use Rattle.stm_keys.specs.Keys.{HasSmallNumbers}
 use Rattle.stm_keys.specs.declared.event.Event.{Event}
@@ -32,9 +33,13 @@ abbrev pub RevisionsFit : List (List Change) → Type 0
 RevisionsFit [] = Unit {0}
 RevisionsFit (changes ∷ older) = ChangesFit changes × RevisionsFit older
 
+-- the leases of the keys at an opening
+abbrev pub OpeningFits : Opening → Type 0
+OpeningFits opening = (key : List ℕ) → IfSome (opened_state opening key) LeaseFits
+
 -- the leases that a history names
 abbrev pub LeasesFit : History → Type 0
-LeasesFit h = RevisionsFit h.revisions
+LeasesFit h = OpeningFits h.opening × RevisionsFit h.revisions
 
 -- each number of a state
 pub record StateFits (s : KeyState) : Type 0 where

@@ -3,7 +3,7 @@
 -- etcd's API reference, "Transaction" and "Lease", for the keys that are compared and read and for the leases that keys are put
 -- on; "Compaction": no revision below the compacted one can be read; and its server's flag `--max-txn-ops`, the most operations
 -- of a transaction, 128 where it is not given.
-use Rattle.std.specs.Prelude.{ℕ, Bool}
+use Rattle.std.specs.Prelude.{ℕ, Bool, ◌&&◌, nat_lt}
 use Rattle.stm_history.specs.History.{History}
 use Rattle.stm_leases.specs.Live.{Live, is_live_in}
 use Rattle.stm_outcome.specs.declared.check.TheConstants.{MOST_OPERATIONS}
@@ -20,6 +20,14 @@ pub record Terms : Type 0 where
 abbrev pub most_operations : ℕ
 most_operations = MOST_OPERATIONS
 
+-- the terms of a store with a floor, whose limit is the highest
+abbrev pub terms_above : ℕ → History → Live → Terms
+terms_above floor h live = record { history = h; is_live = is_live_in live; floor = floor; limit = most_operations }
+
 -- the terms on which most is taken: every revision can be read, and the limit is the highest
 abbrev pub widest_terms : History → Live → Terms
-widest_terms h live = record { history = h; is_live = is_live_in live; floor = 0; limit = most_operations }
+widest_terms h live = terms_above 0 h live
+
+-- a read names a revision, not 0 for the current one, that is below the floor
+abbrev pub is_below_floor : ℕ → ℕ → Bool
+is_below_floor floor rev = nat_lt 0 rev && nat_lt rev floor

@@ -1,7 +1,7 @@
 //! The laws of what transactions come to. Each function does nothing: its contract is the law.
 ghost use Rattle.stm_outcome.specs.Effect.{BranchIsEffect};
 ghost use Rattle.stm_outcome.specs.Laws.{WritesApply, BranchApplies, FailedCompareReads, ReadsChangeNothing};
-ghost use Rattle.stm_outcome.specs.Laws.{NumberAloneIsWrong, ModCompares, NoneFailed, FailedHasItsPlace, HistoryGrows, LookUpIsTheState};
+ghost use Rattle.stm_outcome.specs.Laws.{NumberAloneIsWrong, ModCompares, NoneFailed, FailedHasItsPlace, HistoryGrows, FloorOnlyRefuses, LookUpIsTheState};
 
 /// What a branch of puts and deletes of distinct keys changes is the effect of these writes.
 pub fn branch_is_effect()
@@ -54,6 +54,11 @@ pub fn failed_has_its_place()
 /// Whatever a transaction comes to, its history is the old one with some changes of distinct keys.
 pub fn history_grows()
     ensures { HistoryGrows }
+{}
+
+/// A transaction that is taken at a floor is taken where there is none, with the same answer and history.
+pub fn floor_only_refuses()
+    ensures { FloorOnlyRefuses }
 {}
 
 /// Where no two operations of a branch clash, what a key is by now is what a look-up through the changes so

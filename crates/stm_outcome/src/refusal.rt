@@ -6,7 +6,8 @@ use std::alloc::AllocError;
 use std::error::Error;
 use std::fmt;
 
-/// Why a call of the store is refused. A refused call leaves the store as it was, an `advance` aside (`AdvanceRefused` says what that leaves).
+/// Why a call of the store is refused. A refused call leaves the store as it was, but for an `advance` (`AdvanceRefused` says what that
+/// leaves), and for a `poll` of a lost watcher.
 ///
 /// `Display` gives the refusal's name, as it is spelled here.
 #[derive(Debug, Clone, Copy, PartialEq, Eq)]
@@ -17,7 +18,8 @@ pub enum Refusal {
     EmptyKey,
     /// A revision is above the store's counter.
     FutureRevision,
-    /// A revision is below the store's floor.
+    /// A revision is below the store's floor, or at it where it was to be made the floor; or a watcher is lost, since
+    /// events that it was to be told are of such a revision.
     Compacted,
     /// Something was to change at the highest revision.
     RevisionsUsedUp,

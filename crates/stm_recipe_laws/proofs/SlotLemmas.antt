@@ -1,12 +1,12 @@
 -- Slots over entries.
-use Rattle.std.proofs.Common.{◌≡◌, ℕ, ◌+◌, ◌<◌, ◌≤◌, List, [], ◌∷◌, length, map, Option, Some, None, Bool, true, false, cond, refl, ◌∙◌, ap, subst, arith}
+use Rattle.std.proofs.Common.{◌≡◌, ℕ, ◌+◌, ◌<◌, List, [], ◌∷◌, length, map, Option, Some, None, Bool, true, false, cond, refl, ◌∙◌, ap, arith}
 use Rattle.std.proofs.Common.{inl, inr, codes}
-use Rattle.std.specs.Prelude.{◌⊎◌, nat_eq, is_some, IfSome}
+use Rattle.std.specs.Prelude.{◌⊎◌, nat_eq, is_some}
 use Rattle.std.specs.Cmp.{unsigned_Decides}
 use Rattle.stm_history.specs.declared.change.Change.TheVariants.{Put as PutChange}
 use Rattle.stm_history.specs.declared.key_state.KeyState.{KeyState}
 use Rattle.stm_history.specs.History.{History, now, key_now, mod_of, add_revision, after_change, state_after_put}
-use Rattle.stm_history.proofs.HistoryLaws.{one_more_revision, last_revision_is_now, numbers_stay_small}
+use Rattle.stm_history.proofs.HistoryLaws.{one_more_revision, absent_at_zero}
 use Rattle.stm_program.specs.declared.write.Write.{Write}
 use Rattle.stm_program.specs.declared.write.Write.TheVariants.{Put}
 use Rattle.stm_program.specs.Writes.{latest_writes, last_write}
@@ -34,19 +34,9 @@ use Rattle.stm_recipe_laws.proofs.CommitLemmas.{Committed, committed, now_is_kno
 -- ---- a reservation
 
 -- a key whose modification revision is 0 is absent
-absent_by : (h : History) (s : Option KeyState) → IfSome s (λ s. (s.version ≤ length h.revisions) × (s.mod_rev ≤ now h) × (s.create_rev ≤ s.mod_rev)
-    × (h.opening + 1 ≤ s.create_rev)) → nat_eq (mod_of s) 0 ≡ true → is_some s ≡ false
-absent_by h None small zero = refl
-absent_by h (Some s) small zero =
-    let created : h.opening + 1 ≤ s.create_rev = small.3 in
-    let modified : s.create_rev ≤ s.mod_rev = small.2 in
-    let none : s.mod_rev ≡ 0 = (unsigned_Decides s.mod_rev 0).0 zero in
-    absurd (omega (arith, none))
-
-absent_at_zero : (h : History) (key : List ℕ) → nat_eq (mod_of (key_now h key)) 0 ≡ true → is_some (key_now h key) ≡ false
-absent_at_zero h key zero =
-    absent_by h (key_now h key) (subst (λ (s : Option KeyState). IfSome s (λ s. (s.version ≤ length h.revisions) × (s.mod_rev ≤ now h)
-    × (s.create_rev ≤ s.mod_rev) × (h.opening + 1 ≤ s.create_rev))) (last_revision_is_now h key (now h) (omega arith)) (numbers_stay_small h key (now h))) zero
+absent_now : (h : History) (key : List ℕ) → nat_eq (mod_of (key_now h key)) 0 ≡ true → is_some (key_now h key) ≡ false
+absent_now h key zero =
+    ap (λ (s : Option KeyState). is_some s) (absent_at_zero h.opening key h.revisions ((unsigned_Decides (mod_of (key_now h key)) 0).0 zero))
 
 -- a run that is done has found the slot free, and puts it
 record Reserves (free : Bool) (slot holder : List ℕ) (lease : ℕ) (run : Run) : Type 0 where
@@ -95,7 +85,7 @@ reservations_take_free_slots slot e r reserves named legal =
     let left : (replay_entry e r).history ≡ add_revision h (PutChange slot holder lease ∷ []) =
     c.left ∙ ap (λ (ws : List Write). with_changes h (effective h (map as_change (latest_writes ws)))) is.writes
     ∙ ap (λ (ws : List Write). with_changes h (effective h (map as_change ws))) (one_write slot holder lease) in (
-      absent_at_zero h slot is.was_free,
+      absent_now h slot is.was_free,
       held_by_put slot holder lease (now h + 1) (key_now h slot) (replay_entry e r)
           (ap (λ (x : History). key_now x slot) left ∙ put_state h slot holder lease),
     )

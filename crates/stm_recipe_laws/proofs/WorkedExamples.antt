@@ -6,6 +6,7 @@ use Rattle.std.specs.Cmp.{nat_cmp_total}
 use Rattle.std.specs.FinMap as finmap
 use Rattle.stm_history.specs.declared.change.Change.{Change}
 use Rattle.stm_history.specs.declared.change.Change.TheVariants.{Put as PutChange, Del as DelChange}
+use Rattle.stm_history.specs.Opening.{opening_at}
 use Rattle.stm_history.specs.History.{History}
 use Rattle.stm_leases.specs.LeaseLog.{Term}
 use Rattle.stm_leases.specs.Live.{Live, is_live_in}
@@ -47,7 +48,7 @@ use Rattle.stm_recipe_laws.proofs.WrongEntries.{wrong_transfers, wrong_dequeues,
 
 -- what was put or deleted, in revisions above 1, the newest first
 abbrev changed : List (List Change) → History
-changed revisions = record { opening = 1; revisions = revisions }
+changed revisions = record { opening = opening_at 1; revisions = revisions }
 
 abbrev with_no_lease : List (List Change) → Replayed
 with_no_lease revisions = record { history = changed revisions; live = finmap.empty }

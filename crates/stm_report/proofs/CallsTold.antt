@@ -11,38 +11,41 @@ use Rattle.stm_leases.specs.Live.{grant_refusal, is_live_in}
 use Rattle.stm_leases.specs.LeaseLog.{Term}
 use Rattle.stm_leases.specs.DueFirst.{first_due}
 use Rattle.stm_leases.specs.declared.errors.GrantError.{GrantError}
-use Rattle.stm_watch.specs.declared.watched.Watching.{Watching}
+use Rattle.stm_watch.specs.Watching.{Watching}
 use Rattle.stm_watch.specs.declared.watchers.Batch.{Batch}
 use Rattle.stm_watch.specs.declared.refusal.WatchRefusal.{WatchRefusal}
 use Rattle.stm_watch.specs.declared.refusal.PollRefusal.{PollRefusal}
+use Rattle.stm_watch.specs.declared.refusal.PollRefusal.TheVariants.{NoWatcher as NoneToPoll, Compacted as LostToPoll, OutOfMemory as NoMemoryToPoll}
 use Rattle.stm_watch.specs.Calls.{Step as WatchStep}
 use Rattle.stm_outcome.specs.declared.advance.Expired.{Expired}
 use Rattle.stm_outcome.specs.declared.answer.TxnAnswer.{TxnAnswer}
 use Rattle.stm_outcome.specs.declared.refusal.Refusal.{Refusal as StoreRefusal}
-use Rattle.stm_outcome.specs.declared.refusal.Refusal.TheVariants.{RevisionsUsedUp, LeaseNotFound, TimeGoesBack}
+use Rattle.stm_outcome.specs.declared.refusal.Refusal.TheVariants.{RevisionsUsedUp, LeaseNotFound, TimeGoesBack, NoWatcher, OutOfMemory}
 use Rattle.stm_outcome.specs.declared.txn.Txn.{Txn as StoreTxn}
 use Rattle.stm_txn.specs.Grants.{grant_refusal_of}
 use Rattle.stm_txn.specs.LeaseKeys.{deletions_of}
 use Rattle.stm_outcome.specs.Outcome.{Done, outcome, is_used_up}
 use Rattle.stm_txn.specs.Standing.{Standing, Step, Advance, step_of, transacted, granted, kept_alive, ended, revoked, with_revision, with_lease, without_lease}
 use Rattle.stm_txn.specs.Standing.{after, expired_in, expire_up_to, expire_all, at_moment, advanced, watch_step, poll_step, cancel_step}
-use Rattle.stm_txn.specs.Standing.{terms_of}
+use Rattle.stm_txn.specs.Standing.{terms_of, compaction_refusal, with_floor, floor_step, raised}
 use Rattle.stm_entries.specs.declared.entry.Entry.{Entry}
 use Rattle.stm_entries.specs.declared.entry.Entry.TheVariants.{Foreign}
 use Rattle.stm_reports.specs.declared.line.ReportLine.{ReportLine}
-use Rattle.stm_world.specs.declared.event.WorldEvent.TheVariants.{Txn, Grant, Keep, Revoke, Advance as AdvanceEvent}
+use Rattle.stm_reports.specs.declared.line.ReportLine.TheVariants.{Compacted as CompactedLine}
+use Rattle.stm_world.specs.declared.event.WorldEvent.TheVariants.{Txn, Grant, Keep, Revoke, Advance as AdvanceEvent, Compact}
 use Rattle.stm_world.specs.declared.reply.Reply.{Reply}
-use Rattle.stm_world.specs.declared.reply.Reply.TheVariants.{Txn as TxnDone, Granted, Kept, Revoked}
+use Rattle.stm_world.specs.declared.reply.Reply.TheVariants.{Txn as TxnDone, Granted, Kept, Revoked, Compacted, Lost}
 use Rattle.stm_world.specs.declared.refusal.Denied.{Denied}
 use Rattle.stm_world.specs.declared.refusal.Refusal.TheVariants.{Store}
-use Rattle.stm_world.specs.Told.{denied, reply_to, store_after_call, advance_reply}
+use Rattle.stm_world.specs.Told.{denied, reply_to, store_after_call, store_after_poll, advance_reply, batch_reply, poll_reply}
 use Rattle.stm_world.specs.Log.{if_told, expired_told}
 use Rattle.stm_world.specs.World.{if_changed}
 use Rattle.stm_lines.specs.Lines.{line_told}
 use Rattle.stm_check.specs.declared.runner.Runner.{Runner}
 use Rattle.stm_check.specs.Fits.{can_have}
-use Rattle.stm_check.specs.Point.{led_by, moment_after, txn_entries, grant_entries, keep_entries, revoke_entries, advance_entries, expiries}
+use Rattle.stm_check.specs.Point.{led_by, moment_after, standing_after, txn_entries, grant_entries, keep_entries, revoke_entries, advance_entries, expiries}
 use Rattle.stm_check.proofs.CallLemmas.{StepIsTransacted, is_transacted, txn_led, grant_led, keep_led, revoke_led, advance_led}
+use Rattle.stm_check.proofs.CallLemmas.{line_keeps}
 
 -- a store without its watchers
 abbrev pub unwatched : Standing → Standing
@@ -265,15 +268,50 @@ advance_right n s rs moment =
           ∙ ap (λ (es : List Expired). length (expiries es)) (sym (expired_are_told moment a.expired a.cause));
     }
 
+-- ---- compactions
+
+compact_by : (n : ℕ) (s : Standing) (revision : ℕ) (o : Option StoreRefusal) →
+    line_told n (reply_to (λ _. Compacted revision) (floor_step o (with_floor (unwatched s) revision)))
+    ≡ line_told n (reply_to (λ _. Compacted revision) (floor_step o (with_floor s revision)))
+compact_by n s revision None = refl
+compact_by n s revision (Some cause) = refl
+
+pub compact_same : (n : ℕ) (s : Standing) (revision : ℕ) →
+    line_told n (reply_to (λ _. Compacted revision) (raised (unwatched s) revision)) ≡ line_told n (reply_to (λ _. Compacted revision) (raised s revision))
+compact_same n s revision = compact_by n s revision (compaction_refusal s revision)
+
+raised_by_same : (s : Standing) (revision : ℕ) (o : Option StoreRefusal) →
+    store_after_call (unwatched s) (floor_step o (with_floor (unwatched s) revision)) ≡ unwatched (store_after_call s (floor_step o (with_floor s revision)))
+raised_by_same s revision None = refl
+raised_by_same s revision (Some cause) = refl
+
+pub compact_store : (n : ℕ) (s : Standing) (rs : List Runner) (revision : ℕ) (r : Result (Step (Unit {0})) StoreRefusal) → raised s revision ≡ r →
+    standing_after (unwatched s) rs (Compact revision) (line_told n (reply_to (λ _. Compacted revision) r)) ≡ unwatched (store_after_call s r)
+compact_store n s rs revision (Ok step) is =
+    line_keeps (unwatched s) revision (CompactedLine n revision)
+    ∙ raised_by_same s revision (compaction_refusal s revision)
+    ∙ ap (λ (r : Result (Step (Unit {0})) StoreRefusal). unwatched (store_after_call s r)) is
+compact_store n s rs revision (Err cause) is = refl
+
 -- ---- watchers, which a check has none of
 
 pub watch_stays : (s : Standing) (o : Result (WatchStep ℕ) WatchRefusal) → unwatched s ≡ unwatched (store_after_call s (watch_step s o))
 watch_stays s (Ok step) = refl
 watch_stays s (Err cause) = refl
 
-pub poll_stays : (s : Standing) (o : Result (WatchStep Batch) PollRefusal) → unwatched s ≡ unwatched (store_after_call s (poll_step s o))
-poll_stays s (Ok step) = refl
-poll_stays s (Err cause) = refl
+pub poll_stays : (s : Standing) (watcher : ℕ) (o : Result (WatchStep Batch) PollRefusal) →
+    unwatched s ≡ unwatched (store_after_poll watcher s (poll_step s o))
+poll_stays s watcher (Ok step) = refl
+poll_stays s watcher (Err cause) = refl
+
+-- what holds of the reply to a poll: a batch, a loss or a refusal
+pub by_poll : (P : Result Reply Denied → Type 0) (watcher floor : ℕ) (s : Standing) (o : Result (WatchStep Batch) PollRefusal) →
+    ((batch : Batch) → P (Ok (batch_reply watcher batch))) → P (Ok (Lost watcher floor)) → ((cause : StoreRefusal) → P (denied (Store cause))) →
+    P (poll_reply watcher floor (poll_step s o))
+by_poll P watcher floor s (Ok step) batch lost refused = batch step.answer
+by_poll P watcher floor s (Err NoneToPoll) batch lost refused = refused NoWatcher
+by_poll P watcher floor s (Err LostToPoll) batch lost refused = lost
+by_poll P watcher floor s (Err NoMemoryToPoll) batch lost refused = refused OutOfMemory
 
 pub cancel_stays : (s : Standing) (id : ℕ) (o : Option Watching) → unwatched s ≡ unwatched (store_after_call s (cancel_step s id o))
 cancel_stays s id None = refl

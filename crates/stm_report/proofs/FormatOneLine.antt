@@ -10,7 +10,7 @@ use Rattle.stm_world.specs.declared.event.WorldEvent.{WorldEvent}
 use Rattle.stm_world.specs.declared.event.WorldEvent.TheVariants as event
 use Rattle.stm_world.specs.declared.reply.Reply.{Reply}
 use Rattle.stm_world.specs.declared.reply.Reply.TheVariants.{Started, Fetched, Committed, Conflict, GaveUp, Aborted, Faulted, Ended}
-use Rattle.stm_world.specs.declared.reply.Reply.TheVariants.{Txn, Granted, Kept, Revoked, Advanced, Watching, Batch, Cancelled}
+use Rattle.stm_world.specs.declared.reply.Reply.TheVariants.{Txn, Granted, Kept, Revoked, Advanced, Compacted, Watching, Batch, Lost, Cancelled}
 use Rattle.stm_world.specs.declared.refusal.Denied.{Denied}
 use Rattle.stm_world.specs.declared.refusal.Refusal.{Refusal}
 use Rattle.stm_world.specs.Names.{refusal_name}
@@ -22,7 +22,7 @@ use Rattle.stm_report.specs.declared.format_pieces.TheConstants.{MOST_SHOWN, KEP
 use Rattle.stm_report.specs.FormatShown.{shown, plain, front}
 use Rattle.stm_report.specs.FormatPieces.{joined, padded, tag_text}
 use Rattle.stm_report.specs.FormatWords.{named_words, told_words, start_words, fetched_words, commit_words, compared_words, txn_words, revoked_words}
-use Rattle.stm_report.specs.FormatWords.{advanced_words, batch_words, asked_word, refused_words, reply_words, words_of}
+use Rattle.stm_report.specs.FormatWords.{changed_words, advanced_words, batch_words, lost_words, asked_word, refused_words, reply_words, words_of}
 use Rattle.stm_report.specs.FormatRows.{lane_of, row_of, rows_of}
 use Rattle.stm_report.specs.FormatColumns.{column}
 use Rattle.stm_report.specs.FormatText.{spaces, row_text, rows_text}
@@ -96,6 +96,7 @@ start_without (event.Grant id ttl) = refl
 start_without (event.Keep id) = refl
 start_without (event.Revoke id) = refl
 start_without (event.Advance now) = refl
+start_without (event.Compact revision) = refl
 start_without (event.WatchKey key from) = refl
 start_without (event.WatchRange first end from) = refl
 start_without (event.Poll watcher most) = refl
@@ -109,6 +110,7 @@ asked_without (event.Grant id ttl) = refl
 asked_without (event.Keep id) = refl
 asked_without (event.Revoke id) = refl
 asked_without (event.Advance now) = refl
+asked_without (event.Compact revision) = refl
 asked_without (event.WatchKey key from) = refl
 asked_without (event.WatchRange first end from) = refl
 asked_without (event.Poll watcher most) = refl
@@ -117,6 +119,9 @@ asked_without (event.Cancel watcher) = refl
 txn_without : (succeeded : Bool) (revision : ℕ) → has 10 (txn_words succeeded revision) ≡ false
 txn_without true revision = joined_without (codes "txn succeeded" ∷ codes " @" ∷ decimal revision ∷ []) (refl, (refl, (decimal_without revision, tt)))
 txn_without false revision = joined_without (codes "txn failed" ∷ codes " @" ∷ decimal revision ∷ []) (refl, (refl, (decimal_without revision, tt)))
+
+compacted_without : (revision : ℕ) → has 10 (changed_words (codes "compact") revision) ≡ false
+compacted_without revision = joined_without (codes "compact" ∷ codes " @" ∷ decimal revision ∷ []) (refl, (refl, (decimal_without revision, tt)))
 
 named_without : (word : List ℕ) (n : ℕ) → has 10 word ≡ false → has 10 (named_words word n) ≡ false
 named_without word n none = joined_without (word ∷ codes " " ∷ decimal n ∷ []) (none, (refl, (decimal_without n, tt)))
@@ -153,6 +158,11 @@ batch_without watcher events upto =
     joined_without (codes "poll " ∷ decimal watcher ∷ codes ": " ∷ decimal events ∷ codes " events to @" ∷ decimal upto ∷ [])
     (refl, (decimal_without watcher, (refl, (decimal_without events, (refl, (decimal_without upto, tt))))))
 
+lost_without : (watcher floor : ℕ) → has 10 (lost_words watcher floor) ≡ false
+lost_without watcher floor =
+    joined_without (codes "LOST watcher " ∷ decimal watcher ∷ codes ": kept from @" ∷ decimal floor ∷ [])
+    (refl, (decimal_without watcher, (refl, (decimal_without floor, tt))))
+
 refused_without : (e : WorldEvent) (cause : Refusal) → has 10 (refused_words e cause) ≡ false
 refused_without e cause =
     joined_without (codes "REFUSED " ∷ asked_word e ∷ codes ": " ∷ shown (refusal_name cause) ∷ [])
@@ -172,8 +182,10 @@ reply_without e (Granted id) = named_without (codes "grant") id refl
 reply_without e (Kept id) = named_without (codes "keep") id refl
 reply_without e (Revoked id revision) = revoked_without id revision
 reply_without e (Advanced now expired) = advanced_without now (length expired)
+reply_without e (Compacted revision) = compacted_without revision
 reply_without e (Watching watcher) = named_without (codes "watch") watcher refl
 reply_without e (Batch watcher upto events) = batch_without watcher (length events) upto
+reply_without e (Lost watcher floor) = lost_without watcher floor
 reply_without e (Cancelled watcher) = named_without (codes "cancel") watcher refl
 
 words_without : (e : WorldEvent) (reply : Result Reply Denied) → has 10 (words_of e reply) ≡ false

@@ -1,4 +1,5 @@
 pub mod LineLoops
+pub mod KeptLines
 pub mod LeaseLemmas
 pub mod LiveLeases
 pub mod ScriptLemmas
@@ -18,6 +19,7 @@ pub mod FormatEscapedLaws
 pub mod FormatNoFloats
 pub mod FormatOneLine
 pub mod FormatScriptLemmas
+pub mod FormatKeptKeys
 pub mod FormatLoops
 pub mod FormatMembers
 pub mod WholeLineLemmas

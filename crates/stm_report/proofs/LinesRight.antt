@@ -6,7 +6,7 @@ use Rattle.stm_history.specs.declared.key_state.ReadAnswer.{ReadAnswer}
 use Rattle.stm_history.specs.History.{History}
 use Rattle.stm_meaning.specs.declared.value.Value.{Value}
 use Rattle.stm_meaning.specs.declared.trace_item.TraceItem.{TraceItem}
-use Rattle.stm_txn.specs.Standing.{Standing, transacted, granted, kept_alive, revoked, advanced, watched, polled, cancelled}
+use Rattle.stm_txn.specs.Standing.{Standing, transacted, granted, kept_alive, revoked, advanced, watched, polled, cancelled, raised}
 use Rattle.stm_watch.specs.declared.watched.Watched.TheVariants.{Key, Range}
 use Rattle.stm_watch.specs.Calls.{watch, poll, watcher_at}
 use Rattle.stm_entries.specs.declared.entry.Entry.{Entry}
@@ -19,13 +19,13 @@ use Rattle.stm_reports.specs.declared.causes.RefusalName.TheVariants.{NoRunner a
 use Rattle.stm_reports.specs.declared.line.ReportLine.{ReportLine}
 use Rattle.stm_reports.specs.declared.line.ReportLine.TheVariants.{Refused}
 use Rattle.stm_world.specs.declared.event.WorldEvent.{WorldEvent}
-use Rattle.stm_world.specs.declared.event.WorldEvent.TheVariants.{Start, Step, Txn, Grant, Keep, Revoke, Advance, WatchKey, WatchRange, Poll, Cancel}
+use Rattle.stm_world.specs.declared.event.WorldEvent.TheVariants.{Start, Step, Txn, Grant, Keep, Revoke, Advance, WatchKey, WatchRange, Poll, Cancel, Compact}
 use Rattle.stm_world.specs.declared.reply.Reply.{Reply}
 use Rattle.stm_world.specs.declared.reply.Reply.TheVariants.{Started, Fetched, Committed, Conflict, GaveUp, Aborted, Faulted, Ended}
-use Rattle.stm_world.specs.declared.reply.Reply.TheVariants.{Txn as TxnDone, Granted, Kept, Revoked, Watching, Cancelled}
+use Rattle.stm_world.specs.declared.reply.Reply.TheVariants.{Txn as TxnDone, Granted, Kept, Revoked, Watching, Cancelled, Compacted}
 use Rattle.stm_world.specs.declared.refusal.Denied.{Denied}
 use Rattle.stm_world.specs.declared.refusal.Refusal.TheVariants.{BadLimit, NoRunner}
-use Rattle.stm_world.specs.Told.{denied, reply_to, advance_reply, batch_reply}
+use Rattle.stm_world.specs.Told.{denied, reply_to, advance_reply, poll_reply}
 use Rattle.stm_world.specs.Task.{Task}
 use Rattle.stm_world.specs.Log.{Line, begun, is_over, running, started, failures, store, with_commit, commit_entry, line_entries, entries_told}
 use Rattle.stm_world.specs.Right.{IsRight, StepIsRight, RunnerIsRight, StartIsRight, Situation, situation}
@@ -38,16 +38,16 @@ use Rattle.stm_world.proofs.Untouched.{IsFresh}
 use Rattle.stm_lines.specs.Lines.{line_told, answer_told}
 use Rattle.stm_check.specs.declared.runner.Runner.{Runner}
 use Rattle.stm_check.specs.Fits.{number_of, is_number, can_have, fits}
-use Rattle.stm_check.specs.Point.{Point, committed_entry, commit_entries, entries_told as told_entries, moment_after, led_by, after}
+use Rattle.stm_check.specs.Point.{Point, committed_entry, commit_entries, entries_told as told_entries, led_by, standing_after, after}
 use Rattle.stm_check.specs.Replays.{IsCommitOf, StepReplays, Replays}
 use Rattle.stm_check.specs.Runners.{running as running_in, runners_after}
 use Rattle.stm_check.specs.StoreLines.{end_lines}
 use Rattle.stm_check.specs.Wrong.{IsRight as IsRightLine, AreRight}
 use Rattle.stm_report.specs.Report.{event_lines}
-use Rattle.stm_report.proofs.RunsTold.{RunsAreTold, none_are_told, says_nothing, advance_says_nothing, run_with, runs_with}
+use Rattle.stm_report.proofs.RunsTold.{RunsAreTold, SaysNothing, none_are_told, says_nothing, advance_says_nothing, run_with, runs_with}
 use Rattle.stm_report.proofs.RunsTold.{same_runs, Goes, goes_on, ended_runs, failed_runs, begun_runs}
 use Rattle.stm_report.proofs.CallsTold.{unwatched, txn_right, grant_right, keep_right, revoke_right, advance_right, watch_stays, poll_stays}
-use Rattle.stm_report.proofs.CallsTold.{cancel_stays, by_reply}
+use Rattle.stm_report.proofs.CallsTold.{compact_same, compact_store, cancel_stays, by_reply, by_poll}
 use Rattle.stm_report.proofs.CommitsTold.{IsEntered, commit_right, commit_store}
 
 -- ---- a point, by the log so far
@@ -58,8 +58,7 @@ point_at start log rs = record { standing = unwatched (store start log); entries
 -- The line of the next event is right, and the point behind it is that of the longer log.
 record GoesOn (start n : ℕ) (log : List Line) (rs : List Runner) (event : WorldEvent) (reply : Result Reply Denied) : Type 0 where
   is_right : IsRightLine n (point_at start log rs) event (line_told n reply)
-  store_is : led_by (told_entries (unwatched (store start log)) rs event (line_told n reply)) (unwatched (store start log))
-      (moment_after (unwatched (store start log)) event) ≡ unwatched (store start (with_line event reply log))
+  store_is : standing_after (unwatched (store start log)) rs event (line_told n reply) ≡ unwatched (store start (with_line event reply log))
   count_is : length (told_entries (unwatched (store start log)) rs event (line_told n reply))
       ≡ length (line_entries start (record { event = event; reply = reply }) log)
   runs : RunsAreTold (with_line event reply log) (runners_after event (line_told n reply) rs)
@@ -314,8 +313,7 @@ runner_goes start n log rs id (Some task) reply told runs legal right =
 
 call_goes : (start n : ℕ) (log : List Line) (rs : List Runner) (event : WorldEvent) (reply : Result Reply Denied) →
     can_have rs event (line_told n reply) ≡ true → Replays n (unwatched (store start log)) rs event (line_told n reply) →
-    led_by (told_entries (unwatched (store start log)) rs event (line_told n reply)) (unwatched (store start log))
-    (moment_after (unwatched (store start log)) event) ≡ unwatched (store start (with_line event reply log)) →
+    standing_after (unwatched (store start log)) rs event (line_told n reply) ≡ unwatched (store start (with_line event reply log)) →
     length (told_entries (unwatched (store start log)) rs event (line_told n reply)) ≡ length (line_entries start (record { event = event; reply = reply }) log) →
     RunsAreTold (with_line event reply log) (runners_after event (line_told n reply) rs) → GoesOn start n log rs event reply
 call_goes start n log rs event reply can replays store_is count_is runs = record {
@@ -372,12 +370,21 @@ event_goes start n log rs (Advance moment) reply told fresh legal right =
     (call_goes start n log rs (Advance moment) (advance_reply moment a.expired a.cause) c.fits c.is_line c.store c.count
     (same_runs (record { event = Advance moment; reply = advance_reply moment a.expired a.cause }) log rs
     (advance_says_nothing moment a.expired a.cause) told))
+event_goes start n log rs (Compact revision) reply told fresh legal right =
+    let s : Standing = store start log in
+    let r = raised s revision in
+    subst (λ (x : Result Reply Denied). GoesOn start n log rs (Compact revision) x) (sym right)
+    (call_goes start n log rs (Compact revision) (reply_to (λ _. Compacted revision) r)
+    (by_reply (λ x. can_have rs (Compact revision) (line_told n x) ≡ true) (λ _. Compacted revision) r (λ x. refl) (λ cause. refl))
+    (compact_same n s revision) (compact_store n s rs revision r refl) refl
+    (same_runs (record { event = Compact revision; reply = reply_to (λ _. Compacted revision) r }) log rs
+    (says_nothing (λ _. Compacted revision) r (λ x. record { begins_is = refl; ends_is = refl; fails_is = refl })) told))
 event_goes start n log rs (WatchKey key from) reply told fresh legal right =
     let s : Standing = store start log in
     let r = watched s (Key key) from in
     subst (λ (x : Result Reply Denied). GoesOn start n log rs (WatchKey key from) x) (sym right)
     (call_goes start n log rs (WatchKey key from) (reply_to Watching r) (by_reply (λ x. can_have rs (WatchKey key from) (line_told n x) ≡ true) Watching r (λ x. refl) (λ cause. refl)) tt
-    (watch_stays s (watch s.history (Key key) from s.watchers)) refl
+    (watch_stays s (watch s.history s.floor (Key key) from s.watchers)) refl
     (same_runs (record { event = WatchKey key from; reply = reply_to Watching r }) log rs
     (says_nothing Watching r (λ x. record { begins_is = refl; ends_is = refl; fails_is = refl })) told))
 event_goes start n log rs (WatchRange first end from) reply told fresh legal right =
@@ -385,17 +392,20 @@ event_goes start n log rs (WatchRange first end from) reply told fresh legal rig
     let r = watched s (Range first end) from in
     subst (λ (x : Result Reply Denied). GoesOn start n log rs (WatchRange first end from) x) (sym right)
     (call_goes start n log rs (WatchRange first end from) (reply_to Watching r) (by_reply (λ x. can_have rs (WatchRange first end from) (line_told n x) ≡ true) Watching r (λ x. refl) (λ cause. refl)) tt
-    (watch_stays s (watch s.history (Range first end) from s.watchers)) refl
+    (watch_stays s (watch s.history s.floor (Range first end) from s.watchers)) refl
     (same_runs (record { event = WatchRange first end from; reply = reply_to Watching r }) log rs
     (says_nothing Watching r (λ x. record { begins_is = refl; ends_is = refl; fails_is = refl })) told))
 event_goes start n log rs (Poll watcher most) reply told fresh legal right =
     let s : Standing = store start log in
     let r = polled s watcher most in
+    let found = poll s.history watcher most s.watchers in
     subst (λ (x : Result Reply Denied). GoesOn start n log rs (Poll watcher most) x) (sym right)
-    (call_goes start n log rs (Poll watcher most) (reply_to (batch_reply watcher) r) (by_reply (λ x. can_have rs (Poll watcher most) (line_told n x) ≡ true) (batch_reply watcher) r (λ x. same_number watcher) (λ cause. refl)) tt
-    (poll_stays s (poll s.history watcher most s.watchers)) refl
-    (same_runs (record { event = Poll watcher most; reply = reply_to (batch_reply watcher) r }) log rs
-    (says_nothing (batch_reply watcher) r (λ x. record { begins_is = refl; ends_is = refl; fails_is = refl })) told))
+    (call_goes start n log rs (Poll watcher most) (poll_reply watcher s.floor r)
+    (by_poll (λ x. can_have rs (Poll watcher most) (line_told n x) ≡ true) watcher s.floor s found (λ x. same_number watcher) (same_number watcher) (λ cause. refl)) tt
+    (poll_stays s watcher found) refl
+    (same_runs (record { event = Poll watcher most; reply = poll_reply watcher s.floor r }) log rs
+    (by_poll (λ x. SaysNothing x) watcher s.floor s found (λ x. record { begins_is = refl; ends_is = refl; fails_is = refl })
+    (record { begins_is = refl; ends_is = refl; fails_is = refl }) (λ cause. record { begins_is = refl; ends_is = refl; fails_is = refl })) told))
 event_goes start n log rs (Cancel watcher) reply told fresh legal right =
     let s : Standing = store start log in
     let r = cancelled s watcher in

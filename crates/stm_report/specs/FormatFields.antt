@@ -9,7 +9,7 @@ use Rattle.stm_leases.specs.Live.{Live}
 use Rattle.stm_txn.specs.PresentKeys.{keys_present}
 use Rattle.stm_world.specs.declared.reply.Reply.{Reply}
 use Rattle.stm_world.specs.declared.reply.Reply.TheVariants.{Started, Fetched, Committed, Conflict, GaveUp, Aborted, Faulted, Ended}
-use Rattle.stm_world.specs.declared.reply.Reply.TheVariants.{Txn, Granted, Kept, Revoked, Advanced, Watching, Batch, Cancelled}
+use Rattle.stm_world.specs.declared.reply.Reply.TheVariants.{Txn, Granted, Kept, Revoked, Advanced, Compacted, Watching, Batch, Lost, Cancelled}
 use Rattle.stm_world.specs.declared.refusal.Denied.{Denied}
 use Rattle.stm_world.specs.World.{World}
 use Rattle.stm_lines.specs.Lines.{event_line, key_line, lease_line, end_line}
@@ -51,8 +51,10 @@ reply_fields (Granted id) = numbered (codes "lease" ∷ [])
 reply_fields (Kept id) = numbered (codes "lease" ∷ [])
 reply_fields (Revoked id revision) = numbered (codes "lease" ∷ codes "revision" ∷ [])
 reply_fields (Advanced now expired) = numbered (codes "now" ∷ codes "expired" ∷ [])
+reply_fields (Compacted revision) = numbered (codes "revision" ∷ [])
 reply_fields (Watching watcher) = numbered (codes "watcher" ∷ [])
 reply_fields (Batch watcher upto events) = numbered (codes "watcher" ∷ codes "upto" ∷ codes "events" ∷ [])
+reply_fields (Lost watcher floor) = numbered (codes "watcher" ∷ codes "floor" ∷ [])
 reply_fields (Cancelled watcher) = numbered (codes "watcher" ∷ [])
 
 abbrev pub event_fields : Result Reply Denied → List (List ℕ)

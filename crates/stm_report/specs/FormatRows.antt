@@ -40,6 +40,7 @@ mark_of (Ok (reply.GaveUp runner attempts key seen now)) = Failed
 mark_of (Ok (reply.Aborted runner text)) = Failed
 mark_of (Ok (reply.Faulted runner fault)) = Failed
 mark_of (Ok (reply.Ended runner cause)) = Failed
+mark_of (Ok (reply.Lost watcher floor)) = Failed
 mark_of (Ok other) = Plain
 mark_of (Err denied) = Failed
 

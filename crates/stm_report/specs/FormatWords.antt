@@ -7,7 +7,7 @@ use Rattle.stm_world.specs.declared.event.WorldEvent.{WorldEvent}
 use Rattle.stm_world.specs.declared.event.WorldEvent.TheVariants as event
 use Rattle.stm_world.specs.declared.reply.Reply.{Reply}
 use Rattle.stm_world.specs.declared.reply.Reply.TheVariants.{Started, Fetched, Committed, Conflict, GaveUp, Aborted, Faulted, Ended}
-use Rattle.stm_world.specs.declared.reply.Reply.TheVariants.{Txn, Granted, Kept, Revoked, Advanced, Watching, Batch, Cancelled}
+use Rattle.stm_world.specs.declared.reply.Reply.TheVariants.{Txn, Granted, Kept, Revoked, Advanced, Compacted, Watching, Batch, Lost, Cancelled}
 use Rattle.stm_world.specs.declared.refusal.Denied.{Denied}
 use Rattle.stm_world.specs.declared.refusal.Refusal.{Refusal}
 use Rattle.stm_world.specs.Names.{refusal_name}
@@ -22,7 +22,7 @@ named_words word n = joined (word ∷ codes " " ∷ decimal n ∷ [])
 abbrev pub told_words : List ℕ → List ℕ → List ℕ
 told_words word text = joined (word ∷ codes " " ∷ shown text ∷ [])
 
--- what a change did, and the revision after it
+-- what was done to the store, and a revision: the one after a change, and that of a compaction
 abbrev pub changed_words : List ℕ → ℕ → List ℕ
 changed_words word revision = joined (word ∷ codes " @" ∷ decimal revision ∷ [])
 
@@ -57,6 +57,10 @@ abbrev pub batch_words : ℕ → ℕ → ℕ → List ℕ
 batch_words watcher events upto =
     joined (codes "poll " ∷ decimal watcher ∷ codes ": " ∷ decimal events ∷ codes " events to @" ∷ decimal upto ∷ [])
 
+-- a watcher that was lost, and the first revision whose events are kept
+abbrev pub lost_words : ℕ → ℕ → List ℕ
+lost_words watcher floor = joined (codes "LOST watcher " ∷ decimal watcher ∷ codes ": kept from @" ∷ decimal floor ∷ [])
+
 abbrev pub reply_words : WorldEvent → Reply → List ℕ
 reply_words event (Started runner) = start_words event
 reply_words event (Fetched runner key mod_rev of_rev revision) = fetched_words key mod_rev of_rev
@@ -71,8 +75,10 @@ reply_words event (Granted id) = named_words (codes "grant") id
 reply_words event (Kept id) = named_words (codes "keep") id
 reply_words event (Revoked id revision) = revoked_words id revision
 reply_words event (Advanced now expired) = advanced_words now (length expired)
+reply_words event (Compacted revision) = changed_words (codes "compact") revision
 reply_words event (Watching watcher) = named_words (codes "watch") watcher
 reply_words event (Batch watcher upto events) = batch_words watcher (length events) upto
+reply_words event (Lost watcher floor) = lost_words watcher floor
 reply_words event (Cancelled watcher) = named_words (codes "cancel") watcher
 
 -- what was asked for
@@ -84,6 +90,7 @@ asked_word (event.Grant id ttl) = codes "grant"
 asked_word (event.Keep id) = codes "keep"
 asked_word (event.Revoke id) = codes "revoke"
 asked_word (event.Advance now) = codes "advance"
+asked_word (event.Compact revision) = codes "compact"
 asked_word (event.WatchKey key from) = codes "watch"
 asked_word (event.WatchRange first end from) = codes "watch"
 asked_word (event.Poll watcher most) = codes "poll"

@@ -93,12 +93,14 @@ fn reply_object(alloc: Global, reply: &Reply, line: Json) -> Result<Json, AllocE
         Reply::Kept { .. } => object_of(alloc, line, &["event", "kind", "lease"]),
         Reply::Revoked { .. } => object_of(alloc, line, &["event", "kind", "lease", "revision"]),
         Reply::Advanced { .. } => object_of(alloc, line, &["event", "kind", "now", "expired"]),
+        Reply::Compacted { .. } => object_of(alloc, line, &["event", "kind", "revision"]),
         Reply::Watching { .. } => object_of(alloc, line, &["event", "kind", "watcher"]),
         Reply::Batch { .. } => object_of(
             alloc,
             line,
             &["event", "kind", "watcher", "upto", "events"],
         ),
+        Reply::Lost { .. } => object_of(alloc, line, &["event", "kind", "watcher", "floor"]),
         Reply::Cancelled { .. } => object_of(alloc, line, &["event", "kind", "watcher"]),
         _ => runner_object(alloc, reply, line),
     }

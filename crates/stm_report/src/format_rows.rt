@@ -55,6 +55,7 @@ fn mark_of(reply: &Result<Reply, Denied>) -> Mark
         Ok(Reply::Aborted { .. }) => Mark::Failed,
         Ok(Reply::Faulted { .. }) => Mark::Failed,
         Ok(Reply::Ended { .. }) => Mark::Failed,
+        Ok(Reply::Lost { .. }) => Mark::Failed,
         Ok(_) => Mark::Plain,
         Err(_) => Mark::Failed,
     }

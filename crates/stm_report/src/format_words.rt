@@ -3,7 +3,7 @@ ghost use Rattle.std.specs.Prelude.{◌≡◌, codes, IfOk};
 ghost use Rattle.stm_texts.specs.Grammar.{level_text};
 ghost use Rattle.stm_lines.specs.Lines.{IsOfRunner};
 ghost use Rattle.stm_report.specs.FormatWords.{named_words, told_words, changed_words, start_words, fetched_words, commit_words, compared_words};
-ghost use Rattle.stm_report.specs.FormatWords.{txn_words, revoked_words, advanced_words, batch_words, reply_words, asked_word, refused_words, words_of};
+ghost use Rattle.stm_report.specs.FormatWords.{txn_words, revoked_words, advanced_words, batch_words, lost_words, reply_words, asked_word, refused_words, words_of};
 
 use crate::format_pieces::{Piece, said};
 use std::alloc::{AllocError, Global};
@@ -163,6 +163,19 @@ fn batch(alloc: Global, watcher: u64, events: u64, upto: u64) -> Result<Sequence
     said(alloc, &pieces)
 }
 
+/// The words of a watcher that was lost.
+fn lost(alloc: Global, watcher: u64, floor: u64) -> Result<Sequence<u8>, AllocError>
+    ensures { IfOk result (λ words. words ≡ lost_words watcher floor) }
+{
+    let pieces = [
+        Piece::Say("LOST watcher "),
+        Piece::Number(watcher),
+        Piece::Say(": kept from @"),
+        Piece::Number(floor),
+    ];
+    said(alloc, &pieces)
+}
+
 /// The words of a runner's event that was taken.
 fn runner_words(
     alloc: Global,
@@ -208,12 +221,14 @@ fn taken_words(alloc: Global, event: &WorldEvent, reply: &Reply) -> Result<Seque
         Reply::Kept { id } => named(alloc, "keep", *id),
         Reply::Revoked { id, revision } => revoked(alloc, *id, *revision),
         Reply::Advanced { now, expired } => advanced(alloc, *now, expired.len() as u64),
+        Reply::Compacted { revision } => changed(alloc, "compact", *revision),
         Reply::Watching { watcher } => named(alloc, "watch", *watcher),
         Reply::Batch {
             watcher,
             upto,
             events,
         } => batch(alloc, *watcher, events.len() as u64, *upto),
+        Reply::Lost { watcher, floor } => lost(alloc, *watcher, *floor),
         Reply::Cancelled { watcher } => named(alloc, "cancel", *watcher),
         _ => runner_words(alloc, event, reply),
     }
@@ -231,6 +246,7 @@ fn asked_word(event: &WorldEvent) -> &'static str
         WorldEvent::Keep { .. } => "keep",
         WorldEvent::Revoke { .. } => "revoke",
         WorldEvent::Advance { .. } => "advance",
+        WorldEvent::Compact { .. } => "compact",
         WorldEvent::WatchKey { .. } => "watch",
         WorldEvent::WatchRange { .. } => "watch",
         WorldEvent::Poll { .. } => "poll",

@@ -16,7 +16,7 @@ use Rattle.stm_json.proofs.FaultLemmas.{fault_of, part_then, number_told}
 use Rattle.stm_reports.specs.declared.causes.RefusalName.{RefusalName}
 use Rattle.stm_reports.specs.declared.line.ReportLine.{ReportLine}
 use Rattle.stm_reports.specs.declared.line.ReportLine.TheVariants.{Started, Fetched, Committed, Conflict, GaveUp, Aborted, Faulted, Ended, Txn, Granted}
-use Rattle.stm_reports.specs.declared.line.ReportLine.TheVariants.{Kept, Revoked, Advanced, Watching, Cancelled, Batch, Refused}
+use Rattle.stm_reports.specs.declared.line.ReportLine.TheVariants.{Kept, Revoked, Advanced, Compacted, Watching, Cancelled, Batch, Lost, Refused}
 use Rattle.stm_reports.specs.declared.line.ToldAnswer.{ToldAnswer}
 use Rattle.stm_reports.specs.declared.line.ToldEvent.{ToldEvent}
 use Rattle.stm_reports.specs.declared.line.ToldOp.{ToldOp}
@@ -30,7 +30,7 @@ use Rattle.stm_reports.specs.Names.{refusal_text}
 use Rattle.stm_reports.specs.Parts.{number_of, flag_of, fault_of as fault_part_of, cause_of, value_of, trace_of, answer_of, expired_of, event_of}
 use Rattle.stm_reports.specs.Reading.{ops_of, fetched_of, committed_of, conflict_of}
 use Rattle.stm_reports.specs.Reading.{gave_up_of, aborted_of, faulted_of, ended_of, txn_of, revoked_of, advanced_of, batch_of, refused_of, event_line_of}
-use Rattle.stm_reports.specs.Reading.{started_of, granted_of, kept_of, watching_of, cancelled_of}
+use Rattle.stm_reports.specs.Reading.{started_of, granted_of, kept_of, watching_of, cancelled_of, compacted_of, lost_of}
 use Rattle.stm_reports.specs.Words.{named, event_words}
 use Rattle.stm_reports.proofs.ArrayLemmas.{numbered_array, numbered_spells}
 use Rattle.stm_reports.proofs.ElementLaws.{trace_told, trace_means, trace_reads, answer_told, answer_means, answer_reads}
@@ -106,9 +106,11 @@ event_row event.Granted = made_of (whole_part & nothing) (λ n x. Granted n x.0)
 event_row event.Kept = made_of (whole_part & nothing) (λ n x. Kept n x.0)
 event_row event.Revoked = made_of (whole_part & whole_part & nothing) (λ n x. Revoked n x.0 (second x))
 event_row event.Advanced = made_of (whole_part & expireds_part & nothing) (λ n x. Advanced n x.0 (second x))
+event_row event.Compacted = made_of (whole_part & nothing) (λ n x. Compacted n x.0)
 event_row event.Watching = made_of (whole_part & nothing) (λ n x. Watching n x.0)
 event_row event.Cancelled = made_of (whole_part & nothing) (λ n x. Cancelled n x.0)
 event_row event.Batch = made_of (whole_part & whole_part & events_part & nothing) (λ n x. Batch n x.0 (second x) (third x))
+event_row event.Lost = made_of (whole_part & whole_part & nothing) (λ n x. Lost n x.0 (second x))
 event_row event.Refused = made_of (cause_part & expireds_part & nothing) (λ n x. Refused n x.0 (second x))
 
 abbrev pub event_parts : EventWord → Type 0
@@ -134,9 +136,11 @@ event_text event.Granted = codes "granted"
 event_text event.Kept = codes "kept"
 event_text event.Revoked = codes "revoked"
 event_text event.Advanced = codes "advanced"
+event_text event.Compacted = codes "compacted"
 event_text event.Watching = codes "watching"
 event_text event.Cancelled = codes "cancelled"
 event_text event.Batch = codes "batch"
+event_text event.Lost = codes "lost"
 event_text event.Refused = codes "refused"
 
 pub event_named-text : (w : EventWord) → named event_words (event_text w) ≡ Some w
@@ -190,6 +194,9 @@ event_is event.Kept n ds =
     one_counted (numbered_read event.Kept n) any_number (kept_of n) refl (λ a. named_is Kept (within 0 (number_of n)) (within 2 (number_of a))) ds
 event_is event.Revoked n ds = two_counted (numbered_read event.Revoked n) any_number any_number (revoked_of n) refl (λ a b. refl) ds
 event_is event.Advanced n ds = two_counted (numbered_read event.Advanced n) any_number expired_list (advanced_of n) refl (λ a b. refl) ds
+event_is event.Compacted n ds =
+    one_counted (numbered_read event.Compacted n) any_number (compacted_of n) refl (λ a. named_is Compacted (within 0 (number_of n)) (within 2 (number_of a)))
+    ds
 event_is event.Watching n ds =
     one_counted (numbered_read event.Watching n) any_number (watching_of n) refl (λ a. named_is Watching (within 0 (number_of n)) (within 2 (number_of a))) ds
 event_is event.Cancelled n ds =
@@ -197,6 +204,7 @@ event_is event.Cancelled n ds =
     ds
 event_is event.Batch n ds =
     three_counted (numbered_read event.Batch n) any_number any_number (By (list_faults (worded_faults watched_table))) (batch_of n) refl (λ a b c. refl) ds
+event_is event.Lost n ds = two_counted (numbered_read event.Lost n) any_number any_number (lost_of n) refl (λ a b. refl) ds
 event_is event.Refused n ds = two_counted (numbered_read event.Refused n) (WordOf refusal_names) expired_list (refused_of n) refl (λ a b. refl) ds
 
 -- ---- the three laws

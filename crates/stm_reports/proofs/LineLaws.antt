@@ -14,7 +14,7 @@ use Rattle.stm_json.proofs.FaultLemmas.{fault_of, wrong_is, made}
 use Rattle.stm_json.proofs.PartLemmas.{text_is, list_is}
 use Rattle.stm_reports.specs.declared.line.ReportLine.{ReportLine}
 use Rattle.stm_reports.specs.declared.line.ReportLine.TheVariants.{Started, Fetched, Committed, Conflict, GaveUp, Aborted, Faulted, Ended, Txn, Granted}
-use Rattle.stm_reports.specs.declared.line.ReportLine.TheVariants.{Kept, Revoked, Advanced, Watching, Cancelled, Batch, Refused, Key, Lease, End}
+use Rattle.stm_reports.specs.declared.line.ReportLine.TheVariants.{Kept, Revoked, Advanced, Compacted, Watching, Cancelled, Batch, Lost, Refused, Key, Lease, End}
 use Rattle.stm_reports.specs.declared.words.EventWord.{EventWord}
 use Rattle.stm_reports.specs.declared.words.EventWord.TheVariants as event
 use Rattle.stm_reports.specs.declared.words.StandingWord.{StandingWord}
@@ -142,7 +142,7 @@ event_named-means : (n : Data) (w : List ℕ) (o : Option EventWord) (ds : Items
 event_named-means n w None ds l is h = cc
 event_named-means n w (Some k) ds l is h =
     let are : AreTexts event_text event_words =
-    (refl, (refl, (refl, (refl, (refl, (refl, (refl, (refl, (refl, (refl, (refl, (refl, (refl, (refl, (refl, (refl, (refl, tt))))))))))))))))) in
+    (refl, (refl, (refl, (refl, (refl, (refl, (refl, (refl, (refl, (refl, (refl, (refl, (refl, (refl, (refl, (refl, (refl, (refl, (refl, tt))))))))))))))))))) in
     let e : w ≡ event_text k = named-is event_text event_words w k are is in
     subst (λ (v : List ℕ). SpellsLine (numbered_array n v ds) l) (sym e) (event_line_means n k ds l h)
 
@@ -213,9 +213,11 @@ line_reads d (Granted n id) (s, fits) = of_event event.Granted n (id, tt) d s (t
 line_reads d (Kept n id) (s, fits) = of_event event.Kept n (id, tt) d s (tt, tt)
 line_reads d (Revoked n id revision) (s, fits) = of_event event.Revoked n (id, (revision, tt)) d s (tt, (tt, tt))
 line_reads d (Advanced n now expired) (s, fits) = of_event event.Advanced n (now, (expired, tt)) d s (tt, (tt, tt))
+line_reads d (Compacted n revision) (s, fits) = of_event event.Compacted n (revision, tt) d s (tt, tt)
 line_reads d (Watching n id) (s, fits) = of_event event.Watching n (id, tt) d s (tt, tt)
 line_reads d (Cancelled n id) (s, fits) = of_event event.Cancelled n (id, tt) d s (tt, tt)
 line_reads d (Batch n id up_to events) (s, fits) = of_event event.Batch n (id, (up_to, (events, tt))) d s (tt, (tt, (tt, tt)))
+line_reads d (Lost n id floor) (s, fits) = of_event event.Lost n (id, (floor, tt)) d s (tt, (tt, tt))
 line_reads d (Refused n cause expired) (s, fits) = of_event event.Refused n (cause, (expired, tt)) d s (tt, (tt, tt))
 line_reads d (Key key state) (s, fits) =
     of_standing d (codes "key") (keyed_items (key, state)) (Key key state) s (λ ds m. key_reads ds key state m)

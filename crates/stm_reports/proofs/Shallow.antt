@@ -14,7 +14,7 @@ use Rattle.stm_meaning.specs.declared.trace_item.TraceItem.TheVariants as trace
 use Rattle.stm_outcome.specs.declared.advance.Expired.{Expired}
 use Rattle.stm_reports.specs.declared.line.ReportLine.{ReportLine}
 use Rattle.stm_reports.specs.declared.line.ReportLine.TheVariants.{Started, Fetched, Committed, Conflict, GaveUp, Aborted, Faulted, Ended, Txn, Granted}
-use Rattle.stm_reports.specs.declared.line.ReportLine.TheVariants.{Kept, Revoked, Advanced, Watching, Cancelled, Batch, Refused, Key, Lease, End}
+use Rattle.stm_reports.specs.declared.line.ReportLine.TheVariants.{Kept, Revoked, Advanced, Compacted, Watching, Cancelled, Batch, Lost, Refused, Key, Lease, End}
 use Rattle.stm_reports.specs.declared.line.ToldAnswer.{ToldAnswer}
 use Rattle.stm_reports.specs.declared.line.ToldEvent.{ToldEvent}
 use Rattle.stm_reports.specs.declared.line.ToldEvent.TheVariants as event
@@ -119,9 +119,11 @@ line_shallow (Granted n id) = (refl, (tt, (refl, tt)))
 line_shallow (Kept n id) = (refl, (tt, (refl, tt)))
 line_shallow (Revoked n id revision) = (refl, (tt, (refl, (refl, tt))))
 line_shallow (Advanced n now expired) = (refl, (tt, (refl, (listed expired_data 3 expired_shallow expired, tt))))
+line_shallow (Compacted n revision) = (refl, (tt, (refl, tt)))
 line_shallow (Watching n id) = (refl, (tt, (refl, tt)))
 line_shallow (Cancelled n id) = (refl, (tt, (refl, tt)))
 line_shallow (Batch n id up_to events) = (refl, (tt, (refl, (refl, (listed event_data 3 event_shallow events, tt)))))
+line_shallow (Lost n id floor) = (refl, (tt, (refl, (refl, tt))))
 line_shallow (Refused n cause expired) = (refl, (tt, (tt, (listed expired_data 3 expired_shallow expired, tt))))
 line_shallow (Key key state) = (tt, (tt, (tt, (refl, (refl, (refl, (refl, tt)))))))
 line_shallow (Lease id ttl renewed) = (tt, (refl, (refl, (refl, tt))))

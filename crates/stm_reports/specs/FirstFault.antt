@@ -106,9 +106,11 @@ event_table =
     ∷ (codes "kept", any_number ∷ [])
     ∷ (codes "revoked", any_number ∷ any_number ∷ [])
     ∷ (codes "advanced", any_number ∷ expired_list ∷ [])
+    ∷ (codes "compacted", any_number ∷ [])
     ∷ (codes "watching", any_number ∷ [])
     ∷ (codes "cancelled", any_number ∷ [])
     ∷ (codes "batch", any_number ∷ any_number ∷ By (list_of (worded_faults watched_table)) ∷ [])
+    ∷ (codes "lost", any_number ∷ any_number ∷ [])
     ∷ (codes "refused", WordOf refusal_names ∷ expired_list ∷ [])
     ∷ []
 

@@ -15,7 +15,7 @@ use Rattle.stm_meaning.specs.Faults.{fault_name}
 use Rattle.stm_outcome.specs.declared.advance.Expired.{Expired}
 use Rattle.stm_reports.specs.declared.line.ReportLine.{ReportLine}
 use Rattle.stm_reports.specs.declared.line.ReportLine.TheVariants.{Started, Fetched, Committed, Conflict, GaveUp, Aborted, Faulted, Ended, Txn, Granted}
-use Rattle.stm_reports.specs.declared.line.ReportLine.TheVariants.{Kept, Revoked, Advanced, Watching, Cancelled, Batch, Refused, Key, Lease, End}
+use Rattle.stm_reports.specs.declared.line.ReportLine.TheVariants.{Kept, Revoked, Advanced, Compacted, Watching, Cancelled, Batch, Lost, Refused, Key, Lease, End}
 use Rattle.stm_reports.specs.declared.line.ToldAnswer.{ToldAnswer}
 use Rattle.stm_reports.specs.declared.line.ToldEvent.{ToldEvent}
 use Rattle.stm_reports.specs.declared.line.ToldEvent.TheVariants as event
@@ -99,9 +99,11 @@ line_data (Granted n id) = numbered n (codes "granted") (whole id ∷ [])
 line_data (Kept n id) = numbered n (codes "kept") (whole id ∷ [])
 line_data (Revoked n id revision) = numbered n (codes "revoked") (whole id ∷ whole revision ∷ [])
 line_data (Advanced n now expired) = numbered n (codes "advanced") (whole now ∷ list (map expired_data expired) ∷ [])
+line_data (Compacted n revision) = numbered n (codes "compacted") (whole revision ∷ [])
 line_data (Watching n id) = numbered n (codes "watching") (whole id ∷ [])
 line_data (Cancelled n id) = numbered n (codes "cancelled") (whole id ∷ [])
 line_data (Batch n id up_to events) = numbered n (codes "batch") (whole id ∷ whole up_to ∷ list (map event_data events) ∷ [])
+line_data (Lost n id floor) = numbered n (codes "lost") (whole id ∷ whole floor ∷ [])
 line_data (Refused n cause expired) =
     numbered n (codes "refused") (word (refusal_text cause) ∷ list (map expired_data expired) ∷ [])
 line_data (Key key state) = keyed_data (codes "key") key state

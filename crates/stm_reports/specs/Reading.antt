@@ -12,7 +12,7 @@ use Rattle.stm_outcome.specs.declared.advance.Expired.{Expired}
 use Rattle.stm_json.specs.Parts.{text_of, list_of}
 use Rattle.stm_reports.specs.declared.line.ReportLine.{ReportLine}
 use Rattle.stm_reports.specs.declared.line.ReportLine.TheVariants.{Started, Fetched, Committed, Conflict, GaveUp, Aborted, Faulted, Ended, Txn, Granted}
-use Rattle.stm_reports.specs.declared.line.ReportLine.TheVariants.{Kept, Revoked, Advanced, Watching, Cancelled, Batch, Refused, Key, Lease, End}
+use Rattle.stm_reports.specs.declared.line.ReportLine.TheVariants.{Kept, Revoked, Advanced, Compacted, Watching, Cancelled, Batch, Lost, Refused, Key, Lease, End}
 use Rattle.stm_reports.specs.declared.line.ToldAnswer.{ToldAnswer}
 use Rattle.stm_reports.specs.declared.line.ToldEvent.{ToldEvent}
 use Rattle.stm_reports.specs.declared.line.ToldOp.{ToldOp}
@@ -62,6 +62,9 @@ granted_of n o = named_of n o >>= λ p. Ok (Granted p.0 p.1)
 
 abbrev pub kept_of : Data → Option Data → Outcome ReportLine
 kept_of n o = named_of n o >>= λ p. Ok (Kept p.0 p.1)
+
+abbrev pub compacted_of : Data → Option Data → Outcome ReportLine
+compacted_of n o = named_of n o >>= λ p. Ok (Compacted p.0 p.1)
 
 abbrev pub watching_of : Data → Option Data → Outcome ReportLine
 watching_of n o = named_of n o >>= λ p. Ok (Watching p.0 p.1)
@@ -134,6 +137,11 @@ batch_of n (Some p) =
     within 0 (number_of n) >>= λ number. within 2 (number_of p.0) >>= λ id. within 3 (number_of p.1) >>= λ up_to.
     within 4 (events_of p.2) >>= λ events. Ok (Batch number id up_to events)
 
+abbrev pub lost_of : Data → Option (Data × Data) → Outcome ReportLine
+lost_of n None = bad Shape
+lost_of n (Some p) =
+    within 0 (number_of n) >>= λ number. within 2 (number_of p.0) >>= λ id. within 3 (number_of p.1) >>= λ floor. Ok (Lost number id floor)
+
 abbrev pub refused_of : Data → Option (Data × Data) → Outcome ReportLine
 refused_of n None = bad Shape
 refused_of n (Some p) =
@@ -154,9 +162,11 @@ event_line_of event.Granted n ds = granted_of n (one_of ds)
 event_line_of event.Kept n ds = kept_of n (one_of ds)
 event_line_of event.Revoked n ds = revoked_of n (two_of ds)
 event_line_of event.Advanced n ds = advanced_of n (two_of ds)
+event_line_of event.Compacted n ds = compacted_of n (one_of ds)
 event_line_of event.Watching n ds = watching_of n (one_of ds)
 event_line_of event.Cancelled n ds = cancelled_of n (one_of ds)
 event_line_of event.Batch n ds = batch_of n (three_of ds)
+event_line_of event.Lost n ds = lost_of n (two_of ds)
 event_line_of event.Refused n ds = refused_of n (two_of ds)
 
 -- ---- lines of what is left at the end: the elements behind the word

@@ -7,7 +7,7 @@ use Rattle.stm_reports.specs.declared.causes.RefusalName.{RefusalName}
 use Rattle.stm_reports.specs.declared.causes.RefusalName.TheVariants as cause
 use Rattle.stm_reports.specs.declared.words.EventWord.{EventWord}
 use Rattle.stm_reports.specs.declared.words.EventWord.TheVariants.{Started, Fetched, Committed, Conflict, GaveUp, Aborted, Faulted, Ended}
-use Rattle.stm_reports.specs.declared.words.EventWord.TheVariants.{Txn, Granted, Kept, Revoked, Advanced, Watching, Cancelled, Batch, Refused}
+use Rattle.stm_reports.specs.declared.words.EventWord.TheVariants.{Txn, Granted, Kept, Revoked, Advanced, Compacted, Watching, Cancelled, Batch, Lost, Refused}
 use Rattle.stm_reports.specs.declared.words.StandingWord.{StandingWord}
 use Rattle.stm_reports.specs.declared.words.StandingWord.TheVariants.{Key, Lease, End}
 
@@ -31,9 +31,11 @@ event_words =
     ∷ (codes "kept", Kept)
     ∷ (codes "revoked", Revoked)
     ∷ (codes "advanced", Advanced)
+    ∷ (codes "compacted", Compacted)
     ∷ (codes "watching", Watching)
     ∷ (codes "cancelled", Cancelled)
     ∷ (codes "batch", Batch)
+    ∷ (codes "lost", Lost)
     ∷ (codes "refused", Refused)
     ∷ []
 

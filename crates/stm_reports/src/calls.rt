@@ -97,6 +97,16 @@ pub fn is_revoked(line: &ReportLine, event: u64, lease: u64, after: u64) -> bool
     }
 }
 
+/// Whether this is the line of a compaction at a revision.
+pub fn is_compacted(line: &ReportLine, event: u64, floor: u64) -> bool
+    ensures { IsTrue result ↔ tells.Compacted event floor ≡ line.now }
+{
+    match line {
+        ReportLine::Compacted { number, revision } => *number == event && *revision == floor,
+        _ => false,
+    }
+}
+
 /// Whether this is the line of an advance to a moment, after which these leases have expired.
 pub fn is_advanced(line: &ReportLine, event: u64, moment: u64, expired: &[Expired]) -> bool
     ensures { IsTrue result ↔ tells.Advanced event moment expired.now ≡ line.now }

@@ -5,6 +5,7 @@ ghost use Rattle.stm_json.specs.Tells.{Tells};
 ghost use Rattle.stm_reports.specs.Elements.{five_of, six_of};
 ghost use Rattle.stm_reports.specs.Reading.{named_of, fetched_of, committed_of, conflict_of, gave_up_of, aborted_of, faulted_of, ended_of, txn_of};
 ghost use Rattle.stm_reports.specs.Reading.{revoked_of, advanced_of, batch_of, refused_of, started_of, granted_of, kept_of, watching_of, cancelled_of};
+ghost use Rattle.stm_reports.specs.Reading.{compacted_of, lost_of};
 ghost use Rattle.stm_reports.specs.Reading.{event_line_of};
 ghost use Rattle.stm_reports.specs.Rests.{fetched_rest, conflict_rest, gave_up_rest};
 
@@ -61,6 +62,13 @@ fn cancelled(alloc: Global, number: &Json, elements: &[Json]) -> Result<ReportLi
 {
     let (number, id) = named(alloc, number, elements)?;
     Ok(ReportLine::Cancelled { number, id })
+}
+
+fn compacted(alloc: Global, number: &Json, elements: &[Json]) -> Result<ReportLine, ReadError>
+    ensures { Tells (λ l. l) result (compacted_of (view number.now) (one_of (items_view elements.now))) }
+{
+    let (number, revision) = named(alloc, number, elements)?;
+    Ok(ReportLine::Compacted { number, revision })
 }
 
 /// The line of a fetch, from its key on.
@@ -322,6 +330,19 @@ fn batch(alloc: Global, number: &Json, elements: &[Json]) -> Result<ReportLine, 
     })
 }
 
+/// The line of a lost watcher.
+fn lost(alloc: Global, number: &Json, elements: &[Json]) -> Result<ReportLine, ReadError>
+    ensures { Tells (λ l. l) result (lost_of (view number.now) (two_of (items_view elements.now))) }
+{
+    let Some((id, floor)) = two(elements) else {
+        return Err(fault(alloc, Cause::Shape));
+    };
+    let number = number_part(alloc, 0, number)?;
+    let id = number_part(alloc, 2, id)?;
+    let floor = number_part(alloc, 3, floor)?;
+    Ok(ReportLine::Lost { number, id, floor })
+}
+
 /// The line of a refused event.
 fn refused(alloc: Global, number: &Json, elements: &[Json]) -> Result<ReportLine, ReadError>
     ensures { Tells (λ l. l) result (refused_of (view number.now) (two_of (items_view elements.now))) }
@@ -362,9 +383,11 @@ pub(crate) fn event_line(
         EventWord::Kept => kept(alloc, number, elements),
         EventWord::Revoked => revoked(alloc, number, elements),
         EventWord::Advanced => advanced(alloc, number, elements),
+        EventWord::Compacted => compacted(alloc, number, elements),
         EventWord::Watching => watching(alloc, number, elements),
         EventWord::Cancelled => cancelled(alloc, number, elements),
         EventWord::Batch => batch(alloc, number, elements),
+        EventWord::Lost => lost(alloc, number, elements),
         EventWord::Refused => refused(alloc, number, elements),
     }
 }

@@ -18,7 +18,9 @@ mod standing;
 mod text;
 mod words;
 
-pub use calls::{is_advanced, is_granted, is_kept, is_refused, is_revoked, is_txn, told_cause};
+pub use calls::{
+    is_advanced, is_compacted, is_granted, is_kept, is_refused, is_revoked, is_txn, told_cause,
+};
 pub use causes::RefusalName;
 pub use line::{ReportLine, ToldAnswer, ToldEvent, ToldOp};
 pub use reading::read_report;

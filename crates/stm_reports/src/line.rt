@@ -129,6 +129,11 @@ pub enum ReportLine {
         now: u64,
         expired: Sequence<Expired>,
     },
+    /// The store was compacted, at this revision.
+    Compacted {
+        number: u64,
+        revision: u64,
+    },
     /// A watcher was made.
     Watching {
         number: u64,
@@ -145,6 +150,12 @@ pub enum ReportLine {
         id: u64,
         up_to: u64,
         events: Sequence<ToldEvent>,
+    },
+    /// A watcher was found lost, and is cancelled: the store's floor, the lowest revision whose events are kept.
+    Lost {
+        number: u64,
+        id: u64,
+        floor: u64,
     },
     /// The event was refused, after these leases expired.
     Refused {

@@ -34,12 +34,16 @@ pub enum EventWord {
     Revoked,
     /// `advanced`
     Advanced,
+    /// `compacted`
+    Compacted,
     /// `watching`
     Watching,
     /// `cancelled`
     Cancelled,
     /// `batch`
     Batch,
+    /// `lost`
+    Lost,
     /// `refused`
     Refused,
 }
@@ -72,7 +76,7 @@ fn found<W: Copy>(rows: &[(&str, W)], word: &str) -> Option<W>
 }
 
 /// The words of the lines of events.
-static EVENT_WORDS: [(&str, EventWord); 17] = [
+static EVENT_WORDS: [(&str, EventWord); 19] = [
     ("started", EventWord::Started),
     ("fetched", EventWord::Fetched),
     ("committed", EventWord::Committed),
@@ -86,9 +90,11 @@ static EVENT_WORDS: [(&str, EventWord); 17] = [
     ("kept", EventWord::Kept),
     ("revoked", EventWord::Revoked),
     ("advanced", EventWord::Advanced),
+    ("compacted", EventWord::Compacted),
     ("watching", EventWord::Watching),
     ("cancelled", EventWord::Cancelled),
     ("batch", EventWord::Batch),
+    ("lost", EventWord::Lost),
     ("refused", EventWord::Refused),
 ];
 

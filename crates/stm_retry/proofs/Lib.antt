@@ -4,5 +4,6 @@ pub mod RunnerLemmas
 pub mod SlotLemmas
 pub mod StepLemmas
 pub mod WorldLemmas
+pub mod KeptWorlds
 pub mod Stops
 pub mod WorkedExamples

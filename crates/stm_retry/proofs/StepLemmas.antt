@@ -5,7 +5,7 @@ use Rattle.std.specs.Prelude.{nat_eq, slice_get, IsOk, is_ok, IfOk, OnOk, OnErr}
 use Rattle.std.specs.declared.alloc.AllocError.{AllocError}
 use Rattle.std.proofs.lemmas.List.Elements.{All-nil, All-cons, All-head, All-tail}
 use Rattle.stm_history.specs.declared.key_state.ReadAnswer.{ReadAnswer}
-use Rattle.stm_history.specs.History.{History, now, key_at, mod_of}
+use Rattle.stm_history.specs.History.{History, now, mod_of}
 use Rattle.stm_program.specs.Syntax.{ProgramTree}
 use Rattle.stm_program.specs.declared.level.Level.{Level}
 use Rattle.stm_program.specs.declared.write.Write.{Write}
@@ -20,10 +20,11 @@ use Rattle.stm_meaning.specs.declared.run.Answered.TheVariants.{Ended as EndedRu
 use Rattle.stm_meaning.proofs.RunLaws.{wanted_keys_are_unknown}
 use Rattle.stm_outcome.specs.declared.answer.FailedCompare.{FailedCompare}
 use Rattle.stm_outcome.specs.declared.refusal.Refusal.{Refusal as StoreRefusal}
-use Rattle.stm_outcome.specs.declared.refusal.Refusal.TheVariants.{OutOfMemory}
+use Rattle.stm_outcome.specs.declared.refusal.Refusal.TheVariants.{OutOfMemory, Compacted}
 use Rattle.stm_outcome.specs.Outcome.{Done}
 use Rattle.stm_outcome.specs.Commits.{revision_read}
 use Rattle.stm_txn.specs.Standing.{Standing, with_history, terms_of}
+use Rattle.stm_outcome.specs.Terms.{is_below_floor}
 use Rattle.stm_compile.specs.Levels.{is_serializable}
 use Rattle.stm_compile.specs.Answers.{look_up, answer_now}
 use Rattle.stm_compile.specs.CommitTxn.{reread_keys}
@@ -36,20 +37,21 @@ use Rattle.stm_attempt.specs.ReadyRun.{ReadyRun}
 use Rattle.stm_attempt.specs.Next.{next_at_end, next_after}
 use Rattle.stm_entries.specs.declared.entry.Entry.{Entry}
 use Rattle.stm_entries.specs.declared.entry.Entry.TheVariants.{Program as ProgramEntry}
+use Rattle.stm_calls.specs.Fetched.{fetched, fetch_told}
 use Rattle.stm_calls.specs.Sent.{sent, seen_in as seen_told}
 use Rattle.stm_calls.proofs.Cases.{HasCommitted, HasFailed, is_refused}
 use Rattle.stm_world.specs.declared.reply.Reply.{Reply}
 use Rattle.stm_world.specs.declared.reply.Reply.TheVariants.{Started, Fetched, Committed, Conflict, GaveUp, Ended}
 use Rattle.stm_world.specs.declared.refusal.Refusal.TheVariants.{BadLimit}
-use Rattle.stm_world.specs.Task.{Task, answer_at, answers_told}
+use Rattle.stm_world.specs.Task.{Task, after_fetch, answers_told}
 use Rattle.stm_world.specs.World.{World, Stepped, Runner, Slot, Over, Live, begin, runner_at, with_slot, start_runner, step_runner, step_live}
-use Rattle.stm_world.specs.World.{step_on, fetch, finish, commit, commit_told, decided, take_commit, fail_commit, seen_in, replied, refused, entry_of}
+use Rattle.stm_world.specs.World.{step_on, fetch, fetch_at, finish, commit, commit_told, decided, take_commit, fail_commit, seen_in, replied, refused, entry_of}
 use Rattle.stm_retry.specs.declared.told.Told.{Told}
 use Rattle.stm_retry.specs.declared.told.Told.TheVariants.{GoesOn, Ends}
 use Rattle.stm_retry.specs.MachineTells.{Tells}
 use Rattle.stm_retry.specs.RunnerView.{AreNamed, next_for, with_answer, begun_again}
 use Rattle.stm_retry.specs.RunnerTells.{Workplace, workplace, world_around, reply_in, slot_after, Leaves, TellsEnd, IsReady, may_go_on}
-use Rattle.stm_retry.specs.RunnerTells.{told_of_failure, reply_told, slot_left}
+use Rattle.stm_retry.specs.RunnerTells.{told_of_fetch, after_told_fetch, told_of_failure, reply_told, slot_left}
 use Rattle.stm_world.proofs.Slots.{other_number, count_grows}
 use Rattle.stm_retry.proofs.SlotLemmas.{put_back, put_there}
 
@@ -81,33 +83,88 @@ is_wanting r key at told = wanting_by r (run_on r.task.program r.known.reads) ke
 pub wanted_is_named : (r : Runner) (key : List ℕ) (at : ℕ) → IsWanting r key at → 0 < length key
 wanted_is_named r key at x = (wanted_keys_are_unknown (look_up r.known.reads) r.task.program.statements key x.trace x.wants).1
 
-step_fetches : (id : ℕ) (r : Runner) (key : List ℕ) (at : ℕ) (w : World) → IsWanting r key at →
-    step_live id r w ≡ fetch id r key (revision_read w.standing.history at) w
-unfolding step_live
-step_fetches id r key at w x =
-    ap (λ (a : Answered). step_on id r r.known.reads a w) x.wants
-    ∙ ap (λ (n : ℕ). fetch id r key (revision_read w.standing.history n) w) x.at_is
+-- a fetch in the step of a runner, by what it comes to
+abbrev pub fetched_step : ℕ → Runner → List ℕ → Result ReadAnswer StoreRefusal → World → Stepped
+fetched_step id r key (Ok a) w = replied (Fetched id key (mod_of a.kv) a.of_rev a.revision) id (Live (record r { known = after_fetch r.task a r.known })) w
+fetched_step id r key (Err cause) w = replied (Ended id cause) id Over w
 
-fetch_is : (id : ℕ) (r q : Runner) (s after : Standing) (entries : List Entry) (slots : List Slot) (key : List ℕ) (of_rev : ℕ) (told : Told) →
-    told ≡ GoesOn (Fetched id key (mod_of (key_at s.history key of_rev)) of_rev (now s.history)) →
-    q ≡ with_answer (answer_at s.history key of_rev) r → after ≡ s →
-    fetch id r key of_rev (world_around (workplace s entries r) slots)
-    ≡ record { reply = Ok (reply_in told); next = world_around (workplace after entries q) (with_slot id (slot_after told q) slots) }
+fetched_by : (id : ℕ) (r : Runner) (key : List ℕ) (base : ℕ) (w : World) (below : Bool) →
+    cond below (replied (Ended id Compacted) id Over w) (fetch id r key (revision_read w.standing.history base) w)
+    ≡ fetched_step id r key (cond below (Err Compacted) (Ok (fetched w.standing.history key base))) w
 unfolding fetch
-fetch_is id r q s after entries slots key of_rev told told_is runner_is standing_is =
-    let new : Runner = with_answer (answer_at s.history key of_rev) r in
-    let says : Told = GoesOn (Fetched id key (mod_of (key_at s.history key of_rev)) of_rev (now s.history)) in
+fetched_by id r key base w true = refl
+fetched_by id r key base w false = refl
+
+pub step_fetches : (id : ℕ) (r : Runner) (key : List ℕ) (base : ℕ) (w : World) →
+    fetch_at id r key base w ≡ fetched_step id r key (fetch_told w.standing key base) w
+step_fetches id r key base w = fetched_by id r key base w (is_below_floor w.standing.floor base)
+
+fetched_leaves : (id : ℕ) (r q : Runner) (s after : Standing) (entries : List Entry) (slots : List Slot) (key : List ℕ) (o : Result ReadAnswer StoreRefusal)
+    (told : Told) → told ≡ told_of_fetch id key o → q ≡ after_told_fetch o r → after ≡ s →
+    fetched_step id r key o (world_around (workplace s entries r) slots)
+    ≡ record { reply = Ok (reply_in told); next = world_around (workplace after entries q) (with_slot id (slot_after told q) slots) }
+fetched_leaves id r q s after entries slots key (Ok a) told told_is runner_is standing_is =
+    let new : Runner = with_answer a r in
+    let says : Told = GoesOn (Fetched id key (mod_of a.kv) a.of_rev a.revision) in
     let made : Told → Runner → Standing → Stepped = λ t p x.
     record { reply = Ok (reply_in t); next = world_around (workplace x entries p) (with_slot id (slot_after t p) slots) } in
     sym (ap (λ (t : Told). made t q after) told_is ∙ ap (λ (p : Runner). made says p after) runner_is ∙ ap (λ (x : Standing). made says new x) standing_is)
+fetched_leaves id r q s after entries slots key (Err cause) told told_is runner_is standing_is =
+    let says : Told = Ends (Ended id cause) in
+    let made : Told → Standing → Stepped = λ t x.
+    record { reply = Ok (reply_in t); next = world_around (workplace x entries q) (with_slot id (slot_after t q) slots) } in
+    sym (ap (λ (t : Told). made t after) told_is ∙ ap (λ (x : Standing). made says x) standing_is)
 
 pub fetch_leaves : (id : ℕ) (r q : Runner) (s after : Standing) (entries : List Entry) (key : List ℕ) (at : ℕ) (told : Told) → IsWanting r key at →
-    told ≡ GoesOn (Fetched id key (mod_of (key_at s.history key (revision_read s.history at))) (revision_read s.history at) (now s.history)) →
-    q ≡ with_answer (answer_at s.history key (revision_read s.history at)) r → after ≡ s →
+    told ≡ told_of_fetch id key (fetch_told s key at) → q ≡ after_told_fetch (fetch_told s key at) r → after ≡ s →
     Leaves id (Ok told) (workplace s entries r) (workplace after entries q) (step_live id r)
+unfolding step_live
 fetch_leaves id r q s after entries key at told x told_is runner_is standing_is slots =
-    step_fetches id r key at (world_around (workplace s entries r) slots) x
-    ∙ fetch_is id r q s after entries slots key (revision_read s.history at) told told_is runner_is standing_is
+    let w : World = world_around (workplace s entries r) slots in
+    ap (λ (a : Answered). step_on id r r.known.reads a w) x.wants
+    ∙ ap (λ (n : ℕ). fetch_at id r key n w) x.at_is
+    ∙ step_fetches id r key at w
+    ∙ fetched_leaves id r q s after entries slots key (fetch_told s key at) told told_is runner_is standing_is
+
+-- what a fetch that the store answered tells and leaves, where a growth was refused too
+answered_key : (s : Standing) (key : List ℕ) (at : ℕ) (a : ReadAnswer) (below : Bool) →
+    cond below (Err Compacted) (Ok (fetched s.history key at)) ≡ Ok a → key ≡ a.key
+answered_key s key at a true is = absurd (cc)
+answered_key s key at a false is = let same : fetched s.history key at ≡ a = cc in ap (λ (x : ReadAnswer). x.key) same
+
+-- it is of the key that was fetched
+pub fetched_key : (s : Standing) (key : List ℕ) (at : ℕ) (a : ReadAnswer) → fetch_told s key at ≡ Ok a → key ≡ a.key
+fetched_key s key at a is = answered_key s key at a (is_below_floor s.floor at) is
+
+pub fetch_answers : (s : Standing) (id : ℕ) (key : List ℕ) (at : ℕ) (a : ReadAnswer) (outcome : Result Told AllocError) → fetch_told s key at ≡ Ok a →
+    IfOk outcome (λ told. told ≡ GoesOn (Fetched id key (mod_of a.kv) a.of_rev a.revision)) →
+    IfOk outcome (λ told. told ≡ told_of_fetch id key (fetch_told s key at))
+fetch_answers s id key at a (Ok told) is told_is = told_is ∙ ap (told_of_fetch id key) (sym is)
+fetch_answers s id key at a (Err e) is told_is = tt
+
+pub fetch_answers_leaves : (s : Standing) (key : List ℕ) (at : ℕ) (a : ReadAnswer) (r q : Runner) (outcome : Result Told AllocError) →
+    fetch_told s key at ≡ Ok a → OnOk outcome (q ≡ with_answer a r) → OnOk outcome (q ≡ after_told_fetch (fetch_told s key at) r)
+fetch_answers_leaves s key at a r q (Ok told) is left = left ∙ ap (λ (o : Result ReadAnswer StoreRefusal). after_told_fetch o r) (sym is)
+fetch_answers_leaves s key at a r q (Err e) is left = tt
+
+-- the same of one that the store refused
+refused_cause : (s : Standing) (key : List ℕ) (at : ℕ) (cause : StoreRefusal) → cause ≢ OutOfMemory →
+    (cause ≡ OutOfMemory) ⊎ (fetch_told s key at ≡ Err cause) → fetch_told s key at ≡ Err cause
+refused_cause s key at cause not (inl want) = absurd (not want)
+refused_cause s key at cause not (inr is) = is
+
+pub fetch_refused : (s : Standing) (id : ℕ) (key : List ℕ) (at : ℕ) (cause : StoreRefusal) (outcome : Result Told AllocError) →
+    (cause ≡ OutOfMemory) ⊎ (fetch_told s key at ≡ Err cause) → IfOk outcome (λ told. told ≡ Ends (Ended id cause)) → OnOk outcome (cause ≢ OutOfMemory) →
+    IfOk outcome (λ told. told ≡ told_of_fetch id key (fetch_told s key at))
+fetch_refused s id key at cause (Ok told) refused told_is not = told_is ∙ ap (told_of_fetch id key) (sym (refused_cause s key at cause not refused))
+fetch_refused s id key at cause (Err e) refused told_is not = tt
+
+pub fetch_refused_leaves : (s : Standing) (key : List ℕ) (at : ℕ) (cause : StoreRefusal) (r : Runner) (outcome : Result Told AllocError) →
+    (cause ≡ OutOfMemory) ⊎ (fetch_told s key at ≡ Err cause) → OnOk outcome (cause ≢ OutOfMemory) →
+    OnOk outcome (r ≡ after_told_fetch (fetch_told s key at) r)
+fetch_refused_leaves s key at cause r (Ok told) refused not =
+    ap (λ (o : Result ReadAnswer StoreRefusal). after_told_fetch o r) (sym (refused_cause s key at cause not refused))
+fetch_refused_leaves s key at cause r (Err e) refused not = tt
 
 -- ---- a run that came to its end ----
 
@@ -405,7 +462,11 @@ unfolding fetch
 fetch_is_taken id r key of_rev w = refl
 
 on_is_taken : (id : ℕ) (r : Runner) (reads : List ReadAnswer) (answered : Answered) (w : World) → IsOk (step_on id r reads answered w).reply
-on_is_taken id r reads (Wants key trace) w = fetch_is_taken id r key (revision_read w.standing.history (at_of r.task.level reads)) w
+on_is_taken id r reads (Wants key trace) w =
+    let base : ℕ = at_of r.task.level reads in
+    let of_rev : ℕ = revision_read w.standing.history base in
+    either_is_taken (is_below_floor w.standing.floor base) (replied (Ended id Compacted) id Over w) (fetch id r key of_rev w) refl
+    (fetch_is_taken id r key of_rev w)
 on_is_taken id r reads (EndedRun run) w = finish_is_taken id r reads run run.end w
 
 -- a step of a runner that is there is taken

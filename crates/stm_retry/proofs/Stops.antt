@@ -12,10 +12,10 @@ use Rattle.stm_txn.proofs.Ending.{ended_is, next_ended}
 use Rattle.stm_entries.specs.declared.entry.Entry.{Entry}
 use Rattle.stm_entries.specs.declared.entry.Entry.TheVariants.{Expire}
 use Rattle.stm_world.specs.declared.event.WorldEvent.{WorldEvent}
-use Rattle.stm_world.specs.declared.event.WorldEvent.TheVariants.{Start, Step, Txn, Grant, Keep, Revoke, Advance, WatchKey, WatchRange, Poll, Cancel}
+use Rattle.stm_world.specs.declared.event.WorldEvent.TheVariants.{Start, Step, Txn, Grant, Keep, Revoke, Advance, WatchKey, WatchRange, Poll, Cancel, Compact}
 use Rattle.stm_world.specs.declared.reply.Reply.{Reply}
 use Rattle.stm_world.specs.declared.reply.Reply.TheVariants.{Started, Fetched, Committed, Conflict, GaveUp, Aborted, Faulted, Ended, Advanced}
-use Rattle.stm_world.specs.declared.reply.Reply.TheVariants.{Txn as TxnDone, Granted, Kept, Revoked, Watching, Batch, Cancelled}
+use Rattle.stm_world.specs.declared.reply.Reply.TheVariants.{Txn as TxnDone, Granted, Kept, Revoked, Watching, Batch, Cancelled, Compacted, Lost}
 use Rattle.stm_world.specs.declared.refusal.Denied.{Denied}
 use Rattle.stm_world.specs.Told.{advance_reply}
 use Rattle.stm_world.specs.Log.{expired_told}
@@ -142,6 +142,8 @@ none_in_front (Ok (Advanced moment expired)) = refl
 none_in_front (Ok (Watching watcher)) = refl
 none_in_front (Ok (Batch watcher upto events)) = refl
 none_in_front (Ok (Cancelled watcher)) = refl
+none_in_front (Ok (Compacted revision)) = refl
+none_in_front (Ok (Lost watcher floor)) = refl
 none_in_front (Err denied) = refl
 
 none_before : (replies : List (Result Reply Denied)) → first_with_expired [] replies ≡ replies
@@ -172,6 +174,7 @@ events_repeat (WatchKey key from) expired old new want = unchanged_repeats (Watc
 events_repeat (WatchRange first end from) expired old new want = unchanged_repeats (WatchRange first end from) expired old new want.0
 events_repeat (Poll watcher most) expired old new want = unchanged_repeats (Poll watcher most) expired old new want.0
 events_repeat (Cancel watcher) expired old new want = unchanged_repeats (Cancel watcher) expired old new want.0
+events_repeat (Compact revision) expired old new want = absurd want
 
 -- ---- a run ----
 
@@ -263,6 +266,7 @@ event_again (WatchKey key from) expired old new want some same = some want.0.0
 event_again (WatchRange first end from) expired old new want some same = some want.0.0
 event_again (Poll watcher most) expired old new want some same = some want.0.0
 event_again (Cancel watcher) expired old new want some same = some want.0.0
+event_again (Compact revision) expired old new want some same = absurd want
 
 first_alike : (x y : Result Reply Denied) (xs ys : List (Result Reply Denied)) → x ∷ xs ≡ y ∷ ys → x ≡ y
 first_alike x y xs ys is = cc
@@ -311,6 +315,7 @@ event_undone (WatchKey key from) expired old new want some same = some want.0.0
 event_undone (WatchRange first end from) expired old new want some same = some want.0.0
 event_undone (Poll watcher most) expired old new want some same = some want.0.0
 event_undone (Cancel watcher) expired old new want some same = some want.0.0
+event_undone (Compact revision) expired old new want some same = absurd want
 
 stopped_undone : (o : Option WorldEvent) (expired : List Expired) (before new : World) → WantTellsAt o expired before new → expired ≢ [] → new ≡ before → ⊥
 stopped_undone None expired before new want some same = absurd want

@@ -1,15 +1,23 @@
 -- What the events about watchers tell and leave.
-use Rattle.std.proofs.Common.{◌≡◌, ◌∙◌, List, [], Result, Ok, Err, refl, sym, ap, subst}
+use Rattle.std.proofs.Common.{◌≡◌, ◌≢◌, ◌∙◌, ℕ, ◌-◌, Bool, true, false, cond, List, [], Option, Some, None, Result, Ok, Err, refl, sym, ap, subst, slice_set}
 use Rattle.std.specs.Prelude.{IsOk}
+use Rattle.stm_watch.specs.Watching.{Watching}
+use Rattle.stm_watch.specs.declared.watchers.Batch.{Batch}
+use Rattle.stm_watch.specs.declared.refusal.PollRefusal.TheVariants.{Compacted as LostToPoll}
+use Rattle.stm_watch.specs.Pending.{batch_of, after_poll}
+use Rattle.stm_watch.specs.Calls.{watcher_at, poll_found, is_one_lost, cancelled as without_watcher}
 use Rattle.stm_outcome.specs.declared.refusal.Refusal.{Refusal as StoreRefusal}
-use Rattle.stm_txn.specs.Standing.{Standing, Step as StoreStep, IsRefusalOf}
+use Rattle.stm_outcome.specs.declared.refusal.Refusal.TheVariants.{OutOfMemory, NoWatcher, Compacted}
+use Rattle.stm_txn.specs.Standing.{Standing, Step as StoreStep, IsRefusalOf, with_watchers, poll_step, polled, poll_refused}
 use Rattle.stm_entries.specs.declared.entry.Entry.{Entry}
 use Rattle.stm_world.specs.declared.event.WorldEvent.{WorldEvent}
+use Rattle.stm_world.specs.declared.event.WorldEvent.TheVariants.{Poll}
 use Rattle.stm_world.specs.declared.reply.Reply.{Reply}
+use Rattle.stm_world.specs.declared.reply.Reply.TheVariants.{Lost}
 use Rattle.stm_world.specs.declared.refusal.Refusal.TheVariants.{Store}
 use Rattle.stm_world.specs.declared.refusal.Denied.{Denied}
-use Rattle.stm_world.specs.Told.{denied, reply_to, store_after_call}
-use Rattle.stm_world.specs.World.{Slot, Stepped, step, watch_called}
+use Rattle.stm_world.specs.Told.{denied, reply_to, poll_reply, store_after_call, store_after_poll}
+use Rattle.stm_world.specs.World.{Slot, Stepped, step, quietly_called}
 use Rattle.stm_retry.specs.Tells.{WantTells, Tells}
 use Rattle.stm_retry.specs.CallTells.{world_of, WatchTells}
 use Rattle.stm_world.proofs.Wants.{NeverWants}
@@ -20,7 +28,7 @@ use Rattle.stm_retry.proofs.CallLemmas.{refusal_tells}
 -- the world's step at an event is this call of the store, which is no entry
 abbrev pub IsWatchCall : {A : Type 0} → WorldEvent → (A → Reply) → Standing → Result (StoreStep A) StoreRefusal → Type 0
 IsWatchCall event tell s o =
-    (runners : List Slot) (es : List Entry) → step event (world_of runners s es) ≡ watch_called (reply_to tell o) (store_after_call s o) (world_of runners s es)
+    (runners : List Slot) (es : List Entry) → step event (world_of runners s es) ≡ quietly_called (reply_to tell o) (store_after_call s o) (world_of runners s es)
 
 -- want of memory is told of the event where the step takes it
 abbrev pub MayWant : WorldEvent → Standing → Type 0
@@ -49,3 +57,82 @@ watch_refused event tell s next o reply cause call want never refusal replied sa
     subst (λ (r : Result Reply Denied). Tells event r (world_of runners s es) (world_of runners next es)) (sym replied)
     (subst (λ (n : Standing). Tells event (denied (Store cause)) (world_of runners s es) (world_of runners n es)) (sym same)
     (refused_by event tell s o cause call want never refusal es runners))
+
+-- ---- a poll that was refused ----
+
+-- the watcher at its place, by whether it is lost
+abbrev poll_of : Standing → ℕ → ℕ → Watching → Bool → Result (StoreStep Batch) StoreRefusal
+poll_of s id most w lost = poll_step s (cond lost (Err LostToPoll) (Ok (record {
+  answer = batch_of most s.history w;
+  next = slice_set s.watchers (id - 1) (Some (after_poll most s.history w));
+})))
+
+-- what the world's step makes of the poll
+abbrev poll_stepped : Standing → ℕ → Result (StoreStep Batch) StoreRefusal → List Slot → List Entry → Stepped
+poll_stepped s id o runners es = quietly_called (poll_reply id s.floor o) (store_after_poll id s o) (world_of runners s es)
+
+stepped_as : (s : Standing) (id most : ℕ) (o : Result (StoreStep Batch) StoreRefusal) → polled s id most ≡ o → (runners : List Slot) (es : List Entry) →
+    step (Poll id most) (world_of runners s es) ≡ poll_stepped s id o runners es
+stepped_as s id most o is runners es = ap (λ (x : Result (StoreStep Batch) StoreRefusal). poll_stepped s id x runners es) is
+
+-- none was there
+none_tells : (s : Standing) (id most : ℕ) → polled s id most ≡ Err NoWatcher → WatchTells (Poll id most) (denied (Store NoWatcher)) s (poll_refused s id)
+none_tells s id most is es runners =
+    let one : step (Poll id most) (world_of runners s es) ≡ poll_stepped s id (Err NoWatcher) runners es = stepped_as s id most (Err NoWatcher) is runners es in
+    record { reply_is = ap (λ (x : Stepped). x.reply) one; next_is = ap (λ (x : Stepped). x.next) one }
+
+-- one was lost
+lost_tells : (s : Standing) (id most : ℕ) → polled s id most ≡ Err Compacted → WatchTells (Poll id most) (Ok (Lost id s.floor)) s (poll_refused s id)
+lost_tells s id most is es runners =
+    let one : step (Poll id most) (world_of runners s es) ≡ poll_stepped s id (Err Compacted) runners es = stepped_as s id most (Err Compacted) is runners es in
+    record { reply_is = ap (λ (x : Stepped). x.reply) one; next_is = ap (λ (x : Stepped). x.next) one }
+
+-- memory was wanting
+want_tells : (s : Standing) (id most : ℕ) (done : StoreStep Batch) → polled s id most ≡ Ok done →
+    WatchTells (Poll id most) (denied (Store OutOfMemory)) s s
+want_tells s id most done is es runners =
+    let one : step (Poll id most) (world_of runners s es) ≡ poll_stepped s id (Ok done) runners es = stepped_as s id most (Ok done) is runners es in
+    ((refl, refl), subst (λ (x : Stepped). IsOk x.reply) (sym one) refl)
+
+-- another reply and store that are the same
+told_alike : (event : WorldEvent) (s next next' : Standing) (reply reply' : Result Reply Denied) → reply ≡ reply' → next ≡ next' →
+    WatchTells event reply' s next' → WatchTells event reply s next
+told_alike event s next next' reply reply' replied same tells es runners =
+    subst (λ (r : Result Reply Denied). Tells event r (world_of runners s es) (world_of runners next es)) (sym replied)
+    (subst (λ (n : Standing). Tells event reply' (world_of runners s es) (world_of runners n es)) (sym same) (tells es runners))
+
+not_lost_stays : (s : Standing) (id : ℕ) (w : Watching) → watcher_at id s.watchers ≡ Some w → w.lost ≡ false → poll_refused s id ≡ s
+not_lost_stays s id w found kept =
+    ap (λ (o : Option Watching). with_watchers s (cond (is_one_lost o) (without_watcher id s.watchers) s.watchers)) found
+    ∙ ap (λ b. with_watchers s (cond b (without_watcher id s.watchers) s.watchers)) kept
+
+refusal_by_lost : (s next : Standing) (id most floor : ℕ) (reply : Result Reply Denied) (cause : StoreRefusal) (w : Watching) (lost : Bool) →
+    watcher_at id s.watchers ≡ Some w → w.lost ≡ lost → polled s id most ≡ poll_of s id most w lost → IsRefusalOf (poll_of s id most w lost) cause →
+    (cause ≡ Compacted → reply ≡ Ok (Lost id floor)) → (cause ≢ Compacted → reply ≡ denied (Store cause)) → floor ≡ s.floor → next ≡ poll_refused s id →
+    WatchTells (Poll id most) reply s next
+refusal_by_lost s next id most floor reply cause w true found is step refusal lost other floor_is left =
+    told_alike (Poll id most) s next (poll_refused s id) reply (Ok (Lost id s.floor)) (lost refusal ∙ ap (λ n. Ok (Lost id n)) floor_is) left
+    (lost_tells s id most step)
+refusal_by_lost s next id most floor reply cause w false found is step refusal lost other floor_is left =
+    let not : cause ≢ Compacted = λ e. let both : OutOfMemory ≡ Compacted = sym refusal ∙ e in absurd (cc) in
+    told_alike (Poll id most) s next s reply (denied (Store OutOfMemory)) (other not ∙ ap (λ (c : StoreRefusal). denied (Store c)) refusal)
+    (left ∙ not_lost_stays s id w found is) (want_tells s id most _ step)
+
+refusal_by_place : (s next : Standing) (id most floor : ℕ) (reply : Result Reply Denied) (cause : StoreRefusal) (o : Option Watching) →
+    watcher_at id s.watchers ≡ o → polled s id most ≡ poll_step s (poll_found s.history id most s.watchers o) →
+    IsRefusalOf (poll_step s (poll_found s.history id most s.watchers o)) cause →
+    (cause ≡ Compacted → reply ≡ Ok (Lost id floor)) → (cause ≢ Compacted → reply ≡ denied (Store cause)) → floor ≡ s.floor → next ≡ poll_refused s id →
+    WatchTells (Poll id most) reply s next
+refusal_by_place s next id most floor reply cause None found step refusal lost other floor_is left =
+    let not : cause ≢ Compacted = λ e. let both : NoWatcher ≡ Compacted = sym refusal ∙ e in absurd (cc) in
+    told_alike (Poll id most) s next (poll_refused s id) reply (denied (Store NoWatcher)) (other not ∙ ap (λ (c : StoreRefusal). denied (Store c)) refusal)
+    left (none_tells s id most step)
+refusal_by_place s next id most floor reply cause (Some w) found step refusal lost other floor_is left =
+    refusal_by_lost s next id most floor reply cause w w.lost found refl step refusal lost other floor_is left
+
+-- a poll that was refused, by the store, since the watcher is lost, or for want of memory
+pub poll_refusal_tells : (s next : Standing) (id most floor : ℕ) (reply : Result Reply Denied) (cause : StoreRefusal) → IsRefusalOf (polled s id most) cause →
+    (cause ≡ Compacted → reply ≡ Ok (Lost id floor)) → (cause ≢ Compacted → reply ≡ denied (Store cause)) → floor ≡ s.floor → next ≡ poll_refused s id →
+    WatchTells (Poll id most) reply s next
+poll_refusal_tells s next id most floor reply cause refusal lost other floor_is left =
+    refusal_by_place s next id most floor reply cause (watcher_at id s.watchers) refl refl refusal lost other floor_is left

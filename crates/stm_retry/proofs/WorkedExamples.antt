@@ -8,6 +8,7 @@ use Rattle.std.specs.Cmp.{nat_cmp_total}
 use Rattle.std.specs.FinMap.{entries, empty, insert, remove, get, find, put, keys, same_map, nat_cmp-IsAntisymmetric}
 use Rattle.std.specs.FinMap.{get-entries, get-empty, get-insert, get-remove, entries-insert, len-entries, len-empty}
 use Rattle.stm_history.specs.declared.change.Change.TheVariants.{Put}
+use Rattle.stm_history.specs.Opening.{opening_at}
 use Rattle.stm_history.specs.History.{History}
 use Rattle.stm_leases.specs.LeaseLog.{Term}
 use Rattle.stm_leases.specs.Live.{Live}
@@ -65,10 +66,10 @@ abbrev both : Live
 both = insert (insert none 1 term) 2 term
 
 abbrev put_once : History
-put_once = record { opening = 1; revisions = (Put (codes "a") (codes "1") 1 ∷ Put (codes "b") (codes "1") 2 ∷ []) ∷ [] }
+put_once = record { opening = opening_at 1; revisions = (Put (codes "a") (codes "1") 1 ∷ Put (codes "b") (codes "1") 2 ∷ []) ∷ [] }
 
 abbrev store : Standing
-store = record { history = put_once; live = both; moment = 0; watchers = [] }
+store = record { history = put_once; floor = 0; live = both; moment = 0; watchers = [] }
 
 abbrev at_nine : Standing
 at_nine = at_moment store 9

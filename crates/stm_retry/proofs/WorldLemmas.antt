@@ -23,18 +23,20 @@ use Rattle.stm_outcome.specs.declared.refusal.Refusal.TheVariants.{LeaseIdOutOfR
 use Rattle.stm_outcome.specs.Commits.{revision_read}
 use Rattle.stm_outcome.specs.Outcome.{Done}
 use Rattle.stm_txn.specs.Standing.{terms_of}
+use Rattle.stm_outcome.specs.Terms.{is_below_floor}
+use Rattle.stm_world.specs.declared.reply.Reply.TheVariants.{Ended}
 use Rattle.stm_compile.specs.Committed.{committed}
 use Rattle.stm_compile.specs.Conflicts.{Seen, seen_by}
 use Rattle.stm_attempt.specs.Settled.{run_on}
 use Rattle.stm_attempt.specs.Fetches.{at_of}
 use Rattle.stm_world.specs.declared.event.WorldEvent.{WorldEvent}
-use Rattle.stm_world.specs.declared.event.WorldEvent.TheVariants.{Start, Step, Txn, Grant, Keep, Revoke, Advance, WatchKey, WatchRange, Poll, Cancel}
+use Rattle.stm_world.specs.declared.event.WorldEvent.TheVariants.{Start, Step, Txn, Grant, Keep, Revoke, Advance, WatchKey, WatchRange, Poll, Cancel, Compact}
 use Rattle.stm_world.specs.declared.reply.Reply.{Reply}
 use Rattle.stm_world.specs.declared.refusal.Refusal.{Refusal}
 use Rattle.stm_world.specs.declared.refusal.Refusal.TheVariants.{Store, BadLimit, NoRunner}
 use Rattle.stm_world.specs.declared.refusal.Denied.{Denied}
 use Rattle.stm_world.specs.Task.{Task}
-use Rattle.stm_world.specs.World.{World, Runner, Stepped, runner_at, refused, start_runner, fetch, seen_in, fail_commit, decided, commit_told, commit, finish}
+use Rattle.stm_world.specs.World.{World, Runner, Stepped, Over, runner_at, refused, replied, start_runner, fetch, seen_in, fail_commit, decided, commit_told, commit, finish}
 use Rattle.stm_world.specs.World.{step_on, step_live, step_runner}
 use Rattle.stm_world.specs.World.{step, world_after, replies_to}
 use Rattle.stm_world.specs.Sound.{IsSound}
@@ -92,8 +94,13 @@ fetch_plain : (id : ℕ) (r : Runner) (key : List ℕ) (of_rev : ℕ) (w : World
 unfolding fetch
 fetch_plain id r key of_rev w = tt
 
+base_plain : (id : ℕ) (r : Runner) (key : List ℕ) (base : ℕ) (w : World) (below : Bool) →
+    PlainOnly (cond below (replied (Ended id Compacted) id Over w) (fetch id r key (revision_read w.standing.history base) w)).reply
+base_plain id r key base w true = tt
+base_plain id r key base w false = fetch_plain id r key (revision_read w.standing.history base) w
+
 on_plain : (id : ℕ) (r : Runner) (reads : List ReadAnswer) (answered : Answered) (w : World) → PlainOnly (step_on id r reads answered w).reply
-on_plain id r reads (Wants key trace) w = fetch_plain id r key (revision_read w.standing.history (at_of r.task.level reads)) w
+on_plain id r reads (Wants key trace) w = base_plain id r key (at_of r.task.level reads) w (is_below_floor w.standing.floor (at_of r.task.level reads))
 on_plain id r reads (EndedRun run) w = finish_plain id r reads run run.end w
 
 live_plain : (id : ℕ) (r : Runner) (w : World) → PlainOnly (step_live id r w).reply
@@ -167,6 +174,7 @@ want_sound (WatchKey key from) expired old new sound want = unchanged_sound expi
 want_sound (WatchRange first end from) expired old new sound want = unchanged_sound expired old new sound want.0
 want_sound (Poll watcher most) expired old new sound want = unchanged_sound expired old new sound want.0
 want_sound (Cancel watcher) expired old new sound want = unchanged_sound expired old new sound want.0
+want_sound (Compact revision) expired old new sound want = absurd want
 
 is_step_sound : (event : WorldEvent) (reply : Result Reply Denied) (old new : World) → IsSound old → IsStep (step event old) reply new → IsSound new
 is_step_sound event reply old new sound is = subst IsSound is.next_is (step_is_sound event old sound)
@@ -188,7 +196,7 @@ store_cases TooManyOps event d old new told = inr (refl, told)
 store_cases DuplicateKey event d old new told = inr (refl, told)
 store_cases TimeGoesBack event d old new told = inr (refl, told)
 
-refusal_cases : (cause : Refusal) (event : WorldEvent) (d : Denied) (old new : World) → RefusalTells cause event d old new →
+pub refusal_cases : (cause : Refusal) (event : WorldEvent) (d : Denied) (old new : World) → RefusalTells cause event d old new →
     ((is_want cause ≡ true) × WantTells event d.expired old new) ⊎ ((is_want cause ≡ false) × IsStep (step event old) (Err d) new)
 refusal_cases (Store cause) event d old new told = store_cases cause event d old new told
 refusal_cases BadLimit event d old new told = inr (refl, told)

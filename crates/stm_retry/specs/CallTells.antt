@@ -17,7 +17,7 @@ world_of runners s entries = record { standing = s; runners = runners; entries =
 abbrev pub CallTells : WorldEvent → Result Reply Denied → Standing → List Entry → Standing → List Entry → Type 0
 CallTells event told s entries next more = (runners : List Slot) → Tells event told (world_of runners s entries) (world_of runners next more)
 
--- the same of a call that is about watchers, which is no entry
+-- the same of a call that is no entry
 abbrev pub WatchTells : WorldEvent → Result Reply Denied → Standing → Standing → Type 0
 WatchTells event told s next = (entries : List Entry) → CallTells event told s entries next entries
 

@@ -1,20 +1,24 @@
 -- What a step of a runner tells, and what it leaves of the store, the entries and the runner.
 use Rattle.std.specs.Prelude.{◌≡◌, ℕ, ◌+◌, nat_lt, Bool, if◌then◌else◌, List, Result, Ok, Err}
+use Rattle.stm_history.specs.declared.key_state.ReadAnswer.{ReadAnswer}
+use Rattle.stm_history.specs.History.{mod_of}
 use Rattle.std.specs.declared.alloc.AllocError.{AllocError}
 use Rattle.stm_meaning.specs.declared.run.End.{End}
 use Rattle.stm_meaning.specs.declared.run.End.TheVariants.{Done, Aborted as AbortedEnd, Faulted as FaultedEnd}
 use Rattle.stm_meaning.specs.declared.run.Run.{Run}
 use Rattle.stm_meaning.specs.declared.run.Answered.TheVariants.{Ended as EndedRun}
+use Rattle.stm_outcome.specs.declared.refusal.Refusal.{Refusal as StoreRefusal}
 use Rattle.stm_txn.specs.Standing.{Standing}
 use Rattle.stm_attempt.specs.Settled.{run_on}
 use Rattle.stm_attempt.specs.ReadyRun.{ReadyRun, ready_run}
 use Rattle.stm_entries.specs.declared.entry.Entry.{Entry}
 use Rattle.stm_world.specs.declared.reply.Reply.{Reply}
-use Rattle.stm_world.specs.declared.reply.Reply.TheVariants.{Conflict, GaveUp, Aborted, Faulted}
+use Rattle.stm_world.specs.declared.reply.Reply.TheVariants.{Fetched, Conflict, GaveUp, Aborted, Faulted, Ended}
 use Rattle.stm_world.specs.declared.refusal.Denied.{Denied}
 use Rattle.stm_world.specs.World.{World, Stepped, Runner, Slot, Over, Live, with_slot}
 use Rattle.stm_retry.specs.declared.told.Told.{Told}
 use Rattle.stm_retry.specs.declared.told.Told.TheVariants.{GoesOn, Ends}
+use Rattle.stm_retry.specs.RunnerView.{with_answer}
 
 -- what a step of a runner works on
 pub record Workplace : Type 0 where
@@ -55,6 +59,16 @@ Leaves id (Ok told) before after step =
     (slots : List Slot) → step (world_around before slots)
     ≡ record { reply = Ok (reply_in told); next = world_around after (with_slot id (slot_after told after.runner) slots) }
 Leaves id (Err e) before after step = after ≡ before
+
+-- what a fetch of a key tells, by what it comes to: one that the store refuses ends the run
+abbrev pub told_of_fetch : ℕ → List ℕ → Result ReadAnswer StoreRefusal → Told
+told_of_fetch id key (Ok a) = GoesOn (Fetched id key (mod_of a.kv) a.of_rev a.revision)
+told_of_fetch id key (Err cause) = Ends (Ended id cause)
+
+-- the runner after it
+abbrev pub after_told_fetch : Result ReadAnswer StoreRefusal → Runner → Runner
+after_told_fetch (Ok a) r = with_answer a r
+after_told_fetch (Err cause) r = r
 
 -- the reply of a run that came to such an end with nothing to commit
 abbrev pub TellsEnd : ℕ → End → Reply → Type 0

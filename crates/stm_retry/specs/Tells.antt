@@ -8,7 +8,7 @@ use Rattle.stm_outcome.specs.declared.refusal.Refusal.{Refusal as StoreRefusal}
 use Rattle.stm_outcome.specs.declared.refusal.Refusal.TheVariants.{OutOfMemory}
 use Rattle.stm_txn.specs.Standing.{HasCome, at_moment, advanced, IsStopped}
 use Rattle.stm_world.specs.declared.event.WorldEvent.{WorldEvent}
-use Rattle.stm_world.specs.declared.event.WorldEvent.TheVariants.{Advance}
+use Rattle.stm_world.specs.declared.event.WorldEvent.TheVariants.{Advance, Compact}
 use Rattle.stm_world.specs.declared.reply.Reply.{Reply}
 use Rattle.stm_world.specs.declared.refusal.Denied.{Denied}
 use Rattle.stm_world.specs.declared.refusal.Refusal.{Refusal}
@@ -32,11 +32,12 @@ pub record IsCutShort (moment : ℕ) (expired : List Expired) (old new : World) 
   pub stopped : IsStopped (advanced old.standing moment) expired new.standing
   pub rest : new ≡ after_expiries old new.standing expired
 
--- Want of memory is told only of an event that the step takes, and of an advance that does not go back. The world is as it
--- was, or the advance was cut short.
+-- Want of memory is told only of an event that the step takes, and of an advance that does not go back; and never of a compaction, which
+-- takes none. The world is as it was, or the advance was cut short.
 abbrev pub WantTells : WorldEvent → List Expired → World → World → Type 0
 WantTells (Advance moment) expired old new =
     (old.standing.moment ≤ moment) × (IsUnchanged expired old new ⊎ IsCutShort moment expired old new)
+WantTells (Compact revision) expired old new = ⊥
 WantTells event expired old new = IsUnchanged expired old new × IsOk (step event old).reply
 
 abbrev pub StoreRefusalTells : StoreRefusal → WorldEvent → Denied → World → World → Type 0

@@ -2,13 +2,12 @@
 ghost use Rattle.std.specs.Prelude.{◌≡◌, ◌≤◌, [], IfOk};
 ghost use Rattle.stm_history.specs.declared.revisions.TheConstants.{HIGHEST_REVISION};
 ghost use Rattle.stm_world.specs.World.{opened};
-ghost use Rattle.stm_world.specs.Sound.{IsSound};
 ghost use Rattle.stm_retry.specs.MachineTells.{as_reply};
-ghost use Rattle.stm_retry.specs.Tells.{Tells};
+ghost use Rattle.stm_retry.specs.Kept.{KeptTells, BasesAreReached};
 
 use crate::slots::Slot;
 use crate::store_calls::{advance, grant, keep, make_txn, revoke};
-use crate::watch_calls::{cancel, poll, watch_key, watch_range};
+use crate::watch_calls::{cancel, compact, poll, watch_key, watch_range};
 use std::alloc::{AllocError, Global};
 use std::marker::Model;
 use stm_history::Sequence;
@@ -16,6 +15,8 @@ use stm_txn::{Refusal as StoreRefusal, Store};
 use stm_world::{Denied, Entry, Refusal, Reply, WorldEvent};
 
 /// The store, the places of the runners and the entries.
+///
+/// Contracts see the store as it is: without the revisions that compactions have dropped.
 #[derive(Drop)]
 pub(crate) struct Machine {
     pub(crate) store: Store,
@@ -74,8 +75,8 @@ impl Machine {
 
     /// Takes one event.
     pub(crate) fn step(&mut self, alloc: Global, event: &WorldEvent) -> Result<Reply, Denied>
-        requires { IsSound self.old }
-        ensures { Tells event.now result self.old self.new }
+        requires { BasesAreReached self.old }
+        ensures { KeptTells event.now result self.old self.new }
     {
         match event {
             WorldEvent::Start {
@@ -107,6 +108,7 @@ impl Machine {
             }
             WorldEvent::Poll { watcher, most } => poll(alloc, &mut self.store, *watcher, *most),
             WorldEvent::Cancel { watcher } => cancel(alloc, &mut self.store, *watcher),
+            WorldEvent::Compact { revision } => compact(alloc, &mut self.store, *revision),
         }
     }
 }

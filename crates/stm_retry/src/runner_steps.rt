@@ -1,23 +1,22 @@
 //! The steps of runners.
 ghost use Rattle.std.specs.Prelude.{◌≡◌, ◌≢◌, ◌<◌, ◌≤◌, ◌∷◌, ◌++◌, [], Some, Ok, true, false, length, All, IfOk, OnOk, OnErr, vec_len, vec_capacity};
-ghost use Rattle.stm_history.specs.History.{now, key_at, mod_of};
+ghost use Rattle.stm_history.specs.History.{now, mod_of};
 ghost use Rattle.stm_meaning.specs.declared.run.End.TheVariants.{Done};
 ghost use Rattle.stm_meaning.specs.declared.run.Run.{Run as ARun};
 ghost use Rattle.stm_outcome.specs.declared.refusal.Refusal.TheVariants.{OutOfMemory};
 ghost use Rattle.stm_outcome.specs.Numbers.{ReadFits};
-ghost use Rattle.stm_outcome.specs.Commits.{revision_read};
 ghost use Rattle.stm_compile.specs.Levels.{is_serializable};
-ghost use Rattle.stm_compile.specs.Answers.{AreTrue};
 ghost use Rattle.stm_attempt.specs.Known.{HaveDistinctKeys};
-ghost use Rattle.stm_attempt.specs.Fetches.{ShowOneRevision};
+ghost use Rattle.stm_attempt.specs.Fetches.{ShowOneRevision, at_of};
+ghost use Rattle.stm_calls.specs.Fetched.{fetch_told};
 ghost use Rattle.stm_entries.specs.declared.entry.Entry.TheVariants.{Program as ProgramEntry};
 ghost use Rattle.stm_world.specs.declared.reply.Reply.TheVariants.{Fetched, Started, Committed, Ended};
-ghost use Rattle.stm_world.specs.Task.{answer_at, answers_told};
+ghost use Rattle.stm_world.specs.Task.{answers_told};
 ghost use Rattle.stm_world.specs.World.{Runner as LiveRunner, start_runner, step_runner, step_live, commit as commit_of, runner_at};
 ghost use Rattle.stm_retry.specs.declared.told.Told.TheVariants.{GoesOn, Ends};
 ghost use Rattle.stm_retry.specs.MachineTells.{Tells};
 ghost use Rattle.stm_retry.specs.RunnerView.{task_of, AreNamed, with_answer, begun_again};
-ghost use Rattle.stm_retry.specs.RunnerTells.{workplace, Leaves, TellsEnd, IsReady, told_of_failure, may_go_on, reply_in, reply_told, slot_left};
+ghost use Rattle.stm_retry.specs.RunnerTells.{workplace, Leaves, TellsEnd, IsReady, told_of_fetch, after_told_fetch, told_of_failure, may_go_on, reply_in, reply_told, slot_left};
 
 use crate::entries::entry_of;
 use crate::machine::{Machine, denied};
@@ -44,27 +43,19 @@ fn mod_rev_in(kv: &Option<KeyState>) -> u64
     }
 }
 
-/// Fetches the key that a runner waits for.
-fn fetch(
-    alloc: Global,
-    store: &mut Store,
+/// Takes the answer to a fetch of this key, which the runner waits for.
+fn take_answer(
     id: u64,
     runner: &mut Runner,
     key: Text,
-    at: u64,
+    answer: ReadAnswer,
 ) -> Result<Told, AllocError>
-    requires asked { runner.old.awaits ≡ Some key }
-    requires named { 0 < length key }
-    requires reached { at ≤ now store.old.standing.history }
-    ensures told { IfOk result (λ told. told ≡ GoesOn (Fetched id key
-        (mod_of (key_at store.old.standing.history key (revision_read store.old.standing.history at)))
-        (revision_read store.old.standing.history at) (now store.old.standing.history))) }
-    ensures ok { OnOk result (runner.new.runner ≡
-        with_answer (answer_at store.old.standing.history key (revision_read store.old.standing.history at)) runner.old.runner) }
+    requires asked { runner.old.awaits ≡ Some answer.key }
+    requires in_range { ReadFits answer }
+    ensures told { IfOk result (λ told. told ≡ GoesOn (Fetched id key (mod_of answer.kv) answer.of_rev answer.revision)) }
+    ensures ok { OnOk result (runner.new.runner ≡ with_answer answer runner.old.runner) }
     ensures err { OnErr result (runner.new.runner ≡ runner.old.runner) }
-    ensures store { store.new.standing ≡ store.old.standing }
 {
-    let answer = stm_calls::fetch(alloc, store, key.as_str(), at)?;
     let mod_rev = mod_rev_in(&answer.kv);
     let of_rev = answer.of_rev;
     let revision = answer.revision;
@@ -76,6 +67,30 @@ fn fetch(
         of_rev,
         revision,
     }))
+}
+
+/// Fetches the key that a runner waits for. A fetch that the store refuses, since its revision is compacted, ends the run.
+fn fetch(
+    alloc: Global,
+    store: &mut Store,
+    id: u64,
+    runner: &mut Runner,
+    key: Text,
+    at: u64,
+) -> Result<Told, AllocError>
+    requires asked { runner.old.awaits ≡ Some key }
+    requires named { 0 < length key }
+    requires reached { at ≤ now store.old.standing.history }
+    ensures told { IfOk result (λ told. told ≡ told_of_fetch id key (fetch_told store.old.standing key at)) }
+    ensures ok { OnOk result (runner.new.runner ≡ after_told_fetch (fetch_told store.old.standing key at) runner.old.runner) }
+    ensures err { OnErr result (runner.new.runner ≡ runner.old.runner) }
+    ensures store { store.new.standing ≡ store.old.standing }
+{
+    let fetched = stm_calls::fetch(alloc, store, key.as_str(), at);
+    match fetched {
+        Ok(answer) => take_answer(id, runner, key, answer),
+        Err(cause) => end_refused(id, cause),
+    }
 }
 
 /// The reply of an end other than a run's last statement.
@@ -135,7 +150,7 @@ fn fail_commit(
     }))
 }
 
-/// What a commit that the store refused comes to: the end of the run, unless memory ran out.
+/// What a fetch or a commit that the store refused comes to: the end of the run, unless memory ran out.
 fn end_refused(id: u64, cause: StoreRefusal) -> Result<Told, AllocError>
     ensures told { IfOk result (λ told. told ≡ Ends (Ended id cause)) }
     ensures refused { OnOk result (cause ≢ OutOfMemory) }
@@ -250,7 +265,7 @@ pub(crate) fn step_live(
     id: u64,
     runner: &mut Runner,
 ) -> Result<Told, AllocError>
-    requires { AreTrue store.old.standing.history runner.old.runner.known.reads }
+    requires { at_of runner.old.runner.task.level runner.old.runner.known.reads ≤ now store.old.standing.history }
     ensures { Leaves id result (workplace store.old.standing entries.old.items runner.old.runner)
         (workplace store.new.standing entries.new.items runner.new.runner) (step_live id runner.old.runner) }
 {
@@ -351,7 +366,7 @@ impl Machine {
         alloc: Global,
         id: u64,
     ) -> Result<Result<Reply, Denied>, AllocError>
-        requires { (r : LiveRunner) → runner_at id self.old.runners ≡ Some r → AreTrue self.old.standing.history r.known.reads }
+        requires { (r : LiveRunner) → runner_at id self.old.runners ≡ Some r → at_of r.task.level r.known.reads ≤ now self.old.standing.history }
         ensures { Tells result self.old self.new (step_runner id (runner_at id self.old.runners) self.old) }
     {
         let Some(mut runner) = take_runner(&mut self.runners, id) else {

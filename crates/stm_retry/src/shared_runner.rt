@@ -1,6 +1,7 @@
 //! Runners that several worlds share.
-ghost use Rattle.std.specs.Prelude.{◌≡◌, IfOk};
-ghost use Rattle.stm_compile.specs.Answers.{AreTrue};
+ghost use Rattle.std.specs.Prelude.{◌≡◌, ◌≤◌, IfOk};
+ghost use Rattle.stm_history.specs.History.{now};
+ghost use Rattle.stm_attempt.specs.Fetches.{at_of};
 ghost use Rattle.stm_world.specs.World.{step_live};
 ghost use Rattle.stm_retry.specs.RunnerTells.{workplace, Leaves};
 
@@ -50,7 +51,7 @@ impl SharedRunner {
         entries: &mut Vec<Entry>,
         id: u64,
     ) -> Result<Told, AllocError>
-        requires { AreTrue store.old.standing.history self.old.runner.known.reads }
+        requires { at_of self.old.runner.task.level self.old.runner.known.reads ≤ now store.old.standing.history }
         ensures { Leaves id result (workplace store.old.standing entries.old.items self.old.runner)
             (workplace store.new.standing entries.new.items self.new.runner) (step_live id self.old.runner) }
     {

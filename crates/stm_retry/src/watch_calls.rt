@@ -1,11 +1,17 @@
-//! The events that are about watchers. Each is one call of the store, and none is an entry.
+//! The events that are about watchers, and a compaction. Each is one call of the store, and none is an entry.
+ghost use Rattle.std.specs.Prelude.{◌≡◌, ◌≢◌, Ok};
+ghost use Rattle.stm_outcome.specs.declared.refusal.Refusal.TheVariants.{Compacted as CompactedRefusal};
+ghost use Rattle.stm_txn.specs.Standing.{compacted};
+ghost use Rattle.stm_world.specs.declared.reply.Reply.TheVariants.{Compacted as CompactedReply, Lost as LostReply};
+ghost use Rattle.stm_world.specs.declared.refusal.Refusal.TheVariants.{Store as OfStore};
+ghost use Rattle.stm_world.specs.Told.{denied as denied_for, reply_to, store_after_call};
 ghost use Rattle.stm_world.specs.declared.event.WorldEvent.TheVariants.{WatchKey as WatchKeyEvent, WatchRange as WatchRangeEvent};
 ghost use Rattle.stm_world.specs.declared.event.WorldEvent.TheVariants.{Poll as PollEvent, Cancel as CancelEvent};
 ghost use Rattle.stm_retry.specs.CallTells.{WatchTells};
 
 use crate::store_calls::refuse;
 use std::alloc::Global;
-use stm_txn::Store;
+use stm_txn::{Refusal as StoreRefusal, Store};
 use stm_world::{Denied, Reply};
 
 /// Begins to watch a key.
@@ -39,7 +45,23 @@ pub(crate) fn watch_range(
     }
 }
 
-/// Gives what is pending for a watcher, of at most so many revisions.
+/// The reply to a poll that the store refused: a watcher that is lost is told so, with the floor of the store.
+fn refuse_poll(
+    alloc: Global,
+    watcher: u64,
+    floor: u64,
+    cause: StoreRefusal,
+) -> Result<Reply, Denied>
+    ensures lost { cause ≡ CompactedRefusal → result ≡ Ok (LostReply watcher floor) }
+    ensures other { cause ≢ CompactedRefusal → result ≡ denied_for (OfStore cause) }
+{
+    if cause == StoreRefusal::Compacted {
+        return Ok(Reply::Lost { watcher, floor });
+    }
+    refuse(alloc, cause)
+}
+
+/// Gives what is pending for a watcher, of at most so many revisions. One that is lost is told so, and given up.
 pub(crate) fn poll(
     alloc: Global,
     store: &mut Store,
@@ -54,7 +76,7 @@ pub(crate) fn poll(
             upto: batch.upto,
             events: batch.events,
         }),
-        Err(cause) => refuse(alloc, cause),
+        Err(cause) => refuse_poll(alloc, watcher, store.floor(), cause),
     }
 }
 
@@ -64,6 +86,17 @@ pub(crate) fn cancel(alloc: Global, store: &mut Store, watcher: u64) -> Result<R
 {
     match store.cancel(watcher) {
         Ok(()) => Ok(Reply::Cancelled { watcher }),
+        Err(cause) => refuse(alloc, cause),
+    }
+}
+
+/// Compacts the store at a revision: what is below it is dropped.
+pub(crate) fn compact(alloc: Global, store: &mut Store, revision: u64) -> Result<Reply, Denied>
+    ensures told { result ≡ reply_to (λ _. CompactedReply revision) (compacted store.old.standing revision) }
+    ensures store { store.new.standing ≡ store_after_call store.old.standing (compacted store.old.standing revision) }
+{
+    match store.compact(revision) {
+        Ok(()) => Ok(Reply::Compacted { revision }),
         Err(cause) => refuse(alloc, cause),
     }
 }

@@ -1,8 +1,9 @@
 //! The world.
 ghost use Rattle.std.specs.Prelude.{◌≡◌, ◌≢◌, ◌≤◌, ℕ, false, List, [], ◌∷◌, ◌++◌, length, is_some, Result, Ok, Err, IfOk, IfErr, OnOk, OnErr};
 ghost use Rattle.stm_history.specs.declared.revisions.TheConstants.{HIGHEST_REVISION};
-ghost use Rattle.stm_history.specs.History.{AreRevisions};
+ghost use Rattle.stm_history.specs.History.{now, AreRevisions};
 ghost use Rattle.stm_outcome.specs.declared.refusal.Refusal.TheVariants.{OutOfMemory};
+ghost use Rattle.stm_txn.specs.Standing.{kept};
 ghost use Rattle.stm_entries.specs.Replayed.{opening, without_moment};
 ghost use Rattle.stm_entries.specs.Replay.{replay};
 ghost use Rattle.stm_entries.specs.Legal.{AreLegal};
@@ -19,6 +20,7 @@ ghost use Rattle.stm_world.specs.Sound.{IsSound};
 ghost use Rattle.stm_world.specs.World.{opened, runner_at, start_runner, world_after, replies_to};
 ghost use Rattle.stm_retry.specs.Tells.{Tells, ran_out, expired_of, IsRunStop};
 ghost use Rattle.stm_retry.specs.Stops.{GoesOnAlike};
+ghost use Rattle.stm_retry.specs.Kept.{whole_store};
 
 use crate::machine::Machine;
 use crate::slots::is_running;
@@ -33,12 +35,15 @@ use stm_world::{Denied, Entry, Refusal, Reply, WorldEvent};
 
 /// Runners of programs over one store.
 ///
-/// Contracts see the store, the places of the runners and the entries. In every world the entries replay from
-/// the opening store to the history and the live leases, each is legal at its point, and what a runner knows
-/// is true of the history.
+/// Contracts see the store, the places of the runners and the entries; the history is the whole one, to which the
+/// entries lead, also where a compaction has dropped revisions of the store. In every world the entries replay from
+/// the opening store to the history and the live leases, each is legal at its point, what a runner knows is true of
+/// the history, and the store stands for it: it has the revisions from its floor on.
 #[derive(Drop)]
 pub struct World {
     alloc: Global,
+    /// The revision at which the store opened.
+    opened: u64,
     machine: Machine,
 }
 
@@ -47,15 +52,15 @@ impl Model for World {
     ghost use Rattle.stm_program.specs.Coding.{coded_program};
     ghost use Rattle.stm_retry.specs.Codes.{coded_live};
     ghost use Rattle.stm_world.specs.World.{World as WorldState};
-    ghost use Rattle.stm_world.specs.Sound.{IsSound};
+    ghost use Rattle.stm_retry.specs.Kept.{whole_world, IsKeptBy};
 
     ghost Value = { WorldState };
 
     ghost coded = { Prim.hlevel (codes, coded_program, coded_live) };
 
-    ghost view = { λ w. w.machine };
+    ghost view = { λ w. whole_world w.opened w.machine };
 
-    ghost invariant = { λ w. IsSound w.machine };
+    ghost invariant = { λ w. IsKeptBy w.machine.standing (whole_world w.opened w.machine) };
 }
 
 /// A run of events that want of memory stopped.
@@ -104,7 +109,11 @@ impl World {
         ensures { IfOk result (λ w. w ≡ opened start) }
     {
         let machine = Machine::new(alloc, start)?;
-        Ok(World { alloc, machine })
+        Ok(World {
+            alloc,
+            opened: start,
+            machine,
+        })
     }
 
     /// Starts a run of a program, which may send so many commits, and gives the runner's number.
@@ -132,10 +141,12 @@ impl World {
     /// A runner's step evaluates its program on the answers that it has recorded and on the prefetched ones that
     /// serve. Then it makes at most one transaction of the store: the fetch of the key that the program wants,
     /// or its commit. A program that aborts or faults ends its run with that reply, and so does a commit that
-    /// the store refuses. A commit that fails begins a new attempt, or ends the run where it may send no more.
-    /// Every other event is one call of the store.
+    /// the store refuses, and a fetch at a revision that is compacted. A commit that fails begins a new attempt, or ends
+    /// the run where it may send no more. Every other event is one call of the store.
     ///
-    /// An event about a watcher is no entry, and leaves history, leases and moment as they are.
+    /// An event about a watcher is no entry, and leaves history, leases and moment as they are. So does a compaction:
+    /// below its revision nothing can be read any more, and watchers that were still to be told of something there are
+    /// lost. A poll of a lost watcher is told so, and the watcher is given up.
     ///
     /// An event is refused as `BadLimit` (a start with limit 0), as `NoRunner` (a step of a runner that is not
     /// there or has ended), or for the store's cause. A refused event leaves the world as it was, but for an
@@ -143,7 +154,7 @@ impl World {
     /// expired before stay expired, are told and are entries, and the rest stays due.
     ///
     /// Want of memory (`OutOfMemory`) is told only where the event is taken otherwise, and of an advance that
-    /// does not go back. Such an advance leaves the world as it was, or it was cut short so.
+    /// does not go back. Such an advance leaves the world as it was, or it was cut short so. A compaction takes no memory.
     ///
     /// A commit at a level that compares, of which no compare fails, has read what the store has just before it, each
     /// value too; so also one that the store refuses.
@@ -226,29 +237,33 @@ impl World {
 
     /// What changed the store, in the order of the steps.
     ///
-    /// The entries replay to the store's history and live leases, and each is legal at its point. Each revision of
-    /// that history changes something, and no key twice.
+    /// The entries replay to the history, for which the store stands (`store`), and to its live leases, and each is
+    /// legal at its point. Each revision of that history changes something, and no key twice.
     pub fn history(&self) -> &[Entry]
         ensures entries { result.now ≡ self.now.entries }
-        ensures replays { replay self.now.entries (opening self.now.standing.history.opening) ≡ without_moment self.now.standing }
-        ensures legal { AreLegal self.now.entries (opening self.now.standing.history.opening) }
+        ensures replays { replay self.now.entries (opening self.now.standing.history.opening.number) ≡ without_moment self.now.standing }
+        ensures legal { AreLegal self.now.entries (opening self.now.standing.history.opening.number) }
         ensures revisions { AreRevisions self.now.standing.history.revisions }
     {
-        // (a clause of this call tells that the revisions are a history)
-        let _counter = self.machine.store.keys().revision();
         self.machine.entries.as_slice()
     }
 
-    /// The store: its keys at every revision, its leases, and its moment.
+    /// The store: its keys at every revision from the floor on, its leases, its moment and its watchers.
+    ///
+    /// It stands for the history that the entries replay to: it is that store without the revisions below the floor. One that was never
+    /// compacted has them all.
     pub fn store(&self) -> &Store
-        ensures { result.now.standing ≡ self.now.standing }
+        ensures standing { result.now.standing ≡ kept self.now.standing }
+        ensures replays { result.now.standing ≡
+            kept (whole_store self.now.standing.history.opening.number self.now.entries result.now.standing) }
+        ensures reached { self.now.standing.floor ≤ now self.now.standing.history }
     {
         &self.machine.store
     }
 
     /// The store, once the world has served. Its watchers and leases stay in it.
     pub fn into_store(self) -> Store
-        ensures { result.standing ≡ self.standing }
+        ensures { result.standing ≡ kept self.standing }
     {
         let World { machine, .. } = self;
         let Machine { store, .. } = machine;
@@ -277,6 +292,7 @@ impl World {
         let machine = self.machine.copy()?;
         Ok(World {
             alloc: self.alloc,
+            opened: self.opened,
             machine,
         })
     }

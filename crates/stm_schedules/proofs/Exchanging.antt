@@ -13,9 +13,11 @@ use Rattle.stm_meaning.specs.declared.run.Answered.{Answered}
 use Rattle.stm_meaning.specs.declared.run.Answered.TheVariants.{Ended as EndedRun, Wants}
 use Rattle.stm_outcome.specs.declared.answer.FailedCompare.{FailedCompare}
 use Rattle.stm_outcome.specs.declared.refusal.Refusal.{Refusal as StoreRefusal}
+use Rattle.stm_outcome.specs.declared.refusal.Refusal.TheVariants.{Compacted as CompactedRefusal}
 use Rattle.stm_outcome.specs.Outcome.{Done}
 use Rattle.stm_outcome.specs.Commits.{revision_read}
 use Rattle.stm_txn.specs.Standing.{Standing, terms_of}
+use Rattle.stm_outcome.specs.Terms.{is_below_floor}
 use Rattle.stm_compile.specs.Committed.{committed}
 use Rattle.stm_compile.specs.Conflicts.{Seen, seen_by}
 use Rattle.stm_attempt.specs.Settled.{run_on}
@@ -198,10 +200,35 @@ finish_does id r reads run (FaultedEnd fault) s = inl (record {
   fits = tt;
 })
 
+-- a fetch, by whether its base is compacted
+abbrev fetch_if : ℕ → Runner → List ℕ → ℕ → Standing → Bool → World → Stepped
+fetch_if id r key base s true w = replied (Ended id CompactedRefusal) id Over w
+fetch_if id r key base s false w = fetch id r key (revision_read s.history base) w
+
+fetch_if_touches : (id : ℕ) (r : Runner) (key : List ℕ) (base : ℕ) (s : Standing) (below : Bool) → Touches id s (fetch_if id r key base s below)
+fetch_if_touches id r key base s true = record {
+  reply = Ok (Ended id CompactedRefusal);
+  slot = Some Over;
+  end = Some (EndedEnd CompactedRefusal);
+  is = λ slots entries. refl;
+  told = refl;
+  known = λ ends. refl;
+  fits = tt;
+}
+fetch_if_touches id r key base s false = fetch_touches id r key (revision_read s.history base) s
+
+same_fetch : (id : ℕ) (r : Runner) (key : List ℕ) (base : ℕ) (s : Standing) (slots : List Slot) (entries : List Entry) (below : Bool) →
+    cond below (replied (Ended id CompactedRefusal) id Over (world s slots entries)) (fetch id r key (revision_read s.history base) (world s slots entries))
+    ≡ fetch_if id r key base s below (world s slots entries)
+same_fetch id r key base s slots entries true = refl
+same_fetch id r key base s slots entries false = refl
+
 answered_does : (id : ℕ) (r : Runner) (reads : List ReadAnswer) (a : Answered) (s : Standing) → Does id s (step_on id r reads a)
 answered_does id r reads (Wants key trace) s =
-    does_alike id s (fetch id r key (revision_read s.history (at_of r.task.level reads))) (step_on id r reads (Wants key trace)) (λ slots entries. refl)
-    (inl (fetch_touches id r key (revision_read s.history (at_of r.task.level reads)) s))
+    let base : ℕ = at_of r.task.level reads in
+    let below : Bool = is_below_floor s.floor base in
+    does_alike id s (fetch_if id r key base s below) (step_on id r reads (Wants key trace))
+    (λ slots entries. same_fetch id r key base s slots entries below) (inl (fetch_if_touches id r key base s below))
 answered_does id r reads (EndedRun run) s = finish_does id r reads run run.end s
 
 live_does : (id : ℕ) (r : Runner) (s : Standing) → Does id s (step_live id r)

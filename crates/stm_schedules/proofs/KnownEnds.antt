@@ -5,19 +5,20 @@ use Rattle.std.specs.Prelude.{slice_get, slice_set}
 use Rattle.stm_outcome.specs.declared.advance.Expired.{Expired}
 use Rattle.stm_outcome.specs.declared.refusal.Refusal.{Refusal as StoreRefusal}
 use Rattle.stm_txn.specs.Standing.{Step as StoreStep}
-use Rattle.stm_txn.specs.Standing.{transacted, granted, kept_alive, revoked, advanced, watched, polled, cancelled}
+use Rattle.stm_txn.specs.Standing.{transacted, granted, kept_alive, revoked, advanced, watched, cancelled, raised}
 use Rattle.stm_watch.specs.declared.watched.Watched.TheVariants.{Key, Range}
 use Rattle.stm_world.specs.declared.event.WorldEvent.{WorldEvent}
 use Rattle.stm_world.specs.declared.event.WorldEvent.TheVariants.{Start, Step, Txn, Grant, Keep, Revoke, Advance}
-use Rattle.stm_world.specs.declared.event.WorldEvent.TheVariants.{WatchKey, WatchRange, Poll, Cancel}
+use Rattle.stm_world.specs.declared.event.WorldEvent.TheVariants.{WatchKey, WatchRange, Poll, Cancel, Compact}
 use Rattle.stm_world.specs.declared.reply.Reply.{Reply}
-use Rattle.stm_world.specs.declared.reply.Reply.TheVariants.{Started, Txn as TxnDone, Granted, Kept, Revoked, Watching, Cancelled}
+use Rattle.stm_world.specs.declared.reply.Reply.TheVariants.{Started, Txn as TxnDone, Granted, Kept, Revoked, Watching, Cancelled, Compacted}
 use Rattle.stm_world.specs.declared.refusal.Denied.{Denied}
 use Rattle.stm_world.specs.declared.refusal.Refusal.TheVariants.{BadLimit}
-use Rattle.stm_world.specs.Told.{reply_to, advance_reply, batch_reply}
+use Rattle.stm_world.specs.Told.{reply_to, advance_reply}
 use Rattle.stm_world.specs.World.{World, Runner, Slot, Over, Live, Stepped, live_in, runner_at, with_slot, refused, begin, start_runner, step_runner, step, world_after, replies_to, opened}
 use Rattle.stm_world.specs.Task.{Task}
 use Rattle.stm_world.proofs.Slots.{other_number}
+use Rattle.stm_world.proofs.WatchCalls.{poll_told}
 use Rattle.stm_schedules.specs.declared.moves.Move.{Move}
 use Rattle.stm_schedules.specs.declared.moves.Move.TheVariants.{Step as StepOf}
 use Rattle.stm_schedules.specs.declared.outcome.RunnerEnd.{RunnerEnd}
@@ -138,8 +139,10 @@ known_event (Advance moment) w ends known =
     subst (λ (es : Ends). AreKnown w.runners es) (sym (advance_told moment done.expired done.cause ends)) known
 known_event (WatchKey key from) w ends known = by_call Watching (watched w.standing (Key key) from) w ends (λ x. refl) known
 known_event (WatchRange first end from) w ends known = by_call Watching (watched w.standing (Range first end) from) w ends (λ x. refl) known
-known_event (Poll watcher most) w ends known = by_call (batch_reply watcher) (polled w.standing watcher most) w ends (λ x. refl) known
+known_event (Poll watcher most) w ends known =
+    poll_told (λ (told : Result Reply Denied). AreKnown w.runners (after_told told ends)) w.standing watcher most (λ batch. known) known known
 known_event (Cancel watcher) w ends known = by_call (λ _. Cancelled watcher) (cancelled w.standing watcher) w ends (λ x. refl) known
+known_event (Compact revision) w ends known = by_call (λ _. Compacted revision) (raised w.standing revision) w ends (λ x. refl) known
 
 known_run : (events : List WorldEvent) (w : World) (ends : Ends) → AreKnown w.runners ends →
     AreKnown (world_after events w).runners (after_replies (replies_to events w) ends)

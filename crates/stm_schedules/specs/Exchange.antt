@@ -11,7 +11,7 @@ use Rattle.stm_world.specs.World.{World, step}
 abbrev pub after_step : ℕ → World → World
 after_step id w = (step (Step id) w).next
 
--- a step that enters nothing: a fetch, an abort, a fault, or a commit that fails or is refused
+-- a step that enters nothing: a fetch, also one that is refused, an abort, a fault, or a commit that fails or is refused
 abbrev pub IsQuiet : ℕ → World → Type 0
 IsQuiet id w = (after_step id w).entries ≡ w.entries
 

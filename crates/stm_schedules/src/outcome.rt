@@ -14,7 +14,7 @@ pub enum RunnerEnd {
     Aborted { text: Text },
     /// Its program was ended by a fault.
     Faulted { fault: Fault },
-    /// The store refused its commit.
+    /// The store refused its commit, or, as compacted, the fetch of a key at the base of its attempt.
     Ended { cause: Refusal },
 }
 

@@ -12,7 +12,7 @@ use Rattle.stm_txn_json.specs.Reading.{txn_of}
 use Rattle.stm_txn_json.proofs.GrammarComplete.{txn_reads}
 use Rattle.stm_json.proofs.PartLemmas.{text_reads, number_reads, up_to_reads}
 use Rattle.stm_world.specs.declared.event.WorldEvent.{WorldEvent}
-use Rattle.stm_world.specs.declared.event.WorldEvent.TheVariants.{Start, Step, Txn, Grant, Keep, Revoke, Advance, WatchKey, WatchRange, Poll, Cancel}
+use Rattle.stm_world.specs.declared.event.WorldEvent.TheVariants.{Start, Step, Txn, Grant, Keep, Revoke, Advance, Compact, WatchKey, WatchRange, Poll, Cancel}
 use Rattle.stm_texts.specs.declared.scenario.Scenario.{Scenario}
 use Rattle.stm_history.specs.declared.revisions.TheConstants.{HIGHEST_NUMBER, HIGHEST_REVISION}
 use Rattle.stm_texts.specs.declared.events.TheConstants.{HIGHEST_LIMIT, MOST_EVENTS}
@@ -58,6 +58,7 @@ event_reads d (Grant id ttl) (a, b, is, of_id, of_ttl) =
 event_reads d (Keep id) s = numbered_reads (codes "keep") Keep (λ a n e. rw e refl) d id s
 event_reads d (Revoke id) s = numbered_reads (codes "revoke") Revoke (λ a n e. rw e refl) d id s
 event_reads d (Advance now) s = numbered_reads (codes "advance") Advance (λ a n e. rw e refl) d now s
+event_reads d (Compact revision) s = numbered_reads (codes "compact") Compact (λ a n e. rw e refl) d revision s
 event_reads d (WatchKey key from) (a, is, in_range) =
     let k : text_of (string key) ≡ Ok key = text_reads (string key) key refl in
     let n = up_to_reads HIGHEST_NUMBER a from (omega arith) in_range in
@@ -97,6 +98,7 @@ no_opening d (Grant id ttl) (a, b, is, of_id, of_ttl) = ap (λ (x : Data). begin
 no_opening d (Keep id) (a, is, in_range) = ap (λ (x : Data). begins (worded x)) is
 no_opening d (Revoke id) (a, is, in_range) = ap (λ (x : Data). begins (worded x)) is
 no_opening d (Advance now) (a, is, in_range) = ap (λ (x : Data). begins (worded x)) is
+no_opening d (Compact revision) (a, is, in_range) = ap (λ (x : Data). begins (worded x)) is
 no_opening d (WatchKey key from) (a, is, in_range) = ap (λ (x : Data). begins (worded x)) is
 no_opening d (WatchRange first end from) (a, is, in_range) = ap (λ (x : Data). begins (worded x)) is
 no_opening d (Poll watcher most) (a, b, is, of_watcher, of_most) = ap (λ (x : Data). begins (worded x)) is

@@ -16,7 +16,7 @@ use Rattle.stm_json.specs.Parts.{spelled, SpellsNumberIn, SpellsEach}
 use Rattle.stm_txn_json.specs.Grammar.{SpellsTarget, SpellsCompare, SpellsOperation, SpellsTxn}
 use Rattle.stm_world.specs.declared.event.WorldEvent.{WorldEvent}
 use Rattle.stm_world.specs.declared.event.WorldEvent.TheVariants.{Start, Step, Txn as TxnEvent, Grant, Keep, Revoke, Advance, WatchKey, WatchRange, Poll}
-use Rattle.stm_world.specs.declared.event.WorldEvent.TheVariants.{Cancel}
+use Rattle.stm_world.specs.declared.event.WorldEvent.TheVariants.{Cancel, Compact}
 use Rattle.stm_texts.specs.Writing.{target_text, written_side, written_compare, written_operation, written_txn, written_event}
 
 number_spells : (least most n : ℕ) (d : Data) → SpellsNumberIn least most d n → SpellsNumberIn least most (written_number n) n
@@ -84,6 +84,7 @@ event_spells d (Grant id ttl) (a, b, is, of_id, of_ttl) = (
 event_spells d (Keep id) s = numbered_spells _ d id s
 event_spells d (Revoke id) s = numbered_spells _ d id s
 event_spells d (Advance now) s = numbered_spells _ d now s
+event_spells d (Compact revision) s = numbered_spells _ d revision s
 event_spells d (WatchKey key from) (a, is, s) = (written_number from, refl, number_spells 0 HIGHEST_NUMBER from a s)
 event_spells d (WatchRange first end from) (a, is, s) = (written_number from, refl, number_spells 0 HIGHEST_NUMBER from a s)
 event_spells d (Poll watcher most) (a, b, is, of_watcher, of_most) = (

@@ -38,6 +38,7 @@ event_table =
     ∷ (codes "keep", any_number ∷ [])
     ∷ (codes "revoke", any_number ∷ [])
     ∷ (codes "advance", any_number ∷ [])
+    ∷ (codes "compact", any_number ∷ [])
     ∷ (codes "watch_key", AnyText ∷ any_number ∷ [])
     ∷ (codes "watch_range", AnyText ∷ AnyText ∷ any_number ∷ [])
     ∷ (codes "poll", any_number ∷ any_number ∷ [])

@@ -8,7 +8,7 @@ use Rattle.stm_program_json.specs.Grammar.{SpellsProgram}
 use Rattle.stm_json.specs.Parts.{spelled, SpellsNumberIn, SpellsEach}
 use Rattle.stm_txn_json.specs.Grammar.{SpellsTxn}
 use Rattle.stm_world.specs.declared.event.WorldEvent.{WorldEvent}
-use Rattle.stm_world.specs.declared.event.WorldEvent.TheVariants.{Start, Step, Txn, Grant, Keep, Revoke, Advance, WatchKey, WatchRange, Poll, Cancel}
+use Rattle.stm_world.specs.declared.event.WorldEvent.TheVariants.{Start, Step, Txn, Grant, Keep, Revoke, Advance, Compact, WatchKey, WatchRange, Poll, Cancel}
 use Rattle.stm_texts.specs.declared.scenario.Scenario.{Scenario}
 use Rattle.stm_history.specs.declared.revisions.TheConstants.{HIGHEST_NUMBER, HIGHEST_REVISION}
 use Rattle.stm_texts.specs.declared.events.TheConstants.{HIGHEST_LIMIT, MOST_EVENTS}
@@ -37,6 +37,7 @@ SpellsEvent d (Grant id ttl) = (a : Data) × (b : Data) × (d ≡ spelled (codes
 SpellsEvent d (Keep id) = SpellsNumbered (codes "keep") d id
 SpellsEvent d (Revoke id) = SpellsNumbered (codes "revoke") d id
 SpellsEvent d (Advance now) = SpellsNumbered (codes "advance") d now
+SpellsEvent d (Compact revision) = SpellsNumbered (codes "compact") d revision
 SpellsEvent d (WatchKey key from) = (a : Data) × (d ≡ spelled (codes "watch_key") (string key ∷ a ∷ []))
     × SpellsNumberIn 0 HIGHEST_NUMBER a from
 SpellsEvent d (WatchRange first end from) = (a : Data) × (d ≡ spelled (codes "watch_range") (string first ∷ string end ∷ a ∷ []))

@@ -11,7 +11,7 @@ use Rattle.stm_program_json.specs.Reading.{program_of}
 use Rattle.stm_json.specs.Parts.{on_text, text_of, same}
 use Rattle.stm_txn_json.specs.Reading.{txn_of}
 use Rattle.stm_world.specs.declared.event.WorldEvent.{WorldEvent}
-use Rattle.stm_world.specs.declared.event.WorldEvent.TheVariants.{Start, Step, Txn, Grant, Keep, Revoke, Advance, WatchKey, WatchRange, Poll, Cancel}
+use Rattle.stm_world.specs.declared.event.WorldEvent.TheVariants.{Start, Step, Txn, Grant, Keep, Revoke, Advance, Compact, WatchKey, WatchRange, Poll, Cancel}
 use Rattle.stm_json.specs.declared.cause.Cause.TheVariants.{NotJson, Shape, TooLong, TooMany}
 use Rattle.stm_texts.specs.declared.events.TheConstants.{HIGHEST_LIMIT, MOST_EVENTS}
 use Rattle.stm_json.specs.declared.limits.TheConstants.{MOST_BYTES}
@@ -62,6 +62,9 @@ revoke_of o = number_alone o >>= λ id. Ok (Revoke id)
 abbrev pub advance_of : Option Data → Outcome WorldEvent
 advance_of o = number_alone o >>= λ now. Ok (Advance now)
 
+abbrev pub compact_of : Option Data → Outcome WorldEvent
+compact_of o = number_alone o >>= λ revision. Ok (Compact revision)
+
 abbrev pub txn_event : Data → Outcome WorldEvent
 txn_event d = txn_of d >>= λ t. Ok (Txn t)
 
@@ -109,7 +112,8 @@ event_worded d (Some p) =
     else (if same p.0 (codes "keep") then keep_of (one_of p.1)
     else (if same p.0 (codes "revoke") then revoke_of (one_of p.1)
     else (if same p.0 (codes "advance") then advance_of (one_of p.1)
-    else watcher_event p.0 p.1))))))
+    else (if same p.0 (codes "compact") then compact_of (one_of p.1)
+    else watcher_event p.0 p.1)))))))
 
 unfoldable pub event_of : Data → Outcome WorldEvent
 event_of d = event_worded d (worded d)

@@ -15,7 +15,7 @@ use Rattle.stm_json.specs.Parts.{spelled}
 use Rattle.stm_txn_json.specs.Grammar.{order_text}
 use Rattle.stm_world.specs.declared.event.WorldEvent.{WorldEvent}
 use Rattle.stm_world.specs.declared.event.WorldEvent.TheVariants.{Start, Step, Txn as TxnEvent, Grant, Keep, Revoke, Advance, WatchKey, WatchRange, Poll}
-use Rattle.stm_world.specs.declared.event.WorldEvent.TheVariants.{Cancel}
+use Rattle.stm_world.specs.declared.event.WorldEvent.TheVariants.{Cancel, Compact}
 
 -- a list, each element written in this way
 abbrev pub written_list : {A : Type 0} → (A → Data) → List A → Data
@@ -63,6 +63,7 @@ written_event (Grant id ttl) = spelled (codes "grant") (written_number id ∷ wr
 written_event (Keep id) = spelled (codes "keep") (written_number id ∷ [])
 written_event (Revoke id) = spelled (codes "revoke") (written_number id ∷ [])
 written_event (Advance now) = spelled (codes "advance") (written_number now ∷ [])
+written_event (Compact revision) = spelled (codes "compact") (written_number revision ∷ [])
 written_event (WatchKey key from) = spelled (codes "watch_key") (string key ∷ written_number from ∷ [])
 written_event (WatchRange first end from) = spelled (codes "watch_range") (string first ∷ string end ∷ written_number from ∷ [])
 written_event (Poll watcher most) = spelled (codes "poll") (written_number watcher ∷ written_number most ∷ [])

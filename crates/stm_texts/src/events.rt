@@ -1,7 +1,7 @@
 //! Reading events.
 ghost use Rattle.std.specs.Prelude.{◌<◌, ◌+◌, ◌^◌, length};
 ghost use Rattle.serde_json.specs.View.{view, items_view};
-ghost use Rattle.stm_texts.specs.Reading.{level_named, level_of, start_of, grant_of, number_alone, step_of, keep_of, revoke_of, advance_of};
+ghost use Rattle.stm_texts.specs.Reading.{level_named, level_of, start_of, grant_of, number_alone, step_of, keep_of, revoke_of, advance_of, compact_of};
 ghost use Rattle.stm_texts.specs.Reading.{txn_event, event_of, event_after, events_from};
 ghost use Rattle.stm_json.specs.Elements.{number_up_to, one_of, two_of, three_of};
 ghost use Rattle.stm_json.specs.Outcome.{within as within_list};
@@ -124,6 +124,13 @@ fn advance(alloc: Global, elements: &[Value]) -> Result<WorldEvent, ReadError>
     Ok(WorldEvent::Advance { now })
 }
 
+fn compact(alloc: Global, elements: &[Value]) -> Result<WorldEvent, ReadError>
+    ensures { Tells (λ e. e) result (compact_of (one_of (items_view elements.now))) }
+{
+    let revision = one_number(alloc, elements)?;
+    Ok(WorldEvent::Compact { revision })
+}
+
 fn txn(alloc: Global, value: &Value) -> Result<WorldEvent, ReadError>
     ensures { Tells (λ e. e) result (txn_event (view value.now)) }
 {
@@ -153,6 +160,8 @@ fn event(alloc: Global, value: &Value) -> Result<WorldEvent, ReadError>
         revoke(alloc, elements)
     } else if word == "advance" {
         advance(alloc, elements)
+    } else if word == "compact" {
+        compact(alloc, elements)
     } else {
         watcher_event(alloc, word, elements)
     }

@@ -93,6 +93,7 @@ fn event_value(alloc: Global, event: &WorldEvent) -> Result<Json, AllocError>
         WorldEvent::Keep { id } => numbered(alloc, "keep", *id),
         WorldEvent::Revoke { id } => numbered(alloc, "revoke", *id),
         WorldEvent::Advance { now } => numbered(alloc, "advance", *now),
+        WorldEvent::Compact { revision } => numbered(alloc, "compact", *revision),
         WorldEvent::WatchKey { key, from } => watch_key_json(alloc, key.as_str(), *from),
         WorldEvent::WatchRange { first, end, from } => {
             watch_range_json(alloc, first.as_str(), end.as_str(), *from)

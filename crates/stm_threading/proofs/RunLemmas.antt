@@ -10,7 +10,6 @@ use Rattle.stm_json.specs.Outcome.{Outcome as Reading}
 use Rattle.stm_json.specs.Tells.{TellsFault}
 use Rattle.stm_texts.specs.declared.scenario.Scenario.{Scenario}
 use Rattle.stm_world.specs.declared.event.WorldEvent.{WorldEvent}
-use Rattle.stm_world.specs.World.{opened, world_after}
 use Rattle.stm_devices.specs.Ends.{Devices}
 use Rattle.stm_texts.proofs.Fronts.{told_at}
 use Rattle.stm_txn.specs.Standing.{Standing}
@@ -24,6 +23,7 @@ use Rattle.stm_threading.specs.declared.running.JobsFault.{JobsFault}
 use Rattle.stm_threading.specs.declared.running.Printed.{Printed}
 use Rattle.stm_threading.specs.declared.running.JobsFault.TheVariants.{OutOfMemory, Bad, Read, Write, Spawn, Audit}
 use Rattle.stm_jobs.specs.Accepting.{Sorted, task_of, accepted, opening_of}
+use Rattle.stm_jobs.specs.StoreAfter.{store_after}
 use Rattle.stm_threading.specs.declared.shown.Printing.{Printing}
 use Rattle.stm_threading.specs.declared.shown.Shown.{Shown}
 use Rattle.stm_threading.specs.Running.{IsTextOf, IsOfRun, IsPrintedOfJobs, IsBrokenOffFor, IsBrokenOff, IsBrokenOffOf, IsPrintedOf}
@@ -38,7 +38,7 @@ of_both (Err e) P Q R p q follows = tt
 
 -- the text is of the hall that the jobs were run to, from the one over this store
 pub is_of_run : (shown : Shown) (start : ℕ) (calls : List WorldEvent) (jobs : List Job) (text : List ℕ) (standing : Standing) (ends : List JobEnd)
-    (attempts : List ℕ) (committed : ℕ) (before after : HallState) → standing ≡ (world_after calls (opened start)).standing → before ≡ made_over standing
+    (attempts : List ℕ) (committed : ℕ) (before after : HallState) → standing ≡ store_after start calls → before ≡ made_over standing
     → RanTo before jobs ends attempts committed after → IsTextOf shown ends attempts (length jobs) committed after text
     → IsOfRun shown start calls jobs ends text
 is_of_run shown start calls jobs text standing ends attempts committed before after stands made ran shows = record {
@@ -51,7 +51,7 @@ is_of_run shown start calls jobs text standing ends attempts committed before af
 
 -- a run from the hall over this store that was broken off is told by its cause
 pub broken_off : (start : ℕ) (calls : List WorldEvent) (jobs : List Job) (fault : JobsFault) (cause : FaultCause) (standing : Standing) (ends : List JobEnd)
-    (before after : HallState) → standing ≡ (world_after calls (opened start)).standing → before ≡ made_over standing
+    (before after : HallState) → standing ≡ store_after start calls → before ≡ made_over standing
     → BrokeOff before jobs cause ends after → fault ≡ fault_told cause → IsBrokenOff start calls jobs fault
 broken_off start calls jobs fault cause standing ends before after stands made broke told =
     subst (λ (f : JobsFault). IsBrokenOff start calls jobs f) (sym told)

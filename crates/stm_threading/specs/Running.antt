@@ -9,7 +9,6 @@ use Rattle.stm_texts.specs.declared.scenario.Scenario.{Scenario}
 use Rattle.stm_texts.specs.Reading.{scenario_in}
 use Rattle.stm_devices.specs.Ends.{Devices, IsUntouched}
 use Rattle.stm_world.specs.declared.event.WorldEvent.{WorldEvent}
-use Rattle.stm_world.specs.World.{opened, world_after}
 use Rattle.stm_hall.specs.HallState.{HallState, made_over}
 use Rattle.stm_job.specs.declared.job.Job.{Job}
 use Rattle.stm_job.specs.declared.job_end.JobEnd.{JobEnd}
@@ -20,6 +19,7 @@ use Rattle.stm_threading.specs.declared.running.JobsFault.{JobsFault}
 use Rattle.stm_threading.specs.declared.running.Printed.{Printed}
 use Rattle.stm_threading.specs.declared.running.JobsFault.TheVariants.{OutOfMemory, Bad, Read, Write, Spawn, Audit}
 use Rattle.stm_jobs.specs.Accepting.{Sorted, task_of, accepted, opening_of}
+use Rattle.stm_jobs.specs.StoreAfter.{store_after}
 use Rattle.stm_jobs.specs.Lines.{AreLinesOf}
 use Rattle.stm_jobs.specs.Outcomes.{IsFrontOf, Tally, Counts, tally_text}
 use Rattle.stm_threading.specs.declared.shown.Shown.{Shown}
@@ -41,7 +41,7 @@ pub record IsOfRun (shown : Shown) (start : ℕ) (calls : List WorldEvent) (jobs
   pub attempts : List ℕ
   pub committed : ℕ
   pub after : HallState
-  pub ran : RanTo (made_over (world_after calls (opened start)).standing) jobs ends attempts committed after
+  pub ran : RanTo (made_over (store_after start calls)) jobs ends attempts committed after
   pub shows : IsTextOf shown ends attempts (length jobs) committed after text
 
 -- the text is the front of the line of the outcome of such a run
@@ -73,7 +73,7 @@ IsPrintedOfJobs (PrintOutcomes runs) start calls jobs ends text =
 pub record IsBrokenOffFor (start : ℕ) (calls : List WorldEvent) (jobs : List Job) (cause : FaultCause) : Type 0 where
   pub ends : List JobEnd
   pub after : HallState
-  pub broke : BrokeOff (made_over (world_after calls (opened start)).standing) jobs cause ends after
+  pub broke : BrokeOff (made_over (store_after start calls)) jobs cause ends after
 
 -- What is told of a run of these jobs of which nothing is printed: the cause for which it was broken off. Memory may be wanted before the run and after
 -- it, too.

@@ -4,11 +4,11 @@ ghost use Rattle.stm_devices.specs.declared.transfer.TheConstants.{MOST_READ};
 ghost use Rattle.stm_history.specs.declared.revisions.TheConstants.{HIGHEST_REVISION};
 ghost use Rattle.stm_texts.specs.Reading.{IsOpening, scenario_in};
 ghost use Rattle.stm_world.specs.declared.event.WorldEvent.{WorldEvent};
-ghost use Rattle.stm_world.specs.World.{opened, world_after};
 ghost use Rattle.stm_threading.specs.declared.running.JobsFault.TheVariants.{OutOfMemory};
 ghost use Rattle.stm_workers.specs.declared.run.TheConstants.{MOST_WORKERS};
 ghost use Rattle.std.specs.Map.{values_of};
 ghost use Rattle.stm_threading.specs.declared.shown.Printing.TheVariants.{Outcomes as OfRuns};
+ghost use Rattle.stm_jobs.specs.StoreAfter.{store_after};
 ghost use Rattle.stm_threading.specs.Running.{AreCounted, HasCounted, IsOfRun, IsPrintedOfJobs, IsTextOf, IsBrokenOff, fault_told, Answers, Writes, Does};
 
 use crate::shown::{Printing, Shown};
@@ -153,9 +153,9 @@ fn text_on<R: Threads + Wait + Sync>(
     shown: Shown,
 ) -> Result<Printed, JobsFault>
     requires { (1 ≤ workers) × (workers ≤ MOST_WORKERS) }
-    ensures shows { IfOk result (λ p. (start : ℕ) (calls : List WorldEvent) → store.standing ≡ (world_after calls (opened start)).standing
+    ensures shows { IfOk result (λ p. (start : ℕ) (calls : List WorldEvent) → store.standing ≡ store_after start calls
         → IsOfRun shown start calls jobs.now p.ends (string_bytes p.text)) }
-    ensures fault { IfErr result (λ fault. (start : ℕ) (calls : List WorldEvent) → store.standing ≡ (world_after calls (opened start)).standing
+    ensures fault { IfErr result (λ fault. (start : ℕ) (calls : List WorldEvent) → store.standing ≡ store_after start calls
         → IsBrokenOff start calls jobs.now fault) }
 {
     match run_workers(rt, alloc, jobs, workers, Hall::new(alloc, store), &NoGate) {

@@ -1,14 +1,17 @@
 -- The leases that states name are numbers that fit.
-use Rattle.std.proofs.Common.{◌≡◌, ℕ, ◌+◌, ◌≤◌, Bool, true, false, cond, List, [], ◌∷◌, ◌++◌, Option, Some, None, refl, sym, subst, arith}
-use Rattle.std.specs.Prelude.{nat_eq, nat_le, ◌&&◌, ◌||◌, is_some, bytes_eq, IfSome}
+use Rattle.std.proofs.Common.{◌≡◌, ℕ, ◌+◌, ◌≤◌, Bool, true, false, cond, List, [], ◌∷◌, ◌++◌, Option, Some, None, refl, sym, subst, arith, inl, inr}
+use Rattle.std.specs.Prelude.{nat_eq, nat_le, nat_lt, ◌&&◌, ◌||◌, is_some, bytes_eq, IfSome}
 use Rattle.std.specs.FinMap as finmap
-use Rattle.std.proofs.lemmas.Bool.{leb-true, eqb-true}
+use Rattle.std.proofs.lemmas.Bool.{cases_lt, leb-true, eqb-true}
 use Rattle.stm_history.specs.declared.change.Change.{Change}
 use Rattle.stm_history.specs.declared.change.Change.TheVariants.{Put as PutChange, Del as DelChange}
 use Rattle.stm_history.specs.declared.key_state.KeyState.{KeyState}
 use Rattle.stm_history.specs.declared.revisions.TheConstants.{HIGHEST_NUMBER}
+use Rattle.stm_history.specs.Opening.{Opening}
+use Rattle.stm_history.specs.Cut.{revisions_above, cut}
 use Rattle.stm_history.specs.History.{History, now, key_of, key_now, key_at, key_after, change_of, after_change, number_of_last, revisions_up_to}
 use Rattle.stm_history.proofs.HistoryLaws.{one_more}
+use Rattle.stm_history.proofs.CutLaws.{cut_off, cut_at_the_opening, opened_by_cut}
 use Rattle.stm_leases.specs.declared.bounds.TheConstants.{HIGHEST_ID}
 use Rattle.stm_leases.specs.LeaseLog.{Term}
 use Rattle.stm_leases.specs.Live.{Live, is_live_in, AreInRange}
@@ -19,8 +22,8 @@ use Rattle.stm_outcome.specs.Branches.{op_refusal, branch_refusal, deletion_of}
 use Rattle.stm_outcome.specs.LookUps.{copy, with_copied}
 use Rattle.stm_txn.specs.Leasing.{hangs_of, HangOnLive, with_hang}
 use Rattle.stm_txn.specs.Standing.{Standing, terms_of}
-use Rattle.stm_outcome.specs.Numbers.{LeaseFits, ChangeFits, ChangesFit, RevisionsFit, LeasesFit}
-use Rattle.stm_txn.proofs.Running.{both_none}
+use Rattle.stm_outcome.specs.Numbers.{LeaseFits, ChangeFits, ChangesFit, RevisionsFit, OpeningFits, LeasesFit}
+use Rattle.stm_outcome.proofs.Lowering.{both_none}
 
 pub both : (a b : Bool) → (a && b) ≡ true → (a ≡ true) × (b ≡ true)
 both true b is = (refl, is)
@@ -100,26 +103,46 @@ after_fits number (Some (PutChange key value lease)) (Some s) change fits = chan
 after_fits number (Some (DelChange key)) s change fits = tt
 
 -- what a key is after revisions
-after_all_fits : (opening : ℕ) (key : List ℕ) (revisions : List (List Change)) → RevisionsFit revisions → IfSome (key_after opening key revisions) LeaseFits
-after_all_fits opening key [] fits = tt
-after_all_fits opening key (changes ∷ older) fits =
+after_all_fits : (opening : Opening) (key : List ℕ) (revisions : List (List Change)) → OpeningFits opening → RevisionsFit revisions → IfSome (key_after opening key revisions) LeaseFits
+after_all_fits opening key [] opened fits = opened key
+after_all_fits opening key (changes ∷ older) opened fits =
     subst (λ (s : Option KeyState). IfSome s LeaseFits) (sym (one_more opening key changes older))
     (after_fits (number_of_last opening (changes ∷ older)) (change_of key changes) (key_after opening key older) (found_fits key changes fits.0)
-    (after_all_fits opening key older fits.1))
+    (after_all_fits opening key older opened fits.1))
 
-up_to_fits : (opening r : ℕ) (revisions : List (List Change)) → RevisionsFit revisions → RevisionsFit (revisions_up_to opening r revisions)
+up_to_fits : (opening : Opening) (r : ℕ) (revisions : List (List Change)) → RevisionsFit revisions → RevisionsFit (revisions_up_to opening r revisions)
 up_to_fits opening r [] fits = tt
 up_to_fits opening r (changes ∷ older) fits =
     elim (nat_le (number_of_last opening (changes ∷ older)) r) as (λ b. RevisionsFit (cond b (changes ∷ older) (revisions_up_to opening r older)))
     [ true ↦ fits | false ↦ up_to_fits opening r older fits.1 ]
 
 pub lease_at_fits : (h : History) (key : List ℕ) (r : ℕ) → LeasesFit h → IfSome (key_at h key r) LeaseFits
-lease_at_fits h key r fits = after_all_fits h.opening key (revisions_up_to h.opening r h.revisions) (up_to_fits h.opening r h.revisions fits)
+lease_at_fits h key r fits = after_all_fits h.opening key (revisions_up_to h.opening r h.revisions) fits.0 (up_to_fits h.opening r h.revisions fits.1)
+
+-- they fit once the oldest revisions are dropped
+above_fits : (opening : Opening) (number : ℕ) (revisions : List (List Change)) → RevisionsFit revisions → RevisionsFit (revisions_above opening number revisions)
+above_fits opening number [] fits = tt
+above_fits opening number (changes ∷ older) fits =
+    by_test (nat_lt number (number_of_last opening (changes ∷ older))) (above_fits opening number older fits.1)
+  where
+    by_test : (b : Bool) → RevisionsFit (revisions_above opening number older) → RevisionsFit (cond b (changes ∷ revisions_above opening number older) [])
+    by_test true rest = (fits.0, rest)
+    by_test false rest = tt
+
+pub cut_fits : (h : History) (number : ℕ) → LeasesFit h → LeasesFit (cut number h)
+cut_fits h number fits = elim (cases_lt h.opening.number number) [
+  | inl less ↦
+      subst (λ (g : History). LeasesFit g) (sym (cut_off number h less)) (
+        (λ key. subst (λ (s : Option KeyState). IfSome s LeaseFits) (sym (opened_by_cut number h key (omega (arith, less)))) (lease_at_fits h key number fits)),
+        above_fits h.opening number h.revisions fits.1,
+      )
+  | inr opened ↦ subst (λ (g : History). LeasesFit g) (sym (cut_at_the_opening h number opened)) fits
+]
 
 pub lease_copied_fits : (h : History) (changes : List Change) (key : List ℕ) → LeasesFit h → ChangesFit changes →
     IfSome (copy h changes key) LeaseFits
 lease_copied_fits h changes key fits change =
-    after_fits (now h + 1) (change_of key changes) (key_now h key) (found_fits key changes change) (after_all_fits h.opening key h.revisions fits)
+    after_fits (now h + 1) (change_of key changes) (key_now h key) (found_fits key changes change) (after_all_fits h.opening key h.revisions fits.0 fits.1)
 
 -- a deletion, or none, names no lease
 pub deleted_fits : (changes : List Change) (key : List ℕ) (s : Option KeyState) → ChangesFit changes → ChangesFit (with_copied changes (deletion_of key s))

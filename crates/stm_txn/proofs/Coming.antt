@@ -12,13 +12,13 @@ abbrev come_to : List Expired → Standing → Option Refusal → Advance
 come_to expired leaves cause = record { expired = expired; leaves = leaves; cause = cause }
 
 -- the first of several expiries, and the rest of them
-record ComesFirst (first : Standing) (e : Expired) (es : List Expired) (left : Standing) : Type 0 where
-  id : ℕ
-  next : Standing
-  due : first_due first.live first.moment ≡ Some id
-  is : ended first id ≡ Ok next
-  named : expired_in id next ≡ e
-  rest : HasCome next es left
+pub record ComesFirst (first : Standing) (e : Expired) (es : List Expired) (left : Standing) : Type 0 where
+  pub id : ℕ
+  pub next : Standing
+  pub due : first_due first.live first.moment ≡ Some id
+  pub is : ended first id ≡ Ok next
+  pub named : expired_in id next ≡ e
+  pub rest : HasCome next es left
 
 first_by_outcome : (first : Standing) (e : Expired) (es : List Expired) (left : Standing) (id : ℕ) (outcome : Result Standing Refusal) →
     first_due first.live first.moment ≡ Some id → ended first id ≡ outcome → HasCome first (e ∷ es) left → ComesFirst first e es left
@@ -50,7 +50,7 @@ first_by_due first e es left None due come =
     let never : [] ≡ e ∷ es = ap (λ (a : Advance). a.expired) whole in absurd (cc)
 first_by_due first e es left (Some id) due come = first_by_outcome first e es left id (ended first id) due refl come
 
-comes_first : (first : Standing) (e : Expired) (es : List Expired) (left : Standing) → HasCome first (e ∷ es) left → ComesFirst first e es left
+pub comes_first : (first : Standing) (e : Expired) (es : List Expired) (left : Standing) → HasCome first (e ∷ es) left → ComesFirst first e es left
 comes_first first e es left come = first_by_due first e es left (first_due first.live first.moment) refl come
 
 -- one more expiry comes at the end of those before it

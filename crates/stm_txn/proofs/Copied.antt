@@ -1,34 +1,37 @@
 -- What a copy of the parts of a store keeps.
-use Rattle.std.proofs.Common.{◌≡◌, ℕ, List, Option, sym, ap, subst, ◌∙◌}
+use Rattle.std.proofs.Common.{◌≡◌, ◌≤◌, ℕ, sym, ap, subst, ◌∙◌}
+use Rattle.stm_history.specs.History.{now}
 use Rattle.stm_keys.specs.Keys.{Contents}
 use Rattle.stm_leases.specs.Leases.{Leases, lease_of}
-use Rattle.stm_watch.specs.declared.watched.Watcher.{Watcher}
-use Rattle.stm_watch.specs.Calls.{watchings, StandFor}
+use Rattle.stm_watch.specs.Places.{WatchersView, watchings}
+use Rattle.stm_watch.specs.Calls.{StandFor}
 use Rattle.stm_txn.specs.Leasing.{HangAsStored}
 use Rattle.stm_outcome.specs.Numbers.{LeasesFit}
 use Rattle.stm_txn.specs.Store.{StoreView}
 
 -- what a store keeps true of its parts
-abbrev pub AreParts : Contents → Leases → List (Option Watcher) → Type 0
-AreParts keys leases watchers = HangAsStored (lease_of leases) keys.history × LeasesFit keys.history × StandFor keys.history watchers
+abbrev pub AreParts : Contents → Leases → WatchersView → Type 0
+AreParts keys leases watchers =
+    HangAsStored (lease_of leases) keys.history × LeasesFit keys.history × StandFor keys.history watchers × (watchers.floor ≡ keys.floor)
+    × (keys.floor ≤ now keys.history)
 
 -- what contracts see of its parts
-abbrev pub store_of : Contents → Leases → ℕ → List (Option Watcher) → StoreView
+abbrev pub store_of : Contents → Leases → ℕ → WatchersView → StoreView
 store_of keys leases moment watchers = record {
-  standing = record { history = keys.history; live = leases.live; moment = moment; watchers = watchings watchers };
+  standing = record { history = keys.history; floor = keys.floor; live = leases.live; moment = moment; watchers = watchings watchers };
   present = keys.present;
 }
 
-module _ (keys copied_keys : Contents) (leases copied_leases : Leases) (watchers copied_watchers : List (Option Watcher))
+module _ (keys copied_keys : Contents) (leases copied_leases : Leases) (watchers copied_watchers : WatchersView)
     (same_keys : copied_keys ≡ keys) (same_leases : copied_leases ≡ record leases { spare = 0 }) (same_watchers : copied_watchers ≡ watchers) where
   pub parts_copied : AreParts keys leases watchers → AreParts copied_keys copied_leases copied_watchers
   parts_copied are =
       subst (λ (k : Contents). AreParts k copied_leases copied_watchers) (sym same_keys)
       (subst (λ (l : Leases). AreParts keys l copied_watchers) (sym same_leases)
-      (subst (λ (ws : List (Option Watcher)). AreParts keys (record leases { spare = 0 }) ws) (sym same_watchers) are))
+      (subst (λ (ws : WatchersView). AreParts keys (record leases { spare = 0 }) ws) (sym same_watchers) are))
 
   pub store_copied : (moment : ℕ) → store_of copied_keys copied_leases moment copied_watchers ≡ store_of keys leases moment watchers
   store_copied moment =
       ap (λ (k : Contents). store_of k copied_leases moment copied_watchers) same_keys
       ∙ ap (λ (l : Leases). store_of keys l moment copied_watchers) same_leases
-      ∙ ap (λ (ws : List (Option Watcher)). store_of keys leases moment ws) same_watchers
+      ∙ ap (λ (ws : WatchersView). store_of keys leases moment ws) same_watchers

@@ -1,5 +1,5 @@
 -- The numbers of an answer fit.
-use Rattle.std.proofs.Common.{◌≡◌, ℕ, ◌+◌, ◌≤◌, true, false, cond, List, [], ◌∷◌, ◌++◌, length, Option, Some, None, refl, sym, ap, subst, arith}
+use Rattle.std.proofs.Common.{◌≡◌, ℕ, ◌+◌, ◌≤◌, true, false, cond, List, [], ◌∷◌, ◌++◌, Option, Some, None, refl, sym, ap, subst, arith}
 use Rattle.std.specs.Prelude.{nat_eq, nat_le, Ok, IfSome}
 use Rattle.std.proofs.lemmas.Bool.{leb-true}
 use Rattle.stm_history.specs.declared.change.Change.{Change}
@@ -7,6 +7,7 @@ use Rattle.stm_history.specs.declared.change.Change.TheVariants.{Put as PutChang
 use Rattle.stm_history.specs.declared.key_state.KeyState.{KeyState}
 use Rattle.stm_history.specs.declared.revisions.TheConstants.{HIGHEST_REVISION, HIGHEST_NUMBER}
 use Rattle.stm_history.specs.History.{History, now, key_now, key_at, mod_of, change_of, after_change}
+use Rattle.stm_history.specs.Laws.{AreSmallIn}
 use Rattle.stm_history.proofs.HistoryLaws.{numbers_stay_small, last_revision_is_now, mod_is_reached}
 use Rattle.stm_keys.specs.Keys.{HasSmallNumbers}
 use Rattle.stm_keys.proofs.Numbers.{at_small}
@@ -35,7 +36,7 @@ use Rattle.stm_txn.proofs.Transacting.{failed_case}
 
 -- the state of a key once the changes so far are made
 pub changed_small : (h : History) (o : Option Change) (s : Option KeyState) → now h ≤ HIGHEST_REVISION →
-    IfSome s (λ k. (k.version ≤ length h.revisions) × (k.mod_rev ≤ now h) × (k.create_rev ≤ k.mod_rev) × (h.opening + 1 ≤ k.create_rev)) →
+    IfSome s (AreSmallIn h) →
     IfSome (after_change (now h + 1) o s) HasSmallNumbers
 changed_small h None None bounded small = tt
 changed_small h None (Some s) bounded small =
@@ -46,8 +47,7 @@ changed_small h (Some (PutChange key value lease)) (Some s) bounded small =
 changed_small h (Some (DelChange key)) s bounded small = tt
 
 abbrev pub IsSmallFor : History → Option KeyState → Type 0
-IsSmallFor h s =
-    IfSome s (λ k. (k.version ≤ length h.revisions) × (k.mod_rev ≤ now h) × (k.create_rev ≤ k.mod_rev) × (h.opening + 1 ≤ k.create_rev))
+IsSmallFor h s = IfSome s (AreSmallIn h)
 
 copy_small : (h : History) (changes : List Change) (key : List ℕ) → now h ≤ HIGHEST_REVISION → IfSome (copy h changes key) HasSmallNumbers
 copy_small h changes key bounded =

@@ -1,5 +1,6 @@
 pub mod Moving
 pub mod Running
+pub mod Compacting
 pub mod Bounding
 pub mod Naming
 pub mod Ending
@@ -11,5 +12,7 @@ pub mod Transacting
 pub mod Writing
 pub mod Fitting
 pub mod Touching
+pub mod Watches
+pub mod WorkedExamples
 pub mod Polling
 pub mod Copied

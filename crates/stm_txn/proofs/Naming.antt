@@ -1,14 +1,20 @@
 -- The keys of a lease, computed from the history, are those that hang on it.
 use Rattle.std.proofs.Common.{◌≡◌, ℕ, ◌<◌, zero, suc, Bool, true, false, cond, List, [], ◌∷◌, length, get_or, Option, Some, None, refl, sym, ◌∙◌, ap, subst}
 use Rattle.std.proofs.Common.{arith, eqb-true, inl, inr}
-use Rattle.std.specs.Prelude.{bytes_eq, ◌↔◌, ◌⊎◌, Contains, filter, is_some}
-use Rattle.std.specs.Ordering.{nat_cmp, ordering_reverse}
+use Rattle.std.specs.Prelude.{bytes_eq, ◌↔◌, ◌⊎◌, ◌||◌, ◌++◌, map, Contains, filter, is_some}
+use Rattle.std.specs.List.{list_any}
+use Rattle.std.specs.Ordering.{nat_cmp, ordering_reverse, eq_by_cmp}
 use Rattle.std.specs.Cmp.Lexicographic.{slice_cmp, nat_list_cmp_total}
 use Rattle.std.specs.declared.cmp.Ordering.TheVariants.{Less, Equal, Greater}
 use Rattle.std.specs.FinMap as finmap
+use Rattle.std.specs.FinMap.{find}
+use Rattle.std.specs.FinMap.Entries.{is_some-find}
 use Rattle.std.proofs.lemmas.Bool.{eq-eqb}
+use Rattle.std.proofs.lemmas.Map.Text.{is_eq-slice_cmp}
 use Rattle.stm_history.specs.declared.change.Change.{Change}
 use Rattle.stm_history.specs.declared.key_state.KeyState.{KeyState}
+use Rattle.stm_history.specs.Opening.{Opening, if_reached}
+use Rattle.stm_history.specs.Cut.{changed_before, keys_named as named_by}
 use Rattle.stm_history.specs.History.{History, number_of_last, key_of, key_now, key_after, change_of, after_change}
 use Rattle.stm_history.proofs.HistoryLaws.{one_more}
 use Rattle.stm_leases.specs.Leases.{Leases, lease_of}
@@ -16,7 +22,7 @@ use Rattle.stm_leases.specs.AttachedKeys.{is_on, keys_on, IsAscending, AreKeysOf
 use Rattle.stm_leases.proofs.KeyLaws.{keys_on_are_keys, one_list_of_keys, ascending_is_unique}
 use Rattle.stm_txn.specs.Leasing.{hanging, HangAsStored, lease_now}
 use Rattle.stm_txn.specs.PresentKeys.{keys_present, PresentKeysAreListed}
-use Rattle.stm_txn.specs.LeaseKeys.{with_key, with_changed, keys_changed, keys_named, keys_of_lease}
+use Rattle.stm_txn.specs.LeaseKeys.{with_key, in_order, keys_named, keys_of_lease}
 use Rattle.stm_outcome.proofs.Branching.{same_text}
 
 -- Ascending keys stay so, one more among them.
@@ -43,13 +49,9 @@ ascending_with key (x ∷ xs) ascending =
       | Greater ↦ λ is. below_with x key xs (turned key x is) ascending
     ] refl
 
-ascending_changed : (cs : List Change) (ks : List (List ℕ)) → IsAscending ks → IsAscending (with_changed cs ks)
-ascending_changed [] ks ascending = ascending
-ascending_changed (c ∷ cs) ks ascending = ascending_with (key_of c) (with_changed cs ks) (ascending_changed cs ks ascending)
-
-named_ascend : (revisions : List (List Change)) → IsAscending (keys_changed revisions)
-named_ascend [] = tt
-named_ascend (changes ∷ older) = ascending_changed changes (keys_changed older) (named_ascend older)
+orders : (keys : List (List ℕ)) → IsAscending (in_order keys)
+orders [] = tt
+orders (key ∷ keys) = ascending_with key (in_order keys) (orders keys)
 
 pub skipped : (k x : List ℕ) (xs : List (List ℕ)) → IsAscending (k ∷ (x ∷ xs)) → IsAscending (k ∷ xs)
 skipped k x [] ascending = tt
@@ -105,32 +107,61 @@ still_among key other (x ∷ xs) among =
       | Greater ↦ later_among key other x xs (still_among key other xs) among
     ]
 
-older_among : (key : List ℕ) (cs : List Change) (ks : List (List ℕ)) → IsAmong key ks → IsAmong key (with_changed cs ks)
+older_among : (key : List ℕ) (cs : List Change) (ks : List (List ℕ)) → IsAmong key (in_order ks) → IsAmong key (in_order (map key_of cs ++ ks))
 older_among key [] ks among = among
-older_among key (c ∷ cs) ks among = still_among key (key_of c) (with_changed cs ks) (older_among key cs ks among)
+older_among key (c ∷ cs) ks among = still_among key (key_of c) (in_order (map key_of cs ++ ks)) (older_among key cs ks among)
 
 changed_case : (b : Bool) (key : List ℕ) (c d : Change) (cs : List Change) (ks : List (List ℕ)) → bytes_eq (key_of d) key ≡ b →
-    (change_of key cs ≡ Some c → IsAmong key (with_changed cs ks)) → cond b (Some d) (change_of key cs) ≡ Some c → IsAmong key (with_changed (d ∷ cs) ks)
+    (change_of key cs ≡ Some c → IsAmong key (in_order (map key_of cs ++ ks))) → cond b (Some d) (change_of key cs) ≡ Some c
+    → IsAmong key (in_order (map key_of (d ∷ cs) ++ ks))
 changed_case true key c d cs ks test rest is =
-    subst (λ (k : List ℕ). IsAmong k (with_changed (d ∷ cs) ks)) (same_text (key_of d) key test) (among_with (key_of d) (with_changed cs ks))
-changed_case false key c d cs ks test rest is = still_among key (key_of d) (with_changed cs ks) (rest is)
+    subst (λ (k : List ℕ). IsAmong k (in_order (map key_of (d ∷ cs) ++ ks))) (same_text (key_of d) key test)
+    (among_with (key_of d) (in_order (map key_of cs ++ ks)))
+changed_case false key c d cs ks test rest is = still_among key (key_of d) (in_order (map key_of cs ++ ks)) (rest is)
 
-changed_among : (key : List ℕ) (c : Change) (cs : List Change) (ks : List (List ℕ)) → change_of key cs ≡ Some c → IsAmong key (with_changed cs ks)
+changed_among : (key : List ℕ) (c : Change) (cs : List Change) (ks : List (List ℕ)) → change_of key cs ≡ Some c → IsAmong key (in_order (map key_of cs ++ ks))
 changed_among key c [] ks is = cc
 changed_among key c (d ∷ cs) ks is = changed_case (bytes_eq (key_of d) key) key c d cs ks refl (changed_among key c cs ks) is
 
 -- a present key was named
 present_case : (n : ℕ) (key : List ℕ) (o : Option Change) (before : Option KeyState) (cs : List Change) (ks : List (List ℕ)) → change_of key cs ≡ o →
-    (is_some before ≡ true → IsAmong key ks) → is_some (after_change n o before) ≡ true → IsAmong key (with_changed cs ks)
+    (is_some before ≡ true → IsAmong key (in_order ks)) → is_some (after_change n o before) ≡ true → IsAmong key (in_order (map key_of cs ++ ks))
 present_case n key None before cs ks is older present = older_among key cs ks (older present)
 present_case n key (Some c) before cs ks is older present = changed_among key c cs ks is
 
-present_named : (opening : ℕ) (key : List ℕ) (revisions : List (List Change)) → is_some (key_after opening key revisions) ≡ true →
-    IsAmong key (keys_changed revisions)
-present_named opening key [] present = cc
-present_named opening key (changes ∷ older) present =
-    present_case (number_of_last opening (changes ∷ older)) key (change_of key changes) (key_after opening key older) changes (keys_changed older) refl
-    (present_named opening key older) (sym (ap (λ (s : Option KeyState). is_some s) (one_more opening key changes older)) ∙ present)
+-- at the opening, too
+any_case : (b : Bool) (key k : List ℕ) (keys : List (List ℕ)) → bytes_eq key k ≡ b → (list_any (eq_by_cmp (slice_cmp nat_cmp) key) keys ≡ true
+    → IsAmong key (in_order keys)) → (b || list_any (eq_by_cmp (slice_cmp nat_cmp) key) keys) ≡ true → IsAmong key (in_order (k ∷ keys))
+any_case true key k keys test rest any =
+    subst (λ (x : List ℕ). IsAmong x (in_order (k ∷ keys))) (sym (same_text key k test)) (among_with k (in_order keys))
+any_case false key k keys test rest any = still_among key k (in_order keys) (rest any)
+
+any_among : (key : List ℕ) (keys : List (List ℕ)) → list_any (eq_by_cmp (slice_cmp nat_cmp) key) keys ≡ true → IsAmong key (in_order keys)
+any_among key [] any = cc
+any_among key (k ∷ keys) any =
+    any_case (bytes_eq key k) key k keys refl (any_among key keys)
+    (ap (λ b. b || list_any (eq_by_cmp (slice_cmp nat_cmp) key) keys) (sym (is_eq-slice_cmp key k)) ∙ any)
+
+reached_some : (number : ℕ) (o : Option KeyState) → is_some (if_reached number o) ≡ true → is_some o ≡ true
+reached_some number None some = cc
+reached_some number (Some s) some = refl
+
+abbrev keys_at : Opening → List (List ℕ)
+keys_at opening = map (λ (e : List ℕ × KeyState). e.0) opening.states
+
+present_after : (opening : Opening) (key : List ℕ) (revisions : List (List Change)) → is_some (key_after opening key revisions) ≡ true →
+    IsAmong key (in_order (changed_before revisions (keys_at opening)))
+present_after opening key [] present =
+    any_among key (keys_at opening)
+    (sym (is_some-find (slice_cmp nat_cmp) key opening.states)
+    ∙ reached_some opening.number (find (slice_cmp nat_cmp) key opening.states) present)
+present_after opening key (changes ∷ older) present =
+    present_case (number_of_last opening (changes ∷ older)) key (change_of key changes) (key_after opening key older) changes
+    (changed_before older (keys_at opening)) refl
+    (present_after opening key older) (sym (ap (λ (s : Option KeyState). is_some s) (one_more opening key changes older)) ∙ present)
+
+present_named : (h : History) (key : List ℕ) → is_some (key_now h key) ≡ true → IsAmong key (keys_named h)
+present_named h key present = present_after h.opening key h.revisions present
 
 hanging_present : (s : Option KeyState) (id : ℕ) → hanging s ≡ Some id → is_some s ≡ true
 hanging_present None id is = cc
@@ -176,12 +207,12 @@ place_of (x ∷ xs) key (inr there) = let found : Contains xs key = place_of xs 
 
 pub are_keys : (h : History) (id : ℕ) → AreKeysOf (lease_now h) id (keys_of_lease h id)
 are_keys h id = record {
-  ascending = filtered_ascend test (keys_named h) (named_ascend h.revisions);
+  ascending = filtered_ascend test (keys_named h) (orders (named_by h));
   each = λ key. (
     (λ has. (on_case id (lease_now h key)).0 (passed test key (keys_named h) (at_place (keys_of_lease h id) key has.0 has.1 has.2)).1),
     (λ is. place_of (keys_of_lease h id) key
         (passes test key (keys_named h) ((on_case id (lease_now h key)).1 is)
-        (present_named h.opening key h.revisions (hanging_present (key_now h key) id is)))),
+        (present_named h key (hanging_present (key_now h key) id is)))),
   );
 }
   where
@@ -201,14 +232,19 @@ is_the_list s h id keys is kept =
     (are_keys h id)
 
 -- the keys that are present
-pub present_listed : PresentKeysAreListed
-present_listed h keys ascending each =
-    ascending_is_unique keys (keys_present h) ascending (filtered_ascend test (keys_named h) (named_ascend h.revisions))
-    (λ key. (
-      (λ has. let present : test key ≡ true = (each key).0 has in
-          place_of (keys_present h) key (passes test key (keys_named h) present (present_named h.opening key h.revisions present))),
-      (λ has. (each key).1 (passed test key (keys_named h) (at_place (keys_present h) key has.0 has.1 has.2)).1),
-    ))
+pub present_ascend : (h : History) → IsAscending (keys_present h)
+present_ascend h = filtered_ascend (λ key. is_some (key_now h key)) (keys_named h) (orders (named_by h))
+
+pub present_each : (h : History) (key : List ℕ) → Contains (keys_present h) key ↔ (is_some (key_now h key) ≡ true)
+present_each h key = (
+  (λ has. (passed test key (keys_named h) (at_place (keys_present h) key has.0 has.1 has.2)).1),
+  (λ present. place_of (keys_present h) key (passes test key (keys_named h) present (present_named h key present))),
+)
   where
     test : List ℕ → Bool
     test key = is_some (key_now h key)
+
+pub present_listed : PresentKeysAreListed
+present_listed h keys ascending each =
+    ascending_is_unique keys (keys_present h) ascending (present_ascend h)
+    (λ key. ((λ has. (present_each h key).1 ((each key).0 has)), (λ has. (each key).1 ((present_each h key).0 has))))

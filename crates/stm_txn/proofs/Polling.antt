@@ -1,21 +1,24 @@
 -- The numbers of the events of a batch fit.
-use Rattle.std.proofs.Common.{◌≡◌, ℕ, zero, suc, ◌+◌, ◌≤◌, true, false, cond, List, [], ◌∷◌, ◌++◌, map, take, Option, Some, None, ap, subst, arith}
-use Rattle.std.specs.Prelude.{nat_lt, Result, Ok, Err}
+use Rattle.std.proofs.Common.{◌≡◌, ℕ, zero, suc, ◌+◌, ◌-◌, ◌≤◌, Bool, true, false, cond, List, [], ◌∷◌, ◌++◌, map, take, Option, Some, None, ap, subst, arith}
+use Rattle.std.specs.Prelude.{nat_lt, slice_set, Result, Ok, Err}
 use Rattle.stm_history.specs.declared.change.Change.{Change}
 use Rattle.stm_history.specs.declared.change.Change.TheVariants.{Put as PutChange, Del as DelChange}
 use Rattle.stm_history.specs.declared.key_state.KeyState.{KeyState}
 use Rattle.stm_history.specs.declared.revisions.TheConstants.{HIGHEST_REVISION, HIGHEST_NUMBER}
+use Rattle.stm_history.specs.Opening.{Opening}
 use Rattle.stm_history.specs.History.{History, number_of_last, now, key_now, state_after_put}
 use Rattle.stm_history.proofs.HistoryLaws.{numbers_stay_small, last_revision_is_now}
 use Rattle.stm_keys.specs.declared.event.Event.{Event}
 use Rattle.stm_keys.specs.Events.{event_of, events_above, key_of_event}
 use Rattle.stm_watch.specs.declared.told.Told.{Told}
 use Rattle.stm_watch.specs.declared.watched.Watched.{Watched}
-use Rattle.stm_watch.specs.declared.watched.Watching.{Watching}
+use Rattle.stm_watch.specs.Watching.{Watching}
 use Rattle.stm_watch.specs.declared.watchers.Batch.{Batch}
 use Rattle.stm_watch.specs.Keys.{is_watched}
-use Rattle.stm_watch.specs.Pending.{matching, told_at, told_above, pending, events_told, batch_of}
-use Rattle.stm_watch.specs.Calls.{watcher_at, poll_found}
+use Rattle.stm_watch.specs.Pending.{matching, told_at, told_above, pending, events_told, batch_of, after_poll}
+use Rattle.stm_watch.specs.Calls.{watcher_at, poll_found, Step as WatchStep}
+use Rattle.stm_watch.specs.declared.refusal.PollRefusal.{PollRefusal}
+use Rattle.stm_watch.specs.declared.refusal.PollRefusal.TheVariants.{Compacted as LostToPoll}
 use Rattle.stm_outcome.specs.declared.refusal.Refusal.{Refusal}
 use Rattle.stm_txn.specs.Standing.{Standing, Step, polled, poll_step}
 use Rattle.stm_outcome.specs.Numbers.{LeaseFits, ChangesFit, RevisionsFit, LeasesFit, EventsFit}
@@ -41,7 +44,7 @@ shown_fit h (PutChange key value lease ∷ cs) bounded fits = (
 )
 shown_fit h (DelChange key ∷ cs) bounded fits = (omega arith, shown_fit h cs bounded fits.1)
 
-above_fit : (opening : ℕ) (changes : List Change) (older : List (List Change)) → number_of_last opening (changes ∷ older) ≤ HIGHEST_REVISION
+above_fit : (opening : Opening) (changes : List Change) (older : List (List Change)) → number_of_last opening (changes ∷ older) ≤ HIGHEST_REVISION
     → ChangesFit changes → EventsFit (events_above opening changes older)
 above_fit opening changes older bounded fits =
     let h : History = record { opening = opening; revisions = older } in
@@ -70,7 +73,7 @@ told_append : (ts us : List Told) → AllToldFit ts → AllToldFit us → AllTol
 told_append [] us first second = second
 told_append (t ∷ ts) us first second = (first.0, told_append ts us first.1 second)
 
-told_fit : (opening seen : ℕ) (watched : Watched) (revisions : List (List Change)) → number_of_last opening revisions ≤ HIGHEST_REVISION
+told_fit : (opening : Opening) (seen : ℕ) (watched : Watched) (revisions : List (List Change)) → number_of_last opening revisions ≤ HIGHEST_REVISION
     → RevisionsFit revisions → AllToldFit (told_above opening seen watched revisions)
 told_fit opening seen watched [] bounded fits = tt
 told_fit opening seen watched (changes ∷ older) bounded fits =
@@ -103,10 +106,16 @@ found_fits : (s next : Standing) (id most : ℕ) (b : Batch) (o : Option Watchin
     → poll_step s (poll_found s.history id most s.watchers o) ≡ Ok record { answer = b; next = next } → EventsFit b.events
 found_fits s next id most b None bounded fits is = absurd (cc)
 found_fits s next id most b (Some w) bounded fits is =
-    let same : batch_of most s.history w ≡ b = ap (λ (r : Result (Step Batch) Refusal). elim r [ Ok step ↦ step.answer | Err e ↦ b ]) is in
-    subst (λ (x : Batch). EventsFit x.events) same
+    subst (λ (x : Batch). EventsFit x.events) (answered w.lost is)
     (all_events_fit (take most (pending s.history w)) (taken_fit most (pending s.history w)
-    (told_fit s.history.opening w.seen w.watched s.history.revisions bounded fits)))
+    (told_fit s.history.opening w.seen w.watched s.history.revisions bounded fits.1)))
+  where
+    given : Result (WatchStep Batch) PollRefusal
+    given = Ok (record { answer = batch_of most s.history w; next = slice_set s.watchers (id - 1) (Some (after_poll most s.history w)) })
+
+    answered : (lost : Bool) → poll_step s (cond lost (Err LostToPoll) given) ≡ Ok record { answer = b; next = next } → batch_of most s.history w ≡ b
+    answered true is = absurd (cc)
+    answered false is = ap (λ (r : Result (Step Batch) Refusal). elim r [ Ok step ↦ step.answer | Err e ↦ b ]) is
 
 pub batch_fits : (s next : Standing) (id most : ℕ) (b : Batch) → now s.history ≤ HIGHEST_REVISION → LeasesFit s.history
     → polled s id most ≡ Ok record { answer = b; next = next } → EventsFit b.events

@@ -1,12 +1,12 @@
 -- Why transactions are refused, found before they are made.
-use Rattle.std.proofs.Common.{◌≡◌, ◌∙◌, List, [], Option, None, sym, ap}
+use Rattle.std.proofs.Common.{◌≡◌, ◌∙◌, ℕ, List, [], Option, None, sym, ap}
 use Rattle.stm_history.specs.History.{History, key_now}
 use Rattle.stm_leases.specs.Live.{Live}
 use Rattle.stm_outcome.specs.declared.txn.Op.{Op}
 use Rattle.stm_outcome.specs.declared.txn.Txn.{Txn}
 use Rattle.stm_outcome.specs.declared.answer.FailedCompare.{FailedCompare}
 use Rattle.stm_outcome.specs.declared.refusal.Refusal.{Refusal}
-use Rattle.stm_outcome.specs.Terms.{most_operations, widest_terms}
+use Rattle.stm_outcome.specs.Terms.{most_operations, terms_above}
 use Rattle.stm_outcome.specs.Checks.{fault_of}
 use Rattle.stm_outcome.specs.Compares.{first_failed}
 use Rattle.stm_outcome.specs.LookUps.{outcome_copied}
@@ -15,8 +15,8 @@ use Rattle.stm_txn.specs.Standing.{refusal_of}
 use Rattle.stm_txn.proofs.Transacting.{as_run}
 
 -- a transaction with no fault of the whole is refused as the branch that its compares pick
-pub chosen_refused : (h : History) (live : Live) (txn : Txn) (failed : Option FailedCompare) (ops : List Op) (told : Option Refusal) →
+pub chosen_refused : (floor : ℕ) (h : History) (live : Live) (txn : Txn) (failed : Option FailedCompare) (ops : List Op) (told : Option Refusal) →
     fault_of most_operations txn ≡ None → first_failed (key_now h) 0 txn.compares ≡ failed → chosen failed txn ≡ ops →
-    told ≡ refusal_of (outcome_copied (widest_terms h live) failed ops) → told ≡ refusal_of (outcome (widest_terms h live) txn)
-chosen_refused h live txn failed ops told whole first branch is =
-    is ∙ sym (ap refusal_of (as_run (record { history = h; live = live; moment = 0; watchers = [] }) txn failed ops whole first branch))
+    told ≡ refusal_of (outcome_copied (terms_above floor h live) failed ops) → told ≡ refusal_of (outcome (terms_above floor h live) txn)
+chosen_refused floor h live txn failed ops told whole first branch is =
+    is ∙ sym (ap refusal_of (as_run (record { history = h; floor = floor; live = live; moment = 0; watchers = [] }) txn failed ops whole first branch))

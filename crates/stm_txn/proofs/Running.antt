@@ -1,6 +1,5 @@
 -- A branch that no operation refuses.
 use Rattle.std.proofs.Common.{◌≡◌, ℕ, ◌+◌, Bool, true, false, cond, List, [], ◌∷◌, ◌++◌, Option, Some, None, refl, sym, ◌∙◌, ap, subst}
-use Rattle.std.specs.Option.{option_or}
 use Rattle.std.specs.Prelude.{nat_eq, nat_lt, ◌||◌, ◌&&◌}
 use Rattle.std.specs.FinMap as finmap
 use Rattle.std.proofs.lemmas.Bool.{le-leb, ltb-false}
@@ -16,29 +15,20 @@ use Rattle.stm_outcome.specs.Checks.{has_clash}
 use Rattle.stm_outcome.proofs.Branching.{neither, all_fit, HasDistinctKeys-push, puts_fit, dels_fit, first_deletion, nothing_before}
 use Rattle.stm_outcome.specs.declared.txn.Op.{Op}
 use Rattle.stm_outcome.specs.declared.txn.Op.TheVariants.{Get, Put, Del}
-use Rattle.stm_outcome.specs.declared.refusal.Refusal.{Refusal}
-use Rattle.stm_outcome.specs.declared.refusal.Refusal.TheVariants.{FutureRevision, LeaseNotFound}
+use Rattle.stm_outcome.specs.declared.refusal.Refusal.TheVariants.{Compacted, LeaseNotFound}
 use Rattle.stm_outcome.specs.Branches.{deletion_of, is_readable, are_readable, op_refusal}
 use Rattle.stm_outcome.specs.LookUps.{copy, with_copied, changes_copied}
 use Rattle.stm_outcome.specs.Branches.{branch_refusal}
 use Rattle.stm_leases.specs.Live.{Live}
 use Rattle.stm_txn.specs.Leasing.{hung_by, with_hang, hangs_of, HangOnLive}
-use Rattle.stm_outcome.specs.Terms.{Terms}
+use Rattle.stm_outcome.specs.Terms.{Terms, is_below_floor}
 use Rattle.stm_txn.specs.Standing.{Standing, terms_of}
-
--- where no refusal comes first, neither part has one
-pub both_none : (a b : Option Refusal) → option_or a b ≡ None → (a ≡ None) × (b ≡ None)
-both_none None b none = (refl, none)
-both_none (Some r) b none = cc
-
-reached_case : (b : Bool) → cond b (Some FutureRevision) None ≡ None → b ≡ false
-reached_case true none = cc
-reached_case false none = refl
+use Rattle.stm_outcome.proofs.Lowering.{both_none, reached_case}
 
 one_readable : (terms : Terms) (op : Op) → op_refusal terms op ≡ None → is_readable (now terms.history) op ≡ true
 one_readable terms (Get key rev) none =
     let counter : ℕ = now terms.history in
-    le-leb rev counter (ltb-false counter rev (reached_case (nat_lt counter rev) none))
+    le-leb rev counter (ltb-false counter rev (reached_case (nat_lt counter rev) (cond (is_below_floor terms.floor rev) (Some Compacted) None) none))
 one_readable terms (Put key value lease) none = refl
 one_readable terms (Del key) none = refl
 

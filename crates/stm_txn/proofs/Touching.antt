@@ -1,14 +1,14 @@
 -- Watchers that are told of the last revision stand for the history with it.
-use Rattle.std.proofs.Common.{◌≡◌, ◌∙◌, ℕ, ◌+◌, List, map, Option, sym, ap, subst, arith}
+use Rattle.std.proofs.Common.{◌≡◌, ◌∙◌, ℕ, ◌+◌, List, map, sym, ap, subst, arith}
 use Rattle.stm_history.specs.declared.change.Change.{Change}
 use Rattle.stm_history.specs.History.{History, now, add_revision}
 use Rattle.stm_keys.specs.declared.event.Event.{Event}
 use Rattle.stm_keys.specs.Events.{change_of_event, events_of}
-use Rattle.stm_watch.specs.declared.watched.Watcher.{Watcher}
+use Rattle.stm_watch.specs.Places.{WatchersView}
 use Rattle.stm_watch.specs.Calls.{StandFor}
 use Rattle.stm_txn.proofs.Moving.{last_changes}
 
-pub told_of_it : (next : History) (revision : ℕ) (events : List Event) (before after : List (Option Watcher)) →
+pub told_of_it : (next : History) (revision : ℕ) (events : List Event) (before after : WatchersView) →
     ((h : History) → StandFor h before → revision ≡ now h + 1 → StandFor (add_revision h (map change_of_event events)) after) →
     revision ≡ now next → events ≡ events_of next (now next) →
     (h : History) (changes : List Change) → next ≡ add_revision h changes → StandFor h before → StandFor next after

@@ -8,7 +8,8 @@ use Rattle.std.specs.Cmp.Lexicographic.{slice_cmp}
 use Rattle.std.specs.declared.cmp.Ordering.TheVariants.{Less, Equal, Greater}
 use Rattle.stm_history.specs.declared.change.Change.{Change}
 use Rattle.stm_history.specs.declared.change.Change.TheVariants.{Del}
-use Rattle.stm_history.specs.History.{History, key_of}
+use Rattle.stm_history.specs.Cut.{keys_named as named_by}
+use Rattle.stm_history.specs.History.{History}
 use Rattle.stm_leases.specs.AttachedKeys.{is_on}
 use Rattle.stm_txn.specs.Leasing.{lease_now}
 
@@ -17,19 +18,14 @@ abbrev pub with_key : List ℕ → List (List ℕ) → List (List ℕ)
 with_key key [] = key ∷ []
 with_key key (k ∷ ks) = elim (slice_cmp nat_cmp key k) [ Less ↦ key ∷ (k ∷ ks) | Equal ↦ k ∷ ks | Greater ↦ k ∷ with_key key ks ]
 
--- the keys that changes are about, among ascending ones
-abbrev pub with_changed : List Change → List (List ℕ) → List (List ℕ)
-with_changed [] keys = keys
-with_changed (c ∷ cs) keys = with_key (key_of c) (with_changed cs keys)
-
--- the keys that revisions change, ascending by bytes
-abbrev pub keys_changed : List (List Change) → List (List ℕ)
-keys_changed [] = []
-keys_changed (changes ∷ older) = with_changed changes (keys_changed older)
+-- these keys, each once, ascending by bytes
+abbrev pub in_order : List (List ℕ) → List (List ℕ)
+in_order [] = []
+in_order (key ∷ keys) = with_key key (in_order keys)
 
 -- the keys that a history names, ascending by bytes
 abbrev pub keys_named : History → List (List ℕ)
-keys_named h = keys_changed h.revisions
+keys_named h = in_order (named_by h)
 
 -- the keys that hang on a lease now, ascending by bytes
 abbrev pub keys_of_lease : History → ℕ → List (List ℕ)

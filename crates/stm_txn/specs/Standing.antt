@@ -2,50 +2,56 @@
 --
 -- etcd's API reference, "Transaction", "Lease" and "Watch": a transaction is one step; a grant makes a lease live, a
 -- keep-alive renews it, and a revocation or its expiry ends it with its keys; a watcher is told of every change from its
--- start on, whatever made it. This store's own choices are that the keys of a lease go in one revision, ascending by
--- bytes, that due leases end by the moment when they were due, then by id, and that watchers are polled.
-use Rattle.std.specs.Prelude.{◌≡◌, ◌⊎◌, ℕ, zero, suc, nat_lt, if◌then◌else◌, List, [], ◌∷◌, ◌++◌, length, map, Option, Some, None, IsOk, Result, Ok, Err}
+-- start on, whatever made it; and "Compaction": the revisions below the compacted one can't be read any more, and a
+-- watcher that was not told of them yet is cancelled. This store's own choices are that the keys of a lease go in one
+-- revision, ascending by bytes, that due leases end by the moment when they were due, then by id, and that watchers are
+-- polled, so that a poll is what cancels a watcher that is lost.
+use Rattle.std.specs.Prelude.{◌≡◌, ◌≤◌, ◌⊎◌, ℕ, zero, suc, ◌-◌, false, nat_le, nat_lt, if◌then◌else◌, List, [], ◌∷◌, ◌++◌, length, map}
+use Rattle.std.specs.Prelude.{Option, Some, None, IfSome, IsOk, Result, Ok, Err}
 use Rattle.std.specs.FinMap as finmap
 use Rattle.stm_history.specs.declared.change.Change.{Change}
+use Rattle.stm_history.specs.Cut.{cut}
 use Rattle.stm_history.specs.History.{History, now, opened_at}
 use Rattle.stm_leases.specs.LeaseLog.{LogItem, Expire}
 use Rattle.stm_leases.specs.Live.{Live, is_live_in, grant_refusal}
 use Rattle.stm_leases.specs.DueFirst.{first_due}
 use Rattle.stm_watch.specs.declared.watched.Watched.{Watched}
-use Rattle.stm_watch.specs.declared.watched.Watching.{Watching}
+use Rattle.stm_watch.specs.Watching.{Watching}
 use Rattle.stm_watch.specs.declared.watchers.Batch.{Batch}
 use Rattle.stm_watch.specs.declared.refusal.WatchRefusal.{WatchRefusal}
 use Rattle.stm_watch.specs.declared.refusal.WatchRefusal.TheVariants.{EmptyKey as NoKey, OutOfMemory as NoMemory}
 use Rattle.stm_watch.specs.declared.refusal.PollRefusal.{PollRefusal}
-use Rattle.stm_watch.specs.declared.refusal.PollRefusal.TheVariants.{NoWatcher as NoneToPoll, OutOfMemory as NoMemoryToPoll}
-use Rattle.stm_watch.specs.Calls.{watch, poll, watcher_at, Step as WatchStep, cancelled as without_watcher}
+use Rattle.stm_watch.specs.declared.refusal.PollRefusal.TheVariants.{NoWatcher as NoneToPoll, Compacted as LostToPoll, OutOfMemory as NoMemoryToPoll}
+use Rattle.stm_watch.specs.Pending.{first_pending}
+use Rattle.stm_watch.specs.Calls.{watch, poll, watcher_at, Step as WatchStep, cancelled as without_watcher, after_refused, compacted as compacted_watchers}
 use Rattle.stm_outcome.specs.declared.txn.Txn.{Txn}
 use Rattle.stm_outcome.specs.declared.answer.TxnAnswer.{TxnAnswer}
 use Rattle.stm_outcome.specs.declared.advance.Expired.{Expired}
 use Rattle.stm_outcome.specs.declared.refusal.Refusal.{Refusal}
-use Rattle.stm_outcome.specs.declared.refusal.Refusal.TheVariants.{OutOfMemory, EmptyKey, LeaseNotFound, NoWatcher, RevisionsUsedUp, TimeGoesBack}
-use Rattle.stm_outcome.specs.Terms.{Terms, widest_terms}
+use Rattle.stm_outcome.specs.declared.refusal.Refusal.TheVariants.{OutOfMemory, EmptyKey, FutureRevision, Compacted, LeaseNotFound, NoWatcher, RevisionsUsedUp, TimeGoesBack}
+use Rattle.stm_outcome.specs.Terms.{Terms, terms_above}
 use Rattle.stm_outcome.specs.Commits.{applied}
 use Rattle.stm_outcome.specs.Effect.{op_of}
 use Rattle.stm_outcome.specs.Outcome.{Done, outcome, branch_outcome, with_changes, is_used_up}
 use Rattle.stm_txn.specs.Grants.{grant_refusal_of}
 use Rattle.stm_txn.specs.LeaseKeys.{deletions_of}
 
--- a store: its history, its live leases with their terms, its moment in seconds, and its watchers, watcher 1 first, with
--- nothing where one was cancelled
+-- a store: its history, its floor, which is the lowest revision that can be read, its live leases with their terms, its
+-- moment in seconds, and its watchers, watcher 1 first, with nothing where one was cancelled
 pub record Standing : Type 0 where
   pub history : History
+  pub floor : ℕ
   pub live : Live
   pub moment : ℕ
   pub watchers : List (Option Watching)
 
 -- a store that opens at a revision
 abbrev pub opening : ℕ → Standing
-opening number = record { history = opened_at number; live = finmap.empty; moment = 0; watchers = [] }
+opening number = record { history = opened_at number; floor = 0; live = finmap.empty; moment = 0; watchers = [] }
 
--- the terms on which a store takes a transaction: nothing of it is compacted, and its limit is the highest
+-- the terms on which a store takes a transaction
 abbrev pub terms_of : Standing → Terms
-terms_of s = widest_terms s.history s.live
+terms_of s = terms_above s.floor s.history s.live
 
 -- what a call that is not refused comes to: its answer, and the store after it
 pub record Step (A : Type 0) : Type 0 where
@@ -212,11 +218,12 @@ watch_step s (Err cause) = Err (watch_cause cause)
 
 -- a watch from a revision on, 0 for the next one, which answers the watcher's number
 abbrev pub watched : Standing → Watched → ℕ → Result (Step ℕ) Refusal
-watched s keys from = watch_step s (watch s.history keys from s.watchers)
+watched s keys from = watch_step s (watch s.history s.floor keys from s.watchers)
 
 -- why a poll is refused
 abbrev pub poll_cause : PollRefusal → Refusal
 poll_cause NoneToPoll = NoWatcher
+poll_cause LostToPoll = Compacted
 poll_cause NoMemoryToPoll = OutOfMemory
 
 abbrev pub poll_step : Standing → Result (WatchStep Batch) PollRefusal → Result (Step Batch) Refusal
@@ -227,6 +234,10 @@ poll_step s (Err cause) = Err (poll_cause cause)
 abbrev pub polled : Standing → ℕ → ℕ → Result (Step Batch) Refusal
 polled s id most = poll_step s (poll s.history id most s.watchers)
 
+-- The store once a poll was refused: a watcher that is lost is cancelled by it, and otherwise nothing changed.
+abbrev pub poll_refused : Standing → ℕ → Standing
+poll_refused s id = with_watchers s (after_refused id s.watchers)
+
 -- a cancellation of what stands at a watcher's place
 abbrev pub cancel_step : Standing → ℕ → Option Watching → Result (Step (Unit {0})) Refusal
 cancel_step s id None = Err NoWatcher
@@ -234,3 +245,47 @@ cancel_step s id (Some w) = Ok record { answer = tt; next = with_watchers s (wit
 
 abbrev pub cancelled : Standing → ℕ → Result (Step (Unit {0})) Refusal
 cancelled s id = cancel_step s id (watcher_at id s.watchers)
+
+-- ---- compaction
+
+-- why a compaction at a revision is refused: it is not above the floor, or above the counter
+abbrev pub compaction_refusal : Standing → ℕ → Option Refusal
+compaction_refusal s revision =
+    if nat_le revision s.floor then Some Compacted else (
+    if nat_lt (now s.history) revision then Some FutureRevision else None)
+
+-- The store with a revision as its floor: watchers for which events of revisions below it are pending are lost.
+abbrev pub with_floor : Standing → ℕ → Standing
+with_floor s revision = record s { floor = revision; watchers = compacted_watchers s.history revision s.watchers }
+
+-- the store without the revisions below its floor
+abbrev pub kept : Standing → Standing
+kept s = record s { history = cut (s.floor - 1) s.history }
+
+abbrev pub floor_step : Option Refusal → Standing → Result (Step (Unit {0})) Refusal
+floor_step None next = Ok record { answer = tt; next = next }
+floor_step (Some cause) next = Err cause
+
+-- a compaction that drops nothing: what one is over the whole history
+abbrev pub raised : Standing → ℕ → Result (Step (Unit {0})) Refusal
+raised s revision = floor_step (compaction_refusal s revision) (with_floor s revision)
+
+-- a compaction, which drops the revisions below it
+abbrev pub compacted : Standing → ℕ → Result (Step (Unit {0})) Refusal
+compacted s revision = floor_step (compaction_refusal s revision) (kept (with_floor s revision))
+
+-- ---- what the calls of a store keep of its floor
+
+-- nothing that is pending for a watcher is below the floor, unless the watcher is lost
+abbrev pub IsKeptFor : History → ℕ → Option Watching → Type 0
+IsKeptFor h floor None = Unit {0}
+IsKeptFor h floor (Some w) = w.lost ≡ false → IfSome (first_pending h w) (λ n. floor ≤ n)
+
+abbrev pub AreKeptFor : History → ℕ → List (Option Watching) → Type 0
+AreKeptFor h floor [] = Unit {0}
+AreKeptFor h floor (w ∷ ws) = IsKeptFor h floor w × AreKeptFor h floor ws
+
+-- The floor is a revision that has come, or 0, and nothing below it is pending for a watcher that is not lost.
+pub record HasKept (s : Standing) : Type 0 where
+  pub reached : s.floor ≤ now s.history
+  pub watchers : AreKeptFor s.history s.floor s.watchers

@@ -6,7 +6,7 @@ use Rattle.stm_history.specs.declared.key_state.KeyState.{KeyState}
 use Rattle.stm_keys.specs.Keys.{Contents}
 use Rattle.stm_leases.specs.Live.{Live}
 use Rattle.stm_leases.specs.Leases.{term_code}
-use Rattle.stm_watch.specs.declared.watched.Watching.{Watching}
+use Rattle.stm_watch.specs.Watching.{Watching}
 use Rattle.stm_txn.specs.Standing.{Standing}
 
 -- What a store is, and beside it the list of its present keys in the order in which `Keys::at` tells them. No call's
@@ -20,11 +20,11 @@ abbrev pub store_code : Coded Contents → Coded (List (Option Watching)) → Co
 store_code contents watchers =
     code_by (Contents × (Live × (ℕ × List (Option Watching)))) (coded× contents (coded× (finmap.code coded_ℕ term_code) (coded× coded_ℕ watchers)))
     (λ s. (
-      record { history = s.standing.history; present = s.present },
+      record { history = s.standing.history; present = s.present; opened = 0; floor = s.standing.floor },
       (s.standing.live, (s.standing.moment, s.standing.watchers)),
     ))
     (λ p. record {
-      standing = record { history = p.0.history; live = p.1.0; moment = p.1.1.0; watchers = p.1.1.1 };
+      standing = record { history = p.0.history; floor = p.0.floor; live = p.1.0; moment = p.1.1.0; watchers = p.1.1.1 };
       present = p.0.present;
     })
     (λ _. refl)

@@ -1,13 +1,13 @@
 //! One branch of a transaction.
-ghost use Rattle.std.specs.Prelude.{◌≡◌, ◌+◌, ◌<◌, ◌≤◌, ◌++◌, ◌∷◌, IfOk, OnOk, IsTrue, [], option_copied, is_some, Some, None};
-ghost use Rattle.stm_history.specs.History.{now, key_at, key_now};
+ghost use Rattle.std.specs.Prelude.{◌≡◌, ◌+◌, ◌≤◌, ◌++◌, ◌∷◌, IfOk, OnOk, IsTrue, [], option_copied, is_some, Some, None};
+ghost use Rattle.stm_history.specs.History.{now, key_now};
 ghost use Rattle.stm_history.specs.declared.change.Change.TheVariants.{Put, Del};
 ghost use Rattle.stm_outcome.specs.Branches.{carried, count_of, is_readable, are_readable, has_changes};
 ghost use Rattle.stm_outcome.specs.LookUps.{copy, read_copied, change_copied, with_copied, answer_copied, changes_copied, answers_copied};
 
 use std::alloc::{AllocError, Global};
 use stm_history::{Change, KeyState, ReadAnswer, Text, find_change};
-use stm_keys::{Keys, ReadRefusal};
+use stm_keys::Keys;
 use stm_outcome::{Op, OpAnswer, ShortList};
 
 /// What a branch answers, and what it changes.
@@ -48,19 +48,6 @@ fn is_copied(keys: &Keys, changes: &[Change], key: &str) -> bool
     }
 }
 
-/// What a key was at a revision that the store has reached.
-fn read_past(keys: &Keys, key: &str, rev: u64) -> Result<Option<KeyState>, AllocError>
-    requires positive { 0 < rev }
-    requires reached { rev ≤ now keys.now.history }
-    ensures { IfOk result (λ s. s ≡ key_at keys.now.history key.now rev) }
-{
-    match keys.get_at(key, rev) {
-        Ok(state) => clone_state(state),
-        Err(ReadRefusal::FutureRevision) => unreachable!(),
-        Err(ReadRefusal::Compacted) => unreachable!(),
-    }
-}
-
 /// The revision that an answer carries.
 fn carried_revision(keys: &Keys, changes: &[Change]) -> u64
     ensures { result ≡ carried keys.now.history changes.now }
@@ -80,7 +67,7 @@ fn read(keys: &Keys, changes: &[Change], key: &Text, rev: u64) -> Result<ReadAns
     let (kv, of_rev) = if rev == 0 {
         (copied(keys, changes, key.as_str())?, revision)
     } else {
-        (read_past(keys, key.as_str(), rev)?, rev)
+        (clone_state(keys.look_back(key.as_str(), rev))?, rev)
     };
     Ok(ReadAnswer {
         key: key.clone()?,

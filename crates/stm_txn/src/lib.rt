@@ -19,5 +19,5 @@ pub use stm_outcome::{
     AdvanceRefused, Compare, Expired, FailedCompare, MOST_OPERATIONS, Op, OpAnswer, Order, Refusal,
     ShortList, Target, Txn, TxnAnswer,
 };
-pub use stm_watch::{Batch, Told, Watched, Watching};
+pub use stm_watch::{Batch, Told, Watched};
 pub use store::Store;

@@ -6,7 +6,8 @@ ghost use Rattle.stm_history.specs.declared.revisions.TheConstants.{HIGHEST_REVI
 ghost use Rattle.stm_history.specs.declared.change.Change.{Change};
 ghost use Rattle.stm_history.specs.History.{History, now, add_revision, IsRevision, HasDistinctKeys};
 ghost use Rattle.stm_keys.specs.Keys.{DeletePresent};
-ghost use Rattle.stm_watch.specs.Calls.{watchings, StandFor};
+ghost use Rattle.stm_watch.specs.Places.{no_watchers, watchings};
+ghost use Rattle.stm_watch.specs.Calls.{StandFor};
 ghost use Rattle.stm_leases.specs.LeaseLog.{LogItem, Grant, Renew, Revoke};
 ghost use Rattle.stm_leases.specs.Leases.{StandsFor};
 ghost use Rattle.stm_leases.specs.Live.{is_live_in, AreInRange};
@@ -25,17 +26,17 @@ use crate::writes::{any_names_dead_lease, are_used_up, only_effective};
 use std::alloc::{AllocError, Global};
 use std::marker::Model;
 use stm_history::{Change, Sequence, Text};
-use stm_keys::{ApplyRefusal, HIGHEST_REVISION, Keys};
+use stm_keys::{ApplyRefusal, HIGHEST_REVISION, Keys, ReadRefusal};
 use stm_leases::{GrantError, KeysError, Leases};
 use stm_outcome::{
     AdvanceRefused, Expired, FailedCompare, Op, Refusal, Txn, TxnAnswer, find_failed, find_fault,
 };
 use stm_watch::{Batch, PollRefusal, WatchRefusal, Watchers};
 
-/// A store: its keys at every revision, its leases, its moment in whole seconds, and its watchers.
+/// A store: its keys at every revision that is kept, its leases, its moment in whole seconds, and its watchers.
 ///
-/// Each key hangs on the lease that its state names, and a watcher is ready exactly where events of it are pending:
-/// that is kept in every store.
+/// Each key hangs on the lease that its state names, and a watcher is ready exactly where events of it are pending, or
+/// where it is lost: that is kept in every store.
 #[derive(Drop)]
 pub struct Store {
     keys: Keys,
@@ -48,7 +49,10 @@ pub struct Store {
 impl Model for Store {
     ghost use Rattle.std.specs.Coded.{codes};
     ghost use Rattle.stm_leases.specs.Leases.{lease_of};
-    ghost use Rattle.stm_watch.specs.Calls.{watchings, StandFor};
+    ghost use Rattle.std.specs.Prelude.{◌≡◌, ◌≤◌};
+    ghost use Rattle.stm_history.specs.History.{now};
+    ghost use Rattle.stm_watch.specs.Places.{watchings};
+    ghost use Rattle.stm_watch.specs.Calls.{StandFor};
     ghost use Rattle.stm_txn.specs.Leasing.{HangAsStored};
     ghost use Rattle.stm_outcome.specs.Numbers.{LeasesFit};
     ghost use Rattle.stm_txn.specs.Store.{StoreView, store_code};
@@ -59,11 +63,12 @@ impl Model for Store {
     ghost coded = { store_code key_store.the_row.coded (Prim.hlevel (codes)) };
 
     ghost view = { λ s. record {
-      standing = record { history = s.keys.history; live = s.leases.live; moment = s.moment; watchers = watchings s.watchers };
+      standing = record { history = s.keys.history; floor = s.keys.floor; live = s.leases.live; moment = s.moment; watchers = watchings s.watchers };
       present = s.keys.present;
     } };
 
-    ghost invariant = { λ s. HangAsStored (lease_of s.leases) s.keys.history × LeasesFit s.keys.history × StandFor s.keys.history s.watchers };
+    ghost invariant = { λ s. HangAsStored (lease_of s.leases) s.keys.history × LeasesFit s.keys.history × StandFor s.keys.history s.watchers
+        × (s.watchers.floor ≡ s.keys.floor) × (s.keys.floor ≤ now s.keys.history) };
 }
 
 /// Whether a branch is to change something at the highest revision.
@@ -131,13 +136,16 @@ fn told_poll(polled: Result<Batch, PollRefusal>) -> Result<Batch, Refusal>
     match polled {
         Ok(batch) => Ok(batch),
         Err(PollRefusal::NoWatcher) => Err(Refusal::NoWatcher),
+        Err(PollRefusal::Compacted) => Err(Refusal::Compacted),
         Err(PollRefusal::OutOfMemory) => Err(Refusal::OutOfMemory),
     }
 }
 
 /// Tells the watchers of the last revision. Those that stood for the history before it stand for it then.
 fn tell_watchers(watchers: &mut Watchers, keys: &Keys)
+    requires { watchers.old.floor ≤ now keys.now.history }
     ensures same { watchings watchers.new ≡ watchings watchers.old }
+    ensures floor { watchers.new.floor ≡ watchers.old.floor }
     ensures stand { (h : History) (changes : List Change) → keys.now.history ≡ add_revision h changes → StandFor h watchers.old → StandFor keys.now.history watchers.new }
 {
     watchers.touched(keys.revision(), keys.last_events());
@@ -163,7 +171,7 @@ impl Store {
     ghost use Rattle.stm_outcome.specs.Outcome.{with_changes, answer_of};
     ghost use Rattle.stm_outcome.specs.Numbers.{AnswerFits, StatesFit, ExpiredFits, AllExpiredFit, EventsFit};
     ghost use Rattle.stm_txn.specs.Standing.{opening, IsRefusalOf, Tells, refusal_of, transacted, made, written, granted, kept_alive, told, ended, revoked};
-    ghost use Rattle.stm_txn.specs.Standing.{terms_of, watched, polled, cancelled};
+    ghost use Rattle.stm_txn.specs.Standing.{terms_of, watched, polled, poll_refused, cancelled, raised, compacted};
     ghost use Rattle.stm_watch.specs.declared.watched.Watched.TheVariants.{Key, Range};
     ghost use Rattle.stm_watch.specs.Calls.{IsNextPending};
     ghost use Rattle.stm_txn.specs.Standing.{after, expired_in, expire_all, at_moment, advanced, HasCome, IsStopped, IsCutShort, with_expiries};
@@ -181,7 +189,7 @@ impl Store {
     fn opened(alloc: Global, start: u64, watchers: Watchers) -> Store
         requires positive { 1 ≤ start }
         requires bounded { start ≤ HIGHEST_REVISION }
-        requires unwatched { watchers ≡ [] }
+        requires unwatched { watchers ≡ no_watchers }
         ensures standing { result.standing ≡ opening start }
         ensures present { result.present ≡ [] }
         ensures log { StandsFor result.standing.live [] }
@@ -212,12 +220,21 @@ impl Store {
     /// above `HIGHEST_NUMBER`.
     pub fn keys(&self) -> &Keys
         ensures history { result.now.history ≡ self.now.standing.history }
+        ensures floor { result.now.floor ≡ self.now.standing.floor }
         ensures present { result.now.present ≡ self.now.present }
         ensures counter { 1 ≤ now self.now.standing.history }
         ensures numbers { StatesFit self.now.standing.history }
     {
         let _counter = self.keys.revision();
         &self.keys
+    }
+
+    /// The floor: the lowest revision that can be read. It is 0 in a store that was never compacted.
+    pub fn floor(&self) -> u64
+        ensures floor { result ≡ self.now.standing.floor }
+        ensures reached { self.now.standing.floor ≤ now self.now.standing.history }
+    {
+        self.keys.floor()
     }
 
     /// The moment, in whole seconds.
@@ -253,6 +270,7 @@ impl Store {
         requires live { HangOnLive self.old.standing.live (hangs_of changes.items) }
         requires present { DeletePresent self.old.standing.history changes.items }
         ensures ok { OnOk result (self.new.standing.history ≡ add_revision self.old.standing.history changes.items) }
+        ensures floor { self.new.standing.floor ≡ self.old.standing.floor }
         ensures live { self.new.standing.live ≡ self.old.standing.live }
         ensures moment { self.new.standing.moment ≡ self.old.standing.moment }
         ensures watchers { self.new.standing.watchers ≡ self.old.standing.watchers }
@@ -279,6 +297,7 @@ impl Store {
         requires live { HangOnLive self.old.standing.live (hangs_of changes.items) }
         requires present { DeletePresent self.old.standing.history changes.items }
         ensures ok { OnOk result (self.new.standing.history ≡ with_changes self.old.standing.history changes.items) }
+        ensures floor { self.new.standing.floor ≡ self.old.standing.floor }
         ensures live { self.new.standing.live ≡ self.old.standing.live }
         ensures moment { self.new.standing.moment ≡ self.old.standing.moment }
         ensures watchers { self.new.standing.watchers ≡ self.old.standing.watchers }
@@ -302,6 +321,7 @@ impl Store {
         ensures answer { IfOk result (λ answer. answer ≡ answer_of self.old.standing.history failed
             (changes_copied self.old.standing.history [] ops.now) (answers_copied self.old.standing.history [] ops.now)) }
         ensures history { OnOk result (self.new.standing.history ≡ with_changes self.old.standing.history (changes_copied self.old.standing.history [] ops.now)) }
+        ensures floor { self.new.standing.floor ≡ self.old.standing.floor }
         ensures live { self.new.standing.live ≡ self.old.standing.live }
         ensures moment { self.new.standing.moment ≡ self.old.standing.moment }
         ensures watchers { self.new.standing.watchers ≡ self.old.standing.watchers }
@@ -323,6 +343,7 @@ impl Store {
         requires { has_clash ops.now ≡ false }
         ensures ok { IfOk result (λ answer. outcome_copied (terms_of self.old.standing) failed ops.now
             ≡ Ok (record { answer = answer; history = self.new.standing.history })) }
+        ensures floor { self.new.standing.floor ≡ self.old.standing.floor }
         ensures live { self.new.standing.live ≡ self.old.standing.live }
         ensures moment { self.new.standing.moment ≡ self.old.standing.moment }
         ensures watchers { self.new.standing.watchers ≡ self.old.standing.watchers }
@@ -363,8 +384,8 @@ impl Store {
     ///
     /// The whole transaction is looked at first: `TooManyOps`, `EmptyKey`, `DuplicateKey`. Then the
     /// compares pick the branch, and the first of its operations that is refused decides:
-    /// `FutureRevision` for a read above the counter, `LeaseNotFound` for a put on a lease that is not
-    /// live. Then comes `RevisionsUsedUp`, where something is to change at `HIGHEST_REVISION`, then
+    /// `FutureRevision` for a read above the counter, `Compacted` for one below the floor, `LeaseNotFound` for a put on a
+    /// lease that is not live. Then comes `RevisionsUsedUp`, where something is to change at `HIGHEST_REVISION`, then
     /// `OutOfMemory`. A refused transaction changes nothing. (etcd's API reference, "Transaction", has the
     /// compares, the branches and the refused duplicates; the order of the refusals is this store's own.)
     /// The place of a failed compare is below their number, and the store's numbers in an answer are at most
@@ -579,7 +600,8 @@ impl Store {
     }
 
     /// Watches a key from a revision on, 0 for the next one, and gives the watcher's number: 1, 2, 3, .., which is
-    /// never used again. A start above the counter waits for that revision.
+    /// never used again. A start above the counter waits for that revision, and one below the floor leaves the watcher
+    /// lost.
     ///
     /// It is refused for the first of `EmptyKey` and `OutOfMemory` that holds, and then changes nothing, and takes no
     /// number. (etcd's API reference, "Watch": `key` and `start_revision` of a `WatchCreateRequest`.)
@@ -616,7 +638,8 @@ impl Store {
         }
     }
 
-    /// A watcher for which events are pending, `None` exactly where there is none. It takes no memory.
+    /// A watcher for which events are pending, or one that is lost, `None` exactly where there is none. It takes no
+    /// memory.
     pub fn next_ready(&self) -> Option<u64>
         ensures { IsNextPending self.now.standing.history self.now.standing.watchers result }
     {
@@ -627,7 +650,7 @@ impl Store {
     fn take_batch(&mut self, id: u64, most: u64) -> Result<Batch, Refusal>
         ensures step { Tells (polled self.old.standing id most) result self.new.standing }
         ensures present { self.new.present ≡ self.old.present }
-        ensures err { OnErr result (self.new ≡ self.old) }
+        ensures refused { OnErr result (self.new.standing ≡ poll_refused self.old.standing id) }
     {
         let polled = self.watchers.poll(id, &self.keys, most);
         told_poll(polled)
@@ -636,17 +659,57 @@ impl Store {
     /// Gives a watcher the pending events of at most so many revisions, and whole revisions only, and notes how far it
     /// has been told. The numbers of the events are at most `HIGHEST_NUMBER`.
     ///
-    /// It is refused for the first of `NoWatcher`, where there is none with this number or it was cancelled, and
-    /// `OutOfMemory` that holds, and then changes nothing: a poll that wanted memory gives the same batch later.
+    /// It is refused for the first of these that holds: `NoWatcher`, where there is none with this number or it was
+    /// cancelled, `Compacted`, where it is lost, and `OutOfMemory`. A lost one is cancelled then, and otherwise a refusal
+    /// changes nothing: a poll that wanted memory gives the same batch later. (etcd's API reference, "Watch":
+    /// `compact_revision` of a `WatchResponse`.)
     pub fn poll(&mut self, id: u64, most: u64) -> Result<Batch, Refusal>
         ensures step { Tells (polled self.old.standing id most) result self.new.standing }
         ensures present { self.new.present ≡ self.old.present }
         ensures numbers { IfOk result (λ batch. EventsFit batch.events) }
-        ensures err { OnErr result (self.new ≡ self.old) }
+        ensures refused { OnErr result (self.new.standing ≡ poll_refused self.old.standing id) }
     {
         let _counter = self.keys.revision();
         let batch = self.take_batch(id, most)?;
         Ok(batch)
+    }
+
+    /// Makes a revision the floor, below which none can be read any more, and drops the revisions below it: what each key
+    /// was at the floor, the events of the floor's own revision and all later ones stay. A watcher for which events of
+    /// revisions below the floor are pending is lost, and the others lose nothing.
+    ///
+    /// `Compacted` is answered where the revision is not above the floor, `FutureRevision` where it is above the counter,
+    /// and nothing changes then. It takes no memory. (etcd's API reference, "Compact".)
+    pub fn compact(&mut self, revision: u64) -> Result<(), Refusal>
+        ensures step { compacted self.old.standing revision ≡ told result self.new.standing }
+        ensures present { self.new.present ≡ self.old.present }
+        ensures err { OnErr result (self.new ≡ self.old) }
+    {
+        match self.keys.compact(revision) {
+            Ok(()) => {
+                self.watchers.compacted(revision);
+                Ok(())
+            }
+            Err(ReadRefusal::Compacted) => Err(Refusal::Compacted),
+            Err(ReadRefusal::FutureRevision) => Err(Refusal::FutureRevision),
+        }
+    }
+
+    /// Makes a revision the floor as `compact` does, with its refusals and its lost watchers, but drops nothing: the keys
+    /// at every revision are still there for `Keys::look_back`.
+    pub fn raise_floor(&mut self, revision: u64) -> Result<(), Refusal>
+        ensures step { raised self.old.standing revision ≡ told result self.new.standing }
+        ensures present { self.new.present ≡ self.old.present }
+        ensures err { OnErr result (self.new ≡ self.old) }
+    {
+        match self.keys.raise_floor(revision) {
+            Ok(()) => {
+                self.watchers.compacted(revision);
+                Ok(())
+            }
+            Err(ReadRefusal::Compacted) => Err(Refusal::Compacted),
+            Err(ReadRefusal::FutureRevision) => Err(Refusal::FutureRevision),
+        }
     }
 
     /// Why a transaction would be refused now, other than for want of memory. It takes no memory.

@@ -1,6 +1,6 @@
 -- What stands at a place of a list.
-use Rattle.std.proofs.Common.{◌≡◌, ◌⊎◌, ℕ, zero, suc, ◌<◌, List, [], ◌∷◌, ◌++◌, length, map, Option, Some, None, IsSome, option_map, slice_index_or, slice_set}
-use Rattle.std.proofs.Common.{refl, sym, ap, ◌∙◌, inl, inr, arith}
+use Rattle.std.proofs.Common.{◌≡◌, ◌⊎◌, ℕ, zero, suc, ◌<◌, List, [], ◌∷◌, ◌++◌, length, map, Option, Some, None, IsSome, is_some, option_map, slice_index_or, slice_set}
+use Rattle.std.proofs.Common.{false, refl, sym, ap, ◌∙◌, inl, inr, arith}
 use Rattle.std.proofs.lemmas.Option.{same_Some}
 use Rattle.std.proofs.Math.ListN.{get_or-map}
 
@@ -9,6 +9,10 @@ pub within : {A : Type 0} (xs : List (Option A)) (i : ℕ) → IsSome (slice_ind
 within [] i some = absurd (cc)
 within (x ∷ xs) zero some = omega arith
 within (x ∷ xs) (suc i) some = let rest = within xs i some in omega (arith, rest)
+
+pub not_some : {A : Type 0} (o : Option A) → is_some o ≡ false → o ≡ None
+not_some None none = refl
+not_some (Some x) none = absurd (cc)
 
 pub slot_of_map : {A B : Type 0} (f : A → B) (xs : List (Option A)) (i : ℕ)
     → slice_index_or (map (option_map f) xs) i None ≡ option_map f (slice_index_or xs i None)

@@ -114,5 +114,5 @@ entered_less old new ws place keeps some entered i w at =
       | inr differs ↦ left old new w i place differs keeps (entered i w (sym (get_or-set_other ws place i None None differs) ∙ at))
     ]
 
-pub watched_more : (ws : List (Option Watcher)) (w : Watcher) → watched_of (ws ++ Some w ∷ []) ≡ watched_of ws ++ Some w.watching.watched ∷ []
-watched_more ws w = map-append (option_map (λ (w : Watcher). w.watching.watched)) ws (Some w ∷ [])
+pub watched_more : (ws : List (Option Watcher)) (w : Watcher) → watched_of (ws ++ Some w ∷ []) ≡ watched_of ws ++ Some w.watched ∷ []
+watched_more ws w = map-append (option_map (λ (w : Watcher). w.watched)) ws (Some w ∷ [])

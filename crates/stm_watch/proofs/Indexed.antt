@@ -310,7 +310,7 @@ pub covered_none : (none one two : Lists ℕ) (of_key : List ℕ → Option ℕ)
 covered_none none one two of_key ranges ready empty first fresh second keys = record {
   listed = record {
     long = refl;
-    there = λ w l is. there_by l (is_some w.first) w.watching.watched is;
+    there = λ w l is. there_by l (is_some w.first) w.watched is;
     stands = λ i w at. absurd (cc);
     only = λ l n i h. absurd (subst (λ (xs : List (ℕ × ℕ)). Holds xs n i) (entries l) h);
   };
@@ -349,19 +349,19 @@ covered_none none one two of_key ranges ready empty first fresh second keys = re
 module _ (of_key : List ℕ → Option ℕ) (ranges ready : ℕ) where
   -- the lists of ready and of idle watchers are there
   pub ready_there : (lists : Lists ℕ) (nodes : List (Option ℕ)) (ws : List (Option Watcher)) → AreCovered lists of_key ranges ready nodes ws → HasList lists ready
-  ready_there lists nodes ws covered = covered.listed.there (record { watching = record { watched = Key []; seen = 0 }; first = Some 0 }) ready refl
+  ready_there lists nodes ws covered = covered.listed.there (record { watched = Key []; seen = 0; first = Some 0 }) ready refl
 
   pub idle_there : (lists : Lists ℕ) (nodes : List (Option ℕ)) (ws : List (Option Watcher)) (watched : Watched) (list : ℕ) → AreCovered lists of_key ranges ready nodes ws
       → list_in of_key ranges watched ≡ Some list → HasList lists list
-  idle_there lists nodes ws watched list covered is = covered.listed.there (record { watching = record { watched = watched; seen = 0 }; first = None }) list is
+  idle_there lists nodes ws watched list covered is = covered.listed.there (record { watched = watched; seen = 0; first = None }) list is
 
   pub covered_same : (old new : Lists ℕ) (new_of_key : List ℕ → Option ℕ) (nodes new_nodes : List (Option ℕ)) (ws : List (Option Watcher))
       → new.lists ≡ old.lists → ((q : List ℕ) → new_of_key q ≡ of_key q) → new_nodes ≡ nodes
       → AreCovered old of_key ranges ready nodes ws → AreCovered new new_of_key ranges ready new_nodes ws
   covered_same old new new_of_key nodes new_nodes ws same_lists same_keys same_nodes covered = record {
     listed = listed_same old new (list_among of_key ranges ready) (list_among new_of_key ranges ready) nodes new_nodes ws same_lists
-        (λ w. ap (cond (is_some w.first) (Some ready)) (lists_same of_key new_of_key ranges same_keys w.watching.watched)) same_nodes covered.listed;
-    waiting = λ i w at. subst IsSome (sym (lists_same of_key new_of_key ranges same_keys w.watching.watched)) (covered.waiting i w at);
+        (λ w. ap (cond (is_some w.first) (Some ready)) (lists_same of_key new_of_key ranges same_keys w.watched)) same_nodes covered.listed;
+    waiting = λ i w at. subst IsSome (sym (lists_same of_key new_of_key ranges same_keys w.watched)) (covered.waiting i w at);
     apart = λ watched is. covered.apart watched (sym (lists_same of_key new_of_key ranges same_keys watched) ∙ is);
   }
 
@@ -372,13 +372,13 @@ module _ (of_key : List ℕ → Option ℕ) (ranges ready : ℕ) where
       → AreCovered old of_key ranges ready nodes ws → AreCovered new new_of_key ranges ready nodes ws
   covered_new old new new_of_key nodes ws list key none keys fresh updates covered = record {
     listed = listed_new old new (list_among of_key ranges ready) (list_among new_of_key ranges ready) nodes ws list fresh updates
-        (λ w l. among_to ready l (list_in of_key ranges w.watching.watched) (list_in new_of_key ranges w.watching.watched) (is_some w.first)
-        (lists_to of_key new_of_key ranges list key none keys w.watching.watched l))
-        (λ w l. among_from ready list l (list_in of_key ranges w.watching.watched) (list_in new_of_key ranges w.watching.watched) (is_some w.first)
-        (lists_from of_key new_of_key ranges list key keys w.watching.watched l))
+        (λ w l. among_to ready l (list_in of_key ranges w.watched) (list_in new_of_key ranges w.watched) (is_some w.first)
+        (lists_to of_key new_of_key ranges list key none keys w.watched l))
+        (λ w l. among_from ready list l (list_in of_key ranges w.watched) (list_in new_of_key ranges w.watched) (is_some w.first)
+        (lists_from of_key new_of_key ranges list key keys w.watched l))
         covered.listed;
-    waiting = λ i w at. some_to (list_in of_key ranges w.watching.watched) (list_in new_of_key ranges w.watching.watched)
-        (lists_to of_key new_of_key ranges list key none keys w.watching.watched) (covered.waiting i w at);
+    waiting = λ i w at. some_to (list_in of_key ranges w.watched) (list_in new_of_key ranges w.watched)
+        (lists_to of_key new_of_key ranges list key none keys w.watched) (covered.waiting i w at);
     apart = λ watched is. elim (lists_from of_key new_of_key ranges list key keys watched ready is) [
       | inl same ↦
           let there : IsSome (list_at old list) = subst (HasList old) same (ready_there old nodes ws covered) in
@@ -390,14 +390,14 @@ module _ (of_key : List ℕ → Option ℕ) (ranges ready : ℕ) where
 
   -- one watcher more
   pub covered_more : (old new : Lists ℕ) (nodes : List (Option ℕ)) (ws : List (Option Watcher)) (list node : ℕ) (w : Watcher)
-      → AreCovered old of_key ranges ready nodes ws → list_among of_key ranges ready w ≡ Some list → IsSome (list_in of_key ranges w.watching.watched)
+      → AreCovered old of_key ranges ready nodes ws → list_among of_key ranges ready w ≡ Some list → IsSome (list_in of_key ranges w.watched)
       → Updates old new list (Some (entries_at old list ++ (node, length nodes) ∷ []))
       → AreCovered new of_key ranges ready (nodes ++ Some node ∷ []) (ws ++ Some w ∷ [])
   covered_more old new nodes ws list node w covered is waits updates = record {
     listed = listed_more old new (list_among of_key ranges ready) nodes ws list node w covered.listed is updates;
     waiting = λ i v at. elim (slot_of_more ws w v i at) [
       | inl before ↦ covered.waiting i v before
-      | inr here ↦ subst (λ (x : Watcher). IsSome (list_in of_key ranges x.watching.watched)) here.1 waits
+      | inr here ↦ subst (λ (x : Watcher). IsSome (list_in of_key ranges x.watched)) here.1 waits
     ];
     apart = covered.apart;
   }
@@ -427,7 +427,7 @@ module _ (of_key : List ℕ → Option ℕ) (ranges ready : ℕ) where
   -- a watcher at a place where none is
   pub covered_again : (old new : Lists ℕ) (nodes : List (Option ℕ)) (ws : List (Option Watcher)) (list node i : ℕ) (w : Watcher)
       → AreCovered old of_key ranges ready (slice_set nodes i None) (slice_set ws i None) → i < length nodes → i < length ws
-      → list_among of_key ranges ready w ≡ Some list → IsSome (list_in of_key ranges w.watching.watched)
+      → list_among of_key ranges ready w ≡ Some list → IsSome (list_in of_key ranges w.watched)
       → Updates old new list (Some (entries_at old list ++ (node, i) ∷ []))
       → AreCovered new of_key ranges ready (slice_set nodes i (Some node)) (slice_set ws i (Some w))
   covered_again old new nodes ws list node i w covered below there is waits updates =
@@ -441,7 +441,7 @@ module _ (of_key : List ℕ → Option ℕ) (ranges ready : ℕ) where
               let here : w ≡ v = same_Some w v (sym (get_or-set_same (slice_set ws i None) i (Some w) None
               (subst (λ (n : ℕ). i < n) (sym (length-set ws i None)) there))
               ∙ subst (λ (k : ℕ). slice_index_or (slice_set (slice_set ws i None) i (Some w)) k None ≡ Some v) same at) in
-              subst (λ (x : Watcher). IsSome (list_in of_key ranges x.watching.watched)) here waits
+              subst (λ (x : Watcher). IsSome (list_in of_key ranges x.watched)) here waits
           | inr differs ↦ covered.waiting j v (sym (get_or-set_other (slice_set ws i None) i j (Some w) None differs) ∙ at)
         ];
         apart = covered.apart;
@@ -455,7 +455,7 @@ module _ (of_key : List ℕ → Option ℕ) (ranges ready : ℕ) where
         → is_some w.first ≡ false
     is_idle w watched list idle is = elim (cases_Bool (is_some w.first)) [
       | inl some ↦
-          let same : ready ≡ list = same_Some ready list (sym (ap (λ b. cond b (Some ready) (list_in of_key ranges w.watching.watched)) some) ∙ is) in
+          let same : ready ≡ list = same_Some ready list (sym (ap (λ b. cond b (Some ready) (list_in of_key ranges w.watched)) some) ∙ is) in
           absurd (covered.apart watched (idle ∙ ap Some (sym same)))
       | inr none ↦ none
     ]
@@ -463,7 +463,7 @@ module _ (of_key : List ℕ → Option ℕ) (ranges ready : ℕ) where
     on_ready : (w : Watcher) → list_among of_key ranges ready w ≡ Some ready → is_some w.first ≡ true
     on_ready w is = elim (cases_Bool (is_some w.first)) [
       | inl some ↦ some
-      | inr none ↦ absurd (covered.apart w.watching.watched (sym (ap (λ b. cond b (Some ready) (list_in of_key ranges w.watching.watched)) none) ∙ is))
+      | inr none ↦ absurd (covered.apart w.watched (sym (ap (λ b. cond b (Some ready) (list_in of_key ranges w.watched)) none) ∙ is))
     ]
 
     none_ready : first_node (entries_at lists ready) ≡ None → (i : ℕ) → is_ready (slice_index_or ws i None) ≡ false
@@ -475,7 +475,7 @@ module _ (of_key : List ℕ → Option ℕ) (ranges ready : ℕ) where
           | inl some ↦
               let had = covered.listed.stands i w is in
               let same : ready ≡ had.0 =
-              same_Some ready had.0 (sym (ap (λ b. cond b (Some ready) (list_in of_key ranges w.watching.watched)) some) ∙ had.2) in
+              same_Some ready had.0 (sym (ap (λ b. cond b (Some ready) (list_in of_key ranges w.watched)) some) ∙ had.2) in
               absurd (no_front lists ready had.1 i none (subst (λ (l : ℕ). Holds (entries_at lists l) had.1 i) (sym same) had.4))
           | inr idle ↦ ap is_ready is ∙ idle
         ]

@@ -1,6 +1,8 @@
 pub mod Telling
+pub mod CutTelling
 pub mod Giving
 pub mod Standing
+pub mod Losing
 pub mod WorkedExamples
 pub mod Linked
 pub mod At

@@ -1,67 +1,58 @@
 -- What a poll makes of the watchers at all places.
-use Rattle.std.proofs.Common.{◌≡◌, ℕ, ◌<◌, ◌-◌, false}
-use Rattle.std.proofs.Common.{List, length, Option, Some, None, IsSome, option_map, slice_index_or, slice_set, Result, Ok, Err, OnErr}
+use Rattle.std.proofs.Common.{◌≡◌, ℕ, ◌-◌, Bool, true, false, cond}
+use Rattle.std.proofs.Common.{List, Option, Some, None, IsSome, IfSome, IsOk, option_map, slice_index_or, slice_set, Result, Ok, Err, OnErr}
 use Rattle.std.proofs.Common.{refl, sym, ap, subst, ◌∙◌, nat_eq}
+use Rattle.std.specs.declared.alloc.AllocError.{AllocError}
 use Rattle.std.proofs.lemmas.List.{map-set, set-get_or, get_or-set_same}
 use Rattle.std.proofs.lemmas.Option.{same_Some}
 use Rattle.std.proofs.Math.ListN.{get_or-map}
 use Rattle.stm_history.specs.History.{History}
+use Rattle.stm_watch.specs.Watching.{Watching}
+use Rattle.stm_watch.specs.Places.{WatchersView, with_places, is_lost, watching_of, watchings}
 use Rattle.stm_watch.specs.declared.watched.Watcher.{Watcher}
 use Rattle.stm_watch.specs.declared.watchers.Batch.{Batch}
-use Rattle.stm_watch.specs.Calls.{PollTells, StandFor, poll, watchings}
-use Rattle.stm_watch.specs.Kept.{watched_of}
-use Rattle.stm_watch.specs.Pending.{after_poll}
-use Rattle.stm_watch.specs.Slots.{IsPolled, SlotPolls, PlacePolls, standing}
 use Rattle.stm_watch.specs.declared.refusal.PollRefusal.{PollRefusal}
-use Rattle.stm_watch.specs.declared.refusal.PollRefusal.TheVariants.{NoWatcher, OutOfMemory}
-use Rattle.stm_watch.proofs.At.{read_at}
-use Rattle.stm_watch.proofs.Standing.{polled, polled_stand}
+use Rattle.stm_watch.specs.declared.refusal.PollRefusal.TheVariants.{NoWatcher, Compacted}
+use Rattle.stm_watch.specs.Calls.{Stands, StandAll, Step, watcher_at, poll, poll_found, cancelled, is_one_lost, after_refused, view_refused}
+use Rattle.stm_watch.specs.Kept.{watched_of}
+use Rattle.stm_watch.specs.Pending.{first_pending, batch_of, after_poll}
+use Rattle.stm_watch.specs.Slots.{IsFollowed, IsPolled, SlotPolls, PlacePolls, followed, standing}
+use Rattle.stm_watch.proofs.At.{within}
+use Rattle.stm_watch.proofs.CutTelling.{polled_not_lost}
+use Rattle.stm_watch.proofs.Standing.{seen_at, watchings_set, watching_at, stands_at, stand_set}
 
 -- ---- a poll at one of several places
 
-module _ (h : History) (i most : ℕ) (old new : List (Option Watcher)) (result : Result Batch PollRefusal) (did : PlacePolls h most i old result new)
-    (there : i < length old) where
-  pub place_polled : (id : ℕ) → nat_eq id 0 ≡ false → id - 1 ≡ i → PollTells (poll h id most (watchings old)) result (watchings new)
-  place_polled id positive is =
-      let at : slice_index_or old i None ≡ slice_index_or old i (slice_index_or old i None) = sym (read_at old i (slice_index_or old i None) there) in
-      subst (λ ws. PollTells (poll h id most (watchings old)) result (watchings ws)) (ap (λ (k : ℕ). slice_set old k did.0) is ∙ sym did.1)
-      (polled h id most old (slice_index_or old i None) result did.0 positive (subst (λ (k : ℕ). k < length old) (sym is) there)
-      (subst (λ (k : ℕ). slice_index_or old i None ≡ slice_index_or old k (slice_index_or old i None)) (sym is) at) did.2)
-
-  pub place_stands : StandFor h old → StandFor h new
-  place_stands stand =
-      subst (StandFor h) (sym did.1)
-      (polled_stand h i most old (slice_index_or old i None) result did.0 stand there (sym (read_at old i (slice_index_or old i None) there)) did.2)
-
-  kept_watched : (o slot : Option Watcher) (result : Result Batch PollRefusal) → SlotPolls h most o result slot
-      → option_map (λ (w : Watcher). w.watching.watched) slot ≡ option_map (λ (w : Watcher). w.watching.watched) o
+module _ (h : History) (i most : ℕ) (old new : List (Option Watcher)) (result : Result Batch AllocError) (did : PlacePolls h most i old result new)
+    (there : IsSome (slice_index_or old i None)) where
+  kept_watched : (o slot : Option Watcher) (result : Result Batch AllocError) → SlotPolls h most o result slot
+      → option_map (λ (w : Watcher). w.watched) slot ≡ option_map (λ (w : Watcher). w.watched) o
   kept_watched None slot (Ok batch) did = absurd did
-  kept_watched (Some w) slot (Ok batch) did = ap (option_map (λ (w : Watcher). w.watching.watched)) did.1
-  kept_watched o slot (Err NoWatcher) did = ap (option_map (λ (w : Watcher). w.watching.watched)) did.1
-  kept_watched o slot (Err OutOfMemory) did = ap (option_map (λ (w : Watcher). w.watching.watched)) did.1
+  kept_watched (Some w) slot (Ok batch) did = ap (option_map (λ (w : Watcher). w.watched)) did.1
+  kept_watched o slot (Err error) did = ap (option_map (λ (w : Watcher). w.watched)) did
 
   -- what is watched stays
   pub place_watched : watched_of new ≡ watched_of old
   place_watched =
       ap watched_of did.1
-      ∙ map-set (option_map (λ (w : Watcher). w.watching.watched)) old i did.0
+      ∙ map-set (option_map (λ (w : Watcher). w.watched)) old i did.0
       ∙ ap (slice_set (watched_of old) i) (kept_watched (slice_index_or old i None) did.0 result did.2
-      ∙ sym (get_or-map (option_map (λ (w : Watcher). w.watching.watched)) old i None))
+      ∙ sym (get_or-map (option_map (λ (w : Watcher). w.watched)) old i None))
       ∙ set-get_or (watched_of old) i None
 
   polled_there : (o slot : Option Watcher) (batch : Batch) → IsPolled h most o batch slot
-      → (was : Watcher) × (is : Watcher) × (o ≡ Some was) × (slot ≡ Some is) × (is.watching.watched ≡ was.watching.watched)
+      → (was : Watcher) × (is : Watcher) × (o ≡ Some was) × (slot ≡ Some is) × (is.watched ≡ was.watched)
   polled_there None slot batch did = absurd did
-  polled_there (Some w) slot batch did = (w, standing h (after_poll most h w.watching), refl, did.1, refl)
+  polled_there (Some w) slot batch did = (w, standing h (after_poll most h (followed w)), refl, did.1, refl)
 
   found_there : (batch : Batch) → result ≡ Ok batch → (was : Watcher) × (is : Watcher) × (slice_index_or old i None ≡ Some was)
-      × (new ≡ slice_set old i (Some is)) × (is.watching.watched ≡ was.watching.watched)
+      × (new ≡ slice_set old i (Some is)) × (is.watched ≡ was.watched)
   found_there batch same =
       let found = polled_there (slice_index_or old i None) did.0 batch (subst (λ r. SlotPolls h most (slice_index_or old i None) r did.0) same did.2) in
       (found.0, found.1, found.2, did.1 ∙ ap (slice_set old i) found.3, found.4)
 
   here : (w : Watcher) → new ≡ slice_set old i (Some w) → slice_index_or new i None ≡ Some w
-  here w is = ap (λ ws. slice_index_or ws i None) is ∙ get_or-set_same old i (Some w) None there
+  here w is = ap (λ ws. slice_index_or ws i None) is ∙ get_or-set_same old i (Some w) None (within old i there)
 
   -- a watcher that was polled is there still
   pub polled_some : (batch : Batch) → result ≡ Ok batch → IsSome (slice_index_or new i None)
@@ -69,7 +60,7 @@ module _ (h : History) (i most : ℕ) (old new : List (Option Watcher)) (result 
 
   -- and watches what it did
   pub polled_slot : (batch : Batch) → result ≡ Ok batch → (w : Watcher) → slice_index_or new i None ≡ Some w
-      → (was : Watcher) × (slice_index_or old i None ≡ Some was) × (new ≡ slice_set old i (Some w)) × (w.watching.watched ≡ was.watching.watched)
+      → (was : Watcher) × (slice_index_or old i None ≡ Some was) × (new ≡ slice_set old i (Some w)) × (w.watched ≡ was.watched)
   polled_slot batch same w at =
       let found = found_there batch same in
       let is : found.1 ≡ w = same_Some found.1 w (sym (here found.1 found.3) ∙ at) in (
@@ -77,19 +68,15 @@ module _ (h : History) (i most : ℕ) (old new : List (Option Watcher)) (result 
         found.2,
         found.3
             ∙ ap (λ (x : Watcher). slice_set old i (Some x)) is,
-        ap (λ (x : Watcher). x.watching.watched) (sym is)
+        ap (λ (x : Watcher). x.watched) (sym is)
             ∙ found.4,
       )
 
-  refused : (e : PollRefusal) (o slot : Option Watcher) → SlotPolls h most o (Err e) slot → slot ≡ o
-  refused NoWatcher o slot did = did.1
-  refused OutOfMemory o slot did = did.1
-
   -- a refusal changes nothing
-  pub place_refused : (e : PollRefusal) → result ≡ Err e → new ≡ old
+  pub place_refused : (e : AllocError) → result ≡ Err e → new ≡ old
   place_refused e same =
       did.1
-      ∙ ap (slice_set old i) (refused e (slice_index_or old i None) did.0 (subst (λ r. SlotPolls h most (slice_index_or old i None) r did.0) same did.2))
+      ∙ ap (slice_set old i) (subst (λ r. SlotPolls h most (slice_index_or old i None) r did.0) same did.2)
       ∙ set-get_or old i None
 
 some_mapped : {A B : Type 0} (f : A → B) (o : Option A) → IsSome o → IsSome (option_map f o)
@@ -98,10 +85,116 @@ some_mapped f (Some x) some = refl
 
 pub watched_there : (ws : List (Option Watcher)) (i : ℕ) → IsSome (slice_index_or ws i None) → IsSome (slice_index_or (watched_of ws) i None)
 watched_there ws i some =
-    subst IsSome (sym (get_or-map (option_map (λ (w : Watcher). w.watching.watched)) ws i None))
-    (some_mapped (λ (w : Watcher). w.watching.watched) (slice_index_or ws i None) some)
+    subst IsSome (sym (get_or-map (option_map (λ (w : Watcher). w.watched)) ws i None))
+    (some_mapped (λ (w : Watcher). w.watched) (slice_index_or ws i None) some)
 
 -- what holds anyway holds where a call is refused
 pub on_any : {T E P : Type 0} (r : Result T E) → P → OnErr r P
 on_any (Ok value) holds = tt
 on_any (Err cause) holds = holds
+
+-- ---- a watcher by its number
+
+-- the watcher at a place is the one with the number
+pub found_by : {A : Type 0} (id place : ℕ) (ws : List (Option A)) (w : A) → nat_eq id 0 ≡ false → place ≡ id - 1 → slice_index_or ws place None ≡ Some w
+    → watcher_at id ws ≡ Some w
+found_by id place ws w positive is at =
+    ap (λ b. cond b None (slice_index_or ws (id - 1) None)) positive ∙ ap (λ (k : ℕ). slice_index_or ws k None) (sym is) ∙ at
+
+pub seen_by : (floor id : ℕ) (ws : List (Option Watcher)) → watcher_at id (seen_at floor ws) ≡ option_map (watching_of floor) (watcher_at id ws)
+seen_by floor id ws = by_test (nat_eq id 0)
+  where
+    by_test : (b : Bool) → cond b None (slice_index_or (seen_at floor ws) (id - 1) None) ≡ option_map (watching_of floor) (cond b None (slice_index_or ws (id - 1) None))
+    by_test true = refl
+    by_test false = watching_at floor ws (id - 1)
+
+-- the watcher that stands there, and whether it is lost
+pub lost_is : (floor : ℕ) (o : Option Watcher) (result : Bool) → IfSome o (λ (w : Watcher). result ≡ is_lost floor w.first) → IsSome o
+    → (w : Watcher) × (o ≡ Some w) × (is_lost floor w.first ≡ result)
+lost_is floor None result told some = absurd (cc)
+lost_is floor (Some w) result told some = (w, refl, sym told)
+
+-- the watchers as a refused poll leaves them
+pub refused_same : (id : ℕ) (v : WatchersView) → is_one_lost (watcher_at id (watchings v)) ≡ false → view_refused id v ≡ v
+refused_same id v not = ap (λ b. with_places v (cond b (slice_set v.places (id - 1) None) v.places)) not
+
+pub seen_same : (id : ℕ) (ws : List (Option Watching)) → is_one_lost (watcher_at id ws) ≡ false → after_refused id ws ≡ ws
+seen_same id ws not = ap (λ b. cond b (cancelled id ws) ws) not
+
+pub refused_cancels : (id : ℕ) (v : WatchersView) → is_one_lost (watcher_at id (watchings v)) ≡ true
+    → view_refused id v ≡ with_places v (slice_set v.places (id - 1) None)
+refused_cancels id v lost = ap (λ b. with_places v (cond b (slice_set v.places (id - 1) None) v.places)) lost
+
+pub seen_cancelled : (id : ℕ) (ws : List (Option Watching)) → is_one_lost (watcher_at id ws) ≡ true → after_refused id ws ≡ cancelled id ws
+seen_cancelled id ws lost = ap (λ b. cond b (cancelled id ws) ws) lost
+
+-- nobody is there
+module _ (h : History) (floor id most : ℕ) (ws : List (Option Watcher)) (none : watcher_at id ws ≡ None) where
+  none_seen : watcher_at id (seen_at floor ws) ≡ None
+  none_seen = seen_by floor id ws ∙ ap (option_map (watching_of floor)) none
+
+  pub none_polled : poll h id most (seen_at floor ws) ≡ Err NoWatcher
+  none_polled = ap (poll_found h id most (seen_at floor ws)) none_seen
+
+  pub none_lost : is_one_lost (watcher_at id (seen_at floor ws)) ≡ false
+  none_lost = ap is_one_lost none_seen
+
+-- a watcher is there
+module _ (h : History) (floor id most : ℕ) (old : List (Option Watcher)) (place : ℕ) (w : Watcher) (positive : nat_eq id 0 ≡ false) (is : place ≡ id - 1)
+    (at : slice_index_or old place None ≡ Some w) where
+  found_seen : watcher_at id (seen_at floor old) ≡ Some (watching_of floor w)
+  found_seen = seen_by floor id old ∙ ap (option_map (watching_of floor)) (found_by id place old w positive is at)
+
+  pub found_lost : is_one_lost (watcher_at id (seen_at floor old)) ≡ is_lost floor w.first
+  found_lost = ap is_one_lost found_seen
+
+  abbrev given : Result (Step Batch) PollRefusal
+  given = Ok (record {
+    answer = batch_of most h (watching_of floor w);
+    next = slice_set (seen_at floor old) (id - 1) (Some (after_poll most h (watching_of floor w)));
+  })
+
+  pub lost_polled : is_lost floor w.first ≡ true → poll h id most (seen_at floor old) ≡ Err Compacted
+  lost_polled lost = ap (poll_found h id most (seen_at floor old)) found_seen ∙ ap (λ b. cond b (Err Compacted) given) lost
+
+  -- it is not lost
+  module _ (not : is_lost floor w.first ≡ false) (stand : StandAll h floor old) where
+    polled_is : poll h id most (seen_at floor old) ≡ given
+    polled_is = ap (poll_found h id most (seen_at floor old)) found_seen ∙ ap (λ b. cond b (Err Compacted) given) not
+
+    pub is_followed : IsFollowed h w
+    is_followed = subst (Stands h floor) at (stands_at h floor old place stand) not
+
+    pub can_be_polled : IsOk (poll h id most (seen_at floor old))
+    can_be_polled = subst IsOk (sym polled_is) refl
+
+    lost_same : is_lost floor (first_pending h (after_poll most h (followed w))) ≡ is_lost floor w.first
+    lost_same = polled_not_lost floor most h (followed w) (ap (is_lost floor) (sym is_followed) ∙ not) ∙ sym not
+
+    module _ (new : List (Option Watcher)) (result : Result Batch AllocError) (did : PlacePolls h most place old result new) (batch : Batch)
+        (same : result ≡ Ok batch) where
+      slot_polled : (batch ≡ batch_of most h (followed w)) × (did.0 ≡ Some (standing h (after_poll most h (followed w))))
+      slot_polled = subst (λ o. IsPolled h most o batch did.0) at (subst (λ r. SlotPolls h most (slice_index_or old place None) r did.0) same did.2)
+
+      abbrev step : Batch → List (Option Watching) → Result (Step Batch) PollRefusal
+      step b ws = Ok (record { answer = b; next = ws })
+
+      seen_new : seen_at floor new ≡ slice_set (seen_at floor old) (id - 1) (Some (after_poll most h (watching_of floor w)))
+      seen_new =
+          ap (seen_at floor) did.1
+          ∙ watchings_set floor old place did.0
+          ∙ ap (λ (k : ℕ). slice_set (seen_at floor old) k (option_map (watching_of floor) did.0)) is
+          ∙ ap (λ o. slice_set (seen_at floor old) (id - 1) (option_map (watching_of floor) o)) slot_polled.1
+          ∙ ap (λ (b : Bool). slice_set (seen_at floor old) (id - 1)
+          (Some (let one : Watching = record { watched = w.watched; seen = (batch_of most h (followed w)).upto; lost = b } in one))) lost_same
+
+      pub found_polled : poll h id most (seen_at floor old) ≡ Ok (record { answer = batch; next = seen_at floor new })
+      found_polled =
+          polled_is
+          ∙ ap (λ (b : Batch). step b (slice_set (seen_at floor old) (id - 1) (Some (after_poll most h (watching_of floor w))))) (sym slot_polled.0)
+          ∙ ap (step batch) (sym seen_new)
+
+      pub polled_stand : StandAll h floor new
+      polled_stand =
+          subst (StandAll h floor) (sym did.1)
+          (stand_set h floor old place did.0 stand (subst (Stands h floor) (sym slot_polled.1) (λ still. refl)))

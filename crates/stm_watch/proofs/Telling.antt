@@ -11,6 +11,7 @@ use Rattle.std.proofs.lemmas.Slice.Eq.{bytes_eq-Decides}
 use Rattle.stm_history.specs.declared.change.Change.{Change}
 use Rattle.stm_history.specs.declared.change.Change.TheVariants.{Put, Del}
 use Rattle.stm_history.specs.declared.key_state.KeyState.{KeyState}
+use Rattle.stm_history.specs.Opening.{Opening}
 use Rattle.stm_history.specs.History.{History, number_of_last, now, add_revision, key_of, change_of, key_after}
 use Rattle.stm_keys.specs.declared.event.Event.{Event}
 use Rattle.stm_keys.specs.declared.event.Event.TheVariants.{Put as PutEvent, Delete as DeleteEvent}
@@ -19,17 +20,17 @@ use Rattle.stm_keys.specs.NextChange.{changed_above, first_change}
 use Rattle.stm_watch.specs.declared.told.Told.{Told}
 use Rattle.stm_watch.specs.declared.watched.Watched.{Watched}
 use Rattle.stm_watch.specs.declared.watched.Watched.TheVariants.{Key}
-use Rattle.stm_watch.specs.declared.watched.Watching.{Watching}
+use Rattle.stm_watch.specs.Watching.{Watching}
 use Rattle.stm_watch.specs.Keys.{is_watched, is_any_watched}
 use Rattle.stm_watch.specs.Pending.{matching, told_at, told_above, first_told, first_pending, is_some_told}
 use Rattle.stm_watch.specs.Touch.{first_with}
 
 -- what is told of the last of these revisions
-abbrev last_part : ℕ → ℕ → Watched → List Change → List (List Change) → Bool → List Told
+abbrev last_part : Opening → ℕ → Watched → List Change → List (List Change) → Bool → List Told
 last_part opening number watched changes older above = cond above (told_at number (matching watched (events_above opening changes older))) []
 
 -- nothing is told above the last revision
-pub nothing_above : (opening seen : ℕ) (watched : Watched) (revisions : List (List Change)) → number_of_last opening revisions ≤ seen
+pub nothing_above : (opening : Opening) (seen : ℕ) (watched : Watched) (revisions : List (List Change)) → number_of_last opening revisions ≤ seen
     → told_above opening seen watched revisions ≡ []
 nothing_above opening seen watched [] above = refl
 nothing_above opening seen watched (changes ∷ older) above =
@@ -38,26 +39,26 @@ nothing_above opening seen watched (changes ∷ older) above =
     ∙ ap (last_part opening n watched changes older) (le-ltb seen n above)
 
 -- all revisions are above the opening number
-from_opening : (opening seen : ℕ) (watched : Watched) (revisions : List (List Change)) → seen ≤ opening
-    → told_above opening seen watched revisions ≡ told_above opening opening watched revisions
+from_opening : (opening : Opening) (seen : ℕ) (watched : Watched) (revisions : List (List Change)) → seen ≤ opening.number
+    → told_above opening seen watched revisions ≡ told_above opening opening.number watched revisions
 from_opening opening seen watched [] below = refl
 from_opening opening seen watched (changes ∷ older) below =
     let n = number_of_last opening (changes ∷ older) in
     ap (λ (ts : List Told). ts ++ last_part opening n watched changes older (nat_lt seen n)) (from_opening opening seen watched older below)
-    ∙ ap (λ b. told_above opening opening watched older ++ last_part opening n watched changes older b)
-    (lt-ltb seen n (omega arith) ∙ sym (lt-ltb opening n (omega arith)))
+    ∙ ap (λ b. told_above opening opening.number watched older ++ last_part opening n watched changes older b)
+    (lt-ltb seen n (omega arith) ∙ sym (lt-ltb opening.number n (omega arith)))
 
-pub from_the_later : (opening seen : ℕ) (watched : Watched) (revisions : List (List Change)) →
-    told_above opening seen watched revisions ≡ told_above opening (max seen opening) watched revisions
-from_the_later opening seen watched revisions = elim (cases_lt seen opening) [
+pub from_the_later : (opening : Opening) (seen : ℕ) (watched : Watched) (revisions : List (List Change)) →
+    told_above opening seen watched revisions ≡ told_above opening (max seen opening.number) watched revisions
+from_the_later opening seen watched revisions = elim (cases_lt seen opening.number) [
   | inl less ↦
       from_opening opening seen watched revisions (omega arith)
-      ∙ ap (λ (n : ℕ). told_above opening n watched revisions) (let e : opening ≡ max seen opening = omega arith in e)
-  | inr more ↦ ap (λ (n : ℕ). told_above opening n watched revisions) (let e : seen ≡ max seen opening = omega arith in e)
+      ∙ ap (λ (n : ℕ). told_above opening n watched revisions) (let e : opening.number ≡ max seen opening.number = omega arith in e)
+  | inr more ↦ ap (λ (n : ℕ). told_above opening n watched revisions) (let e : seen ≡ max seen opening.number = omega arith in e)
 ]
 
 -- above a revision stands what is told of the next one, and then what is told above that
-pub next_is : (opening r : ℕ) (watched : Watched) (revisions : List (List Change)) → opening ≤ r → r < number_of_last opening revisions →
+pub next_is : (opening : Opening) (r : ℕ) (watched : Watched) (revisions : List (List Change)) → opening.number ≤ r → r < number_of_last opening revisions →
     told_above opening r watched revisions
     ≡ told_at (suc r) (matching watched (events_numbered opening (suc r) revisions)) ++ told_above opening (suc r) watched revisions
 next_is opening r watched [] opened below = absurd (omega arith)
@@ -116,7 +117,7 @@ pub none_long : (found : List Event) → is_some_told (told_at 0 found) ≡ fals
 none_long [] is = refl
 none_long (e ∷ es) is = cc
 
-module _ (h : History) (watched : Watched) (above passed : ℕ) (found : List Event) (opened : h.opening ≤ passed) (reached : passed < now h)
+module _ (h : History) (watched : Watched) (above passed : ℕ) (found : List Event) (opened : h.opening.number ≤ passed) (reached : passed < now h)
     (so_far : told_above h.opening above watched h.revisions ≡ told_above h.opening passed watched h.revisions)
     (is : found ≡ matching watched (events_of h (passed + 1))) where
   next_told : told_above h.opening above watched h.revisions ≡ told_at (passed + 1) found ++ told_above h.opening (passed + 1) watched h.revisions
@@ -226,7 +227,7 @@ any_of_key key (c ∷ cs) =
     by_test false o same = same
 
 -- it is the next revision of which a watcher of the key is told
-pub next_of_key : (opening above : ℕ) (key : List ℕ) (revisions : List (List Change)) →
+pub next_of_key : (opening : Opening) (above : ℕ) (key : List ℕ) (revisions : List (List Change)) →
     first_change opening above key revisions ≡ first_told (told_above opening above (Key key) revisions)
 next_of_key opening above key [] = refl
 next_of_key opening above key (changes ∷ older) =
@@ -244,13 +245,13 @@ next_of_key opening above key (changes ∷ older) =
 abbrev told : ℕ → List Event → Told
 told number events = record { number = number; events = events }
 
-pub record IsHead (opening seen : ℕ) (watched : Watched) (revisions : List (List Change)) (number : ℕ) : Type 0 where
+pub record IsHead (opening : Opening) (seen : ℕ) (watched : Watched) (revisions : List (List Change)) (number : ℕ) : Type 0 where
   pub later : seen < number
   pub reached : number ≤ number_of_last opening revisions
   pub is : told_above opening seen watched revisions
       ≡ told number (matching watched (events_numbered opening number revisions)) ∷ told_above opening number watched revisions
 
-module _ (opening seen : ℕ) (watched : Watched) (changes : List Change) (older : List (List Change)) (number : ℕ) where
+module _ (opening : Opening) (seen : ℕ) (watched : Watched) (changes : List Change) (older : List (List Change)) (number : ℕ) where
   abbrev last : ℕ
   last = number_of_last opening (changes ∷ older)
 
@@ -301,7 +302,7 @@ module _ (opening seen : ℕ) (watched : Watched) (changes : List Change) (older
   head_by [] same before true later first = head_newest (matching watched shown) refl same later first
   head_by [] same before false later first = absurd (cc)
 
-pub head_is : (opening seen : ℕ) (watched : Watched) (revisions : List (List Change)) (number : ℕ)
+pub head_is : (opening : Opening) (seen : ℕ) (watched : Watched) (revisions : List (List Change)) (number : ℕ)
     → first_told (told_above opening seen watched revisions) ≡ Some number → IsHead opening seen watched revisions number
 head_is opening seen watched [] number is = absurd (cc)
 head_is opening seen watched (changes ∷ older) number is =

@@ -30,7 +30,7 @@ touched_twice : (revision : ℕ) (key : List ℕ) (o : Option Watcher) →
     option_map (touch_key revision key) (option_map (touch_key revision key) o) ≡ option_map (touch_key revision key) o
 touched_twice revision key None = refl
 touched_twice revision key (Some w) =
-    ap (λ (o : Option ℕ). Some (record w { first = o })) (twice w.first (nat_lt w.watching.seen revision && is_watched w.watching.watched key))
+    ap (λ (o : Option ℕ). Some (record w { first = o })) (twice w.first (nat_lt w.seen revision && is_watched w.watched key))
   where
     twice : (o : Option ℕ) (b : Bool) → first_with revision b (first_with revision b o) ≡ first_with revision b o
     twice (Some n) b = refl
@@ -57,10 +57,10 @@ never revision None true = refl
 never revision None false = refl
 
 -- a watcher of other keys stays as it is
-untouched : (revision : ℕ) (key : List ℕ) (w : Watcher) → is_watched w.watching.watched key ≡ false → touch_key revision key w ≡ w
+untouched : (revision : ℕ) (key : List ℕ) (w : Watcher) → is_watched w.watched key ≡ false → touch_key revision key w ≡ w
 untouched revision key w not_watched =
-    ap (λ b. record w { first = first_with revision (nat_lt w.watching.seen revision && b) w.first }) not_watched
-    ∙ ap (λ (o : Option ℕ). record w { first = o }) (never revision w.first (nat_lt w.watching.seen revision))
+    ap (λ b. record w { first = first_with revision (nat_lt w.seen revision && b) w.first }) not_watched
+    ∙ ap (λ (o : Option ℕ). record w { first = o }) (never revision w.first (nat_lt w.seen revision))
 
 module _ (revision : ℕ) (key : List ℕ) where
   -- ---- several places
@@ -266,7 +266,7 @@ module _ (revision : ℕ) (key : List ℕ) where
 
   -- a ready watcher stays as it is
   stays : (w : Watcher) → is_some w.first ≡ true → touch_key revision key w ≡ w
-  stays w some = ap (λ (o : Option ℕ). record w { first = o }) (by_first w.first (nat_lt w.watching.seen revision && is_watched w.watching.watched key) some)
+  stays w some = ap (λ (o : Option ℕ). record w { first = o }) (by_first w.first (nat_lt w.seen revision && is_watched w.watched key) some)
     where
       by_first : (o : Option ℕ) (b : Bool) → is_some o ≡ true → first_with revision b o ≡ o
       by_first None b some = absurd (cc)
@@ -279,7 +279,7 @@ module _ (revision : ℕ) (key : List ℕ) where
     own = touch_each revision key (places_at lists (of_key key)) ws
 
     -- an idle watcher of the key is on the key's list, and one of a range that has the key on a page
-    reached : (w : Watcher) (j : ℕ) (watched : Watched) → slice_index_or ws j None ≡ Some w → is_some w.first ≡ false → w.watching.watched ≡ watched
+    reached : (w : Watcher) (j : ℕ) (watched : Watched) → slice_index_or ws j None ≡ Some w → is_some w.first ≡ false → w.watched ≡ watched
         → is_watched watched key ≡ true
         → slice_index_or (touch_each revision key touched.places own) j None ≡ option_map (touch_key revision key) (slice_index_or ws j None)
     reached w j (Key k) is idle what matches =
@@ -287,7 +287,7 @@ module _ (revision : ℕ) (key : List ℕ) where
         let same : k ≡ key = (bytes_eq-Decides k key).0 matches in
         let on : of_key k ≡ Some had.0 =
         ap (list_in of_key ranges) (sym what)
-        ∙ sym (ap (λ b. cond b (Some ready) (list_in of_key ranges w.watching.watched)) idle)
+        ∙ sym (ap (λ b. cond b (Some ready) (list_in of_key ranges w.watched)) idle)
         ∙ had.2 in
         let at : of_key key ≡ Some had.0 = ap of_key (sym same) ∙ on in
         each_after touched.places j own (slice_index_or ws j None)
@@ -295,7 +295,7 @@ module _ (revision : ℕ) (key : List ℕ) where
         ∙ each_among (places_on lists had.0) j ws (holds_one (entries_at lists had.0) had.1 j had.4))
     reached w j (Range first end) is idle what matches =
         let at : slice_index_or (watched_of ws) j None ≡ Some (Range first end) =
-        slot_of_map (λ (w : Watcher). w.watching.watched) ws j ∙ ap (option_map (λ (w : Watcher). w.watching.watched)) is ∙ ap Some what in
+        slot_of_map (λ (w : Watcher). w.watched) ws j ∙ ap (option_map (λ (w : Watcher). w.watched)) is ∙ ap Some what in
         let on = any-map (StandsOn (entry_of first end j)) (ReachesOn key j) (λ page stands. (entry_of first end j, stands, (refl, matches))) pages
         (entered j (Range first end) at) in
         each_among touched.places j own (touched.all j on)
@@ -317,8 +317,8 @@ module _ (revision : ℕ) (key : List ℕ) where
         by_slot None is = either_same j (ap (option_map (touch_key revision key)) is ∙ sym is)
         by_slot (Some w) is = elim (cases_Bool (is_some w.first)) [
           | inl some ↦ either_same j (ap (option_map (touch_key revision key)) is ∙ ap Some (stays w some) ∙ sym is)
-          | inr idle ↦ elim (cases_Bool (is_watched w.watching.watched key)) [
-            | inl matches ↦ reached w j w.watching.watched is idle refl matches
+          | inr idle ↦ elim (cases_Bool (is_watched w.watched key)) [
+            | inl matches ↦ reached w j w.watched is idle refl matches
             | inr other ↦ either_same j (ap (option_map (touch_key revision key)) is ∙ ap Some (untouched revision key w other) ∙ sym is)
           ]
         ]
@@ -337,12 +337,12 @@ module _ (revision : ℕ) (key : List ℕ) where
         long = length_each touched.places own ∙ length_each (places_at lists (of_key key)) ws
 
 -- what is watched stays
-pub watched_touched : (f : Watcher → Watcher) (ws : List (Option Watcher)) → ((w : Watcher) → (f w).watching ≡ w.watching)
+pub watched_touched : (f : Watcher → Watcher) (ws : List (Option Watcher)) → ((w : Watcher) → (f w).watched ≡ w.watched)
     → watched_of (map (option_map f) ws) ≡ watched_of ws
 watched_touched f [] same = refl
 watched_touched f (None ∷ ws) same = ap (λ l. None ∷ l) (watched_touched f ws same)
 watched_touched f (Some w ∷ ws) same =
-    ap (λ x. Some x.watched ∷ watched_of (map (option_map f) ws)) (same w) ∙ ap (λ l. Some w.watching.watched ∷ l) (watched_touched f ws same)
+    ap (λ (x : Watched). Some x ∷ watched_of (map (option_map f) ws)) (same w) ∙ ap (λ l. Some w.watched ∷ l) (watched_touched f ws same)
 
 -- ---- one event after the other
 
@@ -355,8 +355,8 @@ touch_one_more : (revision : ℕ) (e : Event) (es : List Event) (o : Option Watc
     ≡ option_map (touch revision (map change_of_event (es ++ e ∷ []))) o
 touch_one_more revision e es None = refl
 touch_one_more revision e es (Some w) =
-    let watched = w.watching.watched in
-    let wants = nat_lt w.watching.seen revision in
+    let watched = w.watched in
+    let wants = nat_lt w.seen revision in
     let any = is_any_watched watched (map change_of_event es) in
     let one = is_watched watched (key_of (change_of_event e)) in
     ap (λ k. Some (record w { first = first_with revision (wants && is_watched watched k) (first_with revision (wants && any) w.first) })) (sym (shown_key e))
@@ -389,5 +389,5 @@ pub touch_none : (revision : ℕ) (ws : List (Option Watcher)) → ws ≡ map (o
 touch_none revision [] = refl
 touch_none revision (None ∷ ws) = ap (λ l. None ∷ l) (touch_none revision ws)
 touch_none revision (Some w ∷ ws) =
-    ap (λ (o : Option ℕ). Some (record w { first = o }) ∷ ws) (sym (never revision w.first (nat_lt w.watching.seen revision)))
+    ap (λ (o : Option ℕ). Some (record w { first = o }) ∷ ws) (sym (never revision w.first (nat_lt w.seen revision)))
     ∙ ap (λ l. Some (touch revision [] w) ∷ l) (touch_none revision ws)

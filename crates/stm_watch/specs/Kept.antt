@@ -16,7 +16,7 @@ Holds (entry ∷ rest) node number = ((entry.0 ≡ node) × (entry.1 ≡ number)
 
 -- what each of these watchers watches
 abbrev pub watched_of : List (Option Watcher) → List (Option Watched)
-watched_of ws = map (option_map (λ (w : Watcher). w.watching.watched)) ws
+watched_of ws = map (option_map (λ (w : Watcher). w.watched)) ws
 
 -- ---- the lists on which watchers stand
 
@@ -27,7 +27,7 @@ list_in list_of_key ranges (Range first end) = Some ranges
 
 -- the list of the ready watchers, or of the idle ones that watch the same
 abbrev pub list_among : (List ℕ → Option ℕ) → ℕ → ℕ → Watcher → Option ℕ
-list_among list_of_key ranges ready w = if is_some w.first then Some ready else list_in list_of_key ranges w.watching.watched
+list_among list_of_key ranges ready w = if is_some w.first then Some ready else list_in list_of_key ranges w.watched
 
 -- each watcher's node stands on the watcher's list, and nothing else stands on lists
 pub record AreListed (lists : Lists ℕ) (list_for : Watcher → Option ℕ) (nodes : List (Option ℕ)) (ws : List (Option Watcher)) : Type 0 where
@@ -41,7 +41,7 @@ pub record AreListed (lists : Lists ℕ) (list_for : Watcher → Option ℕ) (no
 -- they stand there, each has a list for when it is idle, and that is not the one of the ready ones
 pub record AreCovered (lists : Lists ℕ) (list_of_key : List ℕ → Option ℕ) (ranges ready : ℕ) (nodes : List (Option ℕ)) (ws : List (Option Watcher)) : Type 0 where
   pub listed : AreListed lists (list_among list_of_key ranges ready) nodes ws
-  pub waiting : (i : ℕ) (w : Watcher) → slice_index_or ws i None ≡ Some w → IsSome (list_in list_of_key ranges w.watching.watched)
+  pub waiting : (i : ℕ) (w : Watcher) → slice_index_or ws i None ≡ Some w → IsSome (list_in list_of_key ranges w.watched)
   pub apart : (watched : Watched) → list_in list_of_key ranges watched ≢ Some ready
 
 abbrev pub idle_list : Index → Watched → Option ℕ

@@ -1,5 +1,7 @@
 pub mod Names
 pub mod Keys
+pub mod Watching
+pub mod Places
 pub mod Touch
 pub mod Pending
 pub mod Calls

@@ -3,7 +3,7 @@ use Rattle.std.specs.Prelude.{ℕ, List, codes}
 use Rattle.stm_watch.specs.declared.refusal.WatchRefusal.{WatchRefusal}
 use Rattle.stm_watch.specs.declared.refusal.WatchRefusal.TheVariants.{EmptyKey, OutOfMemory}
 use Rattle.stm_watch.specs.declared.refusal.PollRefusal.{PollRefusal}
-use Rattle.stm_watch.specs.declared.refusal.PollRefusal.TheVariants.{NoWatcher, OutOfMemory as PollOutOfMemory}
+use Rattle.stm_watch.specs.declared.refusal.PollRefusal.TheVariants.{NoWatcher, Compacted, OutOfMemory as PollOutOfMemory}
 
 abbrev pub watch_refusal_name : WatchRefusal → List ℕ
 watch_refusal_name EmptyKey = codes "EmptyKey"
@@ -11,4 +11,5 @@ watch_refusal_name OutOfMemory = codes "OutOfMemory"
 
 abbrev pub poll_refusal_name : PollRefusal → List ℕ
 poll_refusal_name NoWatcher = codes "NoWatcher"
+poll_refusal_name Compacted = codes "Compacted"
 poll_refusal_name PollOutOfMemory = codes "OutOfMemory"

@@ -1,23 +1,27 @@
 -- The events that are pending for a watcher, and the batch of a poll.
 --
 -- etcd's API reference, "Watch": `start_revision` of a `WatchCreateRequest` is inclusive, and 0 stands for the next revision; a
--- `WatchResponse` has the events in the order of their revisions, those of one revision are never parted, and none is dropped or told twice.
--- That a batch has at most so many revisions, and tells up to which one, is this store's own.
-use Rattle.std.specs.Prelude.{ℕ, ◌-◌, max, nat_eq, nat_le, nat_lt, Bool, true, false, if◌then◌else◌, List, [], ◌∷◌, ◌++◌, length, take, Option, Some, None}
+-- `WatchResponse` has the events in the order of their revisions, those of one revision are never parted, and none is dropped or told twice,
+-- unless the revision was compacted before the watcher was told of it. That a batch has at most so many revisions, and tells up to which
+-- one, is this store's own.
+use Rattle.std.specs.Prelude.{ℕ, ◌-◌, max, nat_eq, nat_le, nat_lt, ◌&&◌, Bool, true, false, if◌then◌else◌, List, [], ◌∷◌, ◌++◌, length, take, Option, Some, None}
 use Rattle.std.specs.List.{filter, flat_map}
 use Rattle.stm_history.specs.declared.change.Change.{Change}
+use Rattle.stm_history.specs.Opening.{Opening}
 use Rattle.stm_history.specs.History.{History, number_of_last, now}
 use Rattle.stm_keys.specs.declared.event.Event.{Event}
 use Rattle.stm_keys.specs.Events.{events_above, key_of_event}
 use Rattle.stm_watch.specs.declared.watched.Watched.{Watched}
-use Rattle.stm_watch.specs.declared.watched.Watching.{Watching}
+use Rattle.stm_watch.specs.Watching.{Watching}
 use Rattle.stm_watch.specs.declared.told.Told.{Told}
 use Rattle.stm_watch.specs.declared.watchers.Batch.{Batch}
 use Rattle.stm_watch.specs.Keys.{is_watched}
 
--- a new watcher: it wants what comes next, or everything from a revision on, which may be yet to come
-abbrev pub watching_from : History → Watched → ℕ → Watching
-watching_from h watched from = record { watched = watched; seen = if nat_eq from 0 then now h else from - 1 }
+-- A new watcher: it wants what comes next, or everything from a revision on, which may be yet to come. It is lost from its start where
+-- that revision is below the floor of the store.
+abbrev pub watching_from : History → ℕ → Watched → ℕ → Watching
+watching_from h floor watched from =
+    record { watched = watched; seen = if nat_eq from 0 then now h else from - 1; lost = nat_lt 0 from && nat_lt from floor }
 
 -- ---- what is pending
 
@@ -30,7 +34,7 @@ told_at number [] = []
 told_at number (e ∷ es) = record { number = number; events = e ∷ es } ∷ []
 
 -- the revisions above one that are told, the oldest first
-abbrev pub told_above : ℕ → ℕ → Watched → List (List Change) → List Told
+abbrev pub told_above : Opening → ℕ → Watched → List (List Change) → List Told
 told_above opening seen watched [] = []
 told_above opening seen watched (changes ∷ older) =
     let number = number_of_last opening (changes ∷ older) in

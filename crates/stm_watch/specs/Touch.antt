@@ -13,17 +13,17 @@ first_with revision wants first = option_or first (if wants then Some revision e
 -- after a change of this key at that revision
 abbrev pub touch_key : ℕ → List ℕ → Watcher → Watcher
 touch_key revision key w =
-    record w { first = first_with revision (nat_lt w.watching.seen revision && is_watched w.watching.watched key) w.first }
+    record w { first = first_with revision (nat_lt w.seen revision && is_watched w.watched key) w.first }
 
 -- after these changes at that revision
 abbrev pub touch : ℕ → List Change → Watcher → Watcher
 touch revision changes w =
-    record w { first = first_with revision (nat_lt w.watching.seen revision && is_any_watched w.watching.watched changes) w.first }
+    record w { first = first_with revision (nat_lt w.seen revision && is_any_watched w.watched changes) w.first }
 
 -- whether an idle watcher wants to know of it
 abbrev pub wants : ℕ → List ℕ → Option Watcher → Bool
 wants revision key None = false
-wants revision key (Some w) = not (is_some w.first) && (nat_lt w.watching.seen revision && is_watched w.watching.watched key)
+wants revision key (Some w) = not (is_some w.first) && (nat_lt w.seen revision && is_watched w.watched key)
 
 -- the watchers after a change of a key at one place
 abbrev pub touch_at : ℕ → List ℕ → ℕ → List (Option Watcher) → List (Option Watcher)

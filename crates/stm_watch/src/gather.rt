@@ -2,9 +2,10 @@
 ghost use Rattle.std.specs.Prelude.{◌≡◌, None, IfOk, max};
 ghost use Rattle.stm_history.specs.History.{now};
 ghost use Rattle.stm_watch.specs.Pending.{batch_of, after_poll, first_pending};
+ghost use Rattle.stm_watch.specs.Slots.{IsFollowed, followed};
 
 use crate::told::{copy_matching, next_number};
-use crate::watched::Watching;
+use crate::watched::Watcher;
 use crate::watchers::Batch;
 use std::alloc::{AllocError, Global};
 use stm_keys::{Event, Keys, Sequence};
@@ -34,41 +35,40 @@ impl Gathered {
 }
 
 /// Up to which revision a watcher has been told once nothing is pending.
-fn told_all(keys: &Keys, watching: &Watching) -> u64
-    ensures { result ≡ max watching.now.seen (now keys.now.history) }
+fn told_all(keys: &Keys, watcher: &Watcher) -> u64
+    ensures { result ≡ max watcher.now.seen (now keys.now.history) }
 {
-    watching.seen.max(keys.revision())
+    watcher.seen.max(keys.revision())
 }
 
-/// The pending events of at most so many revisions, of which this is the first. A revision of a range is looked for
-/// from the last one that was given, and where nothing is pending, none is looked at.
+/// The pending events of a watcher, of at most so many revisions. A revision of a range is looked for from the last
+/// one that was given, and where nothing is pending, none is looked at.
 pub(crate) fn gather(
     alloc: Global,
     keys: &Keys,
-    watching: &Watching,
-    first: Option<u64>,
+    watcher: &Watcher,
     most: u64,
 ) -> Result<Gathered, AllocError>
-    requires { first ≡ first_pending keys.now.history watching.now }
-    ensures batch { IfOk result (λ g. g.batch ≡ batch_of most keys.now.history watching.now) }
-    ensures next { IfOk result (λ g. g.next ≡ first_pending keys.now.history (after_poll most keys.now.history watching.now)) }
+    requires { IsFollowed keys.now.history watcher.now }
+    ensures batch { IfOk result (λ g. g.batch ≡ batch_of most keys.now.history (followed watcher.now)) }
+    ensures next { IfOk result (λ g. g.next ≡ first_pending keys.now.history (after_poll most keys.now.history (followed watcher.now))) }
 {
     let mut events = Vec::new(alloc);
-    let mut upto = watching.seen;
-    let mut next = first;
+    let mut upto = watcher.seen;
+    let mut next = watcher.first;
     let mut count = 0;
     while count < most {
         let Some(number) = next else {
-            return Ok(Gathered::all(events, told_all(keys, watching)));
+            return Ok(Gathered::all(events, told_all(keys, watcher)));
         };
-        let mut told = copy_matching(alloc, &watching.watched, keys.events_at(number))?;
+        let mut told = copy_matching(alloc, &watcher.watched, keys.events_at(number))?;
         events.append(&mut told)?;
         upto = number;
-        next = next_number(keys, &watching.watched, number);
+        next = next_number(keys, &watcher.watched, number);
         count += 1;
     }
     if next.is_none() {
-        return Ok(Gathered::all(events, told_all(keys, watching)));
+        return Ok(Gathered::all(events, told_all(keys, watcher)));
     }
     let events = Sequence::of(events);
     Ok(Gathered {

@@ -67,13 +67,13 @@ impl Index {
 
     /// The list on which a watcher stands.
     pub(crate) fn list_for(&self, watcher: &Watcher) -> ListId
-        requires { IsSome (idle_list self.now watcher.now.watching.watched) }
+        requires { IsSome (idle_list self.now watcher.now.watched) }
         ensures { list_for self.now watcher.now ≡ Some result }
     {
         if watcher.first.is_some() {
             return self.ready;
         }
-        let Watched::Key(key) = &watcher.watching.watched else {
+        let Watched::Key(key) = &watcher.watched else {
             return self.ranges;
         };
         let Some(list) = self.list_of(key) else {
@@ -130,7 +130,7 @@ impl Index {
         requires room { HasRoom self.old }
         requires list { HasList self.old.lists list }
         ensures { (ws : List (Option Kept)) (w : Kept) → Covers self.old ws → list_for self.old w ≡ Some list
-            → IsSome (idle_list self.old w.watching.watched) → Covers self.new (ws ++ Some w ∷ []) }
+            → IsSome (idle_list self.old w.watched) → Covers self.new (ws ++ Some w ∷ []) }
     {
         let Ok(node) = self.lists.push_back(list, self.nodes.len()) else {
             unreachable!()
@@ -155,7 +155,7 @@ impl Index {
         requires there { (ws : List (Option Kept)) × Covers self.old ws × IsSome (slice_index_or ws index None) }
         requires list { HasList self.old.lists list }
         ensures covers { (ws : List (Option Kept)) (w : Kept) → Covers self.old ws → IsSome (slice_index_or ws index None) → list_for self.old w ≡ Some list
-            → IsSome (idle_list self.old w.watching.watched) → Covers self.new (slice_set ws index (Some w)) }
+            → IsSome (idle_list self.old w.watched) → Covers self.new (slice_set ws index (Some w)) }
         ensures left { (node : ℕ) (place : Place ℕ) → slice_index_or self.old.nodes.items index None ≡ Some node → StandsAt self.old.lists node place
             → place.list ≢ list → list_at self.new.lists place.list ≡ Some (place.before ++ place.after) }
         ensures keys { self.new.keys ≡ self.old.keys }

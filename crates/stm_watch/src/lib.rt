@@ -1,8 +1,9 @@
 //! Watchers of the keys of a store.
 //!
 //! A watcher is told the events of its key, or of the keys of its range, of every revision from its start on, each
-//! once and in order. `specs/Pending.antt` says which events are pending, `specs/Calls.antt` what a call makes of the
-//! watchers that there are.
+//! once and in order. It is lost where the store was compacted before it was told of a revision: the next poll says so.
+//! `specs/Pending.antt` says which events are pending, `specs/Calls.antt` what a call makes of the watchers that there
+//! are.
 #![tactic(auto)]
 
 mod copies;
@@ -12,6 +13,7 @@ mod page;
 mod ranges;
 mod refusal;
 mod slots;
+mod table;
 mod told;
 mod touch;
 mod watched;
@@ -20,5 +22,5 @@ mod watchers;
 pub use refusal::{NoWatcher, PollRefusal, WatchRefusal};
 pub use stm_keys::{Event, Keys, Sequence, Text};
 pub use told::Told;
-pub use watched::{Watched, Watcher, Watching};
+pub use watched::{Watched, Watcher};
 pub use watchers::{Batch, Watchers};

@@ -51,12 +51,14 @@ impl From<AllocError> for WatchRefusal {
     }
 }
 
-/// Why a poll is refused. The watchers are then as they were, and a poll that wanted memory gives the same batch
-/// later.
+/// Why a poll is refused. It cancels a watcher that was lost, and otherwise leaves the watchers as they were: a poll
+/// that wanted memory gives the same batch later.
 #[derive(Debug, Drop, Clone, Copy, PartialEq, Eq)]
 pub enum PollRefusal {
     /// There is no such watcher, or it was cancelled.
     NoWatcher,
+    /// The watcher is lost: events that it was to be told are of a revision below the store's floor.
+    Compacted,
     /// A growth was refused.
     OutOfMemory,
 }
@@ -68,6 +70,7 @@ impl PollRefusal {
     {
         match self {
             PollRefusal::NoWatcher => "NoWatcher",
+            PollRefusal::Compacted => "Compacted",
             PollRefusal::OutOfMemory => "OutOfMemory",
         }
     }

@@ -1,12 +1,10 @@
 //! The places of watchers: watcher 1 stands first.
-ghost use Rattle.std.specs.Prelude.{◌≡◌, ◌<◌, ◌++◌, [], ◌∷◌, Some, None, OnOk, OnErr, IfOk, IsSome, is_some, true, false, option_map, slice_set, slice_index_or, length};
+ghost use Rattle.std.specs.Prelude.{◌≡◌, ◌++◌, [], ◌∷◌, Some, None, OnOk, OnErr, IfOk, IfSome, IsSome, is_some, true, false, option_map, slice_set, slice_index_or, length};
 ghost use Rattle.stm_watch.specs.Touch.{wants, touch_at};
-ghost use Rattle.stm_watch.specs.Calls.{Stands};
-ghost use Rattle.stm_watch.specs.Slots.{SlotPolls, PlacePolls, made_ready};
+ghost use Rattle.stm_watch.specs.Slots.{IsFollowed, SlotPolls, PlacePolls, made_ready};
 
 use crate::copies::copy_watchers;
 use crate::gather::{Gathered, gather};
-use crate::refusal::PollRefusal;
 use crate::watched::Watcher;
 use crate::watchers::Batch;
 use std::alloc::{AllocError, Global};
@@ -20,7 +18,7 @@ fn wants(slot: &Option<Watcher>, revision: u64, key: &Text) -> bool
 {
     match slot {
         None => false,
-        Some(watcher) => watcher.first.is_none() && watcher.watching.wants(revision, key),
+        Some(watcher) => watcher.first.is_none() && watcher.wants(revision, key),
     }
 }
 
@@ -40,21 +38,20 @@ fn clear(slot: &mut Option<Watcher>)
     drop(slot.take());
 }
 
-/// A poll of what stands at a place. A refusal leaves it as it was.
+/// A poll of the watcher that stands at a place. A refusal leaves it as it was.
 pub(crate) fn poll_slot(
     alloc: Global,
     slot: &mut Option<Watcher>,
     keys: &Keys,
     most: u64,
-) -> Result<Batch, PollRefusal>
-    requires { Stands keys.now.history slot.old }
+) -> Result<Batch, AllocError>
+    requires there { IsSome slot.old }
+    requires stands { IfSome slot.old (IsFollowed keys.now.history) }
     ensures { SlotPolls keys.now.history most slot.old result slot.new }
 {
-    let Some(watcher) = slot else {
-        return Err(PollRefusal::NoWatcher);
-    };
-    let Gathered { batch, next } = gather(alloc, keys, &watcher.watching, watcher.first, most)?;
-    watcher.watching.seen = batch.upto;
+    let Some(watcher) = slot else { unreachable!() };
+    let Gathered { batch, next } = gather(alloc, keys, watcher, most)?;
+    watcher.seen = batch.upto;
     watcher.first = next;
     Ok(batch)
 }
@@ -154,15 +151,10 @@ impl Slots {
         true
     }
 
-    /// A poll of what stands at a place. A refusal leaves it as it was.
-    pub(crate) fn poll(
-        &mut self,
-        index: usize,
-        keys: &Keys,
-        most: u64,
-    ) -> Result<Batch, PollRefusal>
-        requires there { index < length self.old }
-        requires stands { Stands keys.now.history (slice_index_or self.old index None) }
+    /// A poll of the watcher that stands at a place. A refusal leaves it as it was.
+    pub(crate) fn poll(&mut self, index: usize, keys: &Keys, most: u64) -> Result<Batch, AllocError>
+        requires there { IsSome (slice_index_or self.old index None) }
+        requires stands { IfSome (slice_index_or self.old index None) (IsFollowed keys.now.history) }
         ensures { PlacePolls keys.now.history most index self.old result self.new }
     {
         let alloc = *self.watchers.allocator();

@@ -61,7 +61,7 @@ pub(crate) fn copy_matching(
 fn next_in_range(keys: &Keys, watched: &Watched, above: u64) -> Option<u64>
     ensures { result ≡ first_above keys.now.history watched.now above }
 {
-    let mut passed = above.max(keys.opening());
+    let mut passed = above.max(keys.below());
     while passed < keys.revision() {
         passed += 1;
         if has_any(watched, keys.events_at(passed)) {

@@ -1,9 +1,9 @@
 //! What a watcher watches, and how far it has been told.
 ghost use Rattle.std.specs.Prelude.{◌≡◌, ◌&&◌, nat_lt};
 ghost use Rattle.stm_watch.specs.Keys.{is_watched};
-ghost use Rattle.stm_watch.specs.Pending.{watching_from};
+ghost use Rattle.stm_watch.specs.Places.{is_lost};
 
-use stm_keys::{Keys, Text};
+use stm_keys::Text;
 
 /// The keys that a watcher watches.
 #[derive(Debug, Drop, Clone)]
@@ -26,37 +26,33 @@ impl Watched {
     }
 }
 
-/// A watcher as the rules see it.
+/// A watcher: what it watches, how far it has been told, and the first revision of which events are pending for it.
 #[derive(Debug, Drop, Clone)]
-pub struct Watching {
+pub struct Watcher {
     /// What it watches.
     pub watched: Watched,
     /// It was told, or did not want to know, what happened up to this revision.
     pub seen: u64,
+    /// The first revision of which events are pending, `None` where none are. The watcher is ready where there is one, and lost where
+    /// that one is below the store's floor.
+    pub first: Option<u64>,
 }
 
-impl Watching {
-    /// A new watcher. It is told what happens from a revision on, or with 0 what happens next.
-    pub(crate) fn starting(watched: Watched, from: u64, keys: &Keys) -> Watching
-        ensures { result ≡ watching_from keys.now.history watched from }
-    {
-        let seen = if from == 0 { keys.revision() } else { from - 1 };
-        Watching { watched, seen }
-    }
-
+impl Watcher {
     /// Whether the watcher wants to know of a change of a key at a new revision.
     pub(crate) fn wants(&self, revision: u64, key: &Text) -> bool
         ensures { result ≡ (nat_lt self.now.seen revision && is_watched self.now.watched key.now) }
     {
         revision > self.seen && self.watched.has(key)
     }
-}
 
-/// A watcher, and the first revision of which events are pending for it: it is ready where there is one.
-#[derive(Debug, Drop, Clone)]
-pub struct Watcher {
-    /// What it watches, and how far it has been told.
-    pub watching: Watching,
-    /// The first revision of which events are pending, `None` where none are.
-    pub first: Option<u64>,
+    /// Whether events that it was to be told are below a floor.
+    pub(crate) fn is_lost(&self, floor: u64) -> bool
+        ensures { result ≡ is_lost floor self.now.first }
+    {
+        match self.first {
+            None => false,
+            Some(first) => first < floor,
+        }
+    }
 }

@@ -1,17 +1,17 @@
 //! The watchers, and what callers do with them.
-ghost use Rattle.std.specs.Prelude.{◌≡◌, ◌+◌, ◌↔◌, [], ◌∷◌, ◌++◌, length, map, Some, IfOk, OnOk, OnErr, IsOk, IsSome};
+ghost use Rattle.std.specs.Prelude.{◌≡◌, ◌+◌, ◌-◌, ◌≤◌, ◌↔◌, ◌∷◌, ◌++◌, [], length, map, slice_index_or, Some, None, IfOk, IfSome, OnOk, OnErr, IsOk, IsSome};
+ghost use Rattle.stm_history.specs.Cut.{cut};
 ghost use Rattle.stm_history.specs.History.{History, now, add_revision};
 ghost use Rattle.stm_keys.specs.Events.{change_of_event};
 ghost use Rattle.stm_watch.specs.Pending.{watching_from};
-ghost use Rattle.stm_watch.specs.Calls.{watch, poll, cancelled, WatchTells, PollTells, watchings, watcher_at, StandFor, IsNextReady, IsNextPending};
+ghost use Rattle.stm_watch.specs.Places.{is_lost, no_watchers, watching_of, watchings};
+ghost use Rattle.stm_watch.specs.Slots.{awaiting};
+ghost use Rattle.stm_watch.specs.Calls.{watch, poll, cancelled, compacted, view_refused, after_refused, WatchTells, PollTells, watcher_at, Stands, StandFor, IsNextReady, IsNextPending};
 
-use crate::index::Index;
-use crate::ranges::Ranges;
 use crate::refusal::{NoWatcher, PollRefusal, WatchRefusal};
-use crate::slots::Slots;
+use crate::table::Table;
 use crate::told::next_number;
-use crate::touch::touch_all;
-use crate::watched::{Watched, Watcher, Watching};
+use crate::watched::{Watched, Watcher};
 use std::alloc::{AllocError, Global};
 use std::marker::Model;
 use stm_keys::{Event, Keys, Sequence, Text};
@@ -27,27 +27,34 @@ pub struct Batch {
 
 /// The watchers of a store.
 ///
-/// Contracts see them by number, 1 first, each with the first revision of which events of it are pending, if there is
-/// one; nothing stands where one was cancelled. They stand for a history where each has the one of that history.
+/// Contracts see the floor of the store, and the watchers by number, 1 first, each with the first revision of which events of it are
+/// pending, if there is one; nothing stands where one was cancelled. One is lost where that revision is below the floor. They stand for a
+/// history where each that is not lost has the one of that history.
 #[derive(Drop)]
 pub struct Watchers {
-    slots: Slots,
-    index: Index,
-    ranges: Ranges,
+    table: Table,
+    floor: u64,
     alloc: Global,
 }
 
+/// A watcher that was told up to a revision, and is ready where events of later ones are there.
+fn waiting(watched: Watched, seen: u64, keys: &Keys) -> Watcher
+    ensures { result ≡ awaiting keys.now.history watched seen }
+{
+    let first = next_number(keys, &watched, seen);
+    Watcher {
+        watched,
+        seen,
+        first,
+    }
+}
+
 impl Model for Watchers {
-    ghost use Rattle.std.specs.Prelude.{List, Option};
-    ghost use Rattle.stm_watch.specs.declared.watched.Watcher.{Watcher as Kept};
+    ghost use Rattle.stm_watch.specs.Places.{WatchersView};
 
-    ghost Value = { List (Option Kept) };
+    ghost Value = { WatchersView };
 
-    ghost use Rattle.stm_watch.specs.Pages.{AreFound};
-
-    ghost view = { λ s. s.slots };
-
-    ghost invariant = { λ s. AreFound s.index s.ranges s.slots };
+    ghost view = { λ s. record { floor = s.floor; places = s.table } };
 }
 
 impl Watchers {
@@ -55,54 +62,58 @@ impl Watchers {
 
     /// No watchers.
     pub fn new(alloc: Global) -> Result<Watchers, AllocError>
-        ensures { IfOk result (λ watchers. watchers ≡ []) }
+        ensures { IfOk result (λ watchers. watchers ≡ no_watchers) }
     {
         Ok(Watchers {
-            slots: Slots::new(alloc),
-            index: Index::new(alloc)?,
-            ranges: Ranges::new(alloc),
+            table: Table::new(alloc)?,
+            floor: 0,
             alloc,
         })
     }
 
-    /// Puts a watcher at the next place. Want of memory leaves the places as they were.
-    fn place(&mut self, watcher: Watcher) -> Result<(), AllocError>
-        ensures ok { OnOk result (self.new ≡ self.old ++ Some watcher ∷ []) }
-        ensures err { OnErr result (self.new ≡ self.old) }
+    /// A new watcher. It is told what happens from a revision on, or with 0 what happens next. Below the floor that revision is the first
+    /// of those of which events are pending, since nobody can tell any more whether they are.
+    fn started(&self, watched: Watched, from: u64, keys: &Keys) -> Watcher
+        ensures watching { watching_of self.now.floor result ≡ watching_from keys.now.history self.now.floor watched from }
+        ensures stands { Stands keys.now.history self.now.floor (Some result) }
     {
-        self.index.make_room(&watcher.watching.watched)?;
-        let list = self.index.list_for(&watcher);
-        // The entry of a range is for a watcher that has room.
-        self.slots.reserve()?;
-        self.ranges
-            .add(&watcher.watching.watched, self.slots.len())?;
-        self.slots.push(watcher)?;
-        self.index.push(list);
-        Ok(())
+        if from == 0 {
+            return waiting(watched, keys.revision(), keys);
+        }
+        if from < self.floor {
+            return Watcher {
+                watched,
+                seen: from - 1,
+                first: Some(from),
+            };
+        }
+        waiting(watched, from - 1, keys)
     }
 
     /// Adds a watcher, and gives its number.
     fn add(&mut self, watched: Watched, from: u64, keys: &Keys) -> Result<u64, AllocError>
         requires { StandFor keys.now.history self.old }
-        ensures ok { IfOk result (λ id. (id ≡ length self.old + 1)
-            × (watchings self.new ≡ watchings self.old ++ Some (watching_from keys.now.history watched from) ∷ [])) }
+        ensures ok { IfOk result (λ id. (id ≡ length self.old.places + 1)
+            × (watchings self.new ≡ watchings self.old ++ Some (watching_from keys.now.history self.old.floor watched from) ∷ [])) }
         ensures stand { StandFor keys.now.history self.new }
+        ensures floor { self.new.floor ≡ self.old.floor }
         ensures err { OnErr result (self.new ≡ self.old) }
     {
-        let watching = Watching::starting(watched, from, keys);
-        let first = next_number(keys, &watching.watched, watching.seen);
-        self.place(Watcher { watching, first })?;
-        Ok(self.slots.len() as u64)
+        let watcher = self.started(watched, from, keys);
+        self.table.place(watcher)?;
+        Ok(self.table.len() as u64)
     }
 
     /// Watches a key from a revision on, 0 for the next one, and gives the watcher's number: 1, 2, 3, .., which is
-    /// never used again. A start above the counter waits for that revision.
+    /// never used again. A start above the counter waits for that revision, and one below the floor leaves the watcher
+    /// lost.
     ///
     /// The watchers stand for the history of these keys, and do so after the call. A refusal changes nothing.
     pub fn watch_key(&mut self, key: &str, from: u64, keys: &Keys) -> Result<u64, WatchRefusal>
         requires { StandFor keys.now.history self.old }
-        ensures answer { WatchTells (watch keys.now.history (Key key.now) from (watchings self.old)) result (watchings self.new) }
+        ensures answer { WatchTells (watch keys.now.history self.old.floor (Key key.now) from (watchings self.old)) result (watchings self.new) }
         ensures stand { StandFor keys.now.history self.new }
+        ensures floor { self.new.floor ≡ self.old.floor }
         ensures err { OnErr result (self.new ≡ self.old) }
     {
         if key.is_empty() {
@@ -123,8 +134,9 @@ impl Watchers {
         keys: &Keys,
     ) -> Result<u64, WatchRefusal>
         requires { StandFor keys.now.history self.old }
-        ensures answer { WatchTells (watch keys.now.history (Range first.now end.now) from (watchings self.old)) result (watchings self.new) }
+        ensures answer { WatchTells (watch keys.now.history self.old.floor (Range first.now end.now) from (watchings self.old)) result (watchings self.new) }
         ensures stand { StandFor keys.now.history self.new }
+        ensures floor { self.new.floor ≡ self.old.floor }
         ensures err { OnErr result (self.new ≡ self.old) }
     {
         if first.is_empty() {
@@ -136,25 +148,19 @@ impl Watchers {
         Ok(id)
     }
 
-    /// Cancels a watcher. It takes no memory. `NoWatcher` is answered where there is none with this number, or it
+    /// Cancels a watcher, also one that is lost. It takes no memory. `NoWatcher` is answered where there is none with this number, or it
     /// was cancelled, and changes nothing.
     pub fn cancel(&mut self, id: u64) -> Result<(), NoWatcher>
         ensures found { IsOk result ↔ IsSome (watcher_at id (watchings self.old)) }
         ensures ok { OnOk result (watchings self.new ≡ cancelled id (watchings self.old)) }
         ensures stand { (h : History) → StandFor h self.old → StandFor h self.new }
+        ensures floor { self.new.floor ≡ self.old.floor }
         ensures err { OnErr result (self.new ≡ self.old) }
     {
-        if id == 0 {
+        let Some(place) = self.table.find(id) else {
             return Err(NoWatcher);
-        }
-        let index = (id - 1) as usize;
-        if !self.slots.has(index) {
-            return Err(NoWatcher);
-        }
-        self.ranges
-            .remove(&self.slots.watcher(index).watching.watched, index);
-        self.index.remove(index);
-        self.slots.remove(index);
+        };
+        self.table.remove(place);
         Ok(())
     }
 
@@ -162,64 +168,84 @@ impl Watchers {
     ///
     /// Watchers that stood for the history before stand for it with the revision that shows these events.
     pub fn touched(&mut self, revision: u64, events: &[Event])
+        requires { self.old.floor ≤ revision }
         ensures same { watchings self.new ≡ watchings self.old }
         ensures stand { (h : History) → StandFor h self.old → revision ≡ now h + 1 → StandFor (add_revision h (map change_of_event events.now)) self.new }
+        ensures floor { self.new.floor ≡ self.old.floor }
     {
-        touch_all(
-            &mut self.slots,
-            &mut self.index,
-            &self.ranges,
-            revision,
-            events,
-        );
+        self.table.touched(revision, events);
+    }
+
+    /// Notes that the store was compacted at a revision, which is its floor from now on. A watcher for which events of revisions below it
+    /// are pending is lost, and the others lose nothing. It takes no memory, and no step for a watcher.
+    ///
+    /// Watchers that stood for the history before stand for it with and without the revisions below the floor.
+    pub fn compacted(&mut self, revision: u64)
+        requires { self.old.floor ≤ revision }
+        ensures watchings { (h : History) → StandFor h self.old → watchings self.new ≡ compacted h revision (watchings self.old) }
+        ensures stand { (h : History) → StandFor h self.old → StandFor h self.new }
+        ensures cut { (h : History) → StandFor h self.old → revision ≤ now h → StandFor (cut (revision - 1) h) self.new }
+        ensures floor { self.new.floor ≡ revision }
+    {
+        self.floor = revision;
     }
 
     /// A watcher that is ready, `None` where none is. It takes no memory.
     ///
-    /// In a history that the watchers stand for, events are pending for it, and for none where none is ready.
+    /// In a history that the watchers stand for, events are pending for it or it is lost, and neither is so of any
+    /// where none is ready.
     pub fn next_ready(&self) -> Option<u64>
-        ensures ready { IsNextReady self.now result }
+        ensures ready { IsNextReady self.now.places result }
         ensures pending { (h : History) → StandFor h self.now → IsNextPending h (watchings self.now) result }
     {
-        self.index.next_ready()
+        self.table.next_ready()
+    }
+
+    /// Whether the watcher at a place is lost.
+    fn is_lost(&self, place: usize) -> bool
+        requires { IsSome (slice_index_or self.now.places place None) }
+        ensures { IfSome (slice_index_or self.now.places place None) (λ w. result ≡ is_lost self.now.floor w.first) }
+    {
+        self.table.watcher(place).is_lost(self.floor)
     }
 
     /// Gives a watcher the pending events of at most so many revisions, and whole revisions only.
     ///
-    /// The watchers stand for the history of these keys, and do so after the call. `NoWatcher` is answered where
-    /// there is none with this number, or it was cancelled. A refusal changes nothing, so that a poll that wanted
-    /// memory gives the same batch later.
+    /// The watchers stand for the history of these keys, and do so after the call. It is refused for the first of
+    /// these that holds: `NoWatcher` where there is none with this number, or it was cancelled, `Compacted` where it is
+    /// lost, which cancels it, and `OutOfMemory`. Otherwise a refusal changes nothing, so that a poll that wanted memory
+    /// gives the same batch later.
     pub fn poll(&mut self, id: u64, keys: &Keys, most: u64) -> Result<Batch, PollRefusal>
         requires { StandFor keys.now.history self.old }
         ensures answer { PollTells (poll keys.now.history id most (watchings self.old)) result (watchings self.new) }
         ensures stand { StandFor keys.now.history self.new }
-        ensures err { OnErr result (self.new ≡ self.old) }
+        ensures floor { self.new.floor ≡ self.old.floor }
+        ensures err { OnErr result (self.new ≡ view_refused id self.old) }
+        ensures refused { OnErr result (watchings self.new ≡ after_refused id (watchings self.old)) }
     {
-        if id == 0 || id > self.slots.len() as u64 {
+        let Some(place) = self.table.find(id) else {
             return Err(PollRefusal::NoWatcher);
+        };
+        if self.is_lost(place) {
+            self.table.remove(place);
+            return Err(PollRefusal::Compacted);
         }
-        let place = (id - 1) as usize;
-        let batch = self.slots.poll(place, keys, most)?;
-        let list = self.index.list_for(self.slots.watcher(place));
-        self.index.move_to(place, list);
+        let batch = self.table.poll(place, keys, most)?;
         Ok(batch)
     }
 }
 
 impl Watchers {
-    /// A copy of the watchers: they keep their numbers, and the same ones are ready.
+    /// A copy of the watchers: they keep their numbers, the same ones are ready, and the same ones are lost.
     ///
     /// Want of memory is its only refusal.
     pub fn copy(&self) -> Result<Watchers, AllocError>
         ensures { IfOk result (λ copy. copy ≡ self.now) }
     {
-        let index = self.index.copy()?;
-        let ranges = self.ranges.copy()?;
-        let slots = self.slots.copy()?;
+        let table = self.table.copy()?;
         Ok(Watchers {
-            slots,
-            index,
-            ranges,
+            table,
+            floor: self.floor,
             alloc: self.alloc,
         })
     }

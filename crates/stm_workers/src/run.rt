@@ -194,7 +194,7 @@ fn start_of(hall: &Hall) -> StartPoint
 /// as it should: each fetch was asked for with what its worker had seen, it sent at most as many commits as it may, and it gave up only where so many
 /// failed (`HasCome` of the specs). The number of its attempts, at least one and at most that limit, is one more than the commits that failed before the
 /// last of them (`laws::attempts_are_counted`). Each end stands in the hall, and the hall has the entries that it had, with one commit for each job that
-/// committed, and nothing else; of its store the history alone has changed: leases, their terms, the moment and the watchers are as they were. What a job
+/// committed, and nothing else; of its store the history alone has changed: floor, leases, their terms, the moment and the watchers are as they were. What a job
 /// at a serializable level had read when it aborted or came to a fault is of one state of the hall's history since it was handed in, and its program, run
 /// alone on that state, ends so (`laws::stops_are_of_one_state`).
 ///

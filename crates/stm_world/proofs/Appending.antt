@@ -15,7 +15,9 @@ use Rattle.stm_outcome.specs.declared.refusal.Refusal.{Refusal as StoreRefusal}
 use Rattle.stm_outcome.specs.Outcome.{Done}
 use Rattle.stm_outcome.specs.Commits.{revision_read}
 use Rattle.stm_txn.specs.Standing.{Standing, transacted, granted, kept_alive, revoked, advanced, Advance as StoreAdvance, terms_of}
-use Rattle.stm_txn.specs.Standing.{watched, polled, cancelled}
+use Rattle.stm_txn.specs.Standing.{watched, polled, cancelled, raised}
+use Rattle.stm_outcome.specs.Terms.{is_below_floor}
+use Rattle.stm_outcome.specs.declared.refusal.Refusal.TheVariants.{Compacted as CompactedRefusal}
 use Rattle.stm_watch.specs.declared.watched.Watched.TheVariants.{Key, Range}
 use Rattle.stm_compile.specs.Committed.{committed}
 use Rattle.stm_compile.specs.Conflicts.{Seen, seen_by}
@@ -29,11 +31,11 @@ use Rattle.stm_entries.specs.Legal.{AreLegal}
 use Rattle.stm_entries.proofs.Replaying.{replay_goes_on, all_legal}
 use Rattle.stm_world.specs.declared.event.WorldEvent.{WorldEvent}
 use Rattle.stm_world.specs.declared.event.WorldEvent.TheVariants.{Start, Step, Txn, Grant, Keep, Revoke, Advance}
-use Rattle.stm_world.specs.declared.event.WorldEvent.TheVariants.{WatchKey, WatchRange, Poll, Cancel}
+use Rattle.stm_world.specs.declared.event.WorldEvent.TheVariants.{WatchKey, WatchRange, Poll, Cancel, Compact}
 use Rattle.stm_world.specs.declared.reply.Reply.{Reply}
 use Rattle.stm_world.specs.declared.reply.Reply.TheVariants.{Started, Fetched, Conflict, GaveUp, Aborted, Faulted, Ended}
 use Rattle.stm_world.specs.declared.refusal.Refusal.TheVariants.{BadLimit}
-use Rattle.stm_world.specs.Told.{store_after_call}
+use Rattle.stm_world.specs.Told.{store_after_call, store_after_poll}
 use Rattle.stm_world.specs.Task.{Task, answer_at, after_fetch, after_conflict}
 use Rattle.stm_world.specs.World.{World, Runner, Slot, Over, Live, runner_at, with_slot, refused, replied, begin, start_runner, fetch, entry_of}
 use Rattle.stm_world.specs.World.{seen_in, decided, commit_told, commit, finish, step_on, step_live, step_runner, if_taken, if_changed}
@@ -41,7 +43,7 @@ use Rattle.stm_world.specs.World.{expiries, step}
 use Rattle.stm_world.specs.Sound.{IsSound}
 use Rattle.stm_world.proofs.Entered.{EntriesFollow, nothing_follows}
 use Rattle.stm_world.proofs.Calls.{txn_follows, grant_follows, keep_follows, revoke_follows, advance_follows}
-use Rattle.stm_world.proofs.WatchCalls.{watch_follows, poll_follows, cancel_follows}
+use Rattle.stm_world.proofs.WatchCalls.{watch_follows, poll_follows, cancel_follows, compact_follows}
 use Rattle.stm_world.proofs.CommitEntries.{Takes, taken, commit_follows_entry}
 use Rattle.std.proofs.Common.{append_assoc}
 use Rattle.std.proofs.lemmas.List.{append-nil}
@@ -50,9 +52,9 @@ use Rattle.stm_compile.proofs.AgreeLemmas.{commit_is_the_run_now}
 use Rattle.stm_entries.proofs.Replaying.{replay_goes_on, all_legal}
 use Rattle.stm_world.specs.declared.reply.Reply.{Reply}
 use Rattle.stm_world.specs.declared.refusal.Denied.{Denied}
-use Rattle.stm_world.specs.Told.{denied, reply_to, advance_reply, batch_reply}
+use Rattle.stm_world.specs.Told.{denied, reply_to, advance_reply, poll_reply}
 use Rattle.stm_world.specs.declared.refusal.Refusal.TheVariants.{NoRunner}
-use Rattle.stm_world.specs.declared.reply.Reply.TheVariants.{Txn as TxnDone, Granted, Kept, Revoked, Watching, Cancelled}
+use Rattle.stm_world.specs.declared.reply.Reply.TheVariants.{Txn as TxnDone, Granted, Kept, Revoked, Watching, Cancelled, Compacted}
 use Rattle.stm_world.specs.World.{Stepped, world_after}
 use Rattle.stm_world.specs.Appended.{HasAppended, EventsAppend}
 use Rattle.stm_world.proofs.SoundSteps.{world_with}
@@ -75,9 +77,9 @@ called_appends : (w : World) (reply : Result Reply Denied) (after : Standing) (m
     Appends w (record { reply = reply; next = world_with after w.runners (w.entries ++ more) })
 called_appends w reply after more follows = record { more = more; entries = refl; follows = follows }
 
-watch_appends : (w : World) (reply : Result Reply Denied) (after : Standing) → EntriesFollow w.standing after [] →
+quiet_appends : (w : World) (reply : Result Reply Denied) (after : Standing) → EntriesFollow w.standing after [] →
     Appends w (record { reply = reply; next = world_with after w.runners w.entries })
-watch_appends w reply after follows = record { more = []; entries = sym (append-nil w.entries); follows = follows }
+quiet_appends w reply after follows = record { more = []; entries = sym (append-nil w.entries); follows = follows }
 
 start_by : (w : World) (task : Task) (none : Bool) →
     Appends w (cond none (refused BadLimit w) (record {
@@ -143,6 +145,11 @@ unfolding commit
 commit_appends w id r run x =
     commit_by w id r run (committed (terms_of w.standing) r.task.level r.known.reads run) x refl
 
+fetch_at_appends : (w : World) (id : ℕ) (r : Runner) (key : List ℕ) (base : ℕ) (below : Bool) →
+    Appends w (cond below (replied (Ended id CompactedRefusal) id Over w) (fetch id r key (revision_read w.standing.history base) w))
+fetch_at_appends w id r key base true = ended_appends w id (Ended id CompactedRefusal)
+fetch_at_appends w id r key base false = fetch_appends w id r key (revision_read w.standing.history base)
+
 finish_appends : (w : World) (id : ℕ) (r : Runner) (run : Run) (end : End) → AreTrue w.standing.history r.known.reads →
     run_on r.task.program r.known.reads ≡ EndedRun run → run.end ≡ end → Appends w (finish id r r.known.reads run end w)
 finish_appends w id r run DoneEnd truth is_run ended = commit_appends w id r run (record { truth = truth; is_run = is_run; is_done = ended })
@@ -151,7 +158,8 @@ finish_appends w id r run (FaultedEnd fault) truth is_run ended = ended_appends 
 
 answered_appends : (w : World) (id : ℕ) (r : Runner) (answered : Answered) → AreTrue w.standing.history r.known.reads →
     run_on r.task.program r.known.reads ≡ answered → Appends w (step_on id r r.known.reads answered w)
-answered_appends w id r (Wants key trace) truth is = fetch_appends w id r key (revision_read w.standing.history (at_of r.task.level r.known.reads))
+answered_appends w id r (Wants key trace) truth is =
+    fetch_at_appends w id r key (at_of r.task.level r.known.reads) (is_below_floor w.standing.floor (at_of r.task.level r.known.reads))
 answered_appends w id r (EndedRun run) truth is = finish_appends w id r run run.end truth is refl
 
 live_appends : (w : World) (id : ℕ) (r : Runner) → AreTrue w.standing.history r.known.reads → Appends w (step_live id r w)
@@ -186,16 +194,19 @@ event_appends (Advance moment) w sound =
     called_appends w (advance_reply moment done.expired done.cause) done.leaves (expiries done.expired) (advance_follows w.standing moment)
 event_appends (WatchKey key from) w sound =
     let o = watched w.standing (Key key) from in
-    watch_appends w (reply_to Watching o) (store_after_call w.standing o) (watch_follows w.standing (Key key) from)
+    quiet_appends w (reply_to Watching o) (store_after_call w.standing o) (watch_follows w.standing (Key key) from)
 event_appends (WatchRange first end from) w sound =
     let o = watched w.standing (Range first end) from in
-    watch_appends w (reply_to Watching o) (store_after_call w.standing o) (watch_follows w.standing (Range first end) from)
+    quiet_appends w (reply_to Watching o) (store_after_call w.standing o) (watch_follows w.standing (Range first end) from)
 event_appends (Poll watcher most) w sound =
     let o = polled w.standing watcher most in
-    watch_appends w (reply_to (batch_reply watcher) o) (store_after_call w.standing o) (poll_follows w.standing watcher most)
+    quiet_appends w (poll_reply watcher w.standing.floor o) (store_after_poll watcher w.standing o) (poll_follows w.standing watcher most)
 event_appends (Cancel watcher) w sound =
     let o = cancelled w.standing watcher in
-    watch_appends w (reply_to (λ _. Cancelled watcher) o) (store_after_call w.standing o) (cancel_follows w.standing watcher)
+    quiet_appends w (reply_to (λ _. Cancelled watcher) o) (store_after_call w.standing o) (cancel_follows w.standing watcher)
+event_appends (Compact revision) w sound =
+    let o = raised w.standing revision in
+    quiet_appends w (reply_to (λ _. Compacted revision) o) (store_after_call w.standing o) (compact_follows w.standing revision)
 
 -- ---- all events ----
 

@@ -1,8 +1,9 @@
 -- What an attempt at a serializable level knows is of one revision, and what any attempt has read was asked for.
-use Rattle.std.proofs.Common.{◌≡◌, ◌≢◌, ℕ, zero, suc, ◌<◌, ◌≤◌, List, [], ◌∷◌, ◌++◌, map, true, refl, subst, arith}
+use Rattle.std.proofs.Common.{◌≡◌, ◌≢◌, ℕ, zero, suc, ◌<◌, ◌≤◌, List, [], ◌∷◌, ◌++◌, map, true, refl, ap, subst, arith}
 use Rattle.std.specs.List.{AllByRecursion}
 use Rattle.std.proofs.lemmas.List.Elements.{All-from_recursion}
 use Rattle.stm_history.specs.declared.key_state.ReadAnswer.{ReadAnswer}
+use Rattle.stm_history.specs.Opening.{Opening}
 use Rattle.stm_history.specs.History.{History, now}
 use Rattle.stm_outcome.specs.Commits.{revision_read}
 use Rattle.stm_txn.specs.Standing.{Standing}
@@ -42,8 +43,9 @@ rereads_show h [] some = tt
 rereads_show h (key ∷ keys) some = (some, rereads_show h keys some)
 
 -- the counter of a world's store does not fall below the revision that it opened at
-added_count : (before after : History) → AddsTo before after → 1 ≤ before.opening → 1 ≤ now after
-added_count before after adds some = let same : after.opening ≡ before.opening = adds.opening in omega arith
+added_count : (before after : History) → AddsTo before after → 1 ≤ before.opening.number → 1 ≤ now after
+added_count before after adds some =
+    let same : after.opening.number ≡ before.opening.number = ap (λ (o : Opening). o.number) adds.opening in omega arith
 
 pub counter_some : (start : ℕ) (entries : List Entry) (s : Standing) → replay entries (opening start) ≡ without_moment s → 1 ≤ start → 1 ≤ now s.history
 counter_some start entries s replays some =

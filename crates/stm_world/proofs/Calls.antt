@@ -19,18 +19,20 @@ use Rattle.stm_txn.specs.Grants.{grant_refusal_of}
 use Rattle.stm_txn.specs.LeaseKeys.{deletions_of}
 use Rattle.stm_txn.specs.Standing.{Standing, Step, Advance, step_of, transacted, granted, with_lease, kept_alive, without_lease, ended, with_revision, revoked}
 use Rattle.stm_txn.specs.Standing.{at_moment, after, expired_in, expire_up_to, expire_all, advanced}
-use Rattle.stm_txn.specs.Standing.{terms_of}
+use Rattle.stm_txn.specs.Standing.{terms_of, HasKept}
 use Rattle.stm_outcome.proofs.Applying.{history_grows}
 use Rattle.stm_txn.proofs.Ending.{ended_is, due_lives}
 use Rattle.stm_entries.specs.declared.entry.Entry.TheVariants.{Foreign, Grant as GrantEntry, Renew, Revoke as RevokeEntry, Expire}
-use Rattle.stm_entries.specs.Replayed.{with_history, with_live, without_moment}
+use Rattle.stm_entries.specs.Replayed.{with_history, with_live, without_moment, replay_terms}
 use Rattle.stm_entries.specs.Alone.{history_left}
 use Rattle.stm_entries.specs.Replay.{replay, renewed_at}
 use Rattle.stm_entries.specs.Legal.{AreLegal}
 use Rattle.stm_world.specs.Told.{store_after_call}
 use Rattle.stm_world.specs.World.{if_taken, if_changed, expiries}
 use Rattle.stm_world.proofs.Truth.{Keeps, keeps_same, keeps_changes, keeps_twice}
-use Rattle.stm_world.proofs.Entered.{EntriesFollow, nothing_follows}
+use Rattle.stm_world.proofs.Entered.{EntriesFollow, floor_stays, nothing_follows}
+use Rattle.stm_world.proofs.KeptFor.{kept_by_changes}
+use Rattle.stm_outcome.proofs.Lowering.{floor_only_refuses}
 
 -- ---- a transaction ----
 
@@ -48,16 +50,23 @@ changed_follows s txn done b is changed =
     let grown : (changes : List Change) × HasDistinctKeys changes × (done.history ≡ with_changes s.history changes) =
     history_grows (terms_of s) txn done is in
     let keeps : Keeps s.history done.history = subst (λ (h : History). Keeps s.history h) (sym grown.2) (keeps_changes s.history grown.0) in
+    let kept : HasKept s → HasKept (record s { history = done.history }) =
+    λ k. subst (λ (h : History). HasKept (record s { history = h })) (sym grown.2) (kept_by_changes s grown.0 k) in
+    let replayed : outcome (replay_terms (without_moment s)) txn ≡ Ok done = floor_only_refuses (terms_of s) txn done is in
     elim b as (λ c. nat_lt (now s.history) (now done.history) ≡ c → EntriesFollow s (record s { history = done.history }) (cond c (Foreign txn ∷ []) [])) [
       | true ↦ λ e. record {
-        replays = ap (λ o. with_history (without_moment s) (history_left s.history o)) is;
-        legal = (record { done = done; taken = is; changed = ltb-true (now s.history) (now done.history) e }, tt);
+        replays = ap (λ o. with_history (without_moment s) (history_left s.history o)) replayed;
+        legal = (record { done = done; taken = replayed; changed = ltb-true (now s.history) (now done.history) e }, tt);
         keeps = keeps;
+        kept = kept;
+        floor = floor_stays s;
       }
       | false ↦ λ e. record {
         replays = ap (λ (h : History). record { history = h; live = s.live }) (same_history s.history done.history grown.0 grown.2 e);
         legal = tt;
         keeps = keeps;
+        kept = kept;
+        floor = floor_stays s;
       }
     ] changed
 
@@ -85,7 +94,13 @@ granted_by s id ttl o =
 
 grant_by : (s : Standing) (id ttl : ℕ) (o : Option GrantError) → grant_refusal s.live id ttl ≡ o →
     EntriesFollow s (store_after_call s (granted_by s id ttl o)) (if_taken (granted_by s id ttl o) (GrantEntry id ttl s.moment))
-grant_by s id ttl None is = record { replays = refl; legal = (is, tt); keeps = keeps_same s.history }
+grant_by s id ttl None is = record {
+  replays = refl;
+  legal = (is, tt);
+  keeps = keeps_same s.history;
+  kept = λ k. record { reached = k.reached; watchers = k.watchers };
+  floor = floor_stays s;
+}
 grant_by s id ttl (Some cause) is = nothing_follows s
 
 pub grant_follows : (s : Standing) (id ttl : ℕ) →
@@ -106,11 +121,19 @@ keep_by s id (Some term) is = record {
   replays = ap (λ (o : Option Term). with_live (without_moment s) (renewed_at s.live id s.moment o)) is;
   legal = (ap (λ (o : Option Term). is_some o) is, tt);
   keeps = keeps_same s.history;
+  kept = λ k. record { reached = k.reached; watchers = k.watchers };
+  floor = floor_stays s;
 }
 
 pub keep_follows : (s : Standing) (id : ℕ) →
     EntriesFollow s (store_after_call s (kept_alive s id)) (if_taken (kept_alive s id) (Renew id s.moment))
 keep_follows s id = keep_by s id (finmap.get s.live id) refl
+
+-- without a lease
+kept_without : (s : Standing) (id : ℕ) → HasKept s → HasKept (without_lease s id)
+kept_without s id k =
+    let after : HasKept (record s { history = with_changes s.history (deletions_of s.history id) }) = kept_by_changes s (deletions_of s.history id) k in
+    record { reached = after.reached; watchers = after.watchers }
 
 abbrev pub revoked_by : Standing → ℕ → Bool → Bool → Result (Step ℕ) Refusal
 revoked_by s id live used = cond live (with_revision (cond used (Err RevisionsUsedUp) (Ok (without_lease s id)))) (Err LeaseNotFound)
@@ -123,6 +146,8 @@ revoke_by s id true false is room = record {
   replays = refl;
   legal = (record { is_live = is; has_room = room }, tt);
   keeps = keeps_changes s.history (deletions_of s.history id);
+  kept = kept_without s id;
+  floor = floor_stays s;
 }
 
 pub revoke_follows : (s : Standing) (id : ℕ) →
@@ -147,6 +172,8 @@ one_more_expiry s next last id expired live is rest =
       );
       keeps = keeps_twice s.history next.history last.history
           (subst (λ (x : Standing). Keeps s.history x.history) same (keeps_changes s.history (deletions_of s.history id))) rest.keeps;
+      kept = λ k. rest.kept (subst HasKept same (kept_without s id k));
+      floor = subst (λ (x : Standing). x.floor ≤ last.floor) (sym same) rest.floor;
     }
 
 -- what a lease that is due makes of the rest of an advance
@@ -187,7 +214,13 @@ pub at_moment_follows : (many : ℕ) (s : Standing) (moment : ℕ) →
     EntriesFollow s (expire_up_to many (at_moment s moment)).leaves (expiries (expire_up_to many (at_moment s moment)).expired)
 at_moment_follows many s moment =
     let e = expiries_follow many (at_moment s moment) in
-    record { replays = e.replays; legal = e.legal; keeps = e.keeps }
+    record {
+      replays = e.replays;
+      legal = e.legal;
+      keeps = e.keeps;
+      kept = λ k. e.kept (record { reached = k.reached; watchers = k.watchers });
+      floor = e.floor;
+    }
 
 abbrev pub advance_back : Standing → ℕ → Bool → Advance
 advance_back s moment back = cond back (record { expired = []; leaves = s; cause = Some TimeGoesBack }) (expire_all (at_moment s moment))

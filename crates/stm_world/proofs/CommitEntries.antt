@@ -1,5 +1,5 @@
 -- What a commit that succeeded leaves of the store is what its entry replays to.
-use Rattle.std.proofs.Common.{◌≡◌, List, [], ◌∷◌, map, None, Ok, Bool, true, false, cond, refl, ◌∙◌, ap, subst}
+use Rattle.std.proofs.Common.{◌≡◌, List, [], ◌∷◌, map, None, Ok, Bool, true, false, cond, refl, sym, ◌∙◌, ap, subst}
 use Rattle.std.specs.Prelude.{MatchBool}
 use Rattle.stm_history.specs.declared.change.Change.{Change}
 use Rattle.stm_history.specs.declared.key_state.ReadAnswer.{ReadAnswer}
@@ -10,9 +10,9 @@ use Rattle.stm_meaning.specs.declared.run.End.TheVariants.{Done as DoneEnd}
 use Rattle.stm_meaning.specs.declared.run.Run.{Run}
 use Rattle.stm_meaning.specs.declared.run.Answered.TheVariants.{Ended as EndedRun}
 use Rattle.stm_meaning.specs.Meaning.{run_over}
-use Rattle.stm_outcome.specs.Outcome.{Done}
+use Rattle.stm_outcome.specs.Outcome.{Done, with_changes}
 use Rattle.stm_outcome.specs.Commits.{applied, effective}
-use Rattle.stm_txn.specs.Standing.{Standing, with_history, terms_of}
+use Rattle.stm_txn.specs.Standing.{Standing, HasKept, with_history, terms_of}
 use Rattle.stm_outcome.specs.Terms.{Terms}
 use Rattle.stm_compile.specs.Levels.{is_comparing}
 use Rattle.stm_compile.specs.Answers.{AreTrue, look_up, state_now}
@@ -25,7 +25,8 @@ use Rattle.stm_entries.specs.Alone.{seen_at, history_left, left_by, left_by_run}
 use Rattle.stm_world.specs.Task.{Task, answers_told}
 use Rattle.stm_world.specs.World.{entry_of}
 use Rattle.stm_world.proofs.Truth.{Keeps, keeps_changes}
-use Rattle.stm_world.proofs.Entered.{EntriesFollow}
+use Rattle.stm_world.proofs.Entered.{EntriesFollow, floor_stays}
+use Rattle.stm_world.proofs.KeptFor.{kept_by_changes}
 use Rattle.stm_world.proofs.CommitCases.{Succeeds, succeeds, applied_history}
 
 alone_by : (h : History) (task : Task) (reads : List ReadAnswer) (run : Run) (b : Bool) →
@@ -96,6 +97,14 @@ grown_by terms changes done is =
     let h : History = terms.history in
     subst (λ (x : History). Keeps h x) (applied_history terms changes done is) (keeps_changes h (effective h changes))
 
+-- a store whose history writes were applied to
+pub kept_by_writes : (s : Standing) (terms : Terms) (changes : List Change) (done : Done) → terms.history ≡ s.history → applied terms changes ≡ Ok done →
+    HasKept s → HasKept (record s { history = done.history })
+kept_by_writes s terms changes done same is k =
+    subst (λ (x : History). HasKept (record s { history = x })) (applied_history terms changes done is)
+    (subst (λ (h : History). HasKept (record s { history = with_changes h (effective terms.history changes) })) (sym same)
+    (kept_by_changes s (effective terms.history changes) k))
+
 -- the entry of the commit leads to what the commit left
 pub commit_follows_entry : (s : Standing) (task : Task) (reads : List ReadAnswer) (run : Run) (done : Done) → Takes s task reads run done →
     Taken s task reads run done → EntriesFollow s (with_history s done.history) (entry_of task reads run (now done.history) ∷ [])
@@ -116,4 +125,6 @@ commit_follows_entry s task reads run done t taken = record {
     tt,
   );
   keeps = grown_by (terms_of s) (map as_change (latest_writes run.writes)) done taken.applies;
+  kept = kept_by_writes s (terms_of s) (map as_change (latest_writes run.writes)) done refl taken.applies;
+  floor = floor_stays s;
 }

@@ -37,7 +37,7 @@ use Rattle.stm_world.proofs.Slots.{other_number}
 use Rattle.stm_world.specs.declared.event.WorldEvent.{WorldEvent}
 use Rattle.stm_world.specs.declared.reply.Reply.{Reply}
 use Rattle.stm_world.specs.declared.reply.Reply.TheVariants.{Started, Fetched, Committed, Conflict, GaveUp, Aborted, Faulted, Ended}
-use Rattle.stm_world.specs.declared.reply.Reply.TheVariants.{Txn as TxnDone, Granted, Kept, Revoked, Advanced, Watching, Batch, Cancelled}
+use Rattle.stm_world.specs.declared.reply.Reply.TheVariants.{Txn as TxnDone, Granted, Kept, Revoked, Advanced, Watching, Batch, Cancelled, Compacted, Lost}
 use Rattle.stm_world.specs.declared.refusal.Denied.{Denied}
 use Rattle.stm_world.specs.Task.{Task}
 use Rattle.stm_world.specs.Log.{Line, running, store, told}
@@ -125,6 +125,8 @@ reply_is_real start log id task (Ok (Advanced moment expired)) runs right = tt
 reply_is_real start log id task (Ok (Watching watcher)) runs right = tt
 reply_is_real start log id task (Ok (Batch watcher upto events)) runs right = tt
 reply_is_real start log id task (Ok (Cancelled watcher)) runs right = tt
+reply_is_real start log id task (Ok (Compacted revision)) runs right = tt
+reply_is_real start log id task (Ok (Lost watcher floor)) runs right = tt
 reply_is_real start log id task (Err refusal) runs right = tt
 
 pub failures_are_conflicts : CommitLaws → FailuresAreConflicts
@@ -208,6 +210,8 @@ reply_is_of_one_state start log id task (Ok (Advanced moment expired)) w f some 
 reply_is_of_one_state start log id task (Ok (Watching watcher)) w f some runs right = tt
 reply_is_of_one_state start log id task (Ok (Batch watcher upto events)) w f some runs right = tt
 reply_is_of_one_state start log id task (Ok (Cancelled watcher)) w f some runs right = tt
+reply_is_of_one_state start log id task (Ok (Compacted revision)) w f some runs right = tt
+reply_is_of_one_state start log id task (Ok (Lost watcher floor)) w f some runs right = tt
 reply_is_of_one_state start log id task (Err refusal) w f some runs right = tt
 
 pub stops_are_of_one_state : CommitLaws → StopsAreOfOneState

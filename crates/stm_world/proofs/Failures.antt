@@ -3,6 +3,7 @@ use Rattle.std.proofs.Common.{◌≡◌, ℕ, ◌+◌, ◌≤◌, List, [], ◌�
 use Rattle.std.proofs.Common.{ap, subst, arith, length}
 use Rattle.std.specs.Prelude.{nat_eq, ◌||◌, Result}
 use Rattle.stm_history.specs.declared.revisions.TheConstants.{HIGHEST_REVISION}
+use Rattle.stm_history.specs.Opening.{Opening}
 use Rattle.stm_history.specs.History.{History, now}
 use Rattle.stm_program.specs.Writes.{latest_writes}
 use Rattle.stm_entries.specs.declared.entry.Entry.{Entry}
@@ -15,7 +16,7 @@ use Rattle.stm_world.specs.declared.event.WorldEvent.{WorldEvent}
 use Rattle.stm_world.specs.declared.event.WorldEvent.TheVariants.{Start, Step}
 use Rattle.stm_world.specs.declared.reply.Reply.{Reply}
 use Rattle.stm_world.specs.declared.reply.Reply.TheVariants.{Started, Fetched, Committed, Conflict, GaveUp, Aborted, Faulted, Ended}
-use Rattle.stm_world.specs.declared.reply.Reply.TheVariants.{Txn as TxnDone, Granted, Kept, Revoked, Advanced, Watching, Batch, Cancelled}
+use Rattle.stm_world.specs.declared.reply.Reply.TheVariants.{Txn as TxnDone, Granted, Kept, Revoked, Advanced, Watching, Batch, Cancelled, Compacted, Lost}
 use Rattle.stm_world.specs.declared.refusal.Denied.{Denied}
 use Rattle.stm_world.specs.Task.{Task, answer_at, after_fetch, after_conflict}
 use Rattle.stm_world.specs.Log.{Line, is_id, is_over, begun, running, started, failures, store, told, runner_started, runner_ended, runner_in_conflict}
@@ -104,6 +105,8 @@ failed_by id failed conflicts over (Ok (Advanced moment expired)) on none = on n
 failed_by id failed conflicts over (Ok (Watching watcher)) on none = on none
 failed_by id failed conflicts over (Ok (Batch watcher upto events)) on none = on none
 failed_by id failed conflicts over (Ok (Cancelled watcher)) on none = on none
+failed_by id failed conflicts over (Ok (Compacted revision)) on none = on none
+failed_by id failed conflicts over (Ok (Lost watcher floor)) on none = on none
 
 -- of a run that is not over only conflicts were told as failures
 none_failed : (id : ℕ) (log : List Line) → is_over id log ≡ false → failed_commits id log ≡ failures id log
@@ -284,6 +287,8 @@ step_moves_on start log id task (Ok (Advanced moment expired)) runs right all = 
 step_moves_on start log id task (Ok (Watching watcher)) runs right all = absurd right
 step_moves_on start log id task (Ok (Batch watcher upto events)) runs right all = absurd right
 step_moves_on start log id task (Ok (Cancelled watcher)) runs right all = absurd right
+step_moves_on start log id task (Ok (Compacted revision)) runs right all = absurd right
+step_moves_on start log id task (Ok (Lost watcher floor)) runs right all = absurd right
 step_moves_on start log id task (Err refusal) runs right all = absurd right
 
 event_moves_on : (start : ℕ) (log : List Line) (w : World) (event : WorldEvent) (reply : Result Reply Denied) → Follows start log w →
@@ -307,7 +312,7 @@ store_low start log w f low =
 
 adds_up : (before after : History) → AddsTo before after → now before ≤ now after
 adds_up before after adds =
-    let same : after.opening ≡ before.opening = adds.opening in
+    let same : after.opening.number ≡ before.opening.number = ap (λ (o : Opening). o.number) adds.opening in
     let count : length after.revisions ≡ length adds.added + length before.revisions =
     ap length adds.revisions ∙ length-append adds.added before.revisions in
     omega (arith, same, count)

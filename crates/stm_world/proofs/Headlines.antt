@@ -7,7 +7,7 @@ use Rattle.std.specs.Prelude.{nat_eq, option_map, Result}
 use Rattle.stm_outcome.specs.declared.advance.Expired.{Expired}
 use Rattle.stm_outcome.specs.declared.refusal.Refusal.{Refusal as StoreRefusal}
 use Rattle.stm_txn.specs.Standing.{Standing, Step as StoreStep, Advance as StoreAdvance, transacted, granted, kept_alive, revoked, advanced}
-use Rattle.stm_txn.specs.Standing.{watched, polled, cancelled}
+use Rattle.stm_txn.specs.Standing.{watched, polled, cancelled, raised}
 use Rattle.stm_watch.specs.declared.watched.Watched.TheVariants.{Key, Range}
 use Rattle.stm_compile.specs.Levels.{is_serializable}
 use Rattle.stm_attempt.specs.Known.{HaveDistinctKeys}
@@ -16,11 +16,12 @@ use Rattle.stm_entries.specs.declared.entry.Entry.TheVariants.{Grant as GrantEnt
 use Rattle.stm_entries.specs.Replayed.{without_moment}
 use Rattle.stm_world.specs.declared.event.WorldEvent.{WorldEvent}
 use Rattle.stm_world.specs.declared.event.WorldEvent.TheVariants.{Start, Step, Txn, Grant, Keep, Revoke, Advance}
-use Rattle.stm_world.specs.declared.event.WorldEvent.TheVariants.{WatchKey, WatchRange, Poll, Cancel}
+use Rattle.stm_world.specs.declared.event.WorldEvent.TheVariants.{WatchKey, WatchRange, Poll, Cancel, Compact}
 use Rattle.stm_world.specs.declared.reply.Reply.{Reply}
-use Rattle.stm_world.specs.declared.reply.Reply.TheVariants.{Started, Txn as TxnDone, Granted, Kept, Revoked, Watching, Cancelled}
+use Rattle.stm_world.specs.declared.reply.Reply.TheVariants.{Started, Txn as TxnDone, Granted, Kept, Revoked, Watching, Cancelled, Compacted, Lost}
 use Rattle.stm_world.specs.declared.refusal.Refusal.TheVariants.{BadLimit, NoRunner}
-use Rattle.stm_world.specs.Told.{denied, reply_to, store_after_call, advance_reply, batch_reply}
+use Rattle.stm_world.specs.declared.refusal.Denied.{Denied}
+use Rattle.stm_world.specs.Told.{denied, reply_to, store_after_call, advance_reply, batch_reply, poll_reply}
 use Rattle.stm_world.specs.Task.{Task}
 use Rattle.stm_world.specs.Log.{Line, begun, running, started, store, runner_started, if_told, expired_told, entries_told, told}
 use Rattle.stm_world.specs.Right.{RunnerIsRight}
@@ -34,13 +35,13 @@ use Rattle.stm_world.proofs.Asked.{asked_are_distinct}
 use Rattle.stm_world.proofs.OneState.{are_of_one_state}
 use Rattle.stm_world.proofs.Logs.{logged, log_of, log_of_is_log, of_each_log}
 use Rattle.stm_world.proofs.Slots.{equal_numbers, same_number, other_number, differ, runner_new, runner_old, count_grows, no_runner}
-use Rattle.stm_world.proofs.Untouched.{IsFresh, none_told, same_in_log, fresh_stays, by_refusal, by_call, by_advance}
+use Rattle.stm_world.proofs.Untouched.{Untouched, IsFresh, none_told, same_in_log, fresh_stays, by_refusal, by_call, by_advance}
 use Rattle.stm_world.proofs.Untouched.{by_reply}
 use Rattle.stm_world.proofs.Following.{FollowsAt, FollowsStep, with_line, world_at, no_runner_touched, nothing_touched}
 use Rattle.stm_world.proofs.RunnerSteps.{CommitLaws, live_follows}
 use Rattle.stm_world.proofs.Entered.{nothing_follows}
 use Rattle.stm_world.proofs.Calls.{txn_follows, grant_follows, keep_follows, revoke_follows, advance_follows}
-use Rattle.stm_world.proofs.WatchCalls.{watch_follows, poll_follows, cancel_follows}
+use Rattle.stm_world.proofs.WatchCalls.{poll_told, watch_follows, poll_follows, cancel_follows, compact_follows}
 
 -- ---- starts ----
 
@@ -233,12 +234,13 @@ event_follows start log runners entries (WatchRange first end from) laws f =
     }
 event_follows start log runners entries (Poll watcher most) laws f =
     let s : Standing = store start log in
-    let o = polled s watcher most in
+    let reply : Result Reply Denied = poll_reply watcher s.floor (polled s watcher most) in
     record {
       standing = refl;
-      follows = nothing_touched start log runners entries (Poll watcher most) (reply_to (batch_reply watcher) o) f refl
-          (no_number (batch_reply watcher) o (λ x. refl)) (λ id. by_call id (batch_reply watcher) o (λ x. by_reply id (batch_reply watcher x) refl)) refl
-          (poll_follows s watcher most);
+      follows = nothing_touched start log runners entries (Poll watcher most) reply f refl
+          (poll_told (λ (r : Result Reply Denied). runner_started r ≡ None) s watcher most (λ batch. refl) refl refl)
+          (λ id. poll_told (Untouched id) s watcher most (λ batch. by_reply id (batch_reply watcher batch) refl)
+          (by_reply id (Lost watcher s.floor) refl) (by_refusal id _)) refl (poll_follows s watcher most);
     }
 event_follows start log runners entries (Cancel watcher) laws f =
     let s : Standing = store start log in
@@ -248,6 +250,15 @@ event_follows start log runners entries (Cancel watcher) laws f =
       follows = nothing_touched start log runners entries (Cancel watcher) (reply_to (λ _. Cancelled watcher) o) f refl
           (no_number (λ _. Cancelled watcher) o (λ x. refl)) (λ id. by_call id (λ _. Cancelled watcher) o (λ x. by_reply id (Cancelled watcher) refl))
           refl (cancel_follows s watcher);
+    }
+event_follows start log runners entries (Compact revision) laws f =
+    let s : Standing = store start log in
+    let o = raised s revision in
+    record {
+      standing = refl;
+      follows = nothing_touched start log runners entries (Compact revision) (reply_to (λ _. Compacted revision) o) f refl
+          (no_number (λ _. Compacted revision) o (λ x. refl))
+          (λ id. by_call id (λ _. Compacted revision) o (λ x. by_reply id (Compacted revision) refl)) refl (compact_follows s revision);
     }
 
 -- ---- whole runs ----

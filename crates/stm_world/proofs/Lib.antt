@@ -2,6 +2,7 @@ pub mod Wrong
 pub mod Wants
 pub mod NeverOutOfMemory
 pub mod Polling
+pub mod KeptFor
 pub mod Truth
 pub mod Entered
 pub mod ReadOrder
@@ -16,6 +17,7 @@ pub mod CommitEntries
 pub mod RunnerSteps
 pub mod Calls
 pub mod WatchCalls
+pub mod EventKeeps
 pub mod SoundSteps
 pub mod Sound
 pub mod Appending

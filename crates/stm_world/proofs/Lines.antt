@@ -3,23 +3,24 @@ use Rattle.std.proofs.Common.{◌≡◌, ℕ, ◌+◌, List, [], ◌∷◌, Opti
 use Rattle.std.specs.Prelude.{Result}
 use Rattle.stm_outcome.specs.declared.advance.Expired.{Expired}
 use Rattle.stm_outcome.specs.declared.refusal.Refusal.{Refusal as StoreRefusal}
-use Rattle.stm_txn.specs.Standing.{Step as StoreStep, Advance as StoreAdvance, transacted, granted, kept_alive, revoked, advanced}
-use Rattle.stm_txn.specs.Standing.{watched, polled, cancelled}
+use Rattle.stm_txn.specs.Standing.{Standing, Step as StoreStep, Advance as StoreAdvance, transacted, granted, kept_alive, revoked, advanced}
+use Rattle.stm_txn.specs.Standing.{watched, polled, cancelled, raised}
 use Rattle.stm_watch.specs.declared.watched.Watched.TheVariants.{Key, Range}
 use Rattle.stm_world.specs.declared.event.WorldEvent.{WorldEvent}
 use Rattle.stm_world.specs.declared.event.WorldEvent.TheVariants.{Start, Step, Txn, Grant, Keep, Revoke, Advance}
-use Rattle.stm_world.specs.declared.event.WorldEvent.TheVariants.{WatchKey, WatchRange, Poll, Cancel}
+use Rattle.stm_world.specs.declared.event.WorldEvent.TheVariants.{WatchKey, WatchRange, Poll, Cancel, Compact}
 use Rattle.stm_world.specs.declared.reply.Reply.{Reply}
-use Rattle.stm_world.specs.declared.reply.Reply.TheVariants.{Started, Txn as TxnDone, Granted, Kept, Revoked, Watching, Cancelled}
+use Rattle.stm_world.specs.declared.reply.Reply.TheVariants.{Started, Txn as TxnDone, Granted, Kept, Revoked, Watching, Cancelled, Compacted, Lost}
 use Rattle.stm_world.specs.declared.refusal.Refusal.TheVariants.{NoRunner}
 use Rattle.stm_world.specs.declared.refusal.Denied.{Denied}
-use Rattle.stm_world.specs.Told.{denied, reply_to, advance_reply, batch_reply}
+use Rattle.stm_world.specs.Told.{denied, reply_to, advance_reply, batch_reply, poll_reply}
 use Rattle.stm_world.specs.Task.{Task}
 use Rattle.stm_world.specs.Log.{Line, running, started, store}
 use Rattle.stm_world.specs.Right.{IsRight, StepIsRight, RunnerIsRight, StartIsRight, situation}
 use Rattle.stm_world.specs.World.{World, replies_to, step}
 use Rattle.stm_world.specs.Doomed.{EachLine, failed_commit, stopped}
 use Rattle.stm_world.proofs.Untouched.{Untouched, by_refusal, by_advance, by_reply}
+use Rattle.stm_world.proofs.WatchCalls.{poll_told}
 use Rattle.stm_world.proofs.Following.{FollowsStep, with_line}
 use Rattle.stm_world.proofs.RunnerSteps.{CommitLaws}
 use Rattle.stm_world.proofs.Logs.{logged}
@@ -55,6 +56,12 @@ nothing_by_advance : (moment : ℕ) (expired : List Expired) (cause : Option Sto
 nothing_by_advance moment expired None = record { no_failure = refl; no_stop = refl; untouched = λ id. by_advance id moment expired None }
 nothing_by_advance moment expired (Some cause) =
     record { no_failure = refl; no_stop = refl; untouched = λ id. by_advance id moment expired (Some cause) }
+
+nothing_by_poll : (s : Standing) (id most : ℕ) → TellsNothing (poll_reply id s.floor (polled s id most))
+nothing_by_poll s id most =
+    poll_told TellsNothing s id most
+    (λ batch. record { no_failure = refl; no_stop = refl; untouched = λ runner. by_reply runner (batch_reply id batch) refl })
+    (record { no_failure = refl; no_stop = refl; untouched = λ runner. by_reply runner (Lost id s.floor) refl }) (nothing_by_refusal _)
 
 -- ---- by the event ----
 
@@ -109,8 +116,11 @@ by_event start log P nothing begins stepped (WatchRange first end from) reply ri
     (nothing (WatchRange first end from) (reply_to Watching (watched (store start log) (Range first end) from))
     (nothing_by_call Watching (watched (store start log) (Range first end) from) (λ x. record { no_failure = refl; no_stop = refl; untouched = λ id. by_reply id (Watching x) refl })))
 by_event start log P nothing begins stepped (Poll watcher most) reply right = subst (P (Poll watcher most)) (sym right)
-    (nothing (Poll watcher most) (reply_to (batch_reply watcher) (polled (store start log) watcher most))
-    (nothing_by_call (batch_reply watcher) (polled (store start log) watcher most) (λ x. record { no_failure = refl; no_stop = refl; untouched = λ id. by_reply id (batch_reply watcher x) refl })))
+    (nothing (Poll watcher most) (poll_reply watcher (store start log).floor (polled (store start log) watcher most))
+    (nothing_by_poll (store start log) watcher most))
 by_event start log P nothing begins stepped (Cancel watcher) reply right = subst (P (Cancel watcher)) (sym right)
     (nothing (Cancel watcher) (reply_to (λ _. Cancelled watcher) (cancelled (store start log) watcher))
     (nothing_by_call (λ _. Cancelled watcher) (cancelled (store start log) watcher) (λ x. record { no_failure = refl; no_stop = refl; untouched = λ id. by_reply id (Cancelled watcher) refl })))
+by_event start log P nothing begins stepped (Compact revision) reply right = subst (P (Compact revision)) (sym right)
+    (nothing (Compact revision) (reply_to (λ _. Compacted revision) (raised (store start log) revision))
+    (nothing_by_call (λ _. Compacted revision) (raised (store start log) revision) (λ x. record { no_failure = refl; no_stop = refl; untouched = λ id. by_reply id (Compacted revision) refl })))

@@ -7,7 +7,9 @@ use Rattle.std.proofs.lemmas.Bool.{ltb-true}
 use Rattle.stm_history.specs.declared.change.Change.{Change}
 use Rattle.stm_history.specs.declared.key_state.ReadAnswer.{ReadAnswer}
 use Rattle.stm_history.specs.declared.revisions.TheConstants.{HIGHEST_REVISION}
-use Rattle.stm_history.specs.History.{History, now, number_of_last, change_of}
+use Rattle.stm_history.specs.Opening.{Opening, opened_state}
+use Rattle.stm_history.specs.History.{History, now, number_of_last, change_of, mod_of}
+use Rattle.stm_history.proofs.HistoryLaws.{mod_is_reached}
 use Rattle.stm_program.specs.declared.level.Level.{Level}
 use Rattle.stm_program.specs.declared.write.Write.{Write}
 use Rattle.stm_outcome.specs.Commits.{revision_read}
@@ -102,7 +104,7 @@ seen_at_index P (x ∷ xs) zero seen all found = let same : x ≡ seen = cc in s
 seen_at_index P (x ∷ xs) (suc index) seen all found = seen_at_index P xs index seen all.1 found
 
 -- a history that changes a key above a revision is above that
-above_by : (opening r : ℕ) (above here later : Bool) (changes : List Change) (older : List (List Change)) →
+above_by : (opening : Opening) (r : ℕ) (above here later : Bool) (changes : List Change) (older : List (List Change)) →
     nat_lt r (number_of_last opening (changes ∷ older)) ≡ above → (later ≡ true → r < number_of_last opening older) →
     ((above && here) || later) ≡ true → r < number_of_last opening (changes ∷ older)
 above_by opening r true here later changes older is goes changed = ltb-true r (number_of_last opening (changes ∷ older)) is
@@ -111,9 +113,12 @@ above_by opening r false here later changes older is goes changed =
     let step : number_of_last opening (changes ∷ older) ≡ number_of_last opening older + 1 = omega arith in
     omega arith
 
-pub above_all : (opening r : ℕ) (key : List ℕ) (revisions : List (List Change)) → changes_above opening r key revisions ≡ true →
+pub above_all : (opening : Opening) (r : ℕ) (key : List ℕ) (revisions : List (List Change)) → changes_above opening r key revisions ≡ true →
     r < number_of_last opening revisions
-above_all opening r key [] changed = absurd (cc)
+above_all opening r key [] changed =
+    let above : r < mod_of (opened_state opening key) = ltb-true r (mod_of (opened_state opening key)) changed in
+    let reached : mod_of (opened_state opening key) ≤ number_of_last opening [] = mod_is_reached opening key [] in
+    omega arith
 above_all opening r key (changes ∷ older) changed =
     above_by opening r (nat_lt r (number_of_last opening (changes ∷ older))) (is_some (change_of key changes)) (changes_above opening r key older)
     changes older refl (above_all opening r key older) changed

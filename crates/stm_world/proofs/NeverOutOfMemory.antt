@@ -1,11 +1,11 @@
 -- Nothing that is defined is refused for want of memory.
-use Rattle.std.proofs.Common.{◌≡◌, ◌≢◌, ℕ, Bool, true, false, cond, List, map, length, Option, Some, None, Result, Ok, Err, sym, ap}
-use Rattle.std.specs.Prelude.{nat_eq, not}
+use Rattle.std.proofs.Common.{◌≡◌, ◌≢◌, inl, inr, ℕ, Bool, true, false, cond, List, map, length, Option, Some, None, Result, Ok, Err, sym, ap}
+use Rattle.std.specs.Prelude.{nat_eq, nat_le, nat_lt, not}
 use Rattle.std.specs.List.{list_any}
 use Rattle.std.specs.FinMap as finmap
 use Rattle.stm_history.specs.declared.change.Change.{Change}
 use Rattle.stm_history.specs.declared.key_state.ReadAnswer.{ReadAnswer}
-use Rattle.stm_history.specs.History.{History}
+use Rattle.stm_history.specs.History.{History, now}
 use Rattle.stm_leases.specs.LeaseLog.{Term}
 use Rattle.stm_leases.specs.Live.{is_id, is_ttl, is_live_in}
 use Rattle.stm_leases.specs.declared.errors.GrantError.TheVariants.{LeaseIdOutOfRange, TtlOutOfRange, LeaseExists}
@@ -14,37 +14,40 @@ use Rattle.stm_program.specs.Writes.{latest_writes}
 use Rattle.stm_meaning.specs.declared.run.Run.{Run}
 use Rattle.stm_watch.specs.declared.watched.Watched.{Watched}
 use Rattle.stm_watch.specs.declared.watched.Watched.TheVariants.{Key, Range}
-use Rattle.stm_watch.specs.declared.watched.Watching.{Watching}
+use Rattle.stm_watch.specs.Watching.{Watching}
 use Rattle.stm_watch.specs.declared.refusal.WatchRefusal.TheVariants.{EmptyKey as EmptyKeyWatched}
+use Rattle.stm_watch.specs.declared.refusal.PollRefusal.TheVariants.{Compacted as LostToPoll}
+use Rattle.stm_watch.specs.declared.watchers.Batch.{Batch}
 use Rattle.stm_watch.specs.Keys.{first_key}
 use Rattle.stm_watch.specs.Calls.{Step as WatchStep, watcher_at, poll_found}
 use Rattle.stm_outcome.specs.declared.answer.FailedCompare.{FailedCompare}
 use Rattle.stm_outcome.specs.declared.advance.Expired.{Expired}
 use Rattle.stm_outcome.specs.declared.refusal.Refusal.{Refusal}
-use Rattle.stm_outcome.specs.declared.refusal.Refusal.TheVariants.{OutOfMemory, LeaseNotFound, RevisionsUsedUp, TooManyOps}
+use Rattle.stm_outcome.specs.declared.refusal.Refusal.TheVariants.{OutOfMemory, FutureRevision, Compacted as CompactedRefusal, LeaseNotFound, RevisionsUsedUp, TooManyOps}
 use Rattle.stm_txn.specs.LeaseKeys.{deletions_of}
 use Rattle.stm_outcome.specs.Outcome.{Done, is_used_up}
 use Rattle.stm_outcome.specs.Commits.{is_on_dead_lease, effective}
-use Rattle.stm_txn.specs.Standing.{Standing, Step as StoreStep, watch_step, poll_step, cancel_step, terms_of}
-use Rattle.stm_txn.specs.Standing.{transacted, granted, kept_alive, revoked, advanced, watched, polled, cancelled}
+use Rattle.stm_txn.specs.Standing.{Standing, Step as StoreStep, watch_step, poll_step, cancel_step, with_floor, floor_step, terms_of}
+use Rattle.stm_txn.specs.Standing.{transacted, granted, kept_alive, revoked, advanced, watched, polled, cancelled, raised}
 use Rattle.stm_outcome.specs.Terms.{Terms}
 use Rattle.stm_compile.specs.Now.{as_change}
 use Rattle.stm_compile.specs.Committed.{sends_too_many, conflict_now, judged, committed}
 use Rattle.stm_world.specs.declared.event.WorldEvent.{WorldEvent}
 use Rattle.stm_world.specs.declared.event.WorldEvent.TheVariants.{Start, Step, Txn, Grant, Keep, Revoke, Advance}
-use Rattle.stm_world.specs.declared.event.WorldEvent.TheVariants.{WatchKey, WatchRange, Poll, Cancel}
+use Rattle.stm_world.specs.declared.event.WorldEvent.TheVariants.{WatchKey, WatchRange, Poll, Cancel, Compact}
 use Rattle.stm_world.specs.declared.reply.Reply.{Reply}
-use Rattle.stm_world.specs.declared.reply.Reply.TheVariants.{Ended, Txn as TxnDone, Granted, Kept, Revoked, Watching as WatchingReply, Cancelled}
+use Rattle.stm_world.specs.declared.reply.Reply.TheVariants.{Ended, Txn as TxnDone, Granted, Kept, Revoked, Watching as WatchingReply, Cancelled, Compacted}
 use Rattle.stm_world.specs.declared.refusal.Denied.{Denied}
 use Rattle.stm_world.specs.declared.refusal.Refusal.{Refusal as WorldRefusal}
 use Rattle.stm_world.specs.declared.refusal.Refusal.TheVariants.{Store, BadLimit, NoRunner}
-use Rattle.stm_world.specs.Told.{reply_to, advance_reply, batch_reply}
+use Rattle.stm_world.specs.Told.{reply_to, advance_reply}
 use Rattle.stm_world.specs.Task.{Task}
 use Rattle.stm_world.specs.Log.{Line, running, store}
-use Rattle.stm_world.specs.Right.{Situation, Commits, RunnerIsRight, IsRight, situation}
+use Rattle.stm_world.specs.Right.{Situation, Commits, IsRefused, RunnerIsRight, IsRight, situation}
 use Rattle.stm_world.specs.NeverOutOfMemory.{NeverOutOfMemory}
 use Rattle.stm_world.proofs.Wants.{NoWant, NeverWants, transacted_never, advanced_never}
 use Rattle.stm_world.proofs.Calls.{granted_by, kept_by, revoked_by}
+use Rattle.stm_world.proofs.WatchCalls.{poll_told}
 
 -- ---- watchers ----
 
@@ -55,9 +58,13 @@ watched_by s false next = tt
 pub watched_never : (s : Standing) (w : Watched) (from : ℕ) → NeverWants (watched s w from)
 watched_never s w from = watched_by s (nat_eq (length (first_key w)) 0) _
 
+polled_for : (s : Standing) (lost : Bool) (next : WatchStep Batch) → NeverWants (poll_step s (cond lost (Err LostToPoll) (Ok next)))
+polled_for s true next = λ e. absurd (cc)
+polled_for s false next = tt
+
 polled_by : (s : Standing) (id most : ℕ) (found : Option Watching) → NeverWants (poll_step s (poll_found s.history id most s.watchers found))
 polled_by s id most None = λ e. absurd (cc)
-polled_by s id most (Some w) = tt
+polled_by s id most (Some w) = polled_for s w.lost _
 
 pub polled_never : (s : Standing) (id most : ℕ) → NeverWants (polled s id most)
 polled_never s id most = polled_by s id most (watcher_at id s.watchers)
@@ -68,6 +75,15 @@ cancelled_by s id (Some w) = tt
 
 pub cancelled_never : (s : Standing) (id : ℕ) → NeverWants (cancelled s id)
 cancelled_never s id = cancelled_by s id (watcher_at id s.watchers)
+
+compacted_for : (s : Standing) (revision : ℕ) (again future : Bool) →
+    NeverWants (floor_step (cond again (Some CompactedRefusal) (cond future (Some FutureRevision) None)) (with_floor s revision))
+compacted_for s revision true future = λ e. absurd (cc)
+compacted_for s revision false true = λ e. absurd (cc)
+compacted_for s revision false false = tt
+
+pub raised_never : (s : Standing) (revision : ℕ) → NeverWants (raised s revision)
+raised_never s revision = compacted_for s revision (nat_le revision s.floor) (nat_lt (now s.history) revision)
 
 -- ---- leases ----
 
@@ -173,19 +189,27 @@ refusal start log (WatchRange first end from) expired right =
     call_for WatchingReply (watched s (Range first end) from) (watched_never s (Range first end) from) (ap cause_of right)
 refusal start log (Poll watcher most) expired right =
     let s : Standing = store start log in
-    call_for (batch_reply watcher) (polled s watcher most) (polled_never s watcher most) (ap cause_of right)
+    poll_told (λ (r : Result Reply Denied). Store OutOfMemory ≡ cause_of r → ⊥) s watcher most (λ batch is. absurd (cc)) (λ is. absurd (cc))
+    (λ is. absurd (cc)) (ap cause_of right)
 refusal start log (Cancel watcher) expired right =
     let s : Standing = store start log in
     call_for (λ _. Cancelled watcher) (cancelled s watcher) (cancelled_never s watcher) (ap cause_of right)
+refusal start log (Compact revision) expired right =
+    let s : Standing = store start log in
+    call_for (λ _. Compacted revision) (raised s revision) (raised_never s revision) (ap cause_of right)
 
 commits_for : (at : Situation) → Commits at (Err OutOfMemory) → ⊥
 commits_for at c =
     not_want (committed (terms_of at.store) at.task.level at.reads c.run)
     (committed_never (terms_of at.store) at.task.level at.reads c.run) c.comes_to
 
+refused_for : (at : Situation) → IsRefused at OutOfMemory → ⊥
+refused_for at (inl c) = commits_for at c
+refused_for at (inr (same, behind)) = absurd (cc)
+
 end_for : (start : ℕ) (log : List Line) (id runner : ℕ) (o : Option Task) → RunnerIsRight start log id o (Ok (Ended runner OutOfMemory)) → ⊥
 end_for start log id runner None right = absurd (cc)
-end_for start log id runner (Some task) right = commits_for (situation start log id task) right.1
+end_for start log id runner (Some task) right = refused_for (situation start log id task) right.1
 
 pub never_out_of_memory : NeverOutOfMemory
 never_out_of_memory = record {
@@ -197,6 +221,7 @@ never_out_of_memory = record {
   watch = λ s keys from. not_want (watched s keys from) (watched_never s keys from);
   poll = λ s id most. not_want (polled s id most) (polled_never s id most);
   cancel = λ s id. not_want (cancelled s id) (cancelled_never s id);
+  compact = λ s revision. not_want (raised s revision) (raised_never s revision);
   commit = λ terms level reads run. not_want (committed terms level reads run) (committed_never terms level reads run);
   refusal = refusal;
   end = λ start log id runner right. end_for start log id runner (running id log) right;

@@ -1,5 +1,5 @@
 -- There is one right reply to an event after a log.
-use Rattle.std.proofs.Common.{◌≡◌, ℕ, ◌+◌, ◌≤◌, List, [], ◌∷◌, map, reverse, Option, Some, None, Ok, Err, Bool, true, false, refl, sym, ◌∙◌, ap, subst, arith}
+use Rattle.std.proofs.Common.{◌≡◌, inl, inr, ℕ, ◌+◌, ◌≤◌, List, [], ◌∷◌, map, reverse, Option, Some, None, Ok, Err, Bool, true, false, refl, sym, ◌∙◌, ap, subst, arith}
 use Rattle.std.proofs.lemmas.List.{reverse-reverse}
 use Rattle.std.proofs.lemmas.Bool.{lt-ltb, le-ltb}
 use Rattle.std.specs.Prelude.{nat_lt, slice_get, Result}
@@ -12,23 +12,25 @@ use Rattle.stm_meaning.specs.declared.run.Answered.{Answered}
 use Rattle.stm_meaning.specs.declared.run.Answered.TheVariants.{Ended as EndedRun, Wants}
 use Rattle.stm_outcome.specs.declared.answer.FailedCompare.{FailedCompare}
 use Rattle.stm_outcome.specs.declared.refusal.Refusal.{Refusal as StoreRefusal}
+use Rattle.stm_outcome.specs.declared.refusal.Refusal.TheVariants.{Compacted as CompactedRefusal}
 use Rattle.stm_outcome.specs.Outcome.{Done}
 use Rattle.stm_outcome.specs.Commits.{revision_read}
 use Rattle.stm_txn.specs.Standing.{terms_of}
+use Rattle.stm_outcome.specs.Terms.{is_below_floor}
 use Rattle.stm_compile.specs.Committed.{committed}
 use Rattle.stm_compile.specs.Conflicts.{Seen, seen_by}
 use Rattle.stm_attempt.specs.Settled.{run_on}
 use Rattle.stm_attempt.specs.Fetches.{at_of}
 use Rattle.stm_world.specs.declared.event.WorldEvent.{WorldEvent}
 use Rattle.stm_world.specs.declared.event.WorldEvent.TheVariants.{Start, Step, Txn, Grant, Keep, Revoke, Advance}
-use Rattle.stm_world.specs.declared.event.WorldEvent.TheVariants.{WatchKey, WatchRange, Poll, Cancel}
+use Rattle.stm_world.specs.declared.event.WorldEvent.TheVariants.{WatchKey, WatchRange, Poll, Cancel, Compact}
 use Rattle.stm_world.specs.declared.reply.Reply.{Reply}
 use Rattle.stm_world.specs.declared.reply.Reply.TheVariants.{Started, Fetched, Committed, Conflict, GaveUp, Aborted, Faulted, Ended}
-use Rattle.stm_world.specs.declared.reply.Reply.TheVariants.{Txn as TxnDone, Granted, Kept, Revoked, Advanced, Watching, Batch, Cancelled}
+use Rattle.stm_world.specs.declared.reply.Reply.TheVariants.{Txn as TxnDone, Granted, Kept, Revoked, Advanced, Watching, Batch, Cancelled, Compacted, Lost}
 use Rattle.stm_world.specs.declared.refusal.Denied.{Denied}
 use Rattle.stm_world.specs.Task.{Task, answers_told}
 use Rattle.stm_world.specs.Log.{Line, IsLogOf, running, started}
-use Rattle.stm_world.specs.Right.{Situation, Commits, IsConflicted, ReplyIsRight, StepIsRight, RunnerIsRight, StartIsRight, IsRight, AreRight, situation}
+use Rattle.stm_world.specs.Right.{Situation, Commits, IsConflicted, IsRefused, ReplyIsRight, StepIsRight, RunnerIsRight, StartIsRight, IsRight, AreRight, situation}
 use Rattle.stm_world.specs.World.{seen_in, opened, replies_to}
 use Rattle.stm_world.specs.Headline.{Headline}
 use Rattle.stm_world.specs.OneReply.{OneRightReply}
@@ -56,8 +58,13 @@ by_end at run (FaultedEnd fault) = Faulted at.id fault
 abbrev fetched_at : Situation → List ℕ → ℕ → Reply
 fetched_at at key of_rev = Fetched at.id key (mod_of (key_at at.store.history key of_rev)) of_rev (now at.store.history)
 
+-- by whether the base is compacted
+abbrev by_base : Situation → List ℕ → Bool → Reply
+by_base at key true = Ended at.id CompactedRefusal
+by_base at key false = fetched_at at key (revision_read at.store.history (at_of at.task.level at.reads))
+
 abbrev by_run : Situation → Answered → Reply
-by_run at (Wants key trace) = fetched_at at key (revision_read at.store.history (at_of at.task.level at.reads))
+by_run at (Wants key trace) = by_base at key (is_below_floor at.store.floor (at_of at.task.level at.reads))
 by_run at (EndedRun run) = by_end at run run.end
 
 abbrev reply_at : Situation → Reply
@@ -78,12 +85,18 @@ by_conflict at key seen now_modified c more left =
     ∙ ap (λ (o : Option Seen). by_limit at (seen_in o) c.failed.mod_rev (nat_lt (at.failures + 1) at.task.limit)) c.conflict.about
     ∙ ap (by_limit at c.conflict.seen c.failed.mod_rev) left
 
+-- so does the refusal of what the step asks of the store
+by_refusal : (at : Situation) (cause : StoreRefusal) → IsRefused at cause → reply_at at ≡ Ended at.id cause
+by_refusal at cause (inl c) = by_outcome at (Err cause) c
+by_refusal at cause (inr (same, behind)) =
+    ap (by_run at) behind.wants ∙ ap (by_base at behind.key) behind.compacted ∙ ap (λ (e : StoreRefusal). Ended at.id e) (sym same)
+
 one_reply : (at : Situation) (reply : Reply) → ReplyIsRight at reply → reply ≡ reply_at at
 one_reply at (Fetched runner key mod_rev of_rev revision) right =
     let f = right.1 in
     let told : Fetched runner key mod_rev of_rev revision ≡ fetched_at at key of_rev =
     (λ i. Fetched (right.0 i) key (f.modified i) of_rev (f.carries i)) in
-    told ∙ ap (fetched_at at key) f.shows ∙ sym (ap (by_run at) f.wants)
+    told ∙ ap (fetched_at at key) f.shows ∙ sym (ap (by_run at) f.wants ∙ ap (by_base at key) f.readable)
 one_reply at (Committed runner revision attempts output trace answers) right =
     let c = right.3 in
     let told : Committed runner revision attempts output trace answers ≡ by_compare at c.commits.run c.done None =
@@ -104,7 +117,7 @@ one_reply at (Aborted runner text) right =
     ap (λ n. Aborted n text) right.0 ∙ sym (by_stop at right.1.run (AbortedEnd text) right.1.is_run right.1.ended)
 one_reply at (Faulted runner fault) right =
     ap (λ n. Faulted n fault) right.0 ∙ sym (by_stop at right.1.run (FaultedEnd fault) right.1.is_run right.1.ended)
-one_reply at (Ended runner cause) right = ap (λ n. Ended n cause) right.0 ∙ sym (by_outcome at (Err cause) right.1)
+one_reply at (Ended runner cause) right = ap (λ n. Ended n cause) right.0 ∙ sym (by_refusal at cause right.1)
 one_reply at (Started runner) right = absurd right
 one_reply at (TxnDone answer) right = absurd right
 one_reply at (Granted lease) right = absurd right
@@ -114,6 +127,8 @@ one_reply at (Advanced moment expired) right = absurd right
 one_reply at (Watching watcher) right = absurd right
 one_reply at (Batch watcher upto events) right = absurd right
 one_reply at (Cancelled watcher) right = absurd right
+one_reply at (Compacted revision) right = absurd right
+one_reply at (Lost watcher floor) right = absurd right
 
 step_by : (at : Situation) (a : Result Reply Denied) → StepIsRight at a → a ≡ Ok (reply_at at)
 step_by at (Ok reply) right = ap (λ (r : Reply). Ok r) (one_reply at reply right)
@@ -145,6 +160,7 @@ one_right start log (WatchKey key from) a b first second = first ∙ sym second
 one_right start log (WatchRange begins end from) a b first second = first ∙ sym second
 one_right start log (Poll watcher most) a b first second = first ∙ sym second
 one_right start log (Cancel watcher) a b first second = first ∙ sym second
+one_right start log (Compact revision) a b first second = first ∙ sym second
 
 -- ---- whole logs ----
 

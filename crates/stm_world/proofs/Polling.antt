@@ -1,26 +1,28 @@
 -- What is pending for a watcher: what a poll gives of it and what it leaves, and what a new revision adds.
-use Rattle.std.proofs.Common.{◌≡◌, ℕ, ◌+◌, ◌≤◌, ◌<◌, max, zero, suc, Bool, true, false, cond, inl, inr}
-use Rattle.std.proofs.Common.{List, [], ◌∷◌, ◌++◌, length, take, refl, sym, ◌∙◌, ap, subst, arith, append-nil, append_assoc, take_all}
-use Rattle.std.specs.Prelude.{nat_lt, nat_le}
+use Rattle.std.proofs.Common.{◌≡◌, ℕ, ◌+◌, ◌-◌, ◌≤◌, ◌<◌, max, zero, suc, Bool, true, false, cond, inl, inr}
+use Rattle.std.proofs.Common.{List, [], ◌∷◌, ◌++◌, length, take, Option, Some, None, refl, sym, ◌∙◌, ap, subst, arith, append-nil, append_assoc, take_all}
+use Rattle.std.specs.Prelude.{nat_eq, nat_lt, nat_le, ◌&&◌, IfSome}
 use Rattle.std.proofs.Math.Nat.{le-max_right}
-use Rattle.std.proofs.lemmas.Bool.{cases_lt, lt-ltb, le-ltb, leb-true, ltb-true}
+use Rattle.std.proofs.lemmas.Bool.{cases_lt, lt-ltb, le-ltb, leb-true, ltb-true, ltb-false}
 use Rattle.std.proofs.lemmas.Grind.{flat_map-append}
 use Rattle.stm_history.specs.declared.change.Change.{Change}
+use Rattle.stm_history.specs.Opening.{Opening}
 use Rattle.stm_history.specs.History.{History, number_of_last, now, add_revision}
 use Rattle.stm_keys.specs.declared.event.Event.{Event}
 use Rattle.stm_keys.specs.Events.{events_above}
 use Rattle.stm_outcome.specs.Outcome.{with_changes}
 use Rattle.stm_watch.specs.declared.told.Told.{Told}
 use Rattle.stm_watch.specs.declared.watched.Watched.{Watched}
-use Rattle.stm_watch.specs.declared.watched.Watching.{Watching}
-use Rattle.stm_watch.specs.Pending.{matching, told_at, told_above, pending, events_told, last_told, batch_of, after_poll}
+use Rattle.stm_watch.specs.Watching.{Watching}
+use Rattle.stm_watch.specs.Places.{is_lost}
+use Rattle.stm_watch.specs.Pending.{watching_from, matching, told_at, told_above, pending, first_told, first_pending, events_told, last_told, batch_of, after_poll}
 
 -- what is told of a revision with these events, where it is above what was seen
 abbrev part : ℕ → ℕ → List Event → List Told
 part seen n events = cond (nat_lt seen n) (told_at n events) []
 
 -- the events of the last revision that match
-abbrev of_last : ℕ → Watched → List Change → List (List Change) → List Event
+abbrev of_last : Opening → Watched → List Change → List (List Change) → List Event
 of_last opening watched changes older = matching watched (events_above opening changes older)
 
 same_first : (x y : Told) (xs ys : List Told) → x ∷ xs ≡ y ∷ ys → x ≡ y
@@ -67,7 +69,7 @@ within_by seen last n events (x ∷ rest) t ts next goes is =
     let below : t.number ≤ last = within.below in
     record { above = within.above; below = omega arith }
 
-first_within : (opening seen : ℕ) (watched : Watched) (revisions : List (List Change)) (t : Told) (ts : List Told) →
+first_within : (opening : Opening) (seen : ℕ) (watched : Watched) (revisions : List (List Change)) (t : Told) (ts : List Told) →
     told_above opening seen watched revisions ≡ t ∷ ts → IsWithin seen (number_of_last opening revisions) t
 first_within opening seen watched [] t ts is = absurd (cc)
 first_within opening seen watched (changes ∷ older) t ts is =
@@ -75,7 +77,7 @@ first_within opening seen watched (changes ∷ older) t ts is =
     within_by seen (number_of_last opening older) (number_of_last opening (changes ∷ older)) (of_last opening watched changes older)
     (told_above opening seen watched older) t ts next (λ rest. first_within opening seen watched older t rest) is
 
-nothing_above : (opening seen : ℕ) (watched : Watched) (revisions : List (List Change)) → number_of_last opening revisions ≤ seen →
+nothing_above : (opening : Opening) (seen : ℕ) (watched : Watched) (revisions : List (List Change)) → number_of_last opening revisions ≤ seen →
     told_above opening seen watched revisions ≡ []
 nothing_above opening seen watched [] above = refl
 nothing_above opening seen watched (changes ∷ older) above =
@@ -102,7 +104,7 @@ rest_by seen last n events (x ∷ rest) later t ts next goes none is =
     ∙ ap (λ b. later ++ cond b (told_at n events) []) (lt-ltb seen n (omega arith) ∙ sym (lt-ltb t.number n (omega arith)))
 
 -- the others are what is told above the first
-rest_above : (opening seen : ℕ) (watched : Watched) (revisions : List (List Change)) (t : Told) (ts : List Told) →
+rest_above : (opening : Opening) (seen : ℕ) (watched : Watched) (revisions : List (List Change)) (t : Told) (ts : List Told) →
     told_above opening seen watched revisions ≡ t ∷ ts → ts ≡ told_above opening t.number watched revisions
 rest_above opening seen watched [] t ts is = absurd (cc)
 rest_above opening seen watched (changes ∷ older) t ts is =
@@ -115,12 +117,12 @@ rest_above opening seen watched (changes ∷ older) t ts is =
 -- ---- a poll
 
 -- so many revisions, and what is told above the last of them, are all
-record AreSplit (most opening seen : ℕ) (watched : Watched) (revisions : List (List Change)) (all : List Told) : Type 0 where
+record AreSplit (most : ℕ) (opening : Opening) (seen : ℕ) (watched : Watched) (revisions : List (List Change)) (all : List Told) : Type 0 where
   whole : take most all ++ told_above opening (last_told seen (take most all)) watched revisions ≡ all
   since : seen ≤ last_told seen (take most all)
   reached : last_told seen (take most all) ≤ max seen (number_of_last opening revisions)
 
-split_by : (most opening seen : ℕ) (watched : Watched) (revisions : List (List Change)) (all : List Told) →
+split_by : (most : ℕ) (opening : Opening) (seen : ℕ) (watched : Watched) (revisions : List (List Change)) (all : List Told) →
     told_above opening seen watched revisions ≡ all →
     ((next : ℕ) → AreSplit most opening next watched revisions (told_above opening next watched revisions)) →
     AreSplit (suc most) opening seen watched revisions all
@@ -136,7 +138,7 @@ split_by most opening seen watched revisions (t ∷ ts) is goes =
     let reached : last_told t.number (take most ts) ≤ max t.number (number_of_last opening revisions) = split.reached in
     record { whole = ap (λ (l : List Told). t ∷ l) split.whole; since = omega arith; reached = omega arith }
 
-split : (most opening seen : ℕ) (watched : Watched) (revisions : List (List Change)) →
+split : (most : ℕ) (opening : Opening) (seen : ℕ) (watched : Watched) (revisions : List (List Change)) →
     AreSplit most opening seen watched revisions (told_above opening seen watched revisions)
 split zero opening seen watched revisions = record { whole = refl; since = omega arith; reached = omega arith }
 split (suc most) opening seen watched revisions =
@@ -228,3 +230,126 @@ Carries before after = (told : List Event) (begun w : Watching) → HasTold befo
 pub carries_changes : (h : History) (changes : List Change) → Carries h (with_changes h changes)
 carries_changes h [] told begun w t = t
 carries_changes h (c ∷ cs) told begun w t = grown_tells h (c ∷ cs) told begun w t
+
+-- ---- nothing that is pending is below the floor
+
+-- the first of these revisions is not below the floor
+abbrev pub IsFrom : ℕ → List Told → Type 0
+IsFrom floor ts = IfSome (first_told ts) (λ n. floor ≤ n)
+
+-- none of them is
+abbrev AreFrom : ℕ → List Told → Type 0
+AreFrom floor [] = Unit {0}
+AreFrom floor (t ∷ ts) = (floor ≤ t.number) × AreFrom floor ts
+
+first_from : (floor : ℕ) (ts : List Told) → AreFrom floor ts → IsFrom floor ts
+first_from floor [] are = tt
+first_from floor (t ∷ ts) are = are.0
+
+both_from : (floor : ℕ) (ts us : List Told) → AreFrom floor ts → AreFrom floor us → AreFrom floor (ts ++ us)
+both_from floor [] us are others = others
+both_from floor (t ∷ ts) us are others = (are.0, both_from floor ts us are.1 others)
+
+rest_from : (floor : ℕ) (ts us : List Told) → AreFrom floor (ts ++ us) → AreFrom floor us
+rest_from floor [] us are = are
+rest_from floor (t ∷ ts) us are = rest_from floor ts us are.1
+
+more_from : (floor : ℕ) (ts us : List Told) → IsFrom floor ts → AreFrom floor us → IsFrom floor (ts ++ us)
+more_from floor [] us is others = first_from floor us others
+more_from floor (t ∷ ts) us is others = is
+
+part_from : (floor n : ℕ) (events : List Event) (above : Bool) → floor ≤ n → AreFrom floor (cond above (told_at n events) [])
+part_from floor n events false from = tt
+part_from floor n [] true from = tt
+part_from floor n (e ∷ es) true from = (from, tt)
+
+one_from : (floor n : ℕ) (events : List Event) (above : Bool) → IsFrom floor (cond above (told_at n events) []) →
+    AreFrom floor (cond above (told_at n events) [])
+one_from floor n events false is = tt
+one_from floor n [] true is = tt
+one_from floor n (e ∷ es) true is = (is, tt)
+
+all_by : (floor seen last n : ℕ) (events : List Event) (earlier : List Told) → n ≡ last + 1 →
+    ((t : Told) (ts : List Told) → earlier ≡ t ∷ ts → IsWithin seen last t) → (IsFrom floor earlier → AreFrom floor earlier) →
+    IsFrom floor (earlier ++ part seen n events) → AreFrom floor (earlier ++ part seen n events)
+all_by floor seen last n events [] next within goes is = one_from floor n events (nat_lt seen n) is
+all_by floor seen last n events (t ∷ ts) next within goes is =
+    let first : IsWithin seen last t = within t ts refl in
+    let below : t.number ≤ last = first.below in
+    let from : floor ≤ t.number = is in
+    both_from floor (t ∷ ts) (part seen n events) (goes is) (part_from floor n events (nat_lt seen n) (omega arith))
+
+-- they are told in their order, so where the first is not below the floor none is
+all_from : (floor : ℕ) (opening : Opening) (seen : ℕ) (watched : Watched) (revisions : List (List Change)) →
+    IsFrom floor (told_above opening seen watched revisions) → AreFrom floor (told_above opening seen watched revisions)
+all_from floor opening seen watched [] is = tt
+all_from floor opening seen watched (changes ∷ older) is =
+    let next : number_of_last opening (changes ∷ older) ≡ number_of_last opening older + 1 = omega arith in
+    all_by floor seen (number_of_last opening older) (number_of_last opening (changes ∷ older)) (of_last opening watched changes older)
+    (told_above opening seen watched older) next (first_within opening seen watched older) (all_from floor opening seen watched older) is
+
+-- so it stays with a poll
+pub polled_from : (most floor : ℕ) (h : History) (w : Watching) → IsFrom floor (pending h w) → IsFrom floor (pending h (after_poll most h w))
+polled_from most floor h w is =
+    let upto : ℕ = (batch_of most h w).upto in
+    let given : List Told = take most (pending h w) in
+    let left : List Told = told_above h.opening upto w.watched h.revisions in
+    let p : IsPolled most h w upto = polled_by most h w (nat_le (length (pending h w)) most) refl in
+    let all : AreFrom floor (pending h w) = all_from floor h.opening w.seen w.watched h.revisions is in
+    first_from floor left (rest_from floor given left (subst (AreFrom floor) (sym p.whole) all))
+
+-- and with a change
+pub changes_from : (floor : ℕ) (h : History) (changes : List Change) (w : Watching) → floor ≤ now h → IsFrom floor (pending h w) →
+    IsFrom floor (pending (with_changes h changes) w)
+changes_from floor h [] w reached is = is
+changes_from floor h (c ∷ cs) w reached is =
+    let n : ℕ = number_of_last h.opening ((c ∷ cs) ∷ h.revisions) in
+    let next : n ≡ now h + 1 = omega arith in
+    let events : List Event = of_last h.opening w.watched (c ∷ cs) h.revisions in
+    more_from floor (pending h w) (part w.seen n events) is (part_from floor n events (nat_lt w.seen n) (omega arith))
+
+above_from : (floor : ℕ) (opening : Opening) (seen : ℕ) (watched : Watched) (revisions : List (List Change)) (all : List Told) → floor ≤ seen + 1 →
+    told_above opening seen watched revisions ≡ all → IsFrom floor all
+above_from floor opening seen watched revisions [] from is = tt
+above_from floor opening seen watched revisions (t ∷ ts) from is =
+    let first : IsWithin seen (number_of_last opening revisions) t = first_within opening seen watched revisions t ts is in
+    let above : seen < t.number = first.above in
+    let shown : floor ≤ t.number = omega arith in
+    shown
+
+start_from : (floor from top : ℕ) (next : Bool) → nat_eq from 0 ≡ next → floor ≤ top → (nat_lt 0 from && nat_lt from floor) ≡ false →
+    floor ≤ cond next top (from - 1) + 1
+start_from floor from top true is reached kept = let next : floor ≤ top + 1 = omega arith in next
+start_from floor zero top false is reached kept = absurd (cc)
+start_from floor (suc from) top false is reached kept =
+    let some : nat_lt 0 (suc from) ≡ true = lt-ltb 0 (suc from) (omega arith) in
+    let above : nat_lt (suc from) floor ≡ false = ap (λ b. b && nat_lt (suc from) floor) (sym some) ∙ kept in
+    let low : floor ≤ suc from = ltb-false (suc from) floor above in
+    let next : floor ≤ suc from - 1 + 1 = omega arith in
+    next
+
+-- a watcher that is not lost from its start has nothing below the floor pending
+pub begun_from : (floor : ℕ) (h : History) (watched : Watched) (from : ℕ) → floor ≤ now h → (watching_from h floor watched from).lost ≡ false →
+    IsFrom floor (pending h (watching_from h floor watched from))
+begun_from floor h watched from reached kept =
+    above_from floor h.opening (watching_from h floor watched from).seen watched h.revisions (pending h (watching_from h floor watched from))
+    (start_from floor from (now h) (nat_eq from 0) refl reached kept) refl
+
+-- ---- what is below the floor stays so
+
+first_stays : (floor : ℕ) (ts us : List Told) → is_lost floor (first_told ts) ≡ true → is_lost floor (first_told (ts ++ us)) ≡ true
+first_stays floor [] us is = absurd (cc)
+first_stays floor (t ∷ ts) us is = is
+
+-- with a change
+pub lost_stays : (floor : ℕ) (h : History) (changes : List Change) (w : Watching) → is_lost floor (first_pending h w) ≡ true →
+    is_lost floor (first_pending (with_changes h changes) w) ≡ true
+lost_stays floor h [] w is = is
+lost_stays floor h (c ∷ cs) w is =
+    let n : ℕ = number_of_last h.opening ((c ∷ cs) ∷ h.revisions) in
+    first_stays floor (pending h w) (part w.seen n (of_last h.opening w.watched (c ∷ cs) h.revisions)) is
+
+-- and with a higher floor
+pub lost_under : (low high : ℕ) (first : Option ℕ) → low ≤ high → is_lost low first ≡ true → is_lost high first ≡ true
+lost_under low high None up is = absurd (cc)
+lost_under low high (Some n) up is = let below : n < low = ltb-true n low is in lt-ltb n high (omega arith)

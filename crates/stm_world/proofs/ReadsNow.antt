@@ -4,7 +4,7 @@ use Rattle.stm_program.specs.Writes.{latest_writes}
 use Rattle.stm_compile.proofs.AgreeLemmas.{true_reads_are_now}
 use Rattle.stm_world.specs.declared.event.WorldEvent.{WorldEvent}
 use Rattle.stm_world.specs.declared.event.WorldEvent.TheVariants.{Start, Step, Txn, Grant, Keep, Revoke, Advance}
-use Rattle.stm_world.specs.declared.event.WorldEvent.TheVariants.{WatchKey, WatchRange, Poll, Cancel}
+use Rattle.stm_world.specs.declared.event.WorldEvent.TheVariants.{WatchKey, WatchRange, Poll, Cancel, Compact}
 use Rattle.stm_world.specs.World.{World, Runner, runner_at}
 use Rattle.stm_world.specs.Sound.{IsSound}
 use Rattle.stm_world.specs.ReadsNow.{HasReadWhatIsNow, ReadsAreNow}
@@ -25,3 +25,4 @@ reads_are_now (WatchKey key from) w sound = tt
 reads_are_now (WatchRange first end from) w sound = tt
 reads_are_now (Poll watcher most) w sound = tt
 reads_are_now (Cancel watcher) w sound = tt
+reads_are_now (Compact revision) w sound = tt

@@ -1,5 +1,5 @@
 -- The steps of a runner, as the log tells of it.
-use Rattle.std.proofs.Common.{◌≡◌, ℕ, ◌+◌, ◌<◌, ◌≤◌, List, [], ◌∷◌, Option, Some, None, Ok, Err, Bool, true, false, cond, refl, sym}
+use Rattle.std.proofs.Common.{◌≡◌, ℕ, ◌+◌, ◌<◌, ◌≤◌, List, [], ◌∷◌, Option, Some, None, Ok, Err, Bool, true, false, cond, inl, inr, refl, sym}
 use Rattle.std.proofs.Common.{◌∙◌, ap, subst, arith}
 use Rattle.std.proofs.lemmas.List.{append-nil}
 use Rattle.std.proofs.lemmas.Bool.{ltb-true, ltb-false}
@@ -17,7 +17,9 @@ use Rattle.stm_outcome.specs.declared.answer.FailedCompare.{FailedCompare}
 use Rattle.stm_outcome.specs.declared.refusal.Refusal.{Refusal as StoreRefusal}
 use Rattle.stm_outcome.specs.Outcome.{Done}
 use Rattle.stm_outcome.specs.Commits.{revision_read}
-use Rattle.stm_txn.specs.Standing.{Standing, with_history, terms_of}
+use Rattle.stm_txn.specs.Standing.{Standing, HasKept, with_history, terms_of}
+use Rattle.stm_outcome.specs.Terms.{is_below_floor}
+use Rattle.stm_outcome.specs.declared.refusal.Refusal.TheVariants.{Compacted as CompactedRefusal}
 use Rattle.stm_compile.specs.Answers.{AreTrue}
 use Rattle.stm_compile.specs.Committed.{committed}
 use Rattle.stm_compile.specs.Conflicts.{Seen, seen_by, IsConflict}
@@ -40,7 +42,7 @@ use Rattle.stm_world.specs.World.{commit_told, commit, finish, step_on, step_liv
 use Rattle.stm_world.specs.Sound.{KnowsTruth}
 use Rattle.stm_world.specs.Headline.{runner_for, runner_in_log}
 use Rattle.stm_world.proofs.Truth.{Keeps, keeps_same, fetch_true, conflict_true}
-use Rattle.stm_world.proofs.Entered.{EntriesFollow}
+use Rattle.stm_world.proofs.Entered.{EntriesFollow, floor_stays}
 use Rattle.stm_world.proofs.Bases.{IsWellRun, counter_some, fetch_runs, conflict_runs}
 use Rattle.stm_world.proofs.Asked.{answers_are_the_reads}
 use Rattle.stm_world.proofs.Slots.{same_number}
@@ -109,6 +111,8 @@ replied_follows start log runners entries id task slot reply x right named none 
             replays = ap without_moment (sym same);
             legal = tt;
             keeps = subst (λ (s : Standing). Keeps (store start log).history s.history) (sym same) (keeps_same (store start log).history);
+            kept = subst (λ (s : Standing). HasKept (store start log) → HasKept s) (sym same) (λ k. k);
+            floor = subst (λ (s : Standing). (store start log).floor ≤ s.floor) (sym same) (floor_stays (store start log));
           }));
     }
 
@@ -143,10 +147,11 @@ live_is a r P is p = let same : a ≡ r = cc in subst P same p
 
 fetch_follows : (start : ℕ) (log : List Line) (runners : List Slot) (entries : List Entry) (id : ℕ) (task : Task) (key : List ℕ) (trace : List TraceItem) →
     Runs start log runners entries id task → run_on task.program (told start id task log).reads ≡ Wants key trace →
+    is_below_floor (store start log).floor (at_of task.level (told start id task log).reads) ≡ false →
     FollowsStep start log (Step id) (fetch id (runner_for start log id task) key
     (revision_read (store start log).history (at_of task.level (told start id task log).reads)) (world_at start log runners entries))
 unfolding fetch
-fetch_follows start log runners entries id task key trace x wants =
+fetch_follows start log runners entries id task key trace x wants readable =
     let h : History = (store start log).history in
     let reads : List ReadAnswer = (told start id task log).reads in
     let of_rev : ℕ = revision_read h (at_of task.level reads) in
@@ -155,13 +160,25 @@ fetch_follows start log runners entries id task key trace x wants =
     replied_follows start log runners entries id task
     (Live (record { task = task; failures = failures id log; known = known }))
     (Fetched id key (mod_of (key_at h key of_rev)) of_rev (now h)) x
-    (refl, record { trace = trace; wants = wants; shows = refl; modified = refl; carries = refl })
+    (refl, record { trace = trace; wants = wants; readable = readable; shows = refl; modified = refl; carries = refl })
     refl refl refl refl
     (fetched_in_log start log id task key (mod_of (key_at h key of_rev)) of_rev (now h) x.running)
     (λ r is. live_is (record { task = task; failures = failures id log; known = known }) r (λ q. KnowsTruth h q.known) is new)
     (λ r is. live_is (record { task = task; failures = failures id log; known = known }) r (λ q. IsWellRun start q) is
     (fetch_runs start (runner_for start log id task) h key trace (counter start log runners entries id task x) wants
     (well_run start log runners entries id task x)))
+
+-- by whether the base is compacted
+base_follows : (start : ℕ) (log : List Line) (runners : List Slot) (entries : List Entry) (id : ℕ) (task : Task) (key : List ℕ) (trace : List TraceItem)
+    (below : Bool) → Runs start log runners entries id task → run_on task.program (told start id task log).reads ≡ Wants key trace →
+    is_below_floor (store start log).floor (at_of task.level (told start id task log).reads) ≡ below →
+    FollowsStep start log (Step id) (cond below (replied (Ended id CompactedRefusal) id Over (world_at start log runners entries))
+    (fetch id (runner_for start log id task) key
+    (revision_read (store start log).history (at_of task.level (told start id task log).reads)) (world_at start log runners entries)))
+base_follows start log runners entries id task key trace true x wants is =
+    ended_follows start log runners entries id task (Ended id CompactedRefusal) x
+    (refl, inr (refl, record { key = key; trace = trace; wants = wants; compacted = is })) refl refl refl refl refl
+base_follows start log runners entries id task key trace false x wants is = fetch_follows start log runners entries id task key trace x wants is
 
 -- ---- a commit that failed ----
 
@@ -316,8 +333,8 @@ commit_follows : (start : ℕ) (log : List Line) (runners : List Slot) (entries 
 commit_follows start log runners entries id task run (Ok done) laws x is_run is_done is =
     decided_follows start log runners entries id task run done done.answer.failed laws x is_run is_done is refl
 commit_follows start log runners entries id task run (Err cause) laws x is_run is_done is =
-    ended_follows start log runners entries id task (Ended id cause) x (refl, record { run = run; is_run = is_run; is_done = is_done; comes_to = is })
-    refl refl refl refl refl
+    ended_follows start log runners entries id task (Ended id cause) x
+    (refl, inl (record { run = run; is_run = is_run; is_done = is_done; comes_to = is })) refl refl refl refl refl
 
 done_follows : (start : ℕ) (log : List Line) (runners : List Slot) (entries : List Entry) (id : ℕ) (task : Task) (run : Run) →
     CommitLaws → Runs start log runners entries id task →
@@ -345,7 +362,9 @@ answered_follows : (start : ℕ) (log : List Line) (runners : List Slot) (entrie
     CommitLaws → Runs start log runners entries id task → run_on task.program (told start id task log).reads ≡ answered →
     FollowsStep start log (Step id) (step_on id (runner_for start log id task) (told start id task log).reads answered
     (world_at start log runners entries))
-answered_follows start log runners entries id task (Wants key trace) laws x is = fetch_follows start log runners entries id task key trace x is
+answered_follows start log runners entries id task (Wants key trace) laws x is =
+    base_follows start log runners entries id task key trace
+    (is_below_floor (store start log).floor (at_of task.level (told start id task log).reads)) x is refl
 answered_follows start log runners entries id task (EndedRun run) laws x is = end_follows start log runners entries id task run run.end laws x is refl
 
 -- a step of a runner that runs

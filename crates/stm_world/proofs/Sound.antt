@@ -1,5 +1,5 @@
 -- Worlds are sound.
-use Rattle.std.proofs.Common.{◌≡◌, ◌≤◌, ℕ, List, [], ◌∷◌, Option, Some, None, refl, subst}
+use Rattle.std.proofs.Common.{◌≡◌, ◌≤◌, ℕ, List, [], ◌∷◌, Option, Some, None, refl, subst, arith}
 use Rattle.stm_history.specs.History.{now}
 use Rattle.stm_outcome.specs.declared.advance.Expired.{Expired}
 use Rattle.stm_outcome.specs.declared.refusal.Refusal.{Refusal as StoreRefusal}
@@ -21,6 +21,7 @@ opened_is_sound start = record {
   replays = refl;
   legal = tt;
   truth = λ id r found. let none : runner_at id [] ≡ None = no_runner id in absurd (cc);
+  kept = record { reached = omega arith; watchers = tt };
 }
 
 -- a step keeps it so

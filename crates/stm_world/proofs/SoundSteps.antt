@@ -3,6 +3,7 @@ use Rattle.std.proofs.Common.{◌≡◌, ℕ, ◌+◌, ◌<◌, ◌≤◌, List,
 use Rattle.std.proofs.lemmas.List.{append-nil}
 use Rattle.std.specs.Prelude.{nat_eq, nat_lt, slice_get, Result, Ok, Err}
 use Rattle.stm_history.specs.declared.key_state.ReadAnswer.{ReadAnswer}
+use Rattle.stm_history.specs.Opening.{Opening}
 use Rattle.stm_history.specs.History.{History, now, key_at, mod_of}
 use Rattle.stm_program.specs.Writes.{latest_writes}
 use Rattle.stm_meaning.specs.declared.run.End.{End}
@@ -15,7 +16,9 @@ use Rattle.stm_outcome.specs.declared.refusal.Refusal.{Refusal as StoreRefusal}
 use Rattle.stm_outcome.specs.Outcome.{Done}
 use Rattle.stm_outcome.specs.Commits.{revision_read}
 use Rattle.stm_txn.specs.Standing.{Standing, with_history, transacted, granted, kept_alive, revoked, advanced, Advance as StoreAdvance}
-use Rattle.stm_txn.specs.Standing.{watched, polled, cancelled}
+use Rattle.stm_txn.specs.Standing.{watched, polled, cancelled, raised}
+use Rattle.stm_outcome.specs.Terms.{is_below_floor}
+use Rattle.stm_outcome.specs.declared.refusal.Refusal.TheVariants.{Compacted as CompactedRefusal}
 use Rattle.stm_txn.specs.Standing.{terms_of}
 use Rattle.stm_watch.specs.declared.watched.Watched.TheVariants.{Key, Range}
 use Rattle.stm_compile.specs.Committed.{committed}
@@ -32,11 +35,11 @@ use Rattle.stm_entries.proofs.Replaying.{replay_goes_on, all_legal}
 use Rattle.stm_entries.proofs.Adding.{replay_only_adds}
 use Rattle.stm_world.specs.declared.event.WorldEvent.{WorldEvent}
 use Rattle.stm_world.specs.declared.event.WorldEvent.TheVariants.{Start, Step, Txn, Grant, Keep, Revoke, Advance}
-use Rattle.stm_world.specs.declared.event.WorldEvent.TheVariants.{WatchKey, WatchRange, Poll, Cancel}
+use Rattle.stm_world.specs.declared.event.WorldEvent.TheVariants.{WatchKey, WatchRange, Poll, Cancel, Compact}
 use Rattle.stm_world.specs.declared.reply.Reply.{Reply}
 use Rattle.stm_world.specs.declared.reply.Reply.TheVariants.{Started, Fetched, Conflict, GaveUp, Aborted, Faulted, Ended}
 use Rattle.stm_world.specs.declared.refusal.Refusal.TheVariants.{BadLimit}
-use Rattle.stm_world.specs.Told.{store_after_call}
+use Rattle.stm_world.specs.Told.{store_after_call, store_after_poll}
 use Rattle.stm_world.specs.Task.{Task, answer_at, after_fetch, after_conflict}
 use Rattle.stm_world.specs.World.{World, Runner, Slot, Over, Live, live_in, runner_at, with_slot, refused, replied, begin, start_runner, fetch, entry_of}
 use Rattle.stm_world.specs.World.{take_commit, seen_in, decided, commit_told, commit, finish, step_on, step_live, step_runner, if_taken, if_changed}
@@ -45,34 +48,37 @@ use Rattle.stm_world.specs.Sound.{KnowsTruth, IsSound}
 use Rattle.stm_world.proofs.Truth.{known_stays, fetch_true, conflict_true}
 use Rattle.stm_world.proofs.Entered.{EntriesFollow, nothing_follows}
 use Rattle.stm_world.proofs.Calls.{txn_follows, grant_follows, keep_follows, revoke_follows, advance_follows}
-use Rattle.stm_world.proofs.WatchCalls.{watch_follows, poll_follows, cancel_follows}
+use Rattle.stm_world.proofs.WatchCalls.{watch_follows, poll_follows, cancel_follows, compact_follows}
 use Rattle.stm_world.proofs.CommitEntries.{Takes, taken, commit_follows_entry}
 use Rattle.stm_world.proofs.Slots.{equal_numbers, differ, runner_there, runner_own, runner_other, runner_new, runner_old}
 
 abbrev pub world_with : Standing → List Slot → List Entry → World
 world_with s runners entries = record { standing = s; runners = runners; entries = entries }
 
--- what entries lead to has the opening that they began with
-opening_stays : (start : ℕ) (entries : List Entry) (s : Standing) → replay entries (opening start) ≡ without_moment s → start ≡ s.history.opening
+-- what entries lead to opens at the number that they began with
+opening_stays : (start : ℕ) (entries : List Entry) (s : Standing) → replay entries (opening start) ≡ without_moment s →
+    start ≡ s.history.opening.number
 opening_stays start entries s replays =
-    sym (replay_only_adds entries (opening start)).opening ∙ ap (λ (r : Replayed). r.history.opening) replays
+    ap (λ (o : Opening). o.number)
+    (sym (replay_only_adds entries (opening start)).opening ∙ ap (λ (r : Replayed). r.history.opening) replays)
 
 -- ---- more entries ----
 
 pub sound_with : (w : World) (runners : List Slot) (after : Standing) (more : List Entry) → IsSound w → EntriesFollow w.standing after more →
     ((id : ℕ) (r : Runner) → runner_at id runners ≡ Some r → KnowsTruth after.history r.known) → IsSound (world_with after runners (w.entries ++ more))
 sound_with w runners after more sound e truth =
-    let start : ℕ = w.standing.history.opening in
+    let start : ℕ = w.standing.history.opening.number in
     let entries : List Entry = w.entries ++ more in
     let replays : replay entries (opening start) ≡ without_moment after =
     replay_goes_on w.entries more (opening start) ∙ ap (replay more) sound.replays ∙ e.replays in
     let legal : AreLegal entries (opening start) =
     all_legal w.entries more (opening start) sound.legal (subst (AreLegal more) (sym sound.replays) e.legal) in
-    let same : start ≡ after.history.opening = opening_stays start entries after replays in
+    let same : start ≡ after.history.opening.number = opening_stays start entries after replays in
     record {
       replays = subst (λ n. replay entries (opening n) ≡ without_moment after) same replays;
       legal = subst (λ n. AreLegal entries (opening n)) same legal;
       truth = truth;
+      kept = e.kept sound.kept;
     }
 
 -- an event that is about no runner
@@ -82,8 +88,8 @@ call_sound w after more sound e =
     sound_with w w.runners after more sound e (λ id r found. known_stays w.standing.history after.history r.known e.keeps (sound.truth id r found))
 
 -- an event that is no entry
-watch_sound : (w : World) (after : Standing) → IsSound w → EntriesFollow w.standing after [] → IsSound (world_with after w.runners w.entries)
-watch_sound w after sound e = subst (λ (es : List Entry). IsSound (world_with after w.runners es)) (append-nil w.entries) (call_sound w after [] sound e)
+quiet_sound : (w : World) (after : Standing) → IsSound w → EntriesFollow w.standing after [] → IsSound (world_with after w.runners w.entries)
+quiet_sound w after sound e = subst (λ (es : List Entry). IsSound (world_with after w.runners es)) (append-nil w.entries) (call_sound w after [] sound e)
 
 -- a step that leads a runner to another place
 slot_sound : (w : World) (id : ℕ) (r : Runner) (slot : Slot) (after : Standing) (more : List Entry) → IsSound w → runner_at id w.runners ≡ Some r →
@@ -129,6 +135,7 @@ begun_sound w task sound =
     record {
       replays = sound.replays;
       legal = sound.legal;
+      kept = sound.kept;
       truth = λ other x at. elim (nat_eq id other) as (λ b. nat_eq id other ≡ b → KnowsTruth w.standing.history x.known) [
         | true ↦ λ is. new_truth w.standing.history task x
             (sym (runner_new w.runners slot) ∙ subst (λ n. runner_at n (w.runners ++ slot ∷ []) ≡ Some x) (sym (equal_numbers id other is)) at)
@@ -158,6 +165,12 @@ fetch_sound w id r key sound found =
     let of_rev : ℕ = revision_read h (at_of r.task.level r.known.reads) in
     known_sound w id r (record r { known = after_fetch r.task (answer_at h key of_rev) r.known })
     (Fetched id key (mod_of (key_at h key of_rev)) of_rev (now h)) sound found (fetch_true h r.task key r.known (sound.truth id r found))
+
+base_sound : (w : World) (id : ℕ) (r : Runner) (key : List ℕ) (below : Bool) → IsSound w → runner_at id w.runners ≡ Some r →
+    IsSound (cond below (replied (Ended id CompactedRefusal) id Over w)
+    (fetch id r key (revision_read w.standing.history (at_of r.task.level r.known.reads)) w)).next
+base_sound w id r key true sound found = ended_sound w id r (Ended id CompactedRefusal) sound found
+base_sound w id r key false sound found = fetch_sound w id r key sound found
 
 fail_by : (w : World) (id : ℕ) (r : Runner) (seen : Seen) (modified : ℕ) (more : Bool) → IsSound w → runner_at id w.runners ≡ Some r →
     IsSound (cond more
@@ -213,7 +226,8 @@ finish_sound w id r run (FaultedEnd fault) law sound found is_run ended = ended_
 
 answered_sound : (w : World) (id : ℕ) (r : Runner) (answered : Answered) → CommitIsTheRunNow → IsSound w → runner_at id w.runners ≡ Some r →
     run_on r.task.program r.known.reads ≡ answered → IsSound (step_on id r r.known.reads answered w).next
-answered_sound w id r (Wants key trace) law sound found is = fetch_sound w id r key sound found
+answered_sound w id r (Wants key trace) law sound found is =
+    base_sound w id r key (is_below_floor w.standing.floor (at_of r.task.level r.known.reads)) sound found
 answered_sound w id r (EndedRun run) law sound found is = finish_sound w id r run run.end law sound found is refl
 
 live_sound : (w : World) (id : ℕ) (r : Runner) → CommitIsTheRunNow → IsSound w → runner_at id w.runners ≡ Some r → IsSound (step_live id r w).next
@@ -249,10 +263,12 @@ event_sound (Advance moment) w law sound =
     let done : StoreAdvance = advanced w.standing moment in
     call_sound w done.leaves (expiries done.expired) sound (advance_follows w.standing moment)
 event_sound (WatchKey key from) w law sound =
-    watch_sound w (store_after_call w.standing (watched w.standing (Key key) from)) sound (watch_follows w.standing (Key key) from)
+    quiet_sound w (store_after_call w.standing (watched w.standing (Key key) from)) sound (watch_follows w.standing (Key key) from)
 event_sound (WatchRange first end from) w law sound =
-    watch_sound w (store_after_call w.standing (watched w.standing (Range first end) from)) sound (watch_follows w.standing (Range first end) from)
+    quiet_sound w (store_after_call w.standing (watched w.standing (Range first end) from)) sound (watch_follows w.standing (Range first end) from)
 event_sound (Poll watcher most) w law sound =
-    watch_sound w (store_after_call w.standing (polled w.standing watcher most)) sound (poll_follows w.standing watcher most)
+    quiet_sound w (store_after_poll watcher w.standing (polled w.standing watcher most)) sound (poll_follows w.standing watcher most)
 event_sound (Cancel watcher) w law sound =
-    watch_sound w (store_after_call w.standing (cancelled w.standing watcher)) sound (cancel_follows w.standing watcher)
+    quiet_sound w (store_after_call w.standing (cancelled w.standing watcher)) sound (cancel_follows w.standing watcher)
+event_sound (Compact revision) w law sound =
+    quiet_sound w (store_after_call w.standing (raised w.standing revision)) sound (compact_follows w.standing revision)

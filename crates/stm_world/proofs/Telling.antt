@@ -1,99 +1,53 @@
 -- Each watcher is told all: line by line, what was told and what is pending make up the whole.
-use Rattle.std.proofs.Common.{◌≡◌, ◌≢◌, ℕ, ◌+◌, ◌-◌, ◌<◌, ◌≤◌, zero, suc, List, [], ◌∷◌, ◌++◌, length, map, Option, Some, None, Ok, Err}
+use Rattle.std.proofs.Common.{◌≡◌, ◌≢◌, ◌⊎◌, inl, inr, ℕ, ◌+◌, ◌-◌, ◌<◌, ◌≤◌, zero, suc, List, [], ◌∷◌, ◌++◌, length, Option, Some, None, Ok, Err}
 use Rattle.std.proofs.Common.{Bool, true, false, cond, refl, sym, ◌∙◌, ap, subst, arith, append-nil, slice_index_or, slice_set}
-use Rattle.std.proofs.lemmas.List.{length-set, length-append, get_or-set_same, get_or-set_other}
-use Rattle.std.specs.Prelude.{nat_eq, nat_lt, Result, ◌||◌}
+use Rattle.std.proofs.lemmas.List.{length-set, length-append, length-map, get_or-set_same, get_or-set_other}
+use Rattle.std.specs.Prelude.{nat_eq, nat_lt, nat_le, option_map, Result, ◌||◌}
 use Rattle.std.specs.FinMap as finmap
 use Rattle.stm_history.specs.declared.key_state.ReadAnswer.{ReadAnswer}
-use Rattle.stm_history.specs.History.{History}
+use Rattle.stm_history.specs.History.{History, now}
 use Rattle.stm_leases.specs.LeaseLog.{Term}
 use Rattle.stm_leases.specs.Live.{is_live_in, grant_refusal}
 use Rattle.stm_leases.specs.declared.errors.GrantError.{GrantError}
 use Rattle.stm_leases.specs.DueFirst.{first_due}
-use Rattle.stm_program.specs.Writes.{latest_writes}
-use Rattle.stm_meaning.specs.declared.run.End.{End}
-use Rattle.stm_meaning.specs.declared.run.End.TheVariants.{Done as DoneEnd, Aborted as AbortedEnd, Faulted as FaultedEnd}
-use Rattle.stm_meaning.specs.declared.run.Run.{Run}
-use Rattle.stm_meaning.specs.declared.run.Answered.{Answered}
-use Rattle.stm_meaning.specs.declared.run.Answered.TheVariants.{Ended as EndedRun, Wants}
-use Rattle.stm_meaning.specs.Meaning.{run_over}
 use Rattle.stm_keys.specs.declared.event.Event.{Event}
 use Rattle.stm_watch.specs.declared.watched.Watched.{Watched}
 use Rattle.stm_watch.specs.declared.watched.Watched.TheVariants.{Key, Range}
-use Rattle.stm_watch.specs.declared.watched.Watching.{Watching}
+use Rattle.stm_watch.specs.Watching.{Watching}
 use Rattle.stm_watch.specs.Keys.{first_key}
-use Rattle.stm_watch.specs.Pending.{watching_from, batch_of, after_poll}
+use Rattle.stm_watch.specs.Places.{is_lost}
+use Rattle.stm_watch.specs.Pending.{watching_from, first_pending, batch_of, after_poll}
 use Rattle.stm_watch.specs.declared.watchers.Batch.{Batch}
 use Rattle.stm_watch.specs.declared.refusal.WatchRefusal.{WatchRefusal}
 use Rattle.stm_watch.specs.declared.refusal.WatchRefusal.TheVariants.{EmptyKey}
-use Rattle.stm_watch.specs.Calls.{watcher_at, poll_found, Step as WatchStep}
+use Rattle.stm_watch.specs.Calls.{watcher_at, is_one_lost, cancelled as without_watcher, compacted_one, compacted, poll_found, Step as WatchStep}
+use Rattle.stm_watch.specs.declared.refusal.PollRefusal.TheVariants.{Compacted as LostToPoll}
 use Rattle.stm_outcome.specs.declared.refusal.Refusal.{Refusal as StoreRefusal}
+use Rattle.stm_outcome.specs.declared.refusal.Refusal.TheVariants.{Compacted as CompactedRefusal, FutureRevision}
 use Rattle.stm_outcome.specs.Outcome.{Done, outcome, is_used_up}
 use Rattle.stm_txn.specs.LeaseKeys.{deletions_of}
 use Rattle.stm_txn.specs.Standing.{Standing, Step as StoreStep, step_of, ended, expire_up_to, at_moment, with_watchers, terms_of}
-use Rattle.stm_txn.specs.Standing.{watch_step, poll_step, cancel_step}
+use Rattle.stm_txn.specs.Standing.{watch_step, poll_step, cancel_step, with_floor, floor_step, IsKeptFor}
 use Rattle.stm_txn.proofs.Ending.{ended_is}
-use Rattle.stm_compile.specs.Now.{as_change}
-use Rattle.stm_entries.specs.Replayed.{Replayed, without_moment, replay_terms}
-use Rattle.stm_entries.specs.Alone.{seen_at, applied_run, history_left, left_by, left_by_run}
 use Rattle.stm_world.specs.declared.event.WorldEvent.{WorldEvent}
 use Rattle.stm_world.specs.declared.event.WorldEvent.TheVariants.{Start, Step, Txn, Grant, Keep, Revoke, Advance}
-use Rattle.stm_world.specs.declared.event.WorldEvent.TheVariants.{WatchKey, WatchRange, Poll, Cancel}
+use Rattle.stm_world.specs.declared.event.WorldEvent.TheVariants.{WatchKey, WatchRange, Poll, Cancel, Compact}
 use Rattle.stm_world.specs.declared.reply.Reply.{Reply}
 use Rattle.stm_world.specs.declared.reply.Reply.TheVariants.{Committed, Watching as WatchingReply, Cancelled}
 use Rattle.stm_world.specs.declared.refusal.Denied.{Denied}
-use Rattle.stm_world.specs.Told.{reply_to, batch_reply, store_after_call}
+use Rattle.stm_world.specs.Told.{reply_to, batch_reply, poll_reply, store_after_call, store_after_poll}
 use Rattle.stm_world.specs.Task.{Task}
-use Rattle.stm_world.specs.Log.{Line, is_id, begun, with_commit, store_after_step, store_after, store}
+use Rattle.stm_world.specs.Log.{Line, is_id, begun, with_commit, store_after_step, store}
 use Rattle.stm_world.specs.Right.{IsRight, AreRight}
 use Rattle.stm_world.specs.Headline.{Headline}
 use Rattle.stm_world.specs.Telling.{made, made_by, or_earlier, begun_watching, events_in, told_by, events_to, watcher_given_up, gives_up, is_given_up, watching}
-use Rattle.stm_world.specs.Telling.{IsToldSo, WatchersAreTold}
-use Rattle.stm_world.proofs.Polling.{HasTold, begun_tells, polled_tells}
-use Rattle.stm_world.proofs.Truth.{Keeps, keeps_same}
-use Rattle.stm_world.proofs.CommitEntries.{grown_by}
+use Rattle.stm_world.specs.Telling.{IsLostFor, IsToldSo, WatchersAreTold}
+use Rattle.stm_world.proofs.Polling.{HasTold, begun_tells, polled_tells, lost_under}
+use Rattle.stm_world.proofs.Truth.{Keeps}
+use Rattle.stm_world.proofs.EventKeeps.{event_keeps, event_floor, store_kept}
+use Rattle.stm_world.proofs.KeptFor.{kept_at}
 use Rattle.stm_world.proofs.Slots.{equal_numbers, same_number, other_number, differ}
-use Rattle.stm_world.proofs.Calls.{txn_follows, grant_follows, keep_follows, revoke_follows, advance_follows}
 use Rattle.stm_world.proofs.Calls.{granted_by, kept_by, revoked_by, advance_ended, advance_due, advance_back}
-use Rattle.stm_world.proofs.WatchCalls.{watch_follows, poll_follows, cancel_follows}
-
--- ---- what an event makes of the history
-
-left_keeps : (r : Replayed) (run : Run) (o : Result Done StoreRefusal) → applied_run r run ≡ o → Keeps r.history (history_left r.history o)
-left_keeps r run (Ok done) is = grown_by (replay_terms r) (map as_change (latest_writes run.writes)) done is
-left_keeps r run (Err cause) is = keeps_same r.history
-
-end_keeps : (r : Replayed) (run : Run) (end : End) → Keeps r.history (left_by run end r).history
-end_keeps r run DoneEnd = left_keeps r run (applied_run r run) refl
-end_keeps r run (AbortedEnd text) = keeps_same r.history
-end_keeps r run (FaultedEnd fault) = keeps_same r.history
-
-run_keeps : (r : Replayed) (answered : Answered) → Keeps r.history (left_by_run answered r).history
-run_keeps r (EndedRun run) = end_keeps r run run.end
-run_keeps r (Wants key trace) = keeps_same r.history
-
-commit_keeps : (s : Standing) (answers : List ReadAnswer) (o : Option Task) → Keeps s.history (with_commit s answers o).history
-commit_keeps s answers None = keeps_same s.history
-commit_keeps s answers (Some task) = run_keeps (without_moment s) (run_over (seen_at task.level answers s.history) task.program.statements)
-
-step_keeps : (task_of : ℕ → Option Task) (s : Standing) (reply : Result Reply Denied) → Keeps s.history (store_after_step task_of s reply).history
-step_keeps task_of s (Ok (Committed runner revision attempts output trace answers)) = commit_keeps s answers (task_of runner)
-step_keeps task_of s (Ok other) = keeps_same s.history
-step_keeps task_of s (Err refusal) = keeps_same s.history
-
-event_keeps : (task_of : ℕ → Option Task) (event : WorldEvent) (reply : Result Reply Denied) (s : Standing) →
-    Keeps s.history (store_after task_of event reply s).history
-event_keeps task_of (Start program level limit) reply s = keeps_same s.history
-event_keeps task_of (Step runner) reply s = step_keeps task_of s reply
-event_keeps task_of (Txn txn) reply s = (txn_follows s txn).keeps
-event_keeps task_of (Grant id ttl) reply s = (grant_follows s id ttl).keeps
-event_keeps task_of (Keep id) reply s = (keep_follows s id).keeps
-event_keeps task_of (Revoke id) reply s = (revoke_follows s id).keeps
-event_keeps task_of (Advance moment) reply s = (advance_follows s moment).keeps
-event_keeps task_of (WatchKey key from) reply s = (watch_follows s (Key key) from).keeps
-event_keeps task_of (WatchRange first end from) reply s = (watch_follows s (Range first end) from).keeps
-event_keeps task_of (Poll watcher most) reply s = (poll_follows s watcher most).keeps
-event_keeps task_of (Cancel watcher) reply s = (cancel_follows s watcher).keeps
 
 -- ---- the watchers stay at an event that is about no watcher
 
@@ -147,9 +101,9 @@ abbrev with_line : WorldEvent → Result Reply Denied → List Line → List Lin
 with_line event reply log = record { event = event; reply = reply } ∷ log
 
 -- a line that tells a watcher nothing, does not make it, and does not give it up
-record IsQuiet (h : History) (id : ℕ) (event : WorldEvent) (reply : Result Reply Denied) : Type 0 where
+record IsQuiet (s : Standing) (id : ℕ) (event : WorldEvent) (reply : Result Reply Denied) : Type 0 where
   told : told_by id event reply ≡ []
-  made : made_by id h event reply ≡ None
+  made : made_by id s event reply ≡ None
   kept : gives_up id event reply ≡ false
 
 -- a watcher that stands so began by the log, and was told all
@@ -157,6 +111,7 @@ record IsBegun (start : ℕ) (log : List Line) (id : ℕ) (w : Watching) : Type 
   begun : Watching
   is_begun : watching start id log ≡ Some begun
   tells : HasTold (store start log).history (events_to id log) begun w
+  because : IsLostFor (store start log).history (store start log).floor begun w
 
 -- what the log tells of a number, by what stands there
 abbrev IsTold : ℕ → List Line → ℕ → Option Watching → Type 0
@@ -172,25 +127,36 @@ record AreTold (start : ℕ) (log : List Line) : Type 0 where
   fresh : (id : ℕ) → length (store start log).watchers < id → IsNew log id
   each : (id : ℕ) → IsTold start log id (watcher_at id (store start log).watchers)
 
+-- a cause for which a watcher is lost stays one
+cause_stays : (s after : Standing) (begun w : Watching) → Keeps s.history after.history → s.floor ≤ after.floor → IsLostFor s.history s.floor begun w →
+    IsLostFor after.history after.floor begun w
+cause_stays s after begun w keeps up because lost = elim (because lost) [
+  | inl first ↦ inl first
+  | inr below ↦ inr (lost_under s.floor after.floor (first_pending after.history w) up (keeps.lost s.floor w below))
+]
+
 same_watching : (start : ℕ) (log : List Line) (event : WorldEvent) (reply : Result Reply Denied) (id : ℕ) →
-    IsQuiet (store start log).history id event reply → watching start id (with_line event reply log) ≡ watching start id log
+    IsQuiet (store start log) id event reply → watching start id (with_line event reply log) ≡ watching start id log
 same_watching start log event reply id q =
-    ap (λ b. cond (b || is_given_up id log) None (or_earlier (made_by id (store start log).history event reply) (begun_watching start id log))) q.kept
+    ap (λ b. cond (b || is_given_up id log) None (or_earlier (made_by id (store start log) event reply) (begun_watching start id log))) q.kept
     ∙ ap (λ (o : Option Watching). cond (is_given_up id log) None (or_earlier o (begun_watching start id log))) q.made
 
 same_told : (start : ℕ) (log : List Line) (event : WorldEvent) (reply : Result Reply Denied) (id : ℕ) (o : Option Watching) →
-    IsQuiet (store start log).history id event reply → IsTold start log id o → IsTold start (with_line event reply log) id o
+    IsQuiet (store start log) id event reply → IsTold start log id o → IsTold start (with_line event reply log) id o
 same_told start log event reply id None q is = same_watching start log event reply id q ∙ is
 same_told start log event reply id (Some w) q is =
     let s : Standing = store start log in
-    let after : History = (store start (with_line event reply log)).history in
+    let next : Standing = store start (with_line event reply log) in
+    let after : History = next.history in
+    let keeps : Keeps s.history after = event_keeps (λ runner. begun runner log) event reply s in
     let same : events_to id log ≡ events_to id (with_line event reply log) =
     sym (ap (λ (es : List Event). events_to id log ++ es) q.told ∙ append-nil (events_to id log)) in
     record {
       begun = is.begun;
       is_begun = same_watching start log event reply id q ∙ is.is_begun;
       tells = subst (λ (es : List Event). HasTold after es is.begun w) same
-          ((event_keeps (λ runner. begun runner log) event reply s).1 (events_to id log) is.begun w is.tells);
+          (keeps.carries (events_to id log) is.begun w is.tells);
+      because = cause_stays s next is.begun w keeps (event_floor (λ runner. begun runner log) event reply s) is.because;
     }
 
 still_new : (log : List Line) (event : WorldEvent) (reply : Result Reply Denied) (id : ℕ) → told_by id event reply ≡ [] →
@@ -202,7 +168,7 @@ still_new log event reply id told kept new = record {
 
 -- a line that is about no watcher
 quiet : (start : ℕ) (log : List Line) (event : WorldEvent) (reply : Result Reply Denied) → AreTold start log →
-    ((id : ℕ) → IsQuiet (store start log).history id event reply) →
+    ((id : ℕ) → IsQuiet (store start log) id event reply) →
     (store start (with_line event reply log)).watchers ≡ (store start log).watchers → AreTold start (with_line event reply log)
 quiet start log event reply are q stays = record {
   fresh = λ id above. still_new log event reply id (q id).told (q id).kept
@@ -279,7 +245,7 @@ watcher_other id other ws o some ne =
 -- a line that makes a watcher
 watcher_begins : (start : ℕ) (log : List Line) (event : WorldEvent) (reply : Result Reply Denied) (w : Watching) → AreTold start log →
     ((id : ℕ) → told_by id event reply ≡ []) → ((id : ℕ) → gives_up id event reply ≡ false) →
-    ((id : ℕ) → made_by id (store start log).history event reply
+    ((id : ℕ) → made_by id (store start log) event reply
     ≡ cond (nat_eq (length (store start log).watchers + 1) id) (Some w) None) →
     store start (with_line event reply log) ≡ with_watchers (store start log) ((store start log).watchers ++ Some w ∷ []) →
     AreTold start (with_line event reply log)
@@ -306,7 +272,7 @@ watcher_begins start log event reply w are told kept made leaves =
                 let above : length s.watchers < id = omega arith in
                 let new : IsNew log id = are.fresh id above in
                 let none : [] ≡ events_to id after = sym (still_new log event reply id (told id) (kept id) new).nothing in
-                let first : Option Watching = made_by id s.history event reply in
+                let first : Option Watching = made_by id s event reply in
                 let earlier : Option Watching = begun_watching start id log in
                 subst (IsTold start after id) (sym there) (record {
                   begun = w;
@@ -315,6 +281,7 @@ watcher_begins start log event reply w are told kept made leaves =
                       ∙ ap (λ (o : Option Watching). or_earlier o earlier) (made id ∙ ap (λ b. cond b (Some w) None) is);
                   tells = subst (λ (h : History). HasTold h (events_to id after) w w) (sym history)
                       (subst (λ (es : List Event). HasTold s.history es w w) none (begun_tells s.history w));
+                  because = λ lost. inl lost;
                 })
             | false ↦ λ is.
                 let ne : next ≢ id = differ next id is in
@@ -326,11 +293,11 @@ watcher_begins start log event reply w are told kept made leaves =
 
 abbrev watch_of : Standing → Watched → ℕ → Bool → Result (WatchStep ℕ) WatchRefusal
 watch_of s keys from empty =
-    cond empty (Err EmptyKey) (Ok (record { answer = length s.watchers + 1; next = s.watchers ++ Some (watching_from s.history keys from) ∷ [] }))
+    cond empty (Err EmptyKey) (Ok (record { answer = length s.watchers + 1; next = s.watchers ++ Some (watching_from s.history s.floor keys from) ∷ [] }))
 
 watch_by : (start : ℕ) (log : List Line) (event : WorldEvent) (reply : Result Reply Denied) (keys : Watched) (from : ℕ) (empty : Bool) →
     AreTold start log → ((id : ℕ) → told_by id event reply ≡ []) → ((id : ℕ) → gives_up id event reply ≡ false) →
-    ((id : ℕ) → made_by id (store start log).history event reply ≡ made id (watching_from (store start log).history keys from) reply) →
+    ((id : ℕ) → made_by id (store start log) event reply ≡ made id (watching_from (store start log).history (store start log).floor keys from) reply) →
     reply ≡ reply_to WatchingReply (watch_step (store start log) (watch_of (store start log) keys from empty)) →
     store start (with_line event reply log) ≡ store_after_call (store start log) (watch_step (store start log) (watch_of (store start log) keys from empty)) →
     AreTold start (with_line event reply log)
@@ -338,87 +305,50 @@ watch_by start log event reply keys from true are told kept made_so right leaves
     quiet start log event reply are
     (λ id. record {
       told = told id;
-      made = made_so id ∙ ap (λ (r : Result Reply Denied). made id (watching_from (store start log).history keys from) r) right;
+      made = made_so id ∙ ap (λ (r : Result Reply Denied). made id (watching_from (store start log).history (store start log).floor keys from) r) right;
       kept = kept id;
     })
     (ap (λ (x : Standing). x.watchers) leaves)
 watch_by start log event reply keys from false are told kept made_so right leaves =
-    watcher_begins start log event reply (watching_from (store start log).history keys from) are told kept
-    (λ id. made_so id ∙ ap (λ (r : Result Reply Denied). made id (watching_from (store start log).history keys from) r) right) leaves
+    watcher_begins start log event reply (watching_from (store start log).history (store start log).floor keys from) are told kept
+    (λ id. made_so id ∙ ap (λ (r : Result Reply Denied). made id (watching_from (store start log).history (store start log).floor keys from) r) right) leaves
 
--- ---- a poll
+-- ---- a watcher that is given up
 
-abbrev poll_of : Standing → ℕ → ℕ → Option Watching → Result (StoreStep Batch) StoreRefusal
-poll_of s id most o = poll_step s (poll_found s.history id most s.watchers o)
-
-nothing_either_way : (b : Bool) → cond b [] [] ≡ (let es : List Event = [] in es)
-nothing_either_way true = refl
-nothing_either_way false = refl
-
--- the watcher that is polled
-polled_told : (start : ℕ) (log : List Line) (reply : Result Reply Denied) (id most : ℕ) (w : Watching) → IsBegun start log id w →
-    reply ≡ reply_to (batch_reply id) (poll_of (store start log) id most (Some w)) →
-    (store start (with_line (Poll id most) reply log)).history ≡ (store start log).history →
-    IsBegun start (with_line (Poll id most) reply log) id (after_poll most (store start log).history w)
-polled_told start log reply id most w is right history =
-    let h : History = (store start log).history in
-    let next : Watching = after_poll most h w in
-    let told : (batch_of most h w).events ≡ told_by id (Poll id most) reply =
-    sym (ap (λ b. cond b (events_in reply) []) (same_number id) ∙ ap events_in right) in
-    record {
-      begun = is.begun;
-      is_begun = is.is_begun;
-      tells = subst (λ (x : History). HasTold x (events_to id log ++ told_by id (Poll id most) reply) is.begun next) (sym history)
-          (subst (λ (es : List Event). HasTold h (events_to id log ++ es) is.begun next) told
-          (polled_tells most h (events_to id log) is.begun w is.tells));
-    }
-
-poll_by : (start : ℕ) (log : List Line) (reply : Result Reply Denied) (id most : ℕ) (o : Option Watching) → AreTold start log →
-    watcher_at id (store start log).watchers ≡ o → reply ≡ reply_to (batch_reply id) (poll_of (store start log) id most o) →
-    store start (with_line (Poll id most) reply log) ≡ store_after_call (store start log) (poll_of (store start log) id most o) →
-    AreTold start (with_line (Poll id most) reply log)
-poll_by start log reply id most None are found right leaves =
-    quiet start log (Poll id most) reply are
-    (λ other. record {
-      told = ap (λ (es : List Event). cond (nat_eq id other) es []) (ap events_in right) ∙ nothing_either_way (nat_eq id other);
-      made = refl;
-      kept = refl;
-    })
-    (ap (λ (x : Standing). x.watchers) leaves)
-poll_by start log reply id most (Some w) are found right leaves =
+-- a line that gives a watcher up
+watcher_goes : (start : ℕ) (log : List Line) (event : WorldEvent) (reply : Result Reply Denied) (id : ℕ) (w : Watching) → AreTold start log →
+    watcher_at id (store start log).watchers ≡ Some w → ((other : ℕ) → told_by other event reply ≡ []) →
+    ((other : ℕ) → made_by other (store start log) event reply ≡ None) → ((other : ℕ) → gives_up other event reply ≡ nat_eq id other) →
+    (store start (with_line event reply log)).watchers ≡ slice_set (store start log).watchers (id - 1) None → AreTold start (with_line event reply log)
+watcher_goes start log event reply id w are found told made up stands =
     let s : Standing = store start log in
-    let next : Watching = after_poll most s.history w in
-    let set : List (Option Watching) = slice_set s.watchers (id - 1) (Some next) in
-    let after : List Line = with_line (Poll id most) reply log in
+    let set : List (Option Watching) = slice_set s.watchers (id - 1) None in
+    let after : List Line = with_line event reply log in
     let there : (0 < id) × (id ≤ length s.watchers) = watcher_there id s.watchers w found in
     let within : id ≤ length s.watchers = there.1 in
-    let stands : (store start after).watchers ≡ set = ap (λ (x : Standing). x.watchers) leaves in
-    let history : (store start after).history ≡ s.history = ap (λ (x : Standing). x.history) leaves in
     record {
       fresh = λ other above.
           let more : length set < other = subst (λ (ws : List (Option Watching)). length ws < other) stands above in
-          let count : length set ≡ length s.watchers = length-set s.watchers (id - 1) (Some next) in
+          let count : length set ≡ length s.watchers = length-set s.watchers (id - 1) None in
           let old : length s.watchers < other = omega arith in
           let ne : nat_eq id other ≡ false = other_number id other (λ same. omega (arith, same)) in
-          still_new log (Poll id most) reply other (ap (λ b. cond b (events_in reply) []) ne) refl (are.fresh other old);
+          still_new log event reply other (told other) (up other ∙ ne) (are.fresh other old);
       each = λ other.
           subst (λ (ws : List (Option Watching)). IsTold start after other (watcher_at other ws)) (sym stands)
           (elim (nat_eq id other) as (λ b. nat_eq id other ≡ b → IsTold start after other (watcher_at other set)) [
             | true ↦ λ is.
                 let same : id ≡ other = equal_numbers id other is in
-                let old : IsBegun start log id w = subst (IsTold start log id) found (are.each id) in
-                subst (λ n. IsTold start after n (watcher_at n set)) same
-                (subst (IsTold start after id) (sym (watcher_own id s.watchers (Some next) there.0 within))
-                (polled_told start log reply id most w old right history))
+                let gone : watcher_at other set ≡ None =
+                subst (λ n. watcher_at n set ≡ None) same (watcher_own id s.watchers None there.0 within) in
+                subst (IsTold start after other) (sym gone)
+                (ap (λ b. cond (b || is_given_up other log) None (or_earlier (made_by other s event reply) (begun_watching start other log))) (up other ∙ is))
             | false ↦ λ is.
                 let ne : id ≢ other = differ id other is in
-                subst (IsTold start after other) (sym (watcher_other id other s.watchers (Some next) there.0 ne))
-                (same_told start log (Poll id most) reply other (watcher_at other s.watchers)
-                (record { told = ap (λ b. cond b (events_in reply) []) is; made = refl; kept = refl }) (are.each other))
+                subst (IsTold start after other) (sym (watcher_other id other s.watchers None there.0 ne))
+                (same_told start log event reply other (watcher_at other s.watchers)
+                (record { told = told other; made = made other; kept = up other ∙ is }) (are.each other))
           ] refl);
     }
-
--- ---- a cancellation
 
 cancel_by : (start : ℕ) (log : List Line) (reply : Result Reply Denied) (id : ℕ) (o : Option Watching) → AreTold start log →
     watcher_at id (store start log).watchers ≡ o → reply ≡ reply_to (λ _. Cancelled id) (cancel_step (store start log) id o) →
@@ -429,36 +359,178 @@ cancel_by start log reply id None are found right leaves =
     (λ other. record { told = refl; made = refl; kept = ap (λ (r : Result Reply Denied). is_id other (watcher_given_up r)) right })
     (ap (λ (x : Standing). x.watchers) leaves)
 cancel_by start log reply id (Some w) are found right leaves =
+    watcher_goes start log (Cancel id) reply id w are found (λ other. refl) (λ other. refl)
+    (λ other. ap (λ (r : Result Reply Denied). is_id other (watcher_given_up r)) right) (ap (λ (x : Standing). x.watchers) leaves)
+
+-- ---- a poll
+
+-- what a poll of a watcher comes to, by whether it is lost
+abbrev poll_of : Standing → ℕ → ℕ → Watching → Bool → Result (StoreStep Batch) StoreRefusal
+poll_of s id most w lost = poll_step s (cond lost (Err LostToPoll) (Ok (record {
+  answer = batch_of most s.history w;
+  next = slice_set s.watchers (id - 1) (Some (after_poll most s.history w));
+})))
+
+nothing_either_way : (b : Bool) → cond b [] [] ≡ (let es : List Event = [] in es)
+nothing_either_way true = refl
+nothing_either_way false = refl
+
+-- the watcher that is polled
+polled_told : (start : ℕ) (log : List Line) (reply : Result Reply Denied) (id most : ℕ) (w : Watching) → IsBegun start log id w → w.lost ≡ false →
+    reply ≡ Ok (batch_reply id (batch_of most (store start log).history w)) →
+    (store start (with_line (Poll id most) reply log)).history ≡ (store start log).history →
+    IsBegun start (with_line (Poll id most) reply log) id (after_poll most (store start log).history w)
+polled_told start log reply id most w is not_lost right history =
+    let h : History = (store start log).history in
+    let next : Watching = after_poll most h w in
+    let told : (batch_of most h w).events ≡ told_by id (Poll id most) reply =
+    sym (ap (λ b. cond b (events_in reply) []) (same_number id) ∙ ap events_in right) in
+    let kept : gives_up id (Poll id most) reply ≡ false = ap (λ (r : Result Reply Denied). is_id id (watcher_given_up r)) right in
+    record {
+      begun = is.begun;
+      is_begun = ap (λ b. cond (b || is_given_up id log) None (begun_watching start id log)) kept ∙ is.is_begun;
+      tells = subst (λ (x : History). HasTold x (events_to id log ++ told_by id (Poll id most) reply) is.begun next) (sym history)
+          (subst (λ (es : List Event). HasTold h (events_to id log ++ es) is.begun next) told
+          (polled_tells most h (events_to id log) is.begun w is.tells));
+      because = λ lost. let both : true ≡ false = sym lost ∙ not_lost in absurd (cc);
+    }
+
+-- a poll of a watcher that is not there
+none_polled : (start : ℕ) (log : List Line) (reply : Result Reply Denied) (id most : ℕ) → AreTold start log →
+    watcher_at id (store start log).watchers ≡ None → events_in reply ≡ [] → watcher_given_up reply ≡ None →
+    (store start (with_line (Poll id most) reply log)).watchers
+    ≡ cond (is_one_lost (watcher_at id (store start log).watchers)) (without_watcher id (store start log).watchers) (store start log).watchers →
+    AreTold start (with_line (Poll id most) reply log)
+none_polled start log reply id most are found nothing stays leaves =
+    let ws : List (Option Watching) = (store start log).watchers in
+    quiet start log (Poll id most) reply are
+    (λ other. record {
+      told = ap (λ (es : List Event). cond (nat_eq id other) es []) nothing ∙ nothing_either_way (nat_eq id other);
+      made = refl;
+      kept = ap (is_id other) stays;
+    })
+    (leaves ∙ ap (λ (o : Option Watching). cond (is_one_lost o) (without_watcher id ws) ws) found)
+
+poll_by : (start : ℕ) (log : List Line) (reply : Result Reply Denied) (id most : ℕ) (w : Watching) (lost : Bool) → AreTold start log →
+    watcher_at id (store start log).watchers ≡ Some w → w.lost ≡ lost → reply ≡ poll_reply id (store start log).floor (poll_of (store start log) id most w lost) →
+    store start (with_line (Poll id most) reply log) ≡ store_after_poll id (store start log) (poll_of (store start log) id most w lost) →
+    AreTold start (with_line (Poll id most) reply log)
+poll_by start log reply id most w true are found is right leaves =
     let s : Standing = store start log in
-    let set : List (Option Watching) = slice_set s.watchers (id - 1) None in
-    let after : List Line = with_line (Cancel id) reply log in
+    watcher_goes start log (Poll id most) reply id w are found
+    (λ other. ap (λ (r : Result Reply Denied). cond (nat_eq id other) (events_in r) []) right ∙ nothing_either_way (nat_eq id other)) (λ other. refl)
+    (λ other. ap (λ (r : Result Reply Denied). is_id other (watcher_given_up r)) right)
+    (ap (λ (x : Standing). x.watchers) leaves
+    ∙ ap (λ (o : Option Watching). cond (is_one_lost o) (without_watcher id s.watchers) s.watchers) found
+    ∙ ap (λ b. cond b (without_watcher id s.watchers) s.watchers) is)
+poll_by start log reply id most w false are found is right leaves =
+    let s : Standing = store start log in
+    let next : Watching = after_poll most s.history w in
+    let set : List (Option Watching) = slice_set s.watchers (id - 1) (Some next) in
+    let after : List Line = with_line (Poll id most) reply log in
     let there : (0 < id) × (id ≤ length s.watchers) = watcher_there id s.watchers w found in
     let within : id ≤ length s.watchers = there.1 in
     let stands : (store start after).watchers ≡ set = ap (λ (x : Standing). x.watchers) leaves in
-    let up : (other : ℕ) → gives_up other (Cancel id) reply ≡ nat_eq id other =
+    let history : (store start after).history ≡ s.history = ap (λ (x : Standing). x.history) leaves in
+    let kept : (other : ℕ) → gives_up other (Poll id most) reply ≡ false =
     λ other. ap (λ (r : Result Reply Denied). is_id other (watcher_given_up r)) right in
     record {
       fresh = λ other above.
           let more : length set < other = subst (λ (ws : List (Option Watching)). length ws < other) stands above in
-          let count : length set ≡ length s.watchers = length-set s.watchers (id - 1) None in
+          let count : length set ≡ length s.watchers = length-set s.watchers (id - 1) (Some next) in
           let old : length s.watchers < other = omega arith in
           let ne : nat_eq id other ≡ false = other_number id other (λ same. omega (arith, same)) in
-          still_new log (Cancel id) reply other refl (up other ∙ ne) (are.fresh other old);
+          still_new log (Poll id most) reply other (ap (λ b. cond b (events_in reply) []) ne) (kept other) (are.fresh other old);
       each = λ other.
           subst (λ (ws : List (Option Watching)). IsTold start after other (watcher_at other ws)) (sym stands)
           (elim (nat_eq id other) as (λ b. nat_eq id other ≡ b → IsTold start after other (watcher_at other set)) [
-            | true ↦ λ is.
-                let same : id ≡ other = equal_numbers id other is in
-                let gone : watcher_at other set ≡ None =
-                subst (λ n. watcher_at n set ≡ None) same (watcher_own id s.watchers None there.0 within) in
-                subst (IsTold start after other) (sym gone)
-                (ap (λ b. cond (b || is_given_up other log) None (or_earlier None (begun_watching start other log))) (up other ∙ is))
-            | false ↦ λ is.
-                let ne : id ≢ other = differ id other is in
-                subst (IsTold start after other) (sym (watcher_other id other s.watchers None there.0 ne))
-                (same_told start log (Cancel id) reply other (watcher_at other s.watchers)
-                (record { told = refl; made = refl; kept = up other ∙ is }) (are.each other))
+            | true ↦ λ same_id.
+                let same : id ≡ other = equal_numbers id other same_id in
+                let old : IsBegun start log id w = subst (IsTold start log id) found (are.each id) in
+                subst (λ n. IsTold start after n (watcher_at n set)) same
+                (subst (IsTold start after id) (sym (watcher_own id s.watchers (Some next) there.0 within))
+                (polled_told start log reply id most w old is right history))
+            | false ↦ λ other_id.
+                let ne : id ≢ other = differ id other other_id in
+                subst (IsTold start after other) (sym (watcher_other id other s.watchers (Some next) there.0 ne))
+                (same_told start log (Poll id most) reply other (watcher_at other s.watchers)
+                (record { told = ap (λ b. cond b (events_in reply) []) other_id; made = refl; kept = kept other }) (are.each other))
           ] refl);
+    }
+
+-- by what stands at the watcher's place
+polled_by : (start : ℕ) (log : List Line) (reply : Result Reply Denied) (id most : ℕ) (o : Option Watching) → AreTold start log →
+    watcher_at id (store start log).watchers ≡ o →
+    reply ≡ poll_reply id (store start log).floor (poll_step (store start log) (poll_found (store start log).history id most (store start log).watchers o)) →
+    store start (with_line (Poll id most) reply log)
+    ≡ store_after_poll id (store start log) (poll_step (store start log) (poll_found (store start log).history id most (store start log).watchers o)) →
+    AreTold start (with_line (Poll id most) reply log)
+polled_by start log reply id most None are found right leaves =
+    none_polled start log reply id most are found (ap events_in right) (ap watcher_given_up right) (ap (λ (x : Standing). x.watchers) leaves)
+polled_by start log reply id most (Some w) are found right leaves = poll_by start log reply id most w w.lost are found refl right leaves
+
+-- ---- a compaction
+
+lost_by : (P : Type 0) (was by_it : Bool) → (was || by_it) ≡ true → (was ≡ true → P) → (by_it ≡ true → P) → P
+lost_by P true by_it lost earlier here = earlier refl
+lost_by P false by_it lost earlier here = here lost
+
+-- a watcher may be lost by it, but what it was told and what is pending stay
+compacted_told : (start : ℕ) (log : List Line) (id : ℕ) (h : History) (floor : ℕ) (o : Option Watching) → (store start log).history ≡ h →
+    (store start log).floor ≡ floor → IsTold start log id o → IsTold start log id (option_map (compacted_one h floor) o)
+compacted_told start log id h floor None history floor_is is = is
+compacted_told start log id h floor (Some w) history floor_is is =
+    let s : Standing = store start log in
+    record {
+      begun = is.begun;
+      is_begun = is.is_begun;
+      tells = record { same = is.tells.same; since = is.tells.since; reached = is.tells.reached; all = is.tells.all };
+      because = λ lost. lost_by ((is.begun.lost ≡ true) ⊎ (is_lost s.floor (first_pending s.history w) ≡ true)) w.lost (is_lost floor (first_pending h w))
+          lost is.because
+          (λ below. inr (ap (λ n. is_lost n (first_pending s.history w)) floor_is ∙ ap (λ (g : History). is_lost floor (first_pending g w)) history ∙ below));
+    }
+
+place_compacted : (h : History) (floor : ℕ) (ws : List (Option Watching)) (i : ℕ) →
+    slice_index_or (compacted h floor ws) i None ≡ option_map (compacted_one h floor) (slice_index_or ws i None)
+place_compacted h floor [] zero = refl
+place_compacted h floor [] (suc i) = refl
+place_compacted h floor (x ∷ ws) zero = refl
+place_compacted h floor (x ∷ ws) (suc i) = place_compacted h floor ws i
+
+watcher_compacted : (h : History) (floor : ℕ) (ws : List (Option Watching)) (id : ℕ) →
+    watcher_at id (compacted h floor ws) ≡ option_map (compacted_one h floor) (watcher_at id ws)
+watcher_compacted h floor ws id = by (nat_eq id 0)
+  where
+    by : (none : Bool) → cond none None (slice_index_or (compacted h floor ws) (id - 1) None)
+        ≡ option_map (compacted_one h floor) (cond none None (slice_index_or ws (id - 1) None))
+    by true = refl
+    by false = place_compacted h floor ws (id - 1)
+
+compact_by : (start : ℕ) (log : List Line) (reply : Result Reply Denied) (revision : ℕ) (again future : Bool) → AreTold start log →
+    store start (with_line (Compact revision) reply log) ≡ store_after_call (store start log)
+    (floor_step (cond again (Some CompactedRefusal) (cond future (Some FutureRevision) None)) (with_floor (store start log) revision)) →
+    AreTold start (with_line (Compact revision) reply log)
+compact_by start log reply revision true future are leaves =
+    quiet start log (Compact revision) reply are (λ id. record { told = refl; made = refl; kept = refl }) (ap (λ (x : Standing). x.watchers) leaves)
+compact_by start log reply revision false true are leaves =
+    quiet start log (Compact revision) reply are (λ id. record { told = refl; made = refl; kept = refl }) (ap (λ (x : Standing). x.watchers) leaves)
+compact_by start log reply revision false false are leaves =
+    let s : Standing = store start log in
+    let after : List Line = with_line (Compact revision) reply log in
+    let ws : List (Option Watching) = compacted s.history revision s.watchers in
+    let stands : (store start after).watchers ≡ ws = ap (λ (x : Standing). x.watchers) leaves in
+    record {
+      fresh = λ id above.
+          let more : length ws < id = subst (λ (l : List (Option Watching)). length l < id) stands above in
+          let count : length ws ≡ length s.watchers = length-map s.watchers (option_map (compacted_one s.history revision)) in
+          let old : length s.watchers < id = omega arith in
+          still_new log (Compact revision) reply id refl refl (are.fresh id old);
+      each = λ id.
+          subst (λ (l : List (Option Watching)). IsTold start after id (watcher_at id l)) (sym stands)
+          (subst (IsTold start after id) (sym (watcher_compacted s.history revision s.watchers id))
+          (compacted_told start after id s.history revision (watcher_at id s.watchers) (ap (λ (x : Standing). x.history) leaves)
+          (ap (λ (x : Standing). x.floor) leaves) (same_told start log (Compact revision) reply id (watcher_at id s.watchers)
+          (record { told = refl; made = refl; kept = refl }) (are.each id))));
     }
 
 -- ---- every line
@@ -496,9 +568,12 @@ told_more start log (WatchRange first end from) reply right are =
     watch_by start log (WatchRange first end from) reply (Range first end) from (nat_eq (length (first_key (Range first end))) 0) are (λ id. refl)
     (λ id. refl) (λ id. refl) right refl
 told_more start log (Poll watcher most) reply right are =
-    poll_by start log reply watcher most (watcher_at watcher (store start log).watchers) are refl right refl
+    polled_by start log reply watcher most (watcher_at watcher (store start log).watchers) are refl right refl
 told_more start log (Cancel watcher) reply right are =
     cancel_by start log reply watcher (watcher_at watcher (store start log).watchers) are refl right refl
+told_more start log (Compact revision) reply right are =
+    let s : Standing = store start log in
+    compact_by start log reply revision (nat_le revision s.floor) (nat_lt (now s.history) revision) are refl
 
 none_there : (id : ℕ) → watcher_at id [] ≡ (let o : Option Watching = None in o)
 none_there id = elim (nat_eq id 0) as (λ b. cond b None (slice_index_or [] (id - 1) None) ≡ (let o : Option Watching = None in o)) [
@@ -517,7 +592,15 @@ told_so : (start : ℕ) (log : List Line) (id : ℕ) (o : Option Watching) → w
     IsToldSo start log id (watching start id log)
 told_so start log id None found is = subst (IsToldSo start log id) (sym is) found
 told_so start log id (Some w) found is =
-    subst (IsToldSo start log id) (sym is.is_begun) (record { w = w; stands = found; same = is.tells.same; all = is.tells.all })
+    let s : Standing = store start log in
+    subst (IsToldSo start log id) (sym is.is_begun) (record {
+      w = w;
+      stands = found;
+      same = is.tells.same;
+      all = is.tells.all;
+      kept = subst (IsKeptFor s.history s.floor) found (kept_at s.history s.floor s.watchers id (store_kept start log).watchers);
+      because = is.because;
+    })
 
 pub watchers_are_told : Headline → WatchersAreTold
 watchers_are_told headline start events =

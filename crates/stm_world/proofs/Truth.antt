@@ -1,5 +1,5 @@
 -- Answers that are true, and stay so.
-use Rattle.std.proofs.Common.{◌≡◌, ℕ, ◌≤◌, zero, suc, List, [], ◌∷◌, ◌++◌, length, map, filter, Option, Some, None, Bool, true, false, cond, refl}
+use Rattle.std.proofs.Common.{◌≡◌, ℕ, ◌≤◌, zero, suc, List, [], ◌∷◌, ◌++◌, length, map, filter, Option, Some, None, Bool, true, false, cond, refl, ◌∙◌}
 use Rattle.std.proofs.Common.{subst, arith}
 use Rattle.std.specs.Prelude.{nat_eq, bytes_eq}
 use Rattle.stm_history.specs.declared.change.Change.{Change}
@@ -18,24 +18,44 @@ use Rattle.stm_attempt.specs.Settled.{run_on, wanted, answer_for, served, taken,
 use Rattle.stm_attempt.specs.Fetches.{base_of, at_of}
 use Rattle.stm_world.specs.Task.{Task, answer_at, with_served, after_fetch, after_conflict}
 use Rattle.stm_world.specs.Sound.{KnowsTruth}
-use Rattle.stm_world.proofs.Polling.{Carries, carries_changes}
+use Rattle.stm_watch.specs.Watching.{Watching}
+use Rattle.stm_watch.specs.Places.{is_lost}
+use Rattle.stm_watch.specs.Pending.{first_pending}
+use Rattle.stm_world.proofs.Polling.{Carries, carries_changes, lost_stays}
 
--- what was true of one history is true of another, and what watchers were told of it goes on
-abbrev pub Keeps : History → History → Type 0
-Keeps before after = ((answers : List ReadAnswer) → AreTrue before answers → AreTrue after answers) × Carries before after
+-- what was true of one history is true of another, what watchers were told of it goes on, what is below a floor stays so, and it opens as
+-- it did
+pub record Keeps (before after : History) : Type 0 where
+  pub truth : (answers : List ReadAnswer) → AreTrue before answers → AreTrue after answers
+  pub carries : Carries before after
+  pub lost : (floor : ℕ) (w : Watching) → is_lost floor (first_pending before w) ≡ true → is_lost floor (first_pending after w) ≡ true
+  pub opening : after.opening ≡ before.opening
 
 pub keeps_same : (h : History) → Keeps h h
-keeps_same h = (λ answers t. t, λ told begun w t. t)
+keeps_same h = record { truth = λ answers t. t; carries = λ told begun w t. t; lost = λ floor w is. is; opening = refl }
 
 pub keeps_twice : (a b c : History) → Keeps a b → Keeps b c → Keeps a c
-keeps_twice a b c first second =
-    (λ answers t. second.0 answers (first.0 answers t), λ told begun w t. second.1 told begun w (first.1 told begun w t))
+keeps_twice a b c first second = record {
+  truth = λ answers t. second.truth answers (first.truth answers t);
+  carries = λ told begun w t. second.carries told begun w (first.carries told begun w t);
+  lost = λ floor w is. second.lost floor w (first.lost floor w is);
+  opening = second.opening ∙ first.opening;
+}
+
+opens_so : (h : History) (changes : List Change) → (with_changes h changes).opening ≡ h.opening
+opens_so h [] = refl
+opens_so h (c ∷ cs) = refl
 
 pub keeps_changes : (h : History) (changes : List Change) → Keeps h (with_changes h changes)
-keeps_changes h changes = (λ answers t. true_answers_stay h changes answers t, carries_changes h changes)
+keeps_changes h changes = record {
+  truth = λ answers t. true_answers_stay h changes answers t;
+  carries = carries_changes h changes;
+  lost = λ floor w is. lost_stays floor h changes w is;
+  opening = opens_so h changes;
+}
 
 pub known_stays : (h after : History) (known : Known) → Keeps h after → KnowsTruth h known → KnowsTruth after known
-known_stays h after known keeps t = (keeps.0 known.reads t.0, keeps.0 known.prefetched t.1)
+known_stays h after known keeps t = (keeps.truth known.reads t.0, keeps.truth known.prefetched t.1)
 
 pub one_more_true : (h : History) (answers : List ReadAnswer) (a : ReadAnswer) → AreTrue h answers → IsTrueAnswer h a → AreTrue h (answers ++ a ∷ [])
 one_more_true h [] a t new = (new, tt)

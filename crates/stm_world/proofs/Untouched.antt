@@ -8,7 +8,7 @@ use Rattle.stm_txn.specs.Standing.{Step as StoreStep}
 use Rattle.stm_attempt.specs.Known.{Known}
 use Rattle.stm_world.specs.declared.reply.Reply.{Reply}
 use Rattle.stm_world.specs.declared.reply.Reply.TheVariants.{Started, Fetched, Committed, Conflict, GaveUp, Aborted, Faulted, Ended}
-use Rattle.stm_world.specs.declared.reply.Reply.TheVariants.{Txn as TxnDone, Granted, Kept, Revoked, Advanced, Watching, Batch, Cancelled}
+use Rattle.stm_world.specs.declared.reply.Reply.TheVariants.{Txn as TxnDone, Granted, Kept, Revoked, Advanced, Watching, Batch, Cancelled, Compacted, Lost}
 use Rattle.stm_world.specs.declared.refusal.Denied.{Denied}
 use Rattle.stm_world.specs.Told.{reply_to, advance_reply}
 use Rattle.stm_world.specs.Task.{Task, nothing_known, answer_at, after_fetch, after_conflict}
@@ -124,3 +124,5 @@ by_reply id (Advanced moment expired) other = record { not_started = refl; not_e
 by_reply id (Watching watcher) other = record { not_started = refl; not_ended = refl; no_conflict = refl; known = λ task h k. refl }
 by_reply id (Batch watcher upto events) other = record { not_started = refl; not_ended = refl; no_conflict = refl; known = λ task h k. refl }
 by_reply id (Cancelled watcher) other = record { not_started = refl; not_ended = refl; no_conflict = refl; known = λ task h k. refl }
+by_reply id (Compacted revision) other = record { not_started = refl; not_ended = refl; no_conflict = refl; known = λ task h k. refl }
+by_reply id (Lost watcher floor) other = record { not_started = refl; not_ended = refl; no_conflict = refl; known = λ task h k. refl }

@@ -11,7 +11,7 @@ use Rattle.stm_outcome.specs.declared.txn.Op.TheVariants.{Get, Put, Del}
 use Rattle.stm_outcome.specs.declared.txn.Txn.{Txn}
 use Rattle.stm_outcome.specs.declared.advance.Expired.{Expired}
 use Rattle.stm_outcome.specs.declared.refusal.Refusal.{Refusal}
-use Rattle.stm_outcome.specs.declared.refusal.Refusal.TheVariants.{OutOfMemory, TooManyOps, EmptyKey, DuplicateKey, FutureRevision, LeaseNotFound}
+use Rattle.stm_outcome.specs.declared.refusal.Refusal.TheVariants.{OutOfMemory, TooManyOps, EmptyKey, DuplicateKey, FutureRevision, Compacted, LeaseNotFound}
 use Rattle.stm_outcome.specs.declared.refusal.Refusal.TheVariants.{RevisionsUsedUp, TimeGoesBack}
 use Rattle.stm_outcome.specs.Checks.{fault_of, has_too_many, has_empty_key, has_clash}
 use Rattle.stm_outcome.specs.Branches.{op_refusal, branch_refusal, changes_of_branch, answers_after, begun}
@@ -20,7 +20,7 @@ use Rattle.stm_txn.specs.LeaseKeys.{deletions_of}
 use Rattle.stm_outcome.specs.Outcome.{Done, outcome, unless, finished, branch_outcome, chosen, is_used_up}
 use Rattle.stm_txn.specs.Standing.{Standing, Advance, step_of, transacted, ended, without_lease, terms_of}
 use Rattle.stm_txn.specs.Standing.{after, expired_in, expire_up_to, expire_all, at_moment, advanced, IsCutShort}
-use Rattle.stm_outcome.specs.Terms.{Terms}
+use Rattle.stm_outcome.specs.Terms.{Terms, is_below_floor}
 
 abbrev pub NoWant : Option Refusal → Type 0
 NoWant None = Unit {0}
@@ -46,16 +46,17 @@ by_fault false true clash = λ e. absurd (cc)
 by_fault false false true = λ e. absurd (cc)
 by_fault false false false = tt
 
-by_read : (above : Bool) → NoWant (cond above (Some FutureRevision) None)
-by_read true = λ e. absurd (cc)
-by_read false = tt
+by_read : (above below : Bool) → NoWant (cond above (Some FutureRevision) (cond below (Some Compacted) None))
+by_read true below = λ e. absurd (cc)
+by_read false true = λ e. absurd (cc)
+by_read false false = tt
 
 by_put : (fine : Bool) → NoWant (cond fine None (Some LeaseNotFound))
 by_put true = tt
 by_put false = λ e. absurd (cc)
 
 op_never : (terms : Terms) (op : Op) → NoWant (op_refusal terms op)
-op_never terms (Get key rev) = by_read (nat_lt (now terms.history) rev)
+op_never terms (Get key rev) = by_read (nat_lt (now terms.history) rev) (is_below_floor terms.floor rev)
 op_never terms (Put key value lease) = by_put (nat_eq lease 0 || terms.is_live lease)
 op_never terms (Del key) = tt
 

@@ -1,9 +1,10 @@
--- Worked examples of watchers, of attempts that come to nothing and of entries that are appended, computed by the definitions.
+-- Worked examples of watchers and of a compaction, of attempts that come to nothing and of entries that are appended, computed by the definitions.
 use Rattle.std.proofs.Common.{◌≡◌, refl, arith, ℕ, ◌+◌, ◌<◌, ◌≤◌, List, [], ◌∷◌, ◌++◌, Some, None, Ok, true}
 use Rattle.std.specs.Prelude.{codes, pos, Result}
 use Rattle.stm_history.specs.declared.change.Change.TheVariants.{Put as PutChange}
 use Rattle.stm_history.specs.declared.revisions.TheConstants.{HIGHEST_REVISION}
 use Rattle.stm_history.specs.declared.key_state.KeyState.{KeyState}
+use Rattle.stm_history.specs.Opening.{opening_at}
 use Rattle.stm_history.specs.History.{now}
 use Rattle.stm_keys.specs.declared.event.Event.TheVariants.{Put as PutEvent}
 use Rattle.stm_program.specs.Syntax.{ProgramTree, of_statements, Expression, End as EndBlock, Then, Text, Number, Get, NumOf, Arithmetic}
@@ -29,13 +30,13 @@ use Rattle.stm_attempt.specs.Settled.{settle}
 use Rattle.stm_outcome.specs.declared.txn.Op.{Op}
 use Rattle.stm_outcome.specs.declared.txn.Op.TheVariants.{Put}
 use Rattle.stm_outcome.specs.declared.answer.OpAnswer.TheVariants.{Put as PutAnswer}
-use Rattle.stm_outcome.specs.declared.refusal.Refusal.TheVariants.{NoWatcher, EmptyKey}
+use Rattle.stm_outcome.specs.declared.refusal.Refusal.TheVariants.{NoWatcher, EmptyKey, FutureRevision, Compacted as CompactedRefusal}
 use Rattle.stm_entries.specs.declared.entry.Entry.{Entry}
 use Rattle.stm_entries.specs.declared.entry.Entry.TheVariants.{Program}
 use Rattle.stm_world.specs.declared.event.WorldEvent.{WorldEvent}
-use Rattle.stm_world.specs.declared.event.WorldEvent.TheVariants.{Start, Step, Txn, WatchKey, WatchRange, Poll, Cancel}
+use Rattle.stm_world.specs.declared.event.WorldEvent.TheVariants.{Start, Step, Txn, WatchKey, WatchRange, Poll, Cancel, Compact}
 use Rattle.stm_world.specs.declared.reply.Reply.{Reply}
-use Rattle.stm_world.specs.declared.reply.Reply.TheVariants.{Started, Fetched, Committed, Conflict, GaveUp, Aborted, Faulted, Txn as TxnDone, Watching, Batch}
+use Rattle.stm_world.specs.declared.reply.Reply.TheVariants.{Started, Fetched, Committed, Conflict, GaveUp, Aborted, Faulted, Txn as TxnDone, Watching, Batch, Compacted, Lost}
 use Rattle.stm_world.specs.declared.refusal.Denied.{Denied}
 use Rattle.stm_world.specs.declared.refusal.Refusal.TheVariants.{Store}
 use Rattle.stm_world.specs.Told.{denied}
@@ -113,6 +114,37 @@ end_is_not_watched = refl
 
 end_at_first : reply_after (WatchRange (codes "b") (codes "b") 0 ∷ puts (put (codes "b") ∷ []) ∷ []) (Poll 1 1) ≡ Ok (Batch 1 2 [])
 end_at_first = refl
+
+-- ---- a compaction, by which a watcher is lost
+
+abbrev compacted_at_three : List WorldEvent
+compacted_at_three =
+    WatchKey (codes "a") 0 ∷ WatchKey (codes "c") 0 ∷ puts (put (codes "a") ∷ []) ∷ puts (put (codes "b") ∷ []) ∷ Compact 3 ∷ []
+
+taken_at_three :
+    reply_after (WatchKey (codes "a") 0 ∷ WatchKey (codes "c") 0 ∷ puts (put (codes "a") ∷ []) ∷ puts (put (codes "b") ∷ []) ∷ []) (Compact 3) ≡ Ok (Compacted 3)
+taken_at_three = refl
+
+first_is_lost : reply_after compacted_at_three (Poll 1 9) ≡ Ok (Lost 1 3)
+first_is_lost = refl
+
+lost_is_gone : reply_after (compacted_at_three ++ Poll 1 9 ∷ []) (Poll 1 9) ≡ denied (Store NoWatcher)
+lost_is_gone = refl
+
+second_is_not_lost : reply_after compacted_at_three (Poll 2 9) ≡ Ok (Batch 2 3 [])
+second_is_not_lost = refl
+
+lost_from_its_start : reply_after (compacted_at_three ++ WatchKey (codes "a") 2 ∷ []) (Poll 3 9) ≡ Ok (Lost 3 3)
+lost_from_its_start = refl
+
+from_the_floor_on : reply_after (compacted_at_three ++ WatchKey (codes "b") 3 ∷ []) (Poll 3 9) ≡ Ok (Batch 3 3 (PutEvent (codes "b") (first_put 3) ∷ []))
+from_the_floor_on = refl
+
+not_again : reply_after compacted_at_three (Compact 3) ≡ denied (Store CompactedRefusal)
+not_again = refl
+
+not_yet : reply_after compacted_at_three (Compact 4) ≡ denied (Store FutureRevision)
+not_yet = refl
 
 -- ---- attempts that come to nothing: both keys are put twice, and a runner reads one before, and one after
 
@@ -366,7 +398,7 @@ copy_is_appended = record {
       done = record {
         answer = record { succeeded = true; revision = 3; answers = PutAnswer ∷ []; failed = None };
         history = record {
-          opening = 1;
+          opening = opening_at 1;
           revisions = (PutChange (codes "z") (codes "1") 0 ∷ []) ∷ (PutChange (codes "x") (codes "1") 0 ∷ []) ∷ [];
         };
       };

@@ -1,39 +1,47 @@
 -- Wrong logs are none.
-use Rattle.std.proofs.Common.{◌≡◌, ◌≢◌, ℕ, ◌+◌, ◌≤◌, zero, suc, List, [], ◌∷◌, length, take, Option, Some, None, Ok, Err, Bool, true, false, cond}
+use Rattle.std.proofs.Common.{◌≡◌, ◌≢◌, inl, inr, ℕ, ◌+◌, ◌-◌, ◌≤◌, zero, suc, List, [], ◌∷◌, length, take, Option, Some, None, Ok, Err, Bool, true, false, cond}
 use Rattle.std.proofs.Common.{refl, sym, ◌∙◌, ap, subst, arith}
-use Rattle.std.specs.Prelude.{nat_eq, Result}
+use Rattle.std.specs.Prelude.{nat_eq, nat_lt, slice_set, Result}
+use Rattle.std.proofs.lemmas.Bool.{le-leb}
 use Rattle.std.specs.Cmp.{unsigned_Decides}
 use Rattle.stm_program.specs.Syntax.{ProgramTree}
 use Rattle.stm_program.specs.declared.level.Level.{Level}
 use Rattle.stm_meaning.specs.declared.run.End.TheVariants.{Done as DoneEnd, Aborted as AbortedEnd}
 use Rattle.stm_meaning.specs.declared.run.Run.{Run}
-use Rattle.stm_meaning.specs.declared.run.Answered.TheVariants.{Ended as EndedRun}
+use Rattle.stm_meaning.specs.declared.run.Answered.TheVariants.{Ended as EndedRun, Wants}
+use Rattle.stm_meaning.specs.declared.trace_item.TraceItem.{TraceItem}
 use Rattle.stm_attempt.specs.Settled.{run_on}
+use Rattle.stm_attempt.specs.Fetches.{at_of}
+use Rattle.stm_history.specs.History.{now}
 use Rattle.stm_world.specs.declared.event.WorldEvent.{WorldEvent}
 use Rattle.stm_world.specs.declared.event.WorldEvent.TheVariants.{Start, Step, Txn, Grant, Keep, Revoke, Advance}
-use Rattle.stm_world.specs.declared.event.WorldEvent.TheVariants.{WatchKey, WatchRange, Poll, Cancel}
+use Rattle.stm_world.specs.declared.event.WorldEvent.TheVariants.{WatchKey, WatchRange, Poll, Cancel, Compact}
 use Rattle.stm_world.specs.declared.reply.Reply.{Reply}
 use Rattle.stm_world.specs.declared.reply.Reply.TheVariants.{Started, Fetched, Committed, Conflict, GaveUp, Aborted, Faulted, Ended}
-use Rattle.stm_world.specs.declared.reply.Reply.TheVariants.{Txn as TxnDone, Granted, Kept, Revoked, Advanced, Watching as WatchingReply, Batch, Cancelled}
+use Rattle.stm_world.specs.declared.reply.Reply.TheVariants.{Txn as TxnDone, Granted, Kept, Revoked, Advanced, Watching as WatchingReply, Batch, Cancelled, Compacted, Lost}
 use Rattle.stm_world.specs.declared.refusal.Denied.{Denied}
 use Rattle.stm_world.specs.declared.refusal.Refusal.TheVariants.{NoRunner}
 use Rattle.stm_outcome.specs.declared.advance.Expired.{Expired}
 use Rattle.stm_outcome.specs.declared.refusal.Refusal.{Refusal as StoreRefusal}
-use Rattle.stm_txn.specs.Standing.{Standing, Step as StoreStep, transacted, granted, kept_alive, revoked, advanced, watched, poll_step, polled, cancelled}
+use Rattle.stm_outcome.specs.declared.refusal.Refusal.TheVariants.{Compacted as CompactedRefusal, FutureRevision}
+use Rattle.stm_outcome.specs.Terms.{is_below_floor}
+use Rattle.stm_watch.specs.declared.refusal.PollRefusal.TheVariants.{Compacted as LostToPoll}
+use Rattle.stm_txn.specs.Standing.{Standing, Step as StoreStep, transacted, granted, kept_alive, revoked, advanced, watched, poll_step, polled, cancelled, with_floor, floor_step, raised}
 use Rattle.stm_keys.specs.declared.event.Event.{Event}
 use Rattle.stm_watch.specs.declared.told.Told.{Told}
 use Rattle.stm_watch.specs.declared.watched.Watched.TheVariants.{Key, Range}
-use Rattle.stm_watch.specs.declared.watched.Watching.{Watching}
-use Rattle.stm_watch.specs.Pending.{pending, events_told}
+use Rattle.stm_watch.specs.Watching.{Watching}
+use Rattle.stm_watch.specs.Pending.{pending, events_told, batch_of, after_poll}
 use Rattle.stm_watch.specs.Calls.{watcher_at, poll_found}
-use Rattle.stm_world.specs.Told.{denied, reply_to, advance_reply, batch_reply}
+use Rattle.stm_world.specs.Told.{denied, reply_to, advance_reply, poll_reply}
 use Rattle.stm_world.specs.Task.{Task}
 use Rattle.stm_world.specs.Log.{Line, begun, running, started, is_start, runner_started, is_id, task_in, store, told}
-use Rattle.stm_world.specs.Right.{IsRight, AreRight, RunnerIsRight, Situation, ReplyIsRight, EndsWith, situation}
+use Rattle.stm_world.specs.Right.{IsRight, AreRight, RunnerIsRight, Situation, ReplyIsRight, EndsWith, IsRefused, situation}
 use Rattle.stm_world.specs.World.{World}
 use Rattle.stm_world.specs.Headline.{Holds}
 use Rattle.stm_world.specs.WrongLogs.{WrongLogs, runner_told}
 use Rattle.stm_world.proofs.Logs.{as_many}
+use Rattle.stm_world.proofs.WatchCalls.{poll_told}
 
 causeless_refusal : (start : ℕ) (log : List Line) (id : ℕ) (task : Task) (refusal : Denied) → running id log ≡ Some task
     → IsRight start log (Step id) (Err refusal) → ⊥
@@ -91,9 +99,13 @@ given_next start log (WatchKey key from) reply id right named =
 given_next start log (WatchRange first end from) reply id right named =
     let none = ap runner_started right ∙ call_gives_none WatchingReply (watched (store start log) (Range first end) from) (λ x. refl) in absurd (cc)
 given_next start log (Poll watcher most) reply id right named =
-    let none = ap runner_started right ∙ call_gives_none (batch_reply watcher) (polled (store start log) watcher most) (λ x. refl) in absurd (cc)
+    let s : Standing = store start log in
+    let none : runner_started reply ≡ None =
+    ap runner_started right ∙ poll_told (λ (r : Result Reply Denied). runner_started r ≡ None) s watcher most (λ batch. refl) refl refl in absurd (cc)
 given_next start log (Cancel watcher) reply id right named =
     let none = ap runner_started right ∙ call_gives_none (λ _. Cancelled watcher) (cancelled (store start log) watcher) (λ x. refl) in absurd (cc)
+given_next start log (Compact revision) reply id right named =
+    let none = ap runner_started right ∙ call_gives_none (λ _. Compacted revision) (raised (store start log) revision) (λ x. refl) in absurd (cc)
 
 begun_here : (id runner count : ℕ) (b : Bool) (here rest : Option Task) (task : Task) → nat_eq runner id ≡ b → runner ≡ count + 1 →
     (rest ≡ Some task → id ≤ count) → cond b here rest ≡ Some task → id ≤ count + 1
@@ -139,6 +151,8 @@ another at (Advanced moment expired) runner named right = absurd right
 another at (WatchingReply watcher) runner named right = absurd right
 another at (Batch watcher upto events) runner named right = absurd right
 another at (Cancelled watcher) runner named right = absurd right
+another at (Compacted revision) runner named right = absurd right
+another at (Lost watcher floor) runner named right = absurd right
 
 another_by : (start : ℕ) (log : List Line) (id runner : ℕ) (o : Option Task) (reply : Reply) → runner_told reply ≡ Some runner → runner ≢ id
     → RunnerIsRight start log id o (Ok reply) → ⊥
@@ -167,13 +181,27 @@ another_abort start log id task run text runs is_run done right =
 
 -- the reply to a poll, by what stands at the watcher's place
 abbrev told_of : Standing → ℕ → ℕ → Option Watching → Result Reply Denied
-told_of s id most o = reply_to (batch_reply id) (poll_step s (poll_found s.history id most s.watchers o))
+told_of s id most o = poll_reply id s.floor (poll_step s (poll_found s.history id most s.watchers o))
+
+-- the reply to a poll of a watcher that is there, by whether it is lost
+abbrev told_if : Standing → ℕ → ℕ → Watching → Bool → Result Reply Denied
+told_if s id most w lost = poll_reply id s.floor (poll_step s (cond lost (Err LostToPoll) (Ok (record {
+  answer = batch_of most s.history w;
+  next = slice_set s.watchers (id - 1) (Some (after_poll most s.history w));
+}))))
+
+there_told : (s : Standing) (id most : ℕ) (w : Watching) (reply : Result Reply Denied) → watcher_at id s.watchers ≡ Some w →
+    reply ≡ poll_reply id s.floor (polled s id most) → reply ≡ told_if s id most w w.lost
+there_told s id most w reply there right = subst (λ (o : Option Watching). reply ≡ told_of s id most o) there right
+
+none_refused : (s : Standing) (id most : ℕ) (w : Watching) (refusal : Denied) (lost : Bool) → Err refusal ≡ told_if s id most w lost → ⊥
+none_refused s id most w refusal true told = absurd (cc)
+none_refused s id most w refusal false told = absurd (cc)
 
 refused_poll : (start : ℕ) (log : List Line) (id most : ℕ) (w : Watching) (refusal : Denied) → watcher_at id (store start log).watchers ≡ Some w
     → IsRight start log (Poll id most) (Err refusal) → ⊥
 refused_poll start log id most w refusal there right =
-    let told : Err refusal ≡ told_of (store start log) id most (Some w) =
-    subst (λ (o : Option Watching). Err refusal ≡ told_of (store start log) id most o) there right in absurd (cc)
+    none_refused (store start log) id most w refusal w.lost (there_told (store start log) id most w (Err refusal) there right)
 
 poll_of_none : (start : ℕ) (log : List Line) (id most : ℕ) (reply : Reply) → watcher_at id (store start log).watchers ≡ None
     → IsRight start log (Poll id most) (Ok reply) → ⊥
@@ -181,24 +209,79 @@ poll_of_none start log id most reply none right =
     let told : Ok reply ≡ told_of (store start log) id most None =
     subst (λ (o : Option Watching). Ok reply ≡ told_of (store start log) id most o) none right in absurd (cc)
 
+batch_named : (s : Standing) (id most watcher upto : ℕ) (events : List Event) (w : Watching) (lost : Bool)
+    → Ok (Batch watcher upto events) ≡ told_if s id most w lost → watcher ≡ id
+batch_named s id most watcher upto events w true told = absurd (cc)
+batch_named s id most watcher upto events w false told = cc
+
 watcher_named : (s : Standing) (id most watcher upto : ℕ) (events : List Event) (o : Option Watching)
     → Ok (Batch watcher upto events) ≡ told_of s id most o → watcher ≡ id
 watcher_named s id most watcher upto events None told = absurd (cc)
-watcher_named s id most watcher upto events (Some w) told = cc
+watcher_named s id most watcher upto events (Some w) told = batch_named s id most watcher upto events w w.lost told
 
 none_taken : (most : ℕ) → take most (let none : List Told = [] in none) ≡ []
 none_taken zero = refl
 none_taken (suc most) = refl
 
+nothing_told : (s : Standing) (id most upto : ℕ) (w : Watching) (event : Event) (events : List Event) (lost : Bool) → pending s.history w ≡ []
+    → Ok (Batch id upto (event ∷ events)) ≡ told_if s id most w lost → ⊥
+nothing_told s id most upto w event events true none told = absurd (cc)
+nothing_told s id most upto w event events false none told =
+    let same : event ∷ events ≡ events_told (take most (pending s.history w)) = cc in
+    let nothing : event ∷ events ≡ [] = same ∙ ap (λ (ts : List Told). events_told (take most ts)) none ∙ ap events_told (none_taken most) in
+    absurd (cc)
+
 event_not_pending : (start : ℕ) (log : List Line) (id most upto : ℕ) (w : Watching) (event : Event) (events : List Event)
     → watcher_at id (store start log).watchers ≡ Some w → pending (store start log).history w ≡ []
     → IsRight start log (Poll id most) (Ok (Batch id upto (event ∷ events))) → ⊥
 event_not_pending start log id most upto w event events there none right =
+    nothing_told (store start log) id most upto w event events w.lost none
+    (there_told (store start log) id most w (Ok (Batch id upto (event ∷ events))) there right)
+
+batch_of_lost : (start : ℕ) (log : List Line) (id most watcher upto : ℕ) (w : Watching) (events : List Event)
+    → watcher_at id (store start log).watchers ≡ Some w → w.lost ≡ true → IsRight start log (Poll id most) (Ok (Batch watcher upto events)) → ⊥
+batch_of_lost start log id most watcher upto w events there lost right =
     let s : Standing = store start log in
-    let told : Ok (Batch id upto (event ∷ events)) ≡ told_of s id most (Some w) =
-    subst (λ (o : Option Watching). Ok (Batch id upto (event ∷ events)) ≡ told_of s id most o) there right in
-    let same : event ∷ events ≡ events_told (take most (pending s.history w)) = cc in
-    let nothing : event ∷ events ≡ [] = same ∙ ap (λ (ts : List Told). events_told (take most ts)) none ∙ ap events_told (none_taken most) in
+    let told : Ok (Batch watcher upto events) ≡ told_if s id most w true =
+    there_told s id most w (Ok (Batch watcher upto events)) there right ∙ ap (told_if s id most w) lost in absurd (cc)
+
+not_lost : (start : ℕ) (log : List Line) (id most watcher floor : ℕ) (w : Watching) → watcher_at id (store start log).watchers ≡ Some w
+    → w.lost ≡ false → IsRight start log (Poll id most) (Ok (Lost watcher floor)) → ⊥
+not_lost start log id most watcher floor w there kept right =
+    let s : Standing = store start log in
+    let told : Ok (Lost watcher floor) ≡ told_if s id most w false =
+    there_told s id most w (Ok (Lost watcher floor)) there right ∙ ap (told_if s id most w) kept in absurd (cc)
+
+-- ---- compactions ----
+
+fetch_below : (start : ℕ) (log : List Line) (id : ℕ) (task : Task) (key : List ℕ) (mod_rev of_rev revision : ℕ) → running id log ≡ Some task
+    → is_below_floor (store start log).floor (at_of task.level (told start id task log).reads) ≡ true
+    → IsRight start log (Step id) (Ok (Fetched id key mod_rev of_rev revision)) → ⊥
+fetch_below start log id task key mod_rev of_rev revision runs below right =
+    let fetch = (subst (λ (o : Option Task). RunnerIsRight start log id o (Ok (Fetched id key mod_rev of_rev revision))) runs right).1 in
+    let both : true ≡ false = sym below ∙ fetch.readable in absurd (cc)
+
+not_refused : (at : Situation) (key : List ℕ) (trace : List TraceItem) (cause : StoreRefusal) → run_on at.task.program at.reads ≡ Wants key trace
+    → is_below_floor at.store.floor (at_of at.task.level at.reads) ≡ false → IsRefused at cause → ⊥
+not_refused at key trace cause wants above (inl c) = let both : Wants key trace ≡ EndedRun c.run = sym wants ∙ c.is_run in absurd (cc)
+not_refused at key trace cause wants above (inr (same, behind)) = let both : true ≡ false = sym behind.compacted ∙ above in absurd (cc)
+
+refused_fetch : (start : ℕ) (log : List Line) (id : ℕ) (task : Task) (key : List ℕ) (trace : List TraceItem) (cause : StoreRefusal)
+    → running id log ≡ Some task → run_on task.program (told start id task log).reads ≡ Wants key trace
+    → is_below_floor (store start log).floor (at_of task.level (told start id task log).reads) ≡ false
+    → IsRight start log (Step id) (Ok (Ended id cause)) → ⊥
+refused_fetch start log id task key trace cause runs wants above right =
+    not_refused (situation start log id task) key trace cause wants above
+    (subst (λ (o : Option Task). RunnerIsRight start log id o (Ok (Ended id cause))) runs right).1
+
+compacted_again : (start : ℕ) (log : List Line) (revision at : ℕ) → revision ≤ (store start log).floor
+    → IsRight start log (Compact revision) (Ok (Compacted at)) → ⊥
+compacted_again start log revision at low right =
+    let s : Standing = store start log in
+    let future = cond (nat_lt (now s.history) revision) (Some FutureRevision) None in
+    let refused : Ok (Compacted at) ≡ reply_to (λ _. Compacted revision) (floor_step (Some CompactedRefusal) (with_floor s revision)) =
+    right ∙ ap (λ b. reply_to (λ _. Compacted revision) (floor_step (cond b (Some CompactedRefusal) future) (with_floor s revision)))
+    (le-leb revision s.floor low) in
     absurd (cc)
 
 -- ---- events without a reply ----
@@ -222,4 +305,9 @@ wrong_logs = record {
   another_watcher = λ start log id most watcher upto events other right.
       other (watcher_named (store start log) id most watcher upto events (watcher_at id (store start log).watchers) right);
   event_not_pending = event_not_pending;
+  batch_of_lost = batch_of_lost;
+  not_lost = not_lost;
+  fetch_below = fetch_below;
+  refused_fetch = refused_fetch;
+  compacted_again = compacted_again;
 }

@@ -1,16 +1,18 @@
 -- Wrong failures, ends and runs are none.
 use Rattle.std.proofs.Common.{◌≡◌, ◌≢◌, ◌⊎◌, inl, inr, ℕ, ◌+◌, ◌<◌, ◌≤◌, zero, suc, List, [], ◌∷◌, ◌++◌, length, map, Option, Some, None, Ok, Err}
 use Rattle.std.proofs.Common.{Bool, true, false, cond, refl, sym, ◌∙◌, ap, subst, arith}
-use Rattle.std.specs.Prelude.{nat_eq, nat_lt, bytes_eq, is_some, ◌&&◌, ◌||◌, slice_get, Result}
+use Rattle.std.specs.Prelude.{nat_eq, nat_lt, nat_le, bytes_eq, is_some, ◌&&◌, ◌||◌, slice_get, Result}
 use Rattle.std.specs.List.{AllByRecursion}
+use Rattle.std.proofs.lemmas.Bool.{ltb-true, leb-true}
 use Rattle.std.proofs.lemmas.List.{append-nil, append_cancel_left, length-append}
 use Rattle.std.proofs.lemmas.Option.{same_Some}
 use Rattle.stm_history.specs.declared.change.Change.{Change}
 use Rattle.stm_history.specs.declared.change.Change.TheVariants.{Put, Del}
 use Rattle.stm_history.specs.declared.key_state.KeyState.{KeyState}
 use Rattle.stm_history.specs.declared.key_state.ReadAnswer.{ReadAnswer}
-use Rattle.stm_history.specs.History.{History, now, key_now, key_after, mod_of, number_of_last, change_of, after_change}
-use Rattle.stm_history.proofs.HistoryLaws.{one_more as one_more_revision, last_revision_is_now}
+use Rattle.stm_history.specs.Opening.{Opening, opening_at, opened_state}
+use Rattle.stm_history.specs.History.{History, now, key_now, key_after, mod_of, number_of_last, revisions_up_to, change_of, after_change}
+use Rattle.stm_history.proofs.HistoryLaws.{one_more as one_more_revision, mod_is_reached}
 use Rattle.stm_program.specs.declared.level.Level.{Level}
 use Rattle.stm_program.specs.declared.level.Level.TheVariants.{SerializableSnapshot, Serializable, RepeatableReads, ReadCommitted}
 use Rattle.stm_program.specs.declared.write.Write.{Write}
@@ -33,7 +35,6 @@ use Rattle.stm_compile.specs.Answers.{answer_in, answer_now, state_as_of}
 use Rattle.stm_compile.specs.CommitTxn.{first_carried, is_as_read, is_unmodified, compares_of, reread_keys}
 use Rattle.stm_compile.specs.Committed.{conflict_now}
 use Rattle.stm_compile.specs.Conflicts.{Seen, seen_by, seen_of_read, seen_of_write, changes_above}
-use Rattle.stm_compile.proofs.ConflictLemmas.{mod_at_small}
 use Rattle.stm_attempt.specs.Known.{Known}
 use Rattle.stm_attempt.specs.Settled.{run_on}
 use Rattle.stm_attempt.specs.Fetches.{base_of, HaveOneBase}
@@ -42,7 +43,7 @@ use Rattle.stm_entries.specs.Replayed.{without_moment}
 use Rattle.stm_entries.specs.Replay.{replay}
 use Rattle.stm_world.specs.declared.reply.Reply.{Reply}
 use Rattle.stm_world.specs.declared.reply.Reply.TheVariants.{Started, Fetched, Committed, Conflict, GaveUp, Aborted, Faulted, Ended}
-use Rattle.stm_world.specs.declared.reply.Reply.TheVariants.{Txn as TxnDone, Granted, Kept, Revoked, Advanced, Watching, Batch, Cancelled}
+use Rattle.stm_world.specs.declared.reply.Reply.TheVariants.{Txn as TxnDone, Granted, Kept, Revoked, Advanced, Watching, Batch, Cancelled, Compacted, Lost}
 use Rattle.stm_world.specs.declared.refusal.Denied.{Denied}
 use Rattle.stm_world.specs.Task.{Task, answer_at, after_fetch, after_conflict}
 use Rattle.stm_world.specs.Log.{Line, begun, running, store, known_after, told}
@@ -50,6 +51,7 @@ use Rattle.stm_world.specs.Doomed.{FailedCommit, NamesAConflict, IsRealFailure, 
 use Rattle.stm_world.specs.Doomed.{FailuresMoveOn}
 use Rattle.stm_world.specs.World.{opened, replies_to}
 use Rattle.stm_world.specs.WrongFailures.{reads_of, WrongFailures, WrongRuns}
+use Rattle.stm_world.proofs.EventKeeps.{store_opens}
 use Rattle.stm_world.proofs.Logs.{one_log}
 use Rattle.stm_world.proofs.OneState.{all_show}
 use Rattle.stm_world.proofs.Served.{KnowsAll, one_more, found_all, served_all}
@@ -60,12 +62,30 @@ use Rattle.stm_world.proofs.MovingOn.{both_seen, seen_at_index, above_all}
 abbrev IsSmall : ReadAnswer → Type 0
 IsSmall a = mod_of a.kv ≤ a.of_rev
 
-answer_small : (h : History) (key : List ℕ) (r : ℕ) → IsSmall (answer_at h key r)
-answer_small h key r = mod_at_small h.opening r key h.revisions
+-- where a history opens without a key
+small_up_to : (number r : ℕ) (key : List ℕ) (revisions : List (List Change)) →
+    mod_of (key_after (opening_at number) key (revisions_up_to (opening_at number) r revisions)) ≤ r
+small_up_to number r key [] =
+    let none : mod_of (key_after (opening_at number) key []) ≡ 0 = refl in omega (arith, none)
+small_up_to number r key (changes ∷ older) =
+    by (nat_le (number_of_last (opening_at number) (changes ∷ older)) r) refl (small_up_to number r key older)
+  where
+    by : (within : Bool) → nat_le (number_of_last (opening_at number) (changes ∷ older)) r ≡ within →
+        mod_of (key_after (opening_at number) key (revisions_up_to (opening_at number) r older)) ≤ r →
+        mod_of (key_after (opening_at number) key (cond within (changes ∷ older) (revisions_up_to (opening_at number) r older))) ≤ r
+    by true is deeper =
+        let last : number_of_last (opening_at number) (changes ∷ older) ≤ r = leb-true (number_of_last (opening_at number) (changes ∷ older)) r is in
+        let reached : mod_of (key_after (opening_at number) key (changes ∷ older)) ≤ number_of_last (opening_at number) (changes ∷ older) =
+        mod_is_reached (opening_at number) key (changes ∷ older) in
+        omega (arith, last, reached)
+    by false is deeper = deeper
+
+answer_small : (number : ℕ) (h : History) (key : List ℕ) (r : ℕ) → h.opening ≡ opening_at number → IsSmall (answer_at h key r)
+answer_small number h key r opens =
+    subst (λ (o : Opening). mod_of (key_after o key (revisions_up_to o r h.revisions)) ≤ r) (sym opens) (small_up_to number r key h.revisions)
 
 now_small : (h : History) (key : List ℕ) → IsSmall (answer_now h key)
-now_small h key =
-    subst (λ (s : Option KeyState). mod_of s ≤ now h) (last_revision_is_now h key (now h) (omega arith)) (mod_at_small h.opening (now h) key h.revisions)
+now_small h key = mod_is_reached h.opening key h.revisions
 
 rereads_small : (h : History) (keys : List (List ℕ)) → AllByRecursion IsSmall (map (answer_now h) keys)
 rereads_small h [] = tt
@@ -76,37 +96,39 @@ small_by : (mine : Bool) (next known : Known) → KnowsAll IsSmall next → Know
 small_by true next known all was = all
 small_by false next known all was = was
 
-known_small : (id : ℕ) (task : Task) (h : History) (reply : Result Reply Denied) (known : Known) → KnowsAll IsSmall known →
-    KnowsAll IsSmall (known_after id task h reply known)
-known_small id task h (Ok (Fetched runner key mod_rev of_rev revision)) known all =
+known_small : (number id : ℕ) (task : Task) (h : History) (reply : Result Reply Denied) (known : Known) → h.opening ≡ opening_at number →
+    KnowsAll IsSmall known → KnowsAll IsSmall (known_after id task h reply known)
+known_small number id task h (Ok (Fetched runner key mod_rev of_rev revision)) known opens all =
     let a : ReadAnswer = answer_at h key of_rev in
     small_by (nat_eq runner id) (after_fetch task a known) known
     (served_all IsSmall task (record { reads = known.reads ++ a ∷ []; prefetched = known.prefetched })
-    (one_more IsSmall known.reads a all.0 (answer_small h key of_rev), all.1)) all
-known_small id task h (Ok (Conflict runner key seen now)) known all =
+    (one_more IsSmall known.reads a all.0 (answer_small number h key of_rev opens), all.1)) all
+known_small number id task h (Ok (Conflict runner key seen now)) known opens all =
     let keys : List (List ℕ) = reread_keys task.level known.reads in
     small_by (nat_eq runner id) (after_conflict task h known) known
     (served_all IsSmall task (record { reads = []; prefetched = map (answer_now h) keys }) (tt, rereads_small h keys)) all
-known_small id task h (Ok (Started runner)) known all = all
-known_small id task h (Ok (Committed runner revision attempts output trace answers)) known all = all
-known_small id task h (Ok (GaveUp runner attempts key seen now)) known all = all
-known_small id task h (Ok (Aborted runner text)) known all = all
-known_small id task h (Ok (Faulted runner fault)) known all = all
-known_small id task h (Ok (Ended runner cause)) known all = all
-known_small id task h (Ok (TxnDone answer)) known all = all
-known_small id task h (Ok (Granted lease)) known all = all
-known_small id task h (Ok (Kept lease)) known all = all
-known_small id task h (Ok (Revoked lease revision)) known all = all
-known_small id task h (Ok (Advanced moment expired)) known all = all
-known_small id task h (Ok (Watching watcher)) known all = all
-known_small id task h (Ok (Batch watcher upto events)) known all = all
-known_small id task h (Ok (Cancelled watcher)) known all = all
-known_small id task h (Err refusal) known all = all
+known_small number id task h (Ok (Started runner)) known opens all = all
+known_small number id task h (Ok (Committed runner revision attempts output trace answers)) known opens all = all
+known_small number id task h (Ok (GaveUp runner attempts key seen now)) known opens all = all
+known_small number id task h (Ok (Aborted runner text)) known opens all = all
+known_small number id task h (Ok (Faulted runner fault)) known opens all = all
+known_small number id task h (Ok (Ended runner cause)) known opens all = all
+known_small number id task h (Ok (TxnDone answer)) known opens all = all
+known_small number id task h (Ok (Granted lease)) known opens all = all
+known_small number id task h (Ok (Kept lease)) known opens all = all
+known_small number id task h (Ok (Revoked lease revision)) known opens all = all
+known_small number id task h (Ok (Advanced moment expired)) known opens all = all
+known_small number id task h (Ok (Watching watcher)) known opens all = all
+known_small number id task h (Ok (Batch watcher upto events)) known opens all = all
+known_small number id task h (Ok (Cancelled watcher)) known opens all = all
+known_small number id task h (Ok (Compacted revision)) known opens all = all
+known_small number id task h (Ok (Lost watcher floor)) known opens all = all
+known_small number id task h (Err refusal) known opens all = all
 
 told_small : (start id : ℕ) (task : Task) (log : List Line) → KnowsAll IsSmall (told start id task log)
 told_small start id task [] = (tt, tt)
 told_small start id task (line ∷ older) =
-    known_small id task (store start older).history line.reply (told start id task older) (told_small start id task older)
+    known_small start id task (store start older).history line.reply (told start id task older) (store_opens start older) (told_small start id task older)
 
 -- so is what a compare is about
 
@@ -143,9 +165,9 @@ changed_above r number None s deeper above changed later present = later (deeper
 changed_above r number (Some (Put key value lease)) s deeper above changed later present = put_above r number lease value key s above
 changed_above r number (Some (Del key)) s deeper above changed later present = absurd (omega (arith, present))
 
-modified_above : (opening r : ℕ) (key : List ℕ) (revisions : List (List Change)) → changes_above opening r key revisions ≡ true →
+modified_above : (opening : Opening) (r : ℕ) (key : List ℕ) (revisions : List (List Change)) → changes_above opening r key revisions ≡ true →
     0 < mod_of (key_after opening key revisions) → r < mod_of (key_after opening key revisions)
-modified_above opening r key [] changed present = absurd (cc)
+modified_above opening r key [] changed present = ltb-true r (mod_of (opened_state opening key)) changed
 modified_above opening r key (changes ∷ older) changed present =
     let number : ℕ = number_of_last opening (changes ∷ older) in
     let step : key_after opening key (changes ∷ older) ≡ after_change number (change_of key changes) (key_after opening key older) =

@@ -9,7 +9,7 @@ use Rattle.stm_meaning.specs.declared.value.Value.{Value}
 use Rattle.stm_meaning.specs.declared.trace_item.TraceItem.{TraceItem}
 use Rattle.stm_meaning.specs.Meaning.{run_over}
 use Rattle.stm_outcome.specs.declared.advance.Expired.{Expired}
-use Rattle.stm_txn.specs.Standing.{Standing, opening, with_history, transacted, granted, kept_alive, revoked, advanced, watched, polled, cancelled}
+use Rattle.stm_txn.specs.Standing.{Standing, opening, with_history, transacted, granted, kept_alive, revoked, advanced, watched, polled, cancelled, raised}
 use Rattle.stm_watch.specs.declared.watched.Watched.TheVariants.{Key, Range}
 use Rattle.stm_attempt.specs.Known.{Known}
 use Rattle.stm_entries.specs.declared.entry.Entry.{Entry}
@@ -18,11 +18,11 @@ use Rattle.stm_entries.specs.Replayed.{without_moment}
 use Rattle.stm_entries.specs.Alone.{seen_at, left_by_run}
 use Rattle.stm_world.specs.declared.event.WorldEvent.{WorldEvent}
 use Rattle.stm_world.specs.declared.event.WorldEvent.TheVariants.{Start, Step, Txn, Grant, Keep, Revoke, Advance}
-use Rattle.stm_world.specs.declared.event.WorldEvent.TheVariants.{WatchKey, WatchRange, Poll, Cancel}
+use Rattle.stm_world.specs.declared.event.WorldEvent.TheVariants.{WatchKey, WatchRange, Poll, Cancel, Compact}
 use Rattle.stm_world.specs.declared.reply.Reply.{Reply}
 use Rattle.stm_world.specs.declared.reply.Reply.TheVariants.{Started, Fetched, Committed, Conflict, GaveUp, Aborted, Faulted, Ended, Advanced}
 use Rattle.stm_world.specs.declared.refusal.Denied.{Denied}
-use Rattle.stm_world.specs.Told.{store_after_call}
+use Rattle.stm_world.specs.Told.{store_after_call, store_after_poll}
 use Rattle.stm_world.specs.Task.{Task, nothing_known, answer_at, after_fetch, after_conflict}
 
 -- an event and the reply to it
@@ -118,8 +118,9 @@ store_after task_of (Revoke id) reply s = store_after_call s (revoked s id)
 store_after task_of (Advance moment) reply s = (advanced s moment).leaves
 store_after task_of (WatchKey key from) reply s = store_after_call s (watched s (Key key) from)
 store_after task_of (WatchRange first end from) reply s = store_after_call s (watched s (Range first end) from)
-store_after task_of (Poll watcher most) reply s = store_after_call s (polled s watcher most)
+store_after task_of (Poll watcher most) reply s = store_after_poll watcher s (polled s watcher most)
 store_after task_of (Cancel watcher) reply s = store_after_call s (cancelled s watcher)
+store_after task_of (Compact revision) reply s = store_after_call s (raised s revision)
 
 -- the store, which opened at a revision, after a log
 abbrev pub store : ℕ → List Line → Standing
@@ -150,7 +151,7 @@ expired_told (Ok other) = []
 expired_told (Err refusal) = refusal.expired
 
 -- what an event is entered as: a transaction where it changed something, and each lease that an advance expired; nothing about
--- watchers is entered
+-- watchers is entered, and no compaction
 abbrev pub entries_of : (ℕ → Option Task) → Standing → Standing → WorldEvent → Result Reply Denied → List Entry
 entries_of task_of before after (Start program level limit) reply = []
 entries_of task_of before after (Step runner) reply = entries_of_step task_of reply
@@ -163,6 +164,7 @@ entries_of task_of before after (WatchKey key from) reply = []
 entries_of task_of before after (WatchRange first end from) reply = []
 entries_of task_of before after (Poll watcher most) reply = []
 entries_of task_of before after (Cancel watcher) reply = []
+entries_of task_of before after (Compact revision) reply = []
 
 -- what a line adds to the entries
 abbrev pub line_entries : ℕ → Line → List Line → List Entry

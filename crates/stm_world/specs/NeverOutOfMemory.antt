@@ -7,7 +7,7 @@ use Rattle.stm_watch.specs.declared.watched.Watched.{Watched}
 use Rattle.stm_outcome.specs.declared.txn.Txn.{Txn}
 use Rattle.stm_outcome.specs.declared.advance.Expired.{Expired}
 use Rattle.stm_outcome.specs.declared.refusal.Refusal.TheVariants.{OutOfMemory}
-use Rattle.stm_txn.specs.Standing.{Standing, transacted, granted, kept_alive, revoked, advanced, watched, polled, cancelled}
+use Rattle.stm_txn.specs.Standing.{Standing, transacted, granted, kept_alive, revoked, advanced, watched, polled, cancelled, raised}
 use Rattle.stm_outcome.specs.Terms.{Terms}
 use Rattle.stm_compile.specs.Committed.{committed}
 use Rattle.stm_world.specs.declared.event.WorldEvent.{WorldEvent}
@@ -27,6 +27,7 @@ pub record NeverOutOfMemory : Type 0 where
   pub watch : (s : Standing) (keys : Watched) (from : ℕ) → watched s keys from ≢ Err OutOfMemory
   pub poll : (s : Standing) (id most : ℕ) → polled s id most ≢ Err OutOfMemory
   pub cancel : (s : Standing) (id : ℕ) → cancelled s id ≢ Err OutOfMemory
+  pub compact : (s : Standing) (revision : ℕ) → raised s revision ≢ Err OutOfMemory
   -- no commit of a run
   pub commit : (terms : Terms) (level : Level) (reads : List ReadAnswer) (run : Run) → committed terms level reads run ≢ Err OutOfMemory
   -- so no right reply refuses an event for want of memory, or ends a run by it

@@ -1,8 +1,8 @@
 -- When a reply is right after a log, whatever made it.
 --
--- The Go package `concurrency`, "STM" and "Isolation", and etcd's API reference, "Transaction", "Lease" and "Watch". Nothing here
--- knows how a world makes its replies: a line is judged by the lines before it.
-use Rattle.std.specs.Prelude.{◌≡◌, ◌≢◌, ℕ, ◌+◌, ◌<◌, ◌≤◌, List, [], ◌∷◌, Option, Some, None, Result, Ok, Err}
+-- The Go package `concurrency`, "STM" and "Isolation", and etcd's API reference, "Transaction", "Lease", "Watch" and "Compaction".
+-- Nothing here knows how a world makes its replies: a line is judged by the lines before it.
+use Rattle.std.specs.Prelude.{◌≡◌, ◌≢◌, ◌⊎◌, ℕ, ◌+◌, ◌<◌, ◌≤◌, true, false, List, [], ◌∷◌, Option, Some, None, Result, Ok, Err}
 use Rattle.stm_history.specs.declared.key_state.ReadAnswer.{ReadAnswer}
 use Rattle.stm_history.specs.History.{now, key_at, mod_of}
 use Rattle.stm_program.specs.Writes.{latest_writes}
@@ -15,9 +15,11 @@ use Rattle.stm_meaning.specs.declared.run.Answered.TheVariants.{Ended as EndedRu
 use Rattle.stm_meaning.specs.Meaning.{run_over}
 use Rattle.stm_outcome.specs.declared.answer.FailedCompare.{FailedCompare}
 use Rattle.stm_outcome.specs.declared.refusal.Refusal.{Refusal as StoreRefusal}
+use Rattle.stm_outcome.specs.declared.refusal.Refusal.TheVariants.{Compacted as CompactedRefusal}
 use Rattle.stm_outcome.specs.Outcome.{Done}
 use Rattle.stm_outcome.specs.Commits.{revision_read}
-use Rattle.stm_txn.specs.Standing.{Standing, transacted, granted, kept_alive, revoked, advanced, watched, polled, cancelled, terms_of}
+use Rattle.stm_txn.specs.Standing.{Standing, transacted, granted, kept_alive, revoked, advanced, watched, polled, cancelled, raised, terms_of}
+use Rattle.stm_outcome.specs.Terms.{is_below_floor}
 use Rattle.stm_watch.specs.declared.watched.Watched.TheVariants.{Key, Range}
 use Rattle.stm_compile.specs.Committed.{committed}
 use Rattle.stm_compile.specs.Conflicts.{IsConflict}
@@ -26,13 +28,13 @@ use Rattle.stm_attempt.specs.Fetches.{at_of}
 use Rattle.stm_entries.specs.Alone.{seen_at}
 use Rattle.stm_world.specs.declared.event.WorldEvent.{WorldEvent}
 use Rattle.stm_world.specs.declared.event.WorldEvent.TheVariants.{Start, Step, Txn, Grant, Keep, Revoke, Advance}
-use Rattle.stm_world.specs.declared.event.WorldEvent.TheVariants.{WatchKey, WatchRange, Poll, Cancel}
+use Rattle.stm_world.specs.declared.event.WorldEvent.TheVariants.{WatchKey, WatchRange, Poll, Cancel, Compact}
 use Rattle.stm_world.specs.declared.reply.Reply.{Reply}
 use Rattle.stm_world.specs.declared.reply.Reply.TheVariants.{Started, Fetched, Committed, Conflict, GaveUp, Aborted, Faulted, Ended}
-use Rattle.stm_world.specs.declared.reply.Reply.TheVariants.{Txn as TxnDone, Granted, Kept, Revoked, Watching, Cancelled}
+use Rattle.stm_world.specs.declared.reply.Reply.TheVariants.{Txn as TxnDone, Granted, Kept, Revoked, Watching, Cancelled, Compacted}
 use Rattle.stm_world.specs.declared.refusal.Refusal.TheVariants.{BadLimit, NoRunner}
 use Rattle.stm_world.specs.declared.refusal.Denied.{Denied}
-use Rattle.stm_world.specs.Told.{denied, reply_to, advance_reply, batch_reply}
+use Rattle.stm_world.specs.Told.{denied, reply_to, advance_reply, poll_reply}
 use Rattle.stm_world.specs.Task.{Task, answers_told}
 use Rattle.stm_world.specs.Asked.{keys_read}
 use Rattle.stm_world.specs.Log.{Line, running, started, failures, store, told}
@@ -47,13 +49,21 @@ pub record Situation : Type 0 where
   pub store : Standing
 
 -- The program wants a key, which is fetched at the revision of its level: the base at the serializable levels, where something
--- was read, else the current one. What is told is true.
+-- was read, else the current one. The base is not compacted. What is told is true.
 pub record IsFetch (at : Situation) (key : List ℕ) (mod_rev of_rev revision : ℕ) : Type 0 where
   pub trace : List TraceItem
   pub wants : run_on at.task.program at.reads ≡ Wants key trace
+  pub readable : is_below_floor at.store.floor (at_of at.task.level at.reads) ≡ false
   pub shows : of_rev ≡ revision_read at.store.history (at_of at.task.level at.reads)
   pub modified : mod_rev ≡ mod_of (key_at at.store.history key of_rev)
   pub carries : revision ≡ now at.store.history
+
+-- the program wants a key, and its base is compacted
+pub record IsBehind (at : Situation) : Type 0 where
+  pub key : List ℕ
+  pub trace : List TraceItem
+  pub wants : run_on at.task.program at.reads ≡ Wants key trace
+  pub compacted : is_below_floor at.store.floor (at_of at.task.level at.reads) ≡ true
 
 -- the program came to this end on what it read
 pub record EndsWith (at : Situation) (end : End) : Type 0 where
@@ -94,6 +104,10 @@ pub record IsConflicted (at : Situation) (key : List ℕ) (seen now_modified : �
   pub was : seen ≡ conflict.seen.mod_rev
   pub is : now_modified ≡ failed.mod_rev
 
+-- The store refuses what the step asks of it: the commit of a program that is done, or, as compacted, a fetch at the base of the attempt.
+abbrev pub IsRefused : Situation → StoreRefusal → Type 0
+IsRefused at cause = Commits at (Err cause) ⊎ ((cause ≡ CompactedRefusal) × IsBehind at)
+
 -- A reply to the step of a runner that runs. It tells of this runner; no run sends more commits than it may, and it gives up exactly at the
 -- last of them.
 abbrev pub ReplyIsRight : Situation → Reply → Type 0
@@ -105,7 +119,7 @@ ReplyIsRight at (GaveUp runner attempts key seen now) =
     (runner ≡ at.id) × (attempts ≡ at.failures + 1) × (attempts ≡ at.task.limit) × IsConflicted at key seen now
 ReplyIsRight at (Aborted runner text) = (runner ≡ at.id) × EndsWith at (AbortedEnd text)
 ReplyIsRight at (Faulted runner fault) = (runner ≡ at.id) × EndsWith at (FaultedEnd fault)
-ReplyIsRight at (Ended runner cause) = (runner ≡ at.id) × Commits at (Err cause)
+ReplyIsRight at (Ended runner cause) = (runner ≡ at.id) × IsRefused at cause
 ReplyIsRight at other = ⊥
 
 -- a step of a runner that runs is never refused
@@ -145,8 +159,9 @@ IsRight start log (Advance moment) reply =
     reply ≡ advance_reply moment (advanced (store start log) moment).expired (advanced (store start log) moment).cause
 IsRight start log (WatchKey key from) reply = reply ≡ reply_to Watching (watched (store start log) (Key key) from)
 IsRight start log (WatchRange first end from) reply = reply ≡ reply_to Watching (watched (store start log) (Range first end) from)
-IsRight start log (Poll watcher most) reply = reply ≡ reply_to (batch_reply watcher) (polled (store start log) watcher most)
+IsRight start log (Poll watcher most) reply = reply ≡ poll_reply watcher (store start log).floor (polled (store start log) watcher most)
 IsRight start log (Cancel watcher) reply = reply ≡ reply_to (λ _. Cancelled watcher) (cancelled (store start log) watcher)
+IsRight start log (Compact revision) reply = reply ≡ reply_to (λ _. Compacted revision) (raised (store start log) revision)
 
 -- each line of a log is right after the lines before it
 abbrev pub AreRight : ℕ → List Line → Type 0

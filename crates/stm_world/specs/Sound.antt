@@ -1,12 +1,12 @@
 -- A sound world: what stays so from step to step, with no log of what went before.
 --
--- The Go package `concurrency`, "STM": what a program reads is what the store had. That the entries replay to the store is our
--- own.
+-- The Go package `concurrency`, "STM": what a program reads is what the store had. etcd's API reference, "Watch": a watch that is not
+-- cancelled is told everything. That the entries replay to the store is our own.
 use Rattle.std.specs.Prelude.{◌≡◌, ◌≤◌, ℕ, List, ◌++◌, Option, Some}
 use Rattle.stm_history.specs.History.{History, now}
 use Rattle.stm_outcome.specs.declared.advance.Expired.{Expired}
 use Rattle.stm_outcome.specs.declared.refusal.Refusal.{Refusal as StoreRefusal}
-use Rattle.stm_txn.specs.Standing.{Standing, at_moment, expire_up_to}
+use Rattle.stm_txn.specs.Standing.{Standing, HasKept, at_moment, expire_up_to}
 use Rattle.stm_compile.specs.Answers.{AreTrue}
 use Rattle.stm_attempt.specs.Known.{Known}
 use Rattle.stm_attempt.specs.Fetches.{at_of}
@@ -21,11 +21,13 @@ abbrev pub KnowsTruth : History → Known → Type 0
 KnowsTruth h known = AreTrue h known.reads × AreTrue h known.prefetched
 
 -- The entries replay from the opening of the store to the store, each legal at its point, and each runner that has not ended
--- knows the truth.
+-- knows the truth. The floor is a revision that the store has reached, if it was ever compacted, and nothing below it is pending for a
+-- watcher that is not lost.
 pub record IsSound (w : World) : Type 0 where
-  pub replays : replay w.entries (opening w.standing.history.opening) ≡ without_moment w.standing
-  pub legal : AreLegal w.entries (opening w.standing.history.opening)
+  pub replays : replay w.entries (opening w.standing.history.opening.number) ≡ without_moment w.standing
+  pub legal : AreLegal w.entries (opening w.standing.history.opening.number)
   pub truth : (id : ℕ) (r : Runner) → runner_at id w.runners ≡ Some r → KnowsTruth w.standing.history r.known
+  pub kept : HasKept w.standing
 
 -- a world whose store came to this by expiries
 abbrev pub after_expiries : World → Standing → List Expired → World

@@ -1,18 +1,21 @@
 -- What a watcher is told over a whole log: every event that it watches, once and in order.
 --
 -- etcd's API guarantees, "Watch APIs": what a watch is told is ordered, unique, reliable and atomic. Events come by their revisions,
--- none twice, none between is dropped, and those of a revision come together.
-use Rattle.std.specs.Prelude.{◌≡◌, ℕ, nat_eq, Bool, false, ◌||◌, if◌then◌else◌, List, [], ◌∷◌, ◌++◌, Option, Some, None, Result, Ok}
+-- none twice, none between is dropped, and those of a revision come together; and its API reference, "Watch": one for which events
+-- were compacted is told so and cancelled.
+use Rattle.std.specs.Prelude.{◌≡◌, ◌⊎◌, ℕ, nat_eq, Bool, true, false, ◌||◌, if◌then◌else◌, List, [], ◌∷◌, ◌++◌, Option, Some, None, Result, Ok}
 use Rattle.stm_history.specs.History.{History}
 use Rattle.stm_keys.specs.declared.event.Event.{Event}
 use Rattle.stm_watch.specs.declared.watched.Watched.TheVariants.{Key, Range}
-use Rattle.stm_watch.specs.declared.watched.Watching.{Watching}
-use Rattle.stm_watch.specs.Pending.{watching_from, pending, events_told}
+use Rattle.stm_watch.specs.Watching.{Watching}
+use Rattle.stm_watch.specs.Places.{is_lost}
+use Rattle.stm_watch.specs.Pending.{watching_from, pending, first_pending, events_told}
 use Rattle.stm_watch.specs.Calls.{watcher_at}
+use Rattle.stm_txn.specs.Standing.{Standing, IsKeptFor}
 use Rattle.stm_world.specs.declared.event.WorldEvent.{WorldEvent}
 use Rattle.stm_world.specs.declared.event.WorldEvent.TheVariants.{WatchKey, WatchRange, Poll, Cancel}
 use Rattle.stm_world.specs.declared.reply.Reply.{Reply}
-use Rattle.stm_world.specs.declared.reply.Reply.TheVariants.{Watching as WatchingReply, Batch, Cancelled}
+use Rattle.stm_world.specs.declared.reply.Reply.TheVariants.{Watching as WatchingReply, Batch, Cancelled, Lost}
 use Rattle.stm_world.specs.declared.refusal.Denied.{Denied}
 use Rattle.stm_world.specs.Log.{Line, is_id, store}
 use Rattle.stm_world.specs.Headline.{OfEachLog}
@@ -26,10 +29,10 @@ abbrev pub made : ℕ → Watching → Result Reply Denied → Option Watching
 made id w reply = if is_id id (watcher_made reply) then Some w else None
 
 -- the watcher with a number that an event makes: what it watches, and from which revision on
-abbrev pub made_by : ℕ → History → WorldEvent → Result Reply Denied → Option Watching
-made_by id h (WatchKey key from) reply = made id (watching_from h (Key key) from) reply
-made_by id h (WatchRange first end from) reply = made id (watching_from h (Range first end) from) reply
-made_by id h other reply = None
+abbrev pub made_by : ℕ → Standing → WorldEvent → Result Reply Denied → Option Watching
+made_by id s (WatchKey key from) reply = made id (watching_from s.history s.floor (Key key) from) reply
+made_by id s (WatchRange first end from) reply = made id (watching_from s.history s.floor (Range first end) from) reply
+made_by id s other reply = None
 
 abbrev pub or_earlier : Option Watching → Option Watching → Option Watching
 or_earlier None earlier = earlier
@@ -39,14 +42,16 @@ or_earlier (Some w) earlier = Some w
 abbrev pub begun_watching : ℕ → ℕ → List Line → Option Watching
 begun_watching start id [] = None
 begun_watching start id (line ∷ older) =
-    or_earlier (made_by id (store start older).history line.event line.reply) (begun_watching start id older)
+    or_earlier (made_by id (store start older) line.event line.reply) (begun_watching start id older)
 
--- the watcher that a reply tells to be given up
+-- the watcher that a reply tells to be given up: it was cancelled, or a poll found it lost
 abbrev pub watcher_given_up : Result Reply Denied → Option ℕ
 watcher_given_up (Ok (Cancelled watcher)) = Some watcher
+watcher_given_up (Ok (Lost watcher floor)) = Some watcher
 watcher_given_up other = None
 
 abbrev pub gives_up : ℕ → WorldEvent → Result Reply Denied → Bool
+gives_up id (Poll watcher most) reply = is_id id (watcher_given_up reply)
 gives_up id (Cancel watcher) reply = is_id id (watcher_given_up reply)
 gives_up id other reply = false
 
@@ -74,13 +79,20 @@ abbrev pub events_to : ℕ → List Line → List Event
 events_to id [] = []
 events_to id (line ∷ older) = events_to id older ++ told_by id line.event line.reply
 
+-- A watcher that is lost began below the floor, or the first event that is pending for it is below it.
+abbrev pub IsLostFor : History → ℕ → Watching → Watching → Type 0
+IsLostFor h floor begun w = w.lost ≡ true → (begun.lost ≡ true) ⊎ (is_lost floor (first_pending h w) ≡ true)
+
 -- A watcher that began so stands in the store; and what it was told, followed by what is pending for it, is what would be pending
--- for it had it never been polled: each event that it watches from its start on, once, in order.
+-- for it had it never been polled: each event that it watches from its start on, once, in order. Nothing that is pending for it is
+-- compacted, unless it is lost; and it is lost for no other cause.
 pub record IsToldAll (start : ℕ) (log : List Line) (id : ℕ) (begun : Watching) : Type 0 where
   pub w : Watching
   pub stands : watcher_at id (store start log).watchers ≡ Some w
   pub same : w.watched ≡ begun.watched
   pub all : events_to id log ++ events_told (pending (store start log).history w) ≡ events_told (pending (store start log).history begun)
+  pub kept : IsKeptFor (store start log).history (store start log).floor (Some w)
+  pub because : IsLostFor (store start log).history (store start log).floor begun w
 
 -- a watcher is there exactly where it began and was not given up, and it is told all
 abbrev pub IsToldSo : ℕ → List Line → ℕ → Option Watching → Type 0

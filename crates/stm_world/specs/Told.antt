@@ -1,13 +1,14 @@
 -- What the world replies to the calls of its store that are no runner's.
 --
--- etcd's API reference, "Transaction", "Lease" and "Watch": each such call is one of the store, and the reply is its answer.
+-- etcd's API reference, "Transaction", "Lease", "Watch" and "Compaction": each such call is one of the store, and the reply is its answer.
 use Rattle.std.specs.Prelude.{ℕ, List, [], Option, Some, None, Result, Ok, Err}
 use Rattle.stm_outcome.specs.declared.advance.Expired.{Expired}
 use Rattle.stm_outcome.specs.declared.refusal.Refusal.{Refusal as StoreRefusal}
-use Rattle.stm_txn.specs.Standing.{Standing, Step}
+use Rattle.stm_outcome.specs.declared.refusal.Refusal.TheVariants.{Compacted as CompactedRefusal}
+use Rattle.stm_txn.specs.Standing.{Standing, Step, poll_refused}
 use Rattle.stm_watch.specs.declared.watchers.Batch.{Batch}
 use Rattle.stm_world.specs.declared.reply.Reply.{Reply}
-use Rattle.stm_world.specs.declared.reply.Reply.TheVariants.{Advanced, Batch as BatchTold}
+use Rattle.stm_world.specs.declared.reply.Reply.TheVariants.{Advanced, Batch as BatchTold, Lost}
 use Rattle.stm_world.specs.declared.refusal.Refusal.{Refusal}
 use Rattle.stm_world.specs.declared.refusal.Refusal.TheVariants.{Store}
 use Rattle.stm_world.specs.declared.refusal.Denied.{Denied}
@@ -31,6 +32,18 @@ abbrev pub advance_reply : ℕ → List Expired → Option StoreRefusal → Resu
 advance_reply moment expired None = Ok (Advanced moment expired)
 advance_reply moment expired (Some cause) = Err (record { cause = Store cause; expired = expired })
 
--- the reply to a poll: the events, and up to which revision everything is told
+-- the batch of a poll: the events, and up to which revision everything is told
 abbrev pub batch_reply : ℕ → Batch → Reply
 batch_reply watcher batch = BatchTold watcher batch.upto batch.events
+
+-- The reply to a poll of a watcher of a store with this floor: its batch, or that it is lost. (etcd's API reference, "Watch": a watch that is
+-- behind a compaction is told `compact_revision` and that it is cancelled.)
+abbrev pub poll_reply : ℕ → ℕ → Result (Step Batch) StoreRefusal → Result Reply Denied
+poll_reply watcher floor (Ok done) = Ok (batch_reply watcher done.answer)
+poll_reply watcher floor (Err CompactedRefusal) = Ok (Lost watcher floor)
+poll_reply watcher floor (Err cause) = denied (Store cause)
+
+-- the store after a poll of a watcher: a refused one cancels a watcher that is lost
+abbrev pub store_after_poll : ℕ → Standing → Result (Step Batch) StoreRefusal → Standing
+store_after_poll watcher s (Ok done) = done.next
+store_after_poll watcher s (Err cause) = poll_refused s watcher

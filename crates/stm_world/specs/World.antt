@@ -1,8 +1,11 @@
 -- The world's step: from a world and one event to the reply and the next world.
 --
 -- The Go package `concurrency`, "STM", for a runner's step: it makes at most one transaction, the fetch of the key that its
--- program wants or its commit. etcd's API reference, "Transaction", "Lease" and "Watch", for the other events, each of which is
--- one call of the store.
+-- program wants or its commit. etcd's API reference, "Transaction", "Lease", "Watch" and "Compaction", for the other events, each of
+-- which is one call of the store.
+--
+-- The history of a world is whole: a compaction drops nothing of it, but what is below the store's floor can't be read any more, and
+-- watchers that were still to be told of it are lost.
 use Rattle.std.specs.Prelude.{ℕ, ◌+◌, ◌-◌, nat_eq, nat_lt, if◌then◌else◌, List, [], ◌∷◌, ◌++◌, map, length, Option, None, Some}
 use Rattle.std.specs.Prelude.{slice_get, slice_set, Result, Ok, Err}
 use Rattle.stm_history.specs.declared.key_state.ReadAnswer.{ReadAnswer}
@@ -17,10 +20,12 @@ use Rattle.stm_outcome.specs.declared.txn.Txn.{Txn as StoreTxn}
 use Rattle.stm_outcome.specs.declared.advance.Expired.{Expired}
 use Rattle.stm_outcome.specs.declared.answer.FailedCompare.{FailedCompare}
 use Rattle.stm_outcome.specs.declared.refusal.Refusal.{Refusal as StoreRefusal}
+use Rattle.stm_outcome.specs.declared.refusal.Refusal.TheVariants.{Compacted as CompactedRefusal}
 use Rattle.stm_outcome.specs.Outcome.{Done}
 use Rattle.stm_outcome.specs.Commits.{revision_read}
 use Rattle.stm_txn.specs.Standing.{Standing, opening, with_history, transacted, granted, kept_alive, revoked, advanced, watched, polled, cancelled}
-use Rattle.stm_txn.specs.Standing.{terms_of}
+use Rattle.stm_txn.specs.Standing.{terms_of, raised}
+use Rattle.stm_outcome.specs.Terms.{is_below_floor}
 use Rattle.stm_watch.specs.declared.watched.Watched.TheVariants.{Key, Range}
 use Rattle.stm_compile.specs.Committed.{committed}
 use Rattle.stm_compile.specs.Conflicts.{Seen, seen_by}
@@ -31,14 +36,14 @@ use Rattle.stm_entries.specs.declared.entry.Entry.{Entry}
 use Rattle.stm_entries.specs.declared.entry.Entry.TheVariants.{Program, Foreign, Grant as GrantEntry, Renew, Revoke as RevokeEntry, Expire}
 use Rattle.stm_world.specs.declared.event.WorldEvent.{WorldEvent}
 use Rattle.stm_world.specs.declared.event.WorldEvent.TheVariants.{Start, Step, Txn, Grant, Keep, Revoke, Advance}
-use Rattle.stm_world.specs.declared.event.WorldEvent.TheVariants.{WatchKey, WatchRange, Poll, Cancel}
+use Rattle.stm_world.specs.declared.event.WorldEvent.TheVariants.{WatchKey, WatchRange, Poll, Cancel, Compact}
 use Rattle.stm_world.specs.declared.reply.Reply.{Reply}
 use Rattle.stm_world.specs.declared.reply.Reply.TheVariants.{Started, Fetched, Committed, Conflict, GaveUp, Aborted, Faulted, Ended}
-use Rattle.stm_world.specs.declared.reply.Reply.TheVariants.{Txn as TxnDone, Granted, Kept, Revoked, Watching, Cancelled}
+use Rattle.stm_world.specs.declared.reply.Reply.TheVariants.{Txn as TxnDone, Granted, Kept, Revoked, Watching, Cancelled, Compacted}
 use Rattle.stm_world.specs.declared.refusal.Refusal.{Refusal}
 use Rattle.stm_world.specs.declared.refusal.Refusal.TheVariants.{BadLimit, NoRunner}
 use Rattle.stm_world.specs.declared.refusal.Denied.{Denied}
-use Rattle.stm_world.specs.Told.{denied, reply_to, store_after_call, advance_reply, batch_reply}
+use Rattle.stm_world.specs.Told.{denied, reply_to, store_after_call, advance_reply, poll_reply, store_after_poll}
 use Rattle.stm_world.specs.Task.{Task, nothing_known, answer_at, after_fetch, after_conflict, answers_told}
 
 -- a runner whose run goes on: its task, the commits of it that failed, and what it knows in its attempt
@@ -111,6 +116,12 @@ fetch id r key of_rev w =
     replied (Fetched id key (mod_of (key_at h key of_rev)) of_rev (now h)) id
     (Live (record r { known = after_fetch r.task (answer_at h key of_rev) r.known })) w
 
+-- A fetch of the key at the base of the attempt, 0 for the current revision. The store refuses one that is compacted, which ends the run.
+abbrev pub fetch_at : ℕ → Runner → List ℕ → ℕ → World → Stepped
+fetch_at id r key base w =
+    if is_below_floor w.standing.floor base then replied (Ended id CompactedRefusal) id Over w
+    else fetch id r key (revision_read w.standing.history base) w
+
 -- the entry of a commit
 abbrev pub entry_of : Task → List ReadAnswer → Run → ℕ → Entry
 entry_of task reads run revision = Program task.program task.level (answers_told task.level reads) run.output run.trace revision
@@ -160,7 +171,7 @@ finish id r reads run (AbortedEnd text) w = replied (Aborted id text) id Over w
 finish id r reads run (FaultedEnd fault) w = replied (Faulted id fault) id Over w
 
 abbrev pub step_on : ℕ → Runner → List ReadAnswer → Answered → World → Stepped
-step_on id r reads (Wants key trace) w = fetch id r key (revision_read w.standing.history (at_of r.task.level reads)) w
+step_on id r reads (Wants key trace) w = fetch_at id r key (at_of r.task.level reads) w
 step_on id r reads (EndedRun run) w = finish id r reads run run.end w
 
 -- one step of a runner: its program is evaluated on what it has read, the prefetched answers that served among it
@@ -190,9 +201,9 @@ if_changed before after txn = if nat_lt (now before.history) (now after.history)
 abbrev pub expiries : List Expired → List Entry
 expiries expired = map (λ (e : Expired). Expire e.id) expired
 
--- a call that is about watchers, which is no entry
-abbrev pub watch_called : Result Reply Denied → Standing → World → Stepped
-watch_called reply next w = record { reply = reply; next = record { standing = next; runners = w.runners; entries = w.entries } }
+-- a call that is no entry: one about watchers, or a compaction
+abbrev pub quietly_called : Result Reply Denied → Standing → World → Stepped
+quietly_called reply next w = record { reply = reply; next = record { standing = next; runners = w.runners; entries = w.entries } }
 
 -- the step of the world
 abbrev pub step : WorldEvent → World → Stepped
@@ -219,16 +230,19 @@ step (Advance moment) w =
     called (advance_reply moment done.expired done.cause) done.leaves (expiries done.expired) w
 step (WatchKey key from) w =
     let o = watched w.standing (Key key) from in
-    watch_called (reply_to Watching o) (store_after_call w.standing o) w
+    quietly_called (reply_to Watching o) (store_after_call w.standing o) w
 step (WatchRange first end from) w =
     let o = watched w.standing (Range first end) from in
-    watch_called (reply_to Watching o) (store_after_call w.standing o) w
+    quietly_called (reply_to Watching o) (store_after_call w.standing o) w
 step (Poll watcher most) w =
     let o = polled w.standing watcher most in
-    watch_called (reply_to (batch_reply watcher) o) (store_after_call w.standing o) w
+    quietly_called (poll_reply watcher w.standing.floor o) (store_after_poll watcher w.standing o) w
 step (Cancel watcher) w =
     let o = cancelled w.standing watcher in
-    watch_called (reply_to (λ _. Cancelled watcher) o) (store_after_call w.standing o) w
+    quietly_called (reply_to (λ _. Cancelled watcher) o) (store_after_call w.standing o) w
+step (Compact revision) w =
+    let o = raised w.standing revision in
+    quietly_called (reply_to (λ _. Compacted revision) o) (store_after_call w.standing o) w
 
 -- ---- whole runs ----
 

@@ -1,19 +1,23 @@
 -- Logs that are wrong, so that it shows what being right rules out.
-use Rattle.std.specs.Prelude.{◌≡◌, ◌≢◌, ℕ, List, [], ◌∷◌, length, Option, Some, None, Result, Ok, Err}
+use Rattle.std.specs.Prelude.{◌≡◌, ◌≢◌, ℕ, ◌≤◌, true, false, List, [], ◌∷◌, length, Option, Some, None, Result, Ok, Err}
 use Rattle.stm_program.specs.Syntax.{ProgramTree}
 use Rattle.stm_program.specs.declared.level.Level.{Level}
 use Rattle.stm_meaning.specs.declared.run.End.TheVariants.{Done}
 use Rattle.stm_meaning.specs.declared.run.Run.{Run}
-use Rattle.stm_meaning.specs.declared.run.Answered.TheVariants.{Ended}
+use Rattle.stm_meaning.specs.declared.run.Answered.TheVariants.{Ended, Wants}
+use Rattle.stm_meaning.specs.declared.trace_item.TraceItem.{TraceItem}
+use Rattle.stm_outcome.specs.declared.refusal.Refusal.{Refusal as StoreRefusal}
+use Rattle.stm_outcome.specs.Terms.{is_below_floor}
 use Rattle.stm_keys.specs.declared.event.Event.{Event}
-use Rattle.stm_watch.specs.declared.watched.Watching.{Watching}
+use Rattle.stm_watch.specs.Watching.{Watching}
 use Rattle.stm_watch.specs.Pending.{pending}
 use Rattle.stm_watch.specs.Calls.{watcher_at}
 use Rattle.stm_attempt.specs.Settled.{run_on}
+use Rattle.stm_attempt.specs.Fetches.{at_of}
 use Rattle.stm_world.specs.declared.event.WorldEvent.{WorldEvent}
-use Rattle.stm_world.specs.declared.event.WorldEvent.TheVariants.{Start, Step, Poll}
+use Rattle.stm_world.specs.declared.event.WorldEvent.TheVariants.{Start, Step, Poll, Compact}
 use Rattle.stm_world.specs.declared.reply.Reply.{Reply}
-use Rattle.stm_world.specs.declared.reply.Reply.TheVariants.{Started, Fetched, Committed, Conflict, GaveUp, Aborted, Faulted, Ended as EndedReply, Batch}
+use Rattle.stm_world.specs.declared.reply.Reply.TheVariants.{Started, Fetched, Committed, Conflict, GaveUp, Aborted, Faulted, Ended as EndedReply, Batch, Compacted, Lost}
 use Rattle.stm_world.specs.declared.refusal.Denied.{Denied}
 use Rattle.stm_world.specs.Task.{Task}
 use Rattle.stm_world.specs.Log.{Line, begun, running, store, told}
@@ -69,3 +73,21 @@ pub record WrongLogs : Type 0 where
   pub event_not_pending : (start : ℕ) (log : List Line) (id most upto : ℕ) (w : Watching) (event : Event) (events : List Event)
       → watcher_at id (store start log).watchers ≡ Some w → pending (store start log).history w ≡ []
       → IsRight start log (Poll id most) (Ok (Batch id upto (event ∷ events))) → ⊥
+  -- a watcher that is lost is told so: it does not pass over what was compacted
+  pub batch_of_lost : (start : ℕ) (log : List Line) (id most watcher upto : ℕ) (w : Watching) (events : List Event)
+      → watcher_at id (store start log).watchers ≡ Some w → w.lost ≡ true → IsRight start log (Poll id most) (Ok (Batch watcher upto events)) → ⊥
+  -- and no other is
+  pub not_lost : (start : ℕ) (log : List Line) (id most watcher floor : ℕ) (w : Watching) → watcher_at id (store start log).watchers ≡ Some w
+      → w.lost ≡ false → IsRight start log (Poll id most) (Ok (Lost watcher floor)) → ⊥
+  -- at a base that is compacted nothing is fetched
+  pub fetch_below : (start : ℕ) (log : List Line) (id : ℕ) (task : Task) (key : List ℕ) (mod_rev of_rev revision : ℕ) → running id log ≡ Some task
+      → is_below_floor (store start log).floor (at_of task.level (told start id task log).reads) ≡ true
+      → IsRight start log (Step id) (Ok (Fetched id key mod_rev of_rev revision)) → ⊥
+  -- at one that is not, the store refuses no fetch
+  pub refused_fetch : (start : ℕ) (log : List Line) (id : ℕ) (task : Task) (key : List ℕ) (trace : List TraceItem) (cause : StoreRefusal)
+      → running id log ≡ Some task → run_on task.program (told start id task log).reads ≡ Wants key trace
+      → is_below_floor (store start log).floor (at_of task.level (told start id task log).reads) ≡ false
+      → IsRight start log (Step id) (Ok (EndedReply id cause)) → ⊥
+  -- no compaction goes back
+  pub compacted_again : (start : ℕ) (log : List Line) (revision at : ℕ) → revision ≤ (store start log).floor
+      → IsRight start log (Compact revision) (Ok (Compacted at)) → ⊥

@@ -59,4 +59,9 @@ pub enum WorldEvent {
     Cancel {
         watcher: u64,
     },
+    /// The store is compacted: no revision below this one can be read any more, and watchers that were still to be told of one are
+    /// lost.
+    Compact {
+        revision: u64,
+    },
 }

@@ -78,7 +78,9 @@ pub fn keys_are_read_once()
 /// some event; a step of a runner that runs is refused, or a start that may send a commit; a
 /// number is given twice; a runner's step is answered with another runner's reply; a program that is done is
 /// told to have aborted; a poll of a watcher that is there is refused, or one of a watcher that is not there
-/// is answered; a poll tells another watcher's batch, or an event where none is pending.
+/// is answered; a poll tells another watcher's batch, or an event where none is pending; a watcher that is lost is told a batch, or one
+/// that is not is told to be lost; a step fetches at a base that is compacted, or the store refuses one that is not; a compaction at or
+/// below the floor is taken.
 pub fn wrong_logs_are_none()
     ensures { WrongLogs }
 {}
@@ -100,8 +102,9 @@ pub fn wrong_failures_are_none()
 {}
 
 /// A world opens sound, and every step keeps it so: its entries replay to its store, each legal at its point,
-/// and what each runner that has not ended has read, or has prefetched for it, is true of the store's
-/// history. So does an advance that was cut short after some expiries.
+/// what each runner that has not ended has read, or has prefetched for it, is true of the store's history, and
+/// nothing that is pending for a watcher that is not lost is compacted. So does an advance that was cut short after
+/// some expiries.
 ///
 /// In a sound world the revision that a runner's next fetch names is one that the store has reached.
 pub fn worlds_are_sound()
@@ -128,10 +131,12 @@ pub fn answers_are_the_reads()
     ensures { AnswersAreTheReads }
 {}
 
-/// Over every list of events, a watcher is there exactly where it was begun and not cancelled, and by the
-/// batches of its polls it was told the events that it watches from its start on, each once and in order: those
-/// that it was told, followed by those that are pending for it, are all of them. So none is dropped, told twice,
-/// or told before an earlier one.
+/// Over every list of events, a watcher is there exactly where it was begun and neither cancelled nor told to be lost,
+/// and by the batches of its polls it was told the events that it watches from its start on, each once and in order:
+/// those that it was told, followed by those that are pending for it, are all of them, and none of those pending is
+/// compacted, unless the watcher is lost. So none is dropped, told twice, or told before an earlier one, but those that
+/// a lost watcher was still to be told, which its next poll tells of. A watcher is lost only where the first event that
+/// is pending for it is compacted, or where it began below the floor.
 pub fn watchers_are_told()
     ensures { WatchersAreTold }
 {}

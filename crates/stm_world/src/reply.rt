@@ -58,7 +58,8 @@ pub enum Reply {
         runner: u64,
         fault: Fault,
     },
-    /// The store refused the commit. Nothing is committed, and the run is over.
+    /// The store refused the commit, or, as compacted, the fetch of a key at the revision of the attempt. Nothing is committed, and the
+    /// run is over.
     Ended {
         runner: u64,
         cause: Refusal,
@@ -99,5 +100,15 @@ pub enum Reply {
     /// A watcher was given up. Its number is not given again.
     Cancelled {
         watcher: u64,
+    },
+    /// The store was compacted at this revision, which is the lowest that can be read now.
+    Compacted {
+        revision: u64,
+    },
+    /// A polled watcher had lost events: it was not told of all that it watches below `floor`, the lowest revision that could be read at
+    /// the poll. The watcher is given up, and its number is not given again.
+    Lost {
+        watcher: u64,
+        floor: u64,
     },
 }

@@ -150,7 +150,7 @@ static PRINTED: [(&str, &str); 7] = [
 ];
 
 /// Bad scenarios of jobs, each with what is said of its first fault.
-static REFUSED: [(&str, &str); 8] = [
+static REFUSED: [(&str, &str); 9] = [
     ("[[\"step\",1]]", "stmrun: bad scenario at /0: Shape\n"),
     (
         "[[\"start\",\"Serializable\",0,[]]]",
@@ -171,6 +171,10 @@ static REFUSED: [(&str, &str); 8] = [
     (
         "[[\"begin\",5],[\"start\",\"Serializable\",1,[]],[\"cancel\",1]]",
         "stmrun: bad scenario at /2: Shape\n",
+    ),
+    (
+        "[[\"txn\",[],[[\"put\",\"a\",\"1\",0]],[]],[\"compact\",2],[\"start\",\"Serializable\",0,[]]]",
+        "stmrun: bad scenario at /1: Shape\n",
     ),
     // A fault of reading comes before an event that is no job, wherever it stands.
     (

@@ -2,7 +2,7 @@
 //! the rules of leases and of entries, and never from a run.
 
 use crate::halls::making::Change;
-use crate::halls::player::{Step, is_told};
+use crate::halls::player::{Opening, Step, is_told};
 use std::test::Fail;
 
 /// Keys on lease 1 and lease 2, one of which moves from the first to the second.
@@ -21,5 +21,5 @@ const STEPS: [Step; 7] = [
 fn a_moved_key_goes_with_its_last_lease(rt: HostRuntime) -> Result<(), Fail> {
     let expected =
         "2; 3; expired 1@3; expired 2@4; 4: a absent at 4 of 4; 0 keys; entries foreign foreign expire 1 expire 2; ";
-    is_told(&rt, rt.alloc(), &[], &STEPS, expected)
+    is_told(&rt, rt.alloc(), Opening::Filled(&[]), &STEPS, expected)
 }

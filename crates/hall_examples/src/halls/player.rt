@@ -13,6 +13,15 @@ use stm_hall::{Hall, Ready, prepare};
 use stm_program::Program;
 use stm_txn::{Refusal, Store};
 
+/// What stands in the store that a hall is made over.
+#[derive(Clone, Copy)]
+pub(crate) enum Opening {
+    /// Lease 1 of 5 seconds and lease 2 of 10, and these changes.
+    Filled(&'static [Change]),
+    /// "a" at revision 2 and "b" at revision 3, both put as "1", compacted at 3.
+    Compacted,
+}
+
 /// A step of an example, in constants.
 #[derive(Clone, Copy)]
 pub(crate) enum Step {
@@ -179,10 +188,24 @@ fn fill(alloc: Global, store: &mut Store, changes: &[Change]) -> Result<(), Refu
     change(alloc, store, changes)
 }
 
-/// A hall over a store with these leases and changes.
-fn hall_over(alloc: Global, changes: &[Change]) -> Result<Hall, Fail> {
+/// Puts "a", then "b", and compacts the store at the second revision.
+fn compact(alloc: Global, store: &mut Store) -> Result<(), Refusal> {
+    change(alloc, store, &[Change::Put("a", 0)])?;
+    change(alloc, store, &[Change::Put("b", 0)])?;
+    store.compact(3)
+}
+
+fn prepare_store(alloc: Global, store: &mut Store, opening: Opening) -> Result<(), Refusal> {
+    match opening {
+        Opening::Filled(changes) => fill(alloc, store, changes),
+        Opening::Compacted => compact(alloc, store),
+    }
+}
+
+/// A hall over a store with what stands in it.
+fn hall_over(alloc: Global, opening: Opening) -> Result<Hall, Fail> {
     let mut store = Store::new(alloc)?;
-    match fill(alloc, &mut store, changes) {
+    match prepare_store(alloc, &mut store, opening) {
         Ok(()) => Ok(Hall::new(alloc, store)),
         Err(refusal) => {
             drop(store);
@@ -195,33 +218,33 @@ fn hall_over(alloc: Global, changes: &[Change]) -> Result<Hall, Fail> {
 fn play(
     alloc: Global,
     program: &Program,
-    changes: &[Change],
+    opening: Opening,
     steps: &[Step],
 ) -> Result<String, Fail> {
     let mut told = String::new(alloc);
-    let mut hall = hall_over(alloc, changes)?;
+    let mut hall = hall_over(alloc, opening)?;
     let done = take_all(alloc, &mut told, &mut hall, program, steps);
     drop(hall);
     done?;
     Ok(told)
 }
 
-fn played(alloc: Global, changes: &[Change], steps: &[Step]) -> Result<String, Fail> {
+fn played(alloc: Global, opening: Opening, steps: &[Step]) -> Result<String, Fail> {
     let program = emit_a(alloc)?;
-    let told = play(alloc, &program, changes, steps);
+    let told = play(alloc, &program, opening, steps);
     drop(program);
     told
 }
 
-/// Asserts what the steps tell, in a hall over a store with lease 1 of 5 seconds, lease 2 of 10, and these changes.
+/// Asserts what the steps tell, in a hall over a store in which this stands.
 pub(crate) fn is_told(
     rt: &impl Abort,
     alloc: Global,
-    changes: &[Change],
+    opening: Opening,
     steps: &[Step],
     expected: &str,
 ) -> Result<(), Fail> {
-    let told = played(alloc, changes, steps)?;
+    let told = played(alloc, opening, steps)?;
     assert_eq!(rt; told.as_str(), expected);
     Ok(())
 }

@@ -2,8 +2,11 @@
 //! expected comes from the rules of fetches and commits, and never from a run.
 
 use crate::halls::making::Change;
-use crate::halls::player::{Step, is_told};
+use crate::halls::player::{Opening, Step, is_told};
 use std::test::Fail;
+
+/// A store that put "a" as "1" at revision 2.
+const A_AT_TWO: Opening = Opening::Filled(&[Change::Put("a", 0)]);
 
 /// Steps on a hall over a store that put "a" as "1" at revision 2, and what is told of them.
 const EXAMPLES: [(&[Step], &str); 7] = [
@@ -51,7 +54,7 @@ const EXAMPLES: [(&[Step], &str); 7] = [
 #[test]
 fn a_hall_answers_by_what_its_store_has(rt: HostRuntime) -> Result<(), Fail> {
     for (steps, expected) in EXAMPLES {
-        is_told(&rt, rt.alloc(), &[Change::Put("a", 0)], steps, expected)?;
+        is_told(&rt, rt.alloc(), A_AT_TWO, steps, expected)?;
     }
     Ok(())
 }

@@ -49,11 +49,17 @@ fn start(world: &mut World, program: Program, level: Level) -> Result<u64, Fail>
     Ok(runner)
 }
 
-/// Runs a program of one put.
-fn tell_after_put(alloc: Global, told: &mut String, world: &mut World) -> Result<(), Fail> {
-    let program = program_of(alloc, r#"[["put","a","1",0]]"#)?;
+/// Runs a program that reads nothing, so that its first step commits.
+fn run(alloc: Global, world: &mut World, text: &str) -> Result<(), Fail> {
+    let program = program_of(alloc, text)?;
     let runner = start(world, program, Level::ReadCommitted)?;
     drop(take(world, WorldEvent::Step { runner })?);
+    Ok(())
+}
+
+/// Runs a program of one put.
+fn tell_after_put(alloc: Global, told: &mut String, world: &mut World) -> Result<(), Fail> {
+    run(alloc, world, r#"[["put","a","1",0]]"#)?;
     Ok(tell_world(told, world)?)
 }
 
@@ -61,6 +67,49 @@ fn tell_after_put(alloc: Global, told: &mut String, world: &mut World) -> Result
 pub fn tell_put(alloc: Global, told: &mut String) -> Result<(), Fail> {
     let mut world = World::new(alloc)?;
     let done = tell_after_put(alloc, told, &mut world);
+    drop(world);
+    done
+}
+
+/// The numbers of "a" as it was at a revision, or why it can't be read there.
+fn tell_at(told: &mut String, keys: &Keys, revision: u64) -> Result<(), AllocError> {
+    match keys.get_at("a", revision) {
+        Ok(None) => told.push_str("; absent"),
+        Ok(Some(state)) => write!(
+            told,
+            "; {} {} {}",
+            state.create_rev, state.mod_rev, state.version
+        ),
+        Err(cause) => write!(told, "; {}", cause.name()),
+    }
+}
+
+/// The counter, the number of entries and the floor, and "a" at revisions 2 and 3.
+fn tell_past(told: &mut String, world: &World) -> Result<(), AllocError> {
+    let keys = world.store().keys();
+    write!(
+        told,
+        "{} {} {}",
+        keys.revision(),
+        world.history().len(),
+        keys.floor()
+    )?;
+    tell_at(told, keys, 2)?;
+    tell_at(told, keys, 3)
+}
+
+/// Puts "a" twice, and compacts the store at the second put.
+fn tell_after_compaction(alloc: Global, told: &mut String, world: &mut World) -> Result<(), Fail> {
+    run(alloc, world, r#"[["put","a","1",0]]"#)?;
+    run(alloc, world, r#"[["put","a","2",0]]"#)?;
+    drop(take(world, WorldEvent::Compact { revision: 3 })?);
+    Ok(tell_past(told, world)?)
+}
+
+/// What a world tells whose store was compacted at the second put of "a".
+pub fn tell_compaction(alloc: Global, told: &mut String) -> Result<(), Fail> {
+    let mut world = World::new(alloc)?;
+    let done = tell_after_compaction(alloc, told, &mut world);
     drop(world);
     done
 }

@@ -8,7 +8,7 @@ use std::test::Fail;
 const REPLACE: &str = r#"["txn",[],[["del","a"],["put","c","2",0]],[]]"#;
 
 /// Steps on a new store, and what is told of them.
-const EXAMPLES: [(&[Step], &str); 8] = [
+const EXAMPLES: [(&[Step], &str); 12] = [
     // A key is put and deleted.
     (
         &[
@@ -115,6 +115,75 @@ const EXAMPLES: [(&[Step], &str); 8] = [
             Step::Present,
         ],
         "2; 3; 0:; ",
+    ),
+    // A compaction leaves what the keys are at its revision: below it no revision is read, and a key goes on with its numbers.
+    (
+        &[
+            Step::Change("a", "1"),
+            Step::Change("a", "2"),
+            Step::Change("b", "1"),
+            Step::Floor,
+            Step::Compact(4),
+            Step::Floor,
+            Step::Read(3),
+            Step::Read(4),
+            Step::Txn(r#"["txn",[],[["get","a",3]],[]]"#),
+            Step::Txn(r#"["txn",[],[["get","a",4]],[]]"#),
+            Step::Compact(4),
+            Step::Compact(5),
+            Step::Events(4),
+            Step::Change("a", "3"),
+            Step::Read(0),
+            Step::Counters,
+        ],
+        "2; 3; 4; 0; done; 4; Compacted; 2/2/3/2/0; Compacted; true 4 get 4 2/2/3/2/0; Compacted; FutureRevision; events PUT b 1/4/4/1/0; 5; \
+         3/2/5/3/0; 5 1 4 3/2/5/3/0 2/2/6/4/7; ",
+    ),
+    // A raised floor refuses the same reads, and drops nothing.
+    (
+        &[
+            Step::Change("a", "1"),
+            Step::Change("a", "2"),
+            Step::RaiseFloor(3),
+            Step::Read(2),
+            Step::LookBack(2),
+            Step::Read(3),
+            Step::RaiseFloor(3),
+            Step::RaiseFloor(4),
+            Step::Compact(3),
+            Step::Floor,
+        ],
+        "2; 3; done; Compacted; 1/2/2/1/0; 2/2/3/2/0; Compacted; FutureRevision; Compacted; 3; ",
+    ),
+    // A key whose deletion was dropped begins anew, and one whose puts were dropped is still there.
+    (
+        &[
+            Step::Change("a", "1"),
+            Step::Change("a", "-"),
+            Step::Change("b", "1"),
+            Step::Change("b", "2"),
+            Step::Compact(5),
+            Step::Present,
+            Step::Counters,
+            Step::Change("a", "3"),
+            Step::Read(0),
+            Step::Read(5),
+        ],
+        "2; 3; 4; 5; done; 1: b=2; 5 1 5 - 2/6/6/1/7; 6; 3/6/6/1/0; -; ",
+    ),
+    // A lease ends with the key that was put on it before the floor.
+    (
+        &[
+            Step::Grant(7, 5),
+            Step::Txn(r#"["txn",[],[["put","a","1",7]],[]]"#),
+            Step::Change("b", "1"),
+            Step::Compact(3),
+            Step::Read(3),
+            Step::Revoke(7),
+            Step::Read(0),
+            Step::Present,
+        ],
+        "done; true 2 put; 3; done; 1/2/2/1/7; at 4; -; 1: b=1; ",
     ),
 ];
 

@@ -39,6 +39,14 @@ pub enum Step {
     Unlike(u64),
     /// Tells what "a" was at a revision.
     Read(u64),
+    /// Tells what "a" was at a revision that has come, below the floor too.
+    LookBack(u64),
+    /// Compacts the store at a revision.
+    Compact(u64),
+    /// Makes a revision the floor, and drops nothing.
+    RaiseFloor(u64),
+    /// Tells the floor.
+    Floor,
     /// Tells the events of every revision from 0 on.
     History,
     /// Tells the events of the last revision.
@@ -83,6 +91,10 @@ fn take(alloc: Global, told: &mut String, store: &mut Store, step: Step) -> Resu
         Step::PutNumbers(count) => transactions::put_numbers(alloc, told, store, count),
         Step::Unlike(count) => keys::tell_unlike(alloc, told, store.keys(), count),
         Step::Read(revision) => keys::tell_read(told, store.keys(), revision),
+        Step::LookBack(revision) => keys::tell_back(told, store.keys(), revision),
+        Step::Compact(revision) => tell_done(told, store.compact(revision)),
+        Step::RaiseFloor(revision) => tell_done(told, store.raise_floor(revision)),
+        Step::Floor => write!(told, "{}", store.floor()),
         Step::History => keys::tell_history(told, store.keys()),
         Step::Last => keys::tell_each(told, store.keys().last_events()),
         Step::Present => keys::tell_present(alloc, told, store.keys()),

@@ -5,7 +5,7 @@ use crate::stores::player::{PUT_THREE, Step, is_told};
 use std::test::Fail;
 
 /// Steps on a store that opens at 1, and what is told of them.
-const EXAMPLES: [(&[Step], &str); 7] = [
+const EXAMPLES: [(&[Step], &str); 8] = [
     // A watcher is told what happened before.
     // A watcher that starts below the counter is ready at once, and is told one revision after the other.
     (
@@ -130,6 +130,30 @@ const EXAMPLES: [(&[Step], &str); 7] = [
         ],
         "done; 1; 2; NoWatcher; true 1 get 1 null del 0; none; true 2 put; at 3; 1; upto 2 PUT a 1/2/2/1/1; \
          upto 3 DELETE a 3; none; upto 3; EmptyKey; EmptyKey; 3; ",
+    ),
+    // A compaction loses who was not told of what it drops: the next poll says so, and cancels the watcher. The others lose nothing. A
+    // watcher from below the floor is lost from its start, and can be cancelled as any other; one from the floor on is told its events.
+    (
+        &[
+            Step::Watch("a", 0),
+            Step::Watch("c", 0),
+            Step::Change("a", "1"),
+            Step::Change("b", "1"),
+            Step::Compact(3),
+            Step::Next,
+            Step::Poll(1, 9),
+            Step::Poll(1, 9),
+            Step::Next,
+            Step::Poll(2, 9),
+            Step::Watch("a", 2),
+            Step::Next,
+            Step::Poll(3, 9),
+            Step::Watch("a", 2),
+            Step::Cancel(4),
+            Step::Watch("b", 3),
+            Step::Poll(5, 9),
+        ],
+        "1; 2; 2; 3; done; 1; Compacted; NoWatcher; none; upto 3; 3; 3; Compacted; 4; done; 5; upto 3 PUT b 1/3/3/1/0; ",
     ),
 ];
 

@@ -11,6 +11,6 @@ returns-clause-in_range c =
     record {
       of_rev = small;
       revision = small;
-      state = subst (λ (o : Option KeyState). IfSome o StateFits) (sym (c.in_ok-kv.ensures ∙ c.state_at.ensures))
+      state = subst (λ (o : Option KeyState). IfSome o StateFits) (sym (c.in_ok-kv.ensures ∙ c.look_back.ensures))
           (c.requires.numbers c.as_str.result.now r);
     }

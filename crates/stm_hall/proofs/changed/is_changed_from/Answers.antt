@@ -10,7 +10,7 @@ use Rattle.stm_hall.proofs.changed.is_changed_from.Goals as goal
 pub loop-number-init : goal.loop-number-init
 loop-number-init c =
     let h : History = c.args.keys.now.history in
-    let start : c.revision-number.result ≡ h.opening + length h.revisions = c.revision-number.ensures.value in
+    let start : c.revision-number.result ≡ h.opening.number + length h.revisions = c.revision-number.ensures.value in
     record {
       opened = omega (arith, start);
       reached = omega (arith, start);
@@ -34,7 +34,7 @@ loop-number-preserved c =
     let h : History = c.args.keys.now.history in
     let number : ℕ = c.loop-number.number in
     let key : List ℕ = c.args.key.now in
-    let low : h.opening ≤ c.args.start = c.requires in
+    let low : h.opening.number ≤ c.args.start = c.requires in
     let above : c.args.start < number = omega (arith, c.loop-number-test.true) in
     let reached : number ≤ now h = c.loop-number.invariant.reached in
     let none : is_some (event_about key (events_of h number)) ≡ false =

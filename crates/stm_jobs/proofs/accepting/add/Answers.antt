@@ -49,6 +49,11 @@ returns-in-Step c =
     subst (λ (e : WorldEvent). TellsFault c.fault.result (add_event (sorted_of c.args.sorted.now) e)) (sym c.in-Step.is)
     (subst (λ (r : ReadError). TellsFault r of_no_shape) (sym c.fault.ensures) refl)
 
+pub returns-in-Compact : goal.returns-in-Compact
+returns-in-Compact c =
+    subst (λ (e : WorldEvent). TellsFault c.fault-in-Compact.result (add_event (sorted_of c.args.sorted.now) e)) (sym c.in-Compact.is)
+    (subst (λ (r : ReadError). TellsFault r of_no_shape) (sym c.fault-in-Compact.ensures) refl)
+
 pub returns-in-WatchKey : goal.returns-in-WatchKey
 returns-in-WatchKey c =
     subst (λ (e : WorldEvent). TellsFault c.fault-in-WatchKey.result (add_event (sorted_of c.args.sorted.now) e)) (sym c.in-WatchKey.is)

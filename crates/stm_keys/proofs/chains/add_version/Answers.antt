@@ -1,7 +1,7 @@
 use Rattle.std.proofs.Common.{◌≡◌, ◌∙◌, ap, sym, subst, cond, Some, List, ℕ, slice_get}
 use Rattle.std.specs.Prelude.{bytes_eq}
 use Rattle.stm_keys.specs.Events.{is_put}
-use Rattle.stm_keys.specs.Places.{StandFirst, names_of}
+use Rattle.stm_keys.specs.Chains.{StandFirst, names_of}
 use Rattle.stm_keys.proofs.chains.add_version.Goals as goal
 
 pub returns-in-Put-clause-first : goal.returns-in-Put-clause-first

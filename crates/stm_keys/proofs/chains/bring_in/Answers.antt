@@ -1,7 +1,7 @@
 use Rattle.std.proofs.Common.{◌<◌, ℕ, List, sym, subst, arith}
 use Rattle.std.specs.Prelude.{string_bytes}
 use Rattle.std.specs.Map.{keys_of}
-use Rattle.stm_keys.specs.Places.{names_of}
+use Rattle.stm_keys.specs.Chains.{names_of}
 use Rattle.stm_keys.proofs.Present.{distinct_texts}
 use Rattle.stm_keys.proofs.Order.{stands_at, names_long, swapped, comes_in, is_in, same_found}
 use Rattle.stm_keys.proofs.chains.bring_in.Goals as goal

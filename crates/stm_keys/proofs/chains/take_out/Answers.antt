@@ -1,7 +1,7 @@
 use Rattle.std.proofs.Common.{◌≡◌, ◌+◌, ◌-◌, ℕ, List, subst, arith}
 use Rattle.std.specs.Prelude.{string_bytes}
 use Rattle.std.specs.Map.{keys_of}
-use Rattle.stm_keys.specs.Places.{StandFirst, names_of}
+use Rattle.stm_keys.specs.Chains.{StandFirst, names_of}
 use Rattle.stm_keys.proofs.Present.{distinct_texts}
 use Rattle.stm_keys.proofs.Order.{stands_at, swapped, goes_out, is_out, same_found}
 use Rattle.stm_keys.proofs.chains.take_out.Goals as goal

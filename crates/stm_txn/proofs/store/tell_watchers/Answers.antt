@@ -1,5 +1,9 @@
+use Rattle.std.proofs.Common.{◌≤◌, subst, sym}
 use Rattle.stm_txn.proofs.Touching.{told_of_it}
 use Rattle.stm_txn.proofs.store.tell_watchers.Goals as goal
+
+pub touched-requires : goal.touched-requires
+touched-requires c = subst (λ n. c.args.watchers.now.floor ≤ n) (sym c.revision.ensures.value) c.requires
 
 pub returns-clause-stand : goal.returns-clause-stand
 returns-clause-stand c =

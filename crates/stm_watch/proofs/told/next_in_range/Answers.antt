@@ -10,7 +10,7 @@ use Rattle.stm_watch.proofs.told.next_in_range.Goals as goal
 pub loop-passed-init : goal.loop-passed-init
 loop-passed-init c =
     let h : History = c.args.keys.now.history in
-    let start : c.max-passed.result ≡ max c.args.above h.opening = c.max-passed.ensures ∙ ap (λ (n : ℕ). max c.args.above n) c.opening.ensures in
+    let start : c.max-passed.result ≡ max c.args.above h.opening.number = c.max-passed.ensures ∙ ap (λ (n : ℕ). max c.args.above n) c.below.ensures in
     record {
       opened = omega (arith, start);
       told = from_the_later h.opening c.args.above c.args.watched.now h.revisions

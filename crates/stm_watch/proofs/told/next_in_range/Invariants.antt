@@ -6,7 +6,7 @@ use Rattle.stm_watch.proofs.told.next_in_range.Given as goal
 -- nothing was told of the revisions that were passed
 abbrev pub invariant-loop-passed : goal.invariant-loop-passed
 invariant-loop-passed l = record {
-  opened : l.keys.history.opening ≤ l.passed;
+  opened : l.keys.history.opening.number ≤ l.passed;
   told : told_above l.keys.history.opening l.above l.watched l.keys.history.revisions
       ≡ told_above l.keys.history.opening l.passed l.watched l.keys.history.revisions;
 }

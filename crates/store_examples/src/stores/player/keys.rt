@@ -15,6 +15,14 @@ pub fn tell_read(told: &mut String, keys: &Keys, revision: u64) -> Result<(), Al
     }
 }
 
+/// What "a" was at a revision, below the floor too; nothing above the counter.
+pub fn tell_back(told: &mut String, keys: &Keys, revision: u64) -> Result<(), AllocError> {
+    if revision > keys.revision() {
+        return Ok(());
+    }
+    tell_state(told, keys.look_back("a", revision), "-")
+}
+
 /// Whether "a" is what it is at the revision that put this number there, the first one having put 1 at revision 2.
 fn is_numbered(alloc: Global, keys: &Keys, number: u64) -> Result<bool, AllocError> {
     let revision = number.saturating_add(1);

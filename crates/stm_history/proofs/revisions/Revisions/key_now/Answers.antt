@@ -2,13 +2,14 @@ use Rattle.std.proofs.Common.{◌≡◌, ◌≤◌, ◌∙◌, sym, ap, subst, a
 use Rattle.std.proofs.lemmas.Result.{IfOk-weaker}
 use Rattle.stm_history.specs.declared.change.Change.{Change}
 use Rattle.stm_history.specs.declared.key_state.KeyState.{KeyState}
+use Rattle.stm_history.specs.Opening.{Opening, opening_at}
 use Rattle.stm_history.specs.History.{History, now, number_of_last, key_after, key_now, mod_of}
 use Rattle.stm_history.proofs.HistoryLaws.{mod_is_reached}
 use Rattle.stm_history.proofs.revisions.Revisions.key_now.Goals as goal
 
 pub returns-clause-reached : goal.returns-clause-reached
 returns-clause-reached c =
-    let opening = c.self.inside.opening in
+    let opening : Opening = opening_at c.self.inside.opening in
     let key = c.args.key.now in
     let told : key_after opening key (reverse c.as_slice.result.now) ≡ key_now c.args.self.now key =
     ap (λ (l : List (List Change)). key_after opening key (reverse l)) c.as_slice.ensures.value ∙ ap (λ (h : History). key_now h key) c.self.view_is in
@@ -19,7 +20,7 @@ returns-clause-reached c =
 
 pub returns-clause-fits : goal.returns-clause-fits
 returns-clause-fits c =
-    let opening = c.self.inside.opening in
+    let opening : Opening = opening_at c.self.inside.opening in
     let key = c.args.key.now in
     let told : key_after opening key (reverse c.as_slice.result.now) ≡ key_after opening key (reverse c.self.inside.revisions.items) =
     ap (λ (l : List (List Change)). key_after opening key (reverse l)) c.as_slice.ensures.value in

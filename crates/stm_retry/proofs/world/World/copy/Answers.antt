@@ -1,9 +1,11 @@
-use Rattle.std.proofs.Common.{◌∙◌, sym, subst}
-use Rattle.stm_world.specs.Sound.{IsSound}
+use Rattle.std.proofs.Common.{◌∙◌, sym, ap, subst}
+use Rattle.stm_world.specs.World.{World}
+use Rattle.stm_retry.specs.Kept.{whole_world, IsKeptBy}
 use Rattle.stm_retry.proofs.world.World.copy.Goals as goal
 
 pub invariant_of-result : goal.invariant_of-result
-invariant_of-result c = subst IsSound (sym c.in_ok-machine.ensures) c.self.invariant
+invariant_of-result c =
+    subst (λ (m : World). IsKeptBy m.standing (whole_world c.self.inside.opened m)) (sym c.in_ok-machine.ensures) c.self.invariant
 
 pub returns : goal.returns
-returns c = c.in_ok-machine.ensures ∙ c.self.view_is
+returns c = ap (whole_world c.self.inside.opened) c.in_ok-machine.ensures ∙ c.self.view_is

@@ -3,22 +3,37 @@ use Rattle.stm_world.specs.World.{World}
 use Rattle.stm_world.specs.Headline.{Holds}
 use Rattle.stm_world.specs.ReadsNow.{ReadsAreNow}
 use Rattle.stm_world.proofs.ReadsNow.{reads_are_now}
-use Rattle.stm_retry.proofs.WorldLemmas.{tells_sound, step_holds}
+use Rattle.stm_retry.specs.Kept.{whole_world}
+use Rattle.stm_retry.proofs.WorldLemmas.{step_holds}
+use Rattle.stm_retry.proofs.KeptWorlds.{step_leaves, bases_are_reached}
 use Rattle.stm_retry.proofs.world.World.step.Goals as goal
 
+pub step-requires : goal.step-requires
+step-requires c = bases_are_reached c.self.inside.opened c.self.inside.machine c.self.invariant
+
 pub invariant_of-self : goal.invariant_of-self
-invariant_of-self c = tells_sound c.args.event.now c.step.result c.self.inside.machine c.step.new.self c.self.invariant c.step.ensures
+invariant_of-self c =
+    (step_leaves c.args.event.now c.step.result c.self.inside.opened c.self.inside.machine c.step.new.self c.self.invariant c.step.ensures).is_kept
+
+pub returns-clause-told : goal.returns-clause-told
+returns-clause-told c =
+    let told =
+    (step_leaves c.args.event.now c.step.result c.self.inside.opened c.self.inside.machine c.step.new.self c.self.invariant c.step.ensures).tells in
+    rw c.self.view_is at told
 
 -- what a commit has read is so before the step, since the world is sound
 pub returns-clause-reads : goal.returns-clause-reads
 returns-clause-reads c =
-    let old : World = c.self.inside.machine in
-    let now : ReadsAreNow c.args.event.now old = reads_are_now c.args.event.now old c.self.invariant in
+    let old : World = whole_world c.self.inside.opened c.self.inside.machine in
+    let now : ReadsAreNow c.args.event.now old = reads_are_now c.args.event.now old c.self.invariant.sound in
     rw c.self.view_is at now
 
 -- the headline goes on over an event that memory sufficed for
 pub returns-clause-headline : goal.returns-clause-headline
 returns-clause-headline c = λ had start before earlier holds.
-    let old : World = c.self.inside.machine in
+    let old : World = whole_world c.self.inside.opened c.self.inside.machine in
+    let new : World = whole_world c.self.inside.opened c.step.new.self in
+    let told =
+    (step_leaves c.args.event.now c.step.result c.self.inside.opened c.self.inside.machine c.step.new.self c.self.invariant c.step.ensures).tells in
     let before_step : Holds start before earlier old = subst (λ (w : World). Holds start before earlier w) (sym c.self.view_is) holds in
-    step_holds start before earlier c.args.event.now c.step.result old c.step.new.self had c.step.ensures before_step
+    step_holds start before earlier c.args.event.now c.step.result old new had told before_step

@@ -1,6 +1,6 @@
-use Rattle.std.proofs.Common.{◌≡◌, ◌∙◌, sym, ap, subst, ℕ, List, map}
+use Rattle.std.proofs.Common.{◌≡◌, ◌≤◌, ◌∙◌, sym, ap, subst, ℕ, List, map, arith}
 use Rattle.stm_history.specs.declared.change.Change.{Change}
-use Rattle.stm_history.specs.History.{History, now, key_now, change_of, HasDistinctKeys}
+use Rattle.stm_history.specs.History.{History, now, add_revision, key_now, change_of, HasDistinctKeys}
 use Rattle.stm_keys.specs.Events.{change_of_event, events_of}
 use Rattle.stm_leases.specs.Leases.{Leases, lease_of}
 use Rattle.stm_watch.specs.Calls.{StandFor}
@@ -11,6 +11,11 @@ use Rattle.stm_txn.proofs.Bounding.{hung_fit}
 use Rattle.stm_txn.proofs.Ending.{still_stored}
 use Rattle.stm_txn.proofs.Moving.{last_changes}
 use Rattle.stm_txn.proofs.store.Store.change.Goals as goal
+
+pub tell_watchers-requires : goal.tell_watchers-requires
+tell_watchers-requires c =
+    let more : now c.apply.new.self.history ≡ now (add_revision c.self.inside.keys.history c.args.changes.items) = ap now c.in-Ok.ensures.ok in
+    omega (arith, c.self.invariant.3, c.self.invariant.4, more)
 
 pub move_keys-requires-clause-distinct : goal.move_keys-requires-clause-distinct
 move_keys-requires-clause-distinct c =
@@ -38,7 +43,7 @@ invariant_of-self-2 c =
     ap (map change_of_event) c.last_events.ensures ∙ ap (λ (x : History). map change_of_event (events_of x (now x))) c.in-Ok.ensures.ok
     ∙ last_changes h cs in
     subst (λ (next : History). ((key : List ℕ) → lease_of c.move_keys.new.leases key ≡ hanging (key_now next key)) × LeasesFit next
-    × StandFor next c.tell_watchers.new.watchers)
+    × StandFor next c.tell_watchers.new.watchers × (c.tell_watchers.new.watchers.floor ≡ c.apply.new.self.floor) × (c.apply.new.self.floor ≤ now next))
     (sym c.in-Ok.ensures.ok) (
       λ key.
           still_stored h cs key (lease_of c.reserve_attach.new.self key) (lease_of c.move_keys.new.leases key)
@@ -46,10 +51,17 @@ invariant_of-self-2 c =
           (c.move_keys.ensures.keys key
           ∙ ap (λ (l : List Change). hung_after (change_of key l) (lease_of c.reserve_attach.new.self key)) shown),
       (
-        hung_fit c.self.inside.leases.live cs c.is_live-ids_are_in_range.ensures.in_range
-            (subst (λ (s : StoreView). HangOnLive s.standing.live (hangs_of cs)) (sym c.self.view_is) c.requires.live),
-        c.self.invariant.1,
+        c.self.invariant.1.0,
+        (
+          hung_fit c.self.inside.leases.live cs c.is_live-ids_are_in_range.ensures.in_range
+              (subst (λ (s : StoreView). HangOnLive s.standing.live (hangs_of cs)) (sym c.self.view_is) c.requires.live),
+          c.self.invariant.1.1,
+        ),
       ),
       subst (λ (x : History). StandFor x c.tell_watchers.new.watchers) c.in-Ok.ensures.ok
           (c.tell_watchers.ensures.stand h cs c.in-Ok.ensures.ok c.self.invariant.2),
+      c.tell_watchers.ensures.floor
+          ∙ c.self.invariant.3
+          ∙ sym c.in-Ok.ensures.kept.1,
+      omega (arith, c.self.invariant.4, c.in-Ok.ensures.kept.1),
     )

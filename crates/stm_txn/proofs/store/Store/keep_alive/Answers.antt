@@ -12,4 +12,6 @@ invariant_of-self c = (
       ∙ c.self.invariant.0 key,
   c.self.invariant.1,
   c.self.invariant.2,
+  c.self.invariant.3,
+  c.self.invariant.4,
 )

@@ -1,10 +1,10 @@
-use Rattle.std.proofs.Common.{◌∙◌, sym, ap, subst, ℕ, List, Option}
+use Rattle.std.proofs.Common.{◌∙◌, ◌≤◌, sym, ap, subst, ℕ, arith}
 use Rattle.std.specs.Cmp.Lexicographic.{slice_cmp}
 use Rattle.std.specs.Ordering.{nat_cmp}
 use Rattle.std.specs.FinMap as finmap
-use Rattle.stm_history.specs.History.{History, key_now}
+use Rattle.stm_history.specs.History.{History, now, key_now}
 use Rattle.stm_leases.specs.Live.{Live}
-use Rattle.stm_watch.specs.declared.watched.Watcher.{Watcher}
+use Rattle.stm_watch.specs.Places.{WatchersView}
 use Rattle.stm_watch.specs.Calls.{StandFor}
 use Rattle.stm_txn.specs.Leasing.{hanging}
 use Rattle.stm_outcome.specs.Numbers.{LeasesFit}
@@ -16,8 +16,11 @@ invariant_of-result c = (
       ap (λ (m : finmap.FinMap (slice_cmp nat_cmp) ℕ). finmap.get m key) c.new.ensures.attached
       ∙ finmap.get-empty (slice_cmp nat_cmp) key
       ∙ ap (λ h. hanging (key_now h key)) (sym c.with_revision.ensures.history),
-  subst (λ (h : History). LeasesFit h) (sym c.with_revision.ensures.history) tt,
-  subst (λ (ws : List (Option Watcher)). StandFor c.with_revision.result.history ws) (sym c.requires.unwatched) tt,
+  subst (λ (h : History). LeasesFit h) (sym c.with_revision.ensures.history) ((λ key. tt), tt),
+  subst (λ (v : WatchersView). StandFor c.with_revision.result.history v) (sym c.requires.unwatched) tt,
+  ap (λ (v : WatchersView). v.floor) c.requires.unwatched
+      ∙ sym c.with_revision.ensures.floor,
+  subst (λ n. n ≤ now c.with_revision.result.history) (sym c.with_revision.ensures.floor) (omega arith),
 )
 
 pub returns-clause-log : goal.returns-clause-log

@@ -1,102 +1,181 @@
-use Rattle.std.proofs.Common.{◌∙◌, ◌-◌, ◌<◌, List, Option, Err, IsSome, ap, length, refl, subst, sym, arith, ne_eqb}
-use Rattle.std.proofs.lemmas.Result.{err_from_is_err_and}
-use Rattle.stm_watch.specs.declared.refusal.PollRefusal.{PollRefusal}
-use Rattle.stm_watch.specs.declared.watched.Watched.{Watched}
+use Rattle.std.proofs.Common.{◌≡◌, ◌∙◌, ℕ, false, List, Option, None, Ok, Err, IfSome, IsSome, ap, slice_index_or, slice_set, subst, sym}
+use Rattle.stm_history.specs.History.{History}
 use Rattle.stm_watch.specs.declared.watched.Watcher.{Watcher}
-use Rattle.stm_watch.specs.Calls.{poll, PollTells, StandFor, watchings}
-use Rattle.stm_watch.specs.Kept.{Covers, idle_list}
-use Rattle.stm_watch.specs.Pages.{AreEntered, AreFound}
-use Rattle.stm_watch.proofs.Placed.{place_polled, place_stands, place_watched, place_refused, polled_some, polled_slot, on_any}
-use Rattle.stm_watch.proofs.Standing.{stands_at}
+use Rattle.stm_watch.specs.declared.refusal.PollRefusal.TheVariants.{NoWatcher, Compacted}
+use Rattle.stm_watch.specs.Places.{WatchersView, is_lost, watchings}
+use Rattle.stm_watch.specs.Calls.{StandAll, StandFor, poll, watcher_at, is_one_lost, after_refused, view_refused}
+use Rattle.stm_watch.specs.Slots.{IsFollowed, IsPlaceOf}
+use Rattle.stm_watch.proofs.Placed.{none_polled, none_lost, refused_same, seen_same, refused_cancels, seen_cancelled, lost_is, found_lost, lost_polled}
+use Rattle.stm_watch.proofs.Placed.{is_followed, found_polled, polled_stand, place_refused, on_any}
+use Rattle.stm_watch.proofs.Standing.{seen_at, stand_set, watchings_set}
 use Rattle.stm_watch.proofs.watchers.Watchers.poll.Goals as goal
+
+-- nobody is there
+
+pub returns-in_default-clause-answer : goal.returns-in_default-clause-answer
+returns-in_default-clause-answer c =
+    let h : History = c.args.keys.now.history in
+    let floor : ℕ = c.self.inside.floor in
+    let table : List (Option Watcher) = c.self.inside.table in
+    let none : watcher_at c.args.id table ≡ None = subst (IsPlaceOf c.args.id table) c.in_default.is c.find.ensures in
+    subst (λ (v : WatchersView). poll h c.args.id c.args.most (watchings v) ≡ Err NoWatcher) c.self.view_is (none_polled h floor c.args.id c.args.most table none)
+
+pub returns-in_default-clause-err : goal.returns-in_default-clause-err
+returns-in_default-clause-err c =
+    let h : History = c.args.keys.now.history in
+    let floor : ℕ = c.self.inside.floor in
+    let table : List (Option Watcher) = c.self.inside.table in
+    let none : watcher_at c.args.id table ≡ None = subst (IsPlaceOf c.args.id table) c.in_default.is c.find.ensures in
+    sym (refused_same c.args.id c.args.self.now
+    (subst (λ (v : WatchersView). is_one_lost (watcher_at c.args.id (watchings v)) ≡ false) c.self.view_is (none_lost h floor c.args.id c.args.most table none)))
+
+pub returns-in_default-clause-refused : goal.returns-in_default-clause-refused
+returns-in_default-clause-refused c =
+    let h : History = c.args.keys.now.history in
+    let floor : ℕ = c.self.inside.floor in
+    let table : List (Option Watcher) = c.self.inside.table in
+    let none : watcher_at c.args.id table ≡ None = subst (IsPlaceOf c.args.id table) c.in_default.is c.find.ensures in
+    sym (seen_same c.args.id (watchings c.args.self.now)
+    (subst (λ (v : WatchersView). is_one_lost (watcher_at c.args.id (watchings v)) ≡ false) c.self.view_is (none_lost h floor c.args.id c.args.most table none)))
+
+pub is_lost-requires : goal.is_lost-requires
+is_lost-requires c = subst (λ (v : WatchersView). IsSome (slice_index_or v.places c.in-Some.place None)) c.self.view_is c.in-Some.ensures.2
+
+-- a lost watcher
+
+pub returns-then-is_lost-clause-answer : goal.returns-then-is_lost-clause-answer
+returns-then-is_lost-clause-answer c =
+    let h : History = c.args.keys.now.history in
+    let floor : ℕ = c.self.inside.floor in
+    let table : List (Option Watcher) = c.self.inside.table in
+    let place : ℕ = c.in-Some.place in
+    let found = lost_is floor (slice_index_or table place None) c.is_lost.result
+    (subst (λ (v : WatchersView). IfSome (slice_index_or v.places place None) (λ (w : Watcher). c.is_lost.result ≡ is_lost v.floor w.first)) (sym c.self.view_is)
+    c.is_lost.ensures) c.in-Some.ensures.2 in
+    subst (λ (v : WatchersView). poll h c.args.id c.args.most (watchings v) ≡ Err Compacted) c.self.view_is
+    (lost_polled h floor c.args.id c.args.most table place found.0 c.in-Some.ensures.0 c.in-Some.ensures.1 found.1 (found.2 ∙ c.if-is_lost.true))
+
+pub returns-then-is_lost-clause-stand : goal.returns-then-is_lost-clause-stand
+returns-then-is_lost-clause-stand c =
+    let h : History = c.args.keys.now.history in
+    subst (StandAll h c.self.inside.floor) (sym c.remove.ensures)
+    (stand_set h c.self.inside.floor c.self.inside.table c.in-Some.place None (subst (StandFor h) (sym c.self.view_is) c.requires) tt)
+
+pub returns-then-is_lost-clause-err : goal.returns-then-is_lost-clause-err
+returns-then-is_lost-clause-err c =
+    let h : History = c.args.keys.now.history in
+    let floor : ℕ = c.self.inside.floor in
+    let table : List (Option Watcher) = c.self.inside.table in
+    let place : ℕ = c.in-Some.place in
+    let found = lost_is floor (slice_index_or table place None) c.is_lost.result
+    (subst (λ (v : WatchersView). IfSome (slice_index_or v.places place None) (λ (w : Watcher). c.is_lost.result ≡ is_lost v.floor w.first)) (sym c.self.view_is)
+    c.is_lost.ensures) c.in-Some.ensures.2 in
+    let was : WatchersView = record { floor = floor; places = table } in
+    let new : WatchersView = record { floor = floor; places = c.remove.new.self } in
+    subst (λ (v : WatchersView). new ≡ view_refused c.args.id v) c.self.view_is
+    (ap (λ (ws : List (Option Watcher)). let v : WatchersView = record { floor = floor; places = ws } in v)
+    (c.remove.ensures ∙ ap (λ (k : ℕ). slice_set table k None) c.in-Some.ensures.1)
+    ∙ sym (refused_cancels c.args.id was
+    (found_lost h floor c.args.id c.args.most table place found.0 c.in-Some.ensures.0 c.in-Some.ensures.1 found.1 ∙ found.2 ∙ c.if-is_lost.true)))
+
+pub returns-then-is_lost-clause-refused : goal.returns-then-is_lost-clause-refused
+returns-then-is_lost-clause-refused c =
+    let h : History = c.args.keys.now.history in
+    let floor : ℕ = c.self.inside.floor in
+    let table : List (Option Watcher) = c.self.inside.table in
+    let place : ℕ = c.in-Some.place in
+    let found = lost_is floor (slice_index_or table place None) c.is_lost.result
+    (subst (λ (v : WatchersView). IfSome (slice_index_or v.places place None) (λ (w : Watcher). c.is_lost.result ≡ is_lost v.floor w.first)) (sym c.self.view_is)
+    c.is_lost.ensures) c.in-Some.ensures.2 in
+    subst (λ (v : WatchersView). seen_at floor c.remove.new.self ≡ after_refused c.args.id (watchings v)) c.self.view_is
+    (ap (seen_at floor) c.remove.ensures
+    ∙ watchings_set floor table place None
+    ∙ ap (λ (k : ℕ). slice_set (seen_at floor table) k None) c.in-Some.ensures.1
+    ∙ sym (seen_cancelled c.args.id (seen_at floor table)
+    (found_lost h floor c.args.id c.args.most table place found.0 c.in-Some.ensures.0 c.in-Some.ensures.1 found.1 ∙ found.2 ∙ c.if-is_lost.true)))
+
+-- one that is not lost
 
 pub poll-requires-clause-stands : goal.poll-requires-clause-stands
 poll-requires-clause-stands c =
-    stands_at c.args.keys.now.history c.self.inside.slots (c.args.id - 1) (subst (StandFor c.args.keys.now.history) (sym c.self.view_is) c.requires)
-
--- a refusal
-
-pub invariant_of-self : goal.invariant_of-self
-invariant_of-self c =
-    let there : c.args.id - 1 < length c.self.inside.slots = omega (arith, c.if-id-eq0.false, c.if-id-len.false, c.len.ensures) in
-    subst (λ (ws : List (Option Watcher)). AreFound c.self.inside.index c.self.inside.ranges ws)
-    (sym (place_refused c.args.keys.now.history (c.args.id - 1) c.args.most c.self.inside.slots c.poll.new.self c.poll.result c.poll.ensures there
-    _ c.in_err-batch.was))
-    c.self.invariant
-
-pub returns-in_err-batch-clause-answer : goal.returns-in_err-batch-clause-answer
-returns-in_err-batch-clause-answer c =
-    let there : c.args.id - 1 < length c.self.inside.slots = omega (arith, c.if-id-eq0.false, c.if-id-len.false, c.len.ensures) in
-    let exit = err_from_is_err_and c.from_residual.result c.from_residual.ensures.1 in
-    subst (λ r. PollTells (poll c.args.keys.now.history c.args.id c.args.most (watchings c.args.self.now)) r (watchings c.poll.new.self))
-    (c.in_err-batch.was ∙ sym (exit.1 ∙ ap (λ (e : PollRefusal). Err e) exit.2))
-    (subst (λ vs. PollTells (poll c.args.keys.now.history c.args.id c.args.most (watchings vs)) c.poll.result (watchings c.poll.new.self)) c.self.view_is
-    (place_polled c.args.keys.now.history (c.args.id - 1) c.args.most c.self.inside.slots c.poll.new.self c.poll.result c.poll.ensures there c.args.id
-    (ne_eqb c.args.id 0 c.if-id-eq0.false) refl))
+    let h : History = c.args.keys.now.history in
+    let floor : ℕ = c.self.inside.floor in
+    let table : List (Option Watcher) = c.self.inside.table in
+    let place : ℕ = c.in-Some.place in
+    let found = lost_is floor (slice_index_or table place None) c.is_lost.result
+    (subst (λ (v : WatchersView). IfSome (slice_index_or v.places place None) (λ (w : Watcher). c.is_lost.result ≡ is_lost v.floor w.first)) (sym c.self.view_is)
+    c.is_lost.ensures) c.in-Some.ensures.2 in
+    subst (λ o. IfSome o (IsFollowed h)) (sym found.1)
+    (is_followed h floor c.args.id c.args.most table place found.0 c.in-Some.ensures.0 c.in-Some.ensures.1 found.1 (found.2 ∙ c.if-is_lost.false)
+    (subst (StandFor h) (sym c.self.view_is) c.requires))
 
 pub returns-in_err-batch-clause-stand : goal.returns-in_err-batch-clause-stand
 returns-in_err-batch-clause-stand c =
-    let there : c.args.id - 1 < length c.self.inside.slots = omega (arith, c.if-id-eq0.false, c.if-id-len.false, c.len.ensures) in
-    place_stands c.args.keys.now.history (c.args.id - 1) c.args.most c.self.inside.slots c.poll.new.self c.poll.result c.poll.ensures there
-    (subst (StandFor c.args.keys.now.history) (sym c.self.view_is) c.requires)
+    let h : History = c.args.keys.now.history in
+    let floor : ℕ = c.self.inside.floor in
+    let table : List (Option Watcher) = c.self.inside.table in
+    let place : ℕ = c.in-Some.place in
+    let found = lost_is floor (slice_index_or table place None) c.is_lost.result
+    (subst (λ (v : WatchersView). IfSome (slice_index_or v.places place None) (λ (w : Watcher). c.is_lost.result ≡ is_lost v.floor w.first)) (sym c.self.view_is)
+    c.is_lost.ensures) c.in-Some.ensures.2 in
+    subst (StandAll h floor) (sym (place_refused h place c.args.most table c.poll.new.self c.poll.result c.poll.ensures c.in-Some.ensures.2 _ c.in_err-batch.was))
+    (subst (StandFor h) (sym c.self.view_is) c.requires)
 
 pub returns-in_err-batch-clause-err : goal.returns-in_err-batch-clause-err
 returns-in_err-batch-clause-err c =
-    let there : c.args.id - 1 < length c.self.inside.slots = omega (arith, c.if-id-eq0.false, c.if-id-len.false, c.len.ensures) in
+    let h : History = c.args.keys.now.history in
+    let floor : ℕ = c.self.inside.floor in
+    let table : List (Option Watcher) = c.self.inside.table in
+    let place : ℕ = c.in-Some.place in
+    let found = lost_is floor (slice_index_or table place None) c.is_lost.result
+    (subst (λ (v : WatchersView). IfSome (slice_index_or v.places place None) (λ (w : Watcher). c.is_lost.result ≡ is_lost v.floor w.first)) (sym c.self.view_is)
+    c.is_lost.ensures) c.in-Some.ensures.2 in
+    let was : WatchersView = record { floor = floor; places = table } in
+    let new : WatchersView = record { floor = floor; places = c.poll.new.self } in
     on_any c.from_residual.result
-    (place_refused c.args.keys.now.history (c.args.id - 1) c.args.most c.self.inside.slots c.poll.new.self c.poll.result c.poll.ensures there
-    _ c.in_err-batch.was ∙ c.self.view_is)
+    (subst (λ (v : WatchersView). new ≡ view_refused c.args.id v) c.self.view_is
+    (ap (λ (ws : List (Option Watcher)). let v : WatchersView = record { floor = floor; places = ws } in v)
+    (place_refused h place c.args.most table c.poll.new.self c.poll.result c.poll.ensures c.in-Some.ensures.2 _ c.in_err-batch.was)
+    ∙ sym (refused_same c.args.id was
+    (found_lost h floor c.args.id c.args.most table place found.0 c.in-Some.ensures.0 c.in-Some.ensures.1 found.1 ∙ found.2 ∙ c.if-is_lost.false))))
 
--- a batch
-
-pub watcher-requires : goal.watcher-requires
-watcher-requires c =
-    let there : c.args.id - 1 < length c.self.inside.slots = omega (arith, c.if-id-eq0.false, c.if-id-len.false, c.len.ensures) in
-    polled_some c.args.keys.now.history (c.args.id - 1) c.args.most c.self.inside.slots c.poll.new.self c.poll.result c.poll.ensures there c.in_ok-batch.batch c.in_ok-batch.was
-
-pub list_for-list-requires : goal.list_for-list-requires
-list_for-list-requires c =
-    let there : c.args.id - 1 < length c.self.inside.slots = omega (arith, c.if-id-eq0.false, c.if-id-len.false, c.len.ensures) in
-    let found = polled_slot c.args.keys.now.history (c.args.id - 1) c.args.most c.self.inside.slots c.poll.new.self c.poll.result c.poll.ensures there
-    c.in_ok-batch.batch c.in_ok-batch.was c.watcher.result.now c.watcher.ensures in
-    subst (λ (x : Watched). IsSome (idle_list c.self.inside.index x)) (sym found.3) (c.self.invariant.covers.waiting (c.args.id - 1) found.0 found.1)
-
-pub move_to-requires-clause-there : goal.move_to-requires-clause-there
-move_to-requires-clause-there c =
-    let there : c.args.id - 1 < length c.self.inside.slots = omega (arith, c.if-id-eq0.false, c.if-id-len.false, c.len.ensures) in
-    let found = polled_slot c.args.keys.now.history (c.args.id - 1) c.args.most c.self.inside.slots c.poll.new.self c.poll.result c.poll.ensures there
-    c.in_ok-batch.batch c.in_ok-batch.was c.watcher.result.now c.watcher.ensures in
-    (c.self.inside.slots, c.self.invariant.covers, subst IsSome (sym found.1) refl)
-
-pub move_to-requires-clause-list : goal.move_to-requires-clause-list
-move_to-requires-clause-list c = c.self.invariant.covers.listed.there c.watcher.result.now c.list_for-list.result c.list_for-list.ensures
-
-pub invariant_of-self-2 : goal.invariant_of-self-2
-invariant_of-self-2 c =
-    let there : c.args.id - 1 < length c.self.inside.slots = omega (arith, c.if-id-eq0.false, c.if-id-len.false, c.len.ensures) in
-    let found = polled_slot c.args.keys.now.history (c.args.id - 1) c.args.most c.self.inside.slots c.poll.new.self c.poll.result c.poll.ensures there
-    c.in_ok-batch.batch c.in_ok-batch.was c.watcher.result.now c.watcher.ensures in
-    let waits = subst (λ (x : Watched). IsSome (idle_list c.self.inside.index x)) (sym found.3)
-    (c.self.invariant.covers.waiting (c.args.id - 1) found.0 found.1) in
-    record {
-      covers = subst (λ (ws : List (Option Watcher)). Covers c.move_to.new.self ws) (sym found.2)
-          (c.move_to.ensures.covers c.self.inside.slots c.watcher.result.now c.self.invariant.covers (subst IsSome (sym found.1) refl)
-          c.list_for-list.ensures waits);
-      entered = subst (AreEntered c.self.inside.ranges.pages.items)
-          (sym (place_watched c.args.keys.now.history (c.args.id - 1) c.args.most c.self.inside.slots c.poll.new.self c.poll.result c.poll.ensures there))
-          c.self.invariant.entered;
-    }
+pub returns-in_err-batch-clause-refused : goal.returns-in_err-batch-clause-refused
+returns-in_err-batch-clause-refused c =
+    let h : History = c.args.keys.now.history in
+    let floor : ℕ = c.self.inside.floor in
+    let table : List (Option Watcher) = c.self.inside.table in
+    let place : ℕ = c.in-Some.place in
+    let found = lost_is floor (slice_index_or table place None) c.is_lost.result
+    (subst (λ (v : WatchersView). IfSome (slice_index_or v.places place None) (λ (w : Watcher). c.is_lost.result ≡ is_lost v.floor w.first)) (sym c.self.view_is)
+    c.is_lost.ensures) c.in-Some.ensures.2 in
+    on_any c.from_residual.result
+    (subst (λ (v : WatchersView). seen_at floor c.poll.new.self ≡ after_refused c.args.id (watchings v)) c.self.view_is
+    (ap (seen_at floor) (place_refused h place c.args.most table c.poll.new.self c.poll.result c.poll.ensures c.in-Some.ensures.2 _ c.in_err-batch.was)
+    ∙ sym (seen_same c.args.id (seen_at floor table)
+    (found_lost h floor c.args.id c.args.most table place found.0 c.in-Some.ensures.0 c.in-Some.ensures.1 found.1 ∙ found.2 ∙ c.if-is_lost.false))))
 
 pub returns-clause-answer : goal.returns-clause-answer
 returns-clause-answer c =
-    let there : c.args.id - 1 < length c.self.inside.slots = omega (arith, c.if-id-eq0.false, c.if-id-len.false, c.len.ensures) in
-    subst (λ r. PollTells (poll c.args.keys.now.history c.args.id c.args.most (watchings c.args.self.now)) r (watchings c.poll.new.self)) c.in_ok-batch.was
-    (subst (λ vs. PollTells (poll c.args.keys.now.history c.args.id c.args.most (watchings vs)) c.poll.result (watchings c.poll.new.self)) c.self.view_is
-    (place_polled c.args.keys.now.history (c.args.id - 1) c.args.most c.self.inside.slots c.poll.new.self c.poll.result c.poll.ensures there c.args.id
-    (ne_eqb c.args.id 0 c.if-id-eq0.false) refl))
+    let h : History = c.args.keys.now.history in
+    let floor : ℕ = c.self.inside.floor in
+    let table : List (Option Watcher) = c.self.inside.table in
+    let place : ℕ = c.in-Some.place in
+    let found = lost_is floor (slice_index_or table place None) c.is_lost.result
+    (subst (λ (v : WatchersView). IfSome (slice_index_or v.places place None) (λ (w : Watcher). c.is_lost.result ≡ is_lost v.floor w.first)) (sym c.self.view_is)
+    c.is_lost.ensures) c.in-Some.ensures.2 in
+    subst (λ (v : WatchersView). poll h c.args.id c.args.most (watchings v)
+    ≡ Ok (record { answer = c.in_ok-batch.batch; next = seen_at floor c.poll.new.self })) c.self.view_is
+    (found_polled h floor c.args.id c.args.most table place found.0 c.in-Some.ensures.0 c.in-Some.ensures.1 found.1 (found.2 ∙ c.if-is_lost.false)
+    (subst (StandFor h) (sym c.self.view_is) c.requires) c.poll.new.self c.poll.result c.poll.ensures c.in_ok-batch.batch c.in_ok-batch.was)
 
 pub returns-clause-stand : goal.returns-clause-stand
 returns-clause-stand c =
-    let there : c.args.id - 1 < length c.self.inside.slots = omega (arith, c.if-id-eq0.false, c.if-id-len.false, c.len.ensures) in
-    place_stands c.args.keys.now.history (c.args.id - 1) c.args.most c.self.inside.slots c.poll.new.self c.poll.result c.poll.ensures there
-    (subst (StandFor c.args.keys.now.history) (sym c.self.view_is) c.requires)
+    let h : History = c.args.keys.now.history in
+    let floor : ℕ = c.self.inside.floor in
+    let table : List (Option Watcher) = c.self.inside.table in
+    let place : ℕ = c.in-Some.place in
+    let found = lost_is floor (slice_index_or table place None) c.is_lost.result
+    (subst (λ (v : WatchersView). IfSome (slice_index_or v.places place None) (λ (w : Watcher). c.is_lost.result ≡ is_lost v.floor w.first)) (sym c.self.view_is)
+    c.is_lost.ensures) c.in-Some.ensures.2 in
+    polled_stand h floor c.args.id c.args.most table place found.0 c.in-Some.ensures.0 c.in-Some.ensures.1 found.1 (found.2 ∙ c.if-is_lost.false)
+    (subst (StandFor h) (sym c.self.view_is) c.requires) c.poll.new.self c.poll.result c.poll.ensures c.in_ok-batch.batch c.in_ok-batch.was

@@ -1,0 +1,9 @@
+pub mod Alike
+pub mod Transactions
+pub mod Present
+pub mod Calls
+pub mod Expiring
+pub mod Watching
+pub mod Compacting
+pub mod Committing
+pub mod Shown

@@ -1,0 +1,4 @@
+pub mod Kept
+pub mod Shows
+pub mod Advanced
+pub mod Laws

@@ -1,0 +1,616 @@
+-- What is kept of a world goes on as the whole world does.
+use Rattle.std.proofs.Common.{◌≡◌, ◌≢◌, ◌⊎◌, ◌∙◌, inl, inr, ℕ, ◌+◌, ◌-◌, ◌≤◌, Bool, true, false, cond, List, [], ◌∷◌, ◌++◌, length, map, Option, Some, None}
+use Rattle.std.proofs.Common.{Result, Ok, Err, refl, sym, ap, subst, arith, append-nil, OnOk, OnErr}
+use Rattle.std.specs.Prelude.{nat_eq, nat_lt, slice_get, IsOk, IfOk}
+use Rattle.std.specs.declared.alloc.AllocError.{AllocError}
+use Rattle.stm_history.specs.declared.key_state.KeyState.{KeyState}
+use Rattle.stm_history.specs.declared.key_state.ReadAnswer.{ReadAnswer}
+use Rattle.stm_history.specs.Opening.{Opening}
+use Rattle.stm_history.specs.History.{History, now, key_now, AreRevisions}
+use Rattle.stm_history.specs.Cut.{cut}
+use Rattle.stm_history.proofs.CutLaws.{cut_at_the_opening}
+use Rattle.stm_program.specs.Writes.{latest_writes}
+use Rattle.stm_meaning.specs.declared.run.End.{End}
+use Rattle.stm_meaning.specs.declared.run.End.TheVariants.{Done as DoneEnd, Aborted as AbortedEnd, Faulted as FaultedEnd}
+use Rattle.stm_meaning.specs.declared.run.Run.{Run}
+use Rattle.stm_meaning.specs.declared.run.Answered.{Answered}
+use Rattle.stm_meaning.specs.declared.run.Answered.TheVariants.{Ended as EndedRun, Wants}
+use Rattle.stm_meaning.specs.declared.state.StateEntry.{StateEntry}
+use Rattle.stm_watch.specs.declared.watched.Watched.TheVariants.{Key, Range}
+use Rattle.stm_watch.specs.declared.watchers.Batch.{Batch}
+use Rattle.stm_outcome.specs.declared.txn.Txn.{Txn as StoreTxn}
+use Rattle.stm_outcome.specs.declared.answer.TxnAnswer.{TxnAnswer}
+use Rattle.stm_outcome.specs.declared.answer.FailedCompare.{FailedCompare}
+use Rattle.stm_outcome.specs.declared.advance.Expired.{Expired}
+use Rattle.stm_outcome.specs.declared.refusal.Refusal.{Refusal as StoreRefusal}
+use Rattle.stm_outcome.specs.declared.refusal.Refusal.TheVariants.{OutOfMemory}
+use Rattle.stm_outcome.specs.Outcome.{Done}
+use Rattle.stm_txn.specs.Standing.{Standing, Step as StoreStep, Advance as StoreAdvance, HasKept, with_history, kept, terms_of, transacted, granted, kept_alive}
+use Rattle.stm_txn.specs.Standing.{revoked, advanced, watched, polled, cancelled, raised, IsStopped}
+use Rattle.stm_txn.specs.Standing.{IsCutShort as StoreCutShort}
+use Rattle.stm_compile.specs.CommitTxn.{reread_keys}
+use Rattle.stm_compile.specs.Committed.{committed}
+use Rattle.stm_compile.specs.Conflicts.{Seen, seen_by}
+use Rattle.stm_attempt.specs.Known.{Known}
+use Rattle.stm_attempt.specs.Settled.{run_on}
+use Rattle.stm_attempt.specs.Fetches.{at_of}
+use Rattle.stm_calls.specs.Fetched.{fetch_told}
+use Rattle.stm_calls.specs.StateOf.{IsStateOf, entry_now}
+use Rattle.stm_entries.specs.declared.entry.Entry.{Entry}
+use Rattle.stm_entries.specs.declared.entry.Entry.TheVariants.{Grant as GrantEntry, Renew, Revoke as RevokeEntry, Foreign}
+use Rattle.stm_entries.specs.Replayed.{Replayed, opening, without_moment}
+use Rattle.stm_entries.specs.Replay.{replay}
+use Rattle.stm_entries.specs.Laws.{AddsTo}
+use Rattle.stm_entries.proofs.Adding.{replay_only_adds}
+use Rattle.stm_compaction.specs.Kept.{kept_step, kept_done}
+use Rattle.stm_compaction.specs.Advanced.{IsCutShortToo}
+use Rattle.stm_compaction.proofs.Alike.{IsAlike, cut_is_alike}
+use Rattle.stm_compaction.proofs.Transactions.{Grows}
+use Rattle.stm_compaction.proofs.Calls.{HasReached, transacted_kept, granted_kept, kept_alive_kept, revoked_kept}
+use Rattle.stm_compaction.proofs.Committing.{committed_kept, committed_grows, fetched_kept}
+use Rattle.stm_compaction.proofs.Expiring.{advanced_kept, cut_short_too}
+use Rattle.stm_compaction.proofs.Watching.{watched_kept, polled_kept, cancelled_kept}
+use Rattle.stm_compaction.proofs.Compacting.{compacted_kept}
+use Rattle.stm_world.specs.declared.event.WorldEvent.{WorldEvent}
+use Rattle.stm_world.specs.declared.event.WorldEvent.TheVariants.{Start, Step, Txn, Grant, Keep, Revoke, Advance, WatchKey, WatchRange, Poll, Cancel, Compact}
+use Rattle.stm_world.specs.declared.reply.Reply.{Reply}
+use Rattle.stm_world.specs.declared.reply.Reply.TheVariants.{Started, Committed, Conflict, GaveUp}
+use Rattle.stm_world.specs.declared.reply.Reply.TheVariants.{Txn as TxnDone, Granted, Kept, Revoked, Watching, Cancelled, Compacted}
+use Rattle.stm_world.specs.declared.refusal.Refusal.{Refusal}
+use Rattle.stm_world.specs.declared.refusal.Refusal.TheVariants.{Store, BadLimit, NoRunner}
+use Rattle.stm_world.specs.declared.refusal.Denied.{Denied}
+use Rattle.stm_world.specs.Told.{denied, reply_to, store_after_call, advance_reply, poll_reply, store_after_poll}
+use Rattle.stm_world.specs.Task.{Task, with_served, after_conflict, answers_told}
+use Rattle.stm_world.specs.World.{World, Stepped, Runner, Over, Live, runner_at, with_slot, begin, replied, refused, start_runner, entry_of, seen_in}
+use Rattle.stm_world.specs.World.{decided, commit_told, commit, finish, fetch_at, step_on, step_live, step_runner, called, if_taken, if_changed, expiries}
+use Rattle.stm_world.specs.World.{quietly_called, step, opened as opened_world}
+use Rattle.stm_world.specs.Sound.{IsSound, after_expiries}
+use Rattle.stm_world.specs.Appended.{HasAppended}
+use Rattle.stm_world.proofs.Wants.{NoWant, NeverWants, advanced_never}
+use Rattle.stm_world.proofs.NeverOutOfMemory.{raised_never}
+use Rattle.stm_world.proofs.Calls.{txn_follows, at_moment_follows}
+use Rattle.stm_world.proofs.Appending.{events_append}
+use Rattle.stm_world.proofs.Sound.{opened_is_sound, step_is_sound, base_is_reached}
+use Rattle.stm_retry.specs.Tells.{IsStep, IsUnchanged, IsCutShort, WantTells, RefusalTells, Tells, is_want_of_store, is_want}
+use Rattle.stm_retry.specs.Kept.{whole_store, whole_world, kept_world, IsKeptBy, compact_kept, KeptTells, BasesAreReached}
+use Rattle.stm_retry.proofs.CallLemmas.{refusal_tells}
+use Rattle.stm_retry.proofs.StepLemmas.{fetched_step, step_fetches}
+use Rattle.stm_retry.proofs.WorldLemmas.{refusal_cases, tells_sound}
+
+-- ---- the world of which something is kept
+
+-- it opens where the entries begin
+pub opens_at : (opened : ℕ) (m : World) → (whole_world opened m).standing.history.opening.number ≡ opened
+opens_at opened m = ap (λ (o : Opening). o.number) (replay_only_adds m.entries (opening opened)).opening
+
+-- its revisions are some
+pub are_revisions : (opened : ℕ) (m : World) → AreRevisions (whole_world opened m).standing.history.revisions
+are_revisions opened m =
+    let adds : AddsTo (opening opened).history (replay m.entries (opening opened)).history = replay_only_adds m.entries (opening opened) in
+    subst AreRevisions (sym (adds.revisions ∙ append-nil adds.added)) adds.are_revisions
+
+pub kept_of : (opened : ℕ) (m : World) → IsKeptBy m.standing (whole_world opened m) → m ≡ kept_world (whole_world opened m)
+kept_of opened m x = λ i. record { standing = x.stands i; runners = m.runners; entries = m.entries }
+
+-- a sound world is the one of which it keeps something
+pub whole_of : (opened : ℕ) (w : World) → IsSound w → w.standing.history.opening.number ≡ opened → whole_world opened (kept_world w) ≡ w
+whole_of opened w sound opens =
+    let replays : replay w.entries (opening opened) ≡ without_moment w.standing =
+    subst (λ n. replay w.entries (opening n) ≡ without_moment w.standing) opens sound.replays in
+    ap (λ (r : Replayed). (let x : World = record { standing = with_history (kept w.standing) r.history; runners = w.runners; entries = w.entries } in x)) replays
+
+-- ---- the step over what is kept
+
+-- a step after which that much is kept
+abbrev kept_stepped : Stepped → Stepped
+kept_stepped x = record { reply = x.reply; next = kept_world x.next }
+
+counted : (s : Standing) → HasReached s → now (kept s).history ≡ now s.history
+counted s reached = (cut_is_alike s.floor s.history reached).counter
+
+start_by : (task : Task) (w : World) (none : Bool) →
+    cond none (refused BadLimit (kept_world w)) (record {
+      reply = Ok (Started (length w.runners + 1));
+      next = record { standing = kept w.standing; runners = w.runners ++ Live (begin task) ∷ []; entries = w.entries };
+    })
+    ≡ kept_stepped (cond none (refused BadLimit w) (record {
+      reply = Ok (Started (length w.runners + 1));
+      next = record { standing = w.standing; runners = w.runners ++ Live (begin task) ∷ []; entries = w.entries };
+    }))
+start_by task w true = refl
+start_by task w false = refl
+
+pub start_kept : (task : Task) (w : World) → start_runner task (kept_world w) ≡ kept_stepped (start_runner task w)
+unfolding start_runner
+start_kept task w = start_by task w (nat_eq task.limit 0)
+
+-- a fetch
+fetched_by : (id : ℕ) (r : Runner) (key : List ℕ) (o : Result ReadAnswer StoreRefusal) (w : World) →
+    fetched_step id r key o (kept_world w) ≡ kept_stepped (fetched_step id r key o w)
+fetched_by id r key (Ok a) w = refl
+fetched_by id r key (Err cause) w = refl
+
+fetch_kept : (id : ℕ) (r : Runner) (key : List ℕ) (base : ℕ) (w : World) → HasReached w.standing →
+    fetch_at id r key base (kept_world w) ≡ kept_stepped (fetch_at id r key base w)
+fetch_kept id r key base w reached =
+    step_fetches id r key base (kept_world w)
+    ∙ ap (λ (o : Result ReadAnswer StoreRefusal). fetched_step id r key o (kept_world w)) (fetched_kept w.standing reached key base)
+    ∙ fetched_by id r key (fetch_told w.standing key base) w
+    ∙ ap kept_stepped (sym (step_fetches id r key base w))
+
+-- a commit
+abbrev answer_as : (List ℕ → Option KeyState) → ℕ → List ℕ → ReadAnswer
+answer_as state counter key = record { key = key; kv = state key; of_rev = counter; revision = counter }
+
+conflict_kept : (task : Task) (floor : ℕ) (h : History) (known : Known) → floor ≤ now h →
+    after_conflict task (cut (floor - 1) h) known ≡ after_conflict task h known
+conflict_kept task floor h known reached =
+    let g : History = cut (floor - 1) h in
+    let alike : IsAlike floor g h = cut_is_alike floor h reached in
+    let next : (List ℕ → Option KeyState) → ℕ → Known =
+    λ state counter. with_served task (record { reads = []; prefetched = map (answer_as state counter) (reread_keys task.level known.reads) }) in
+    ap (λ (state : List ℕ → Option KeyState). next state (now g)) alike.keys_now ∙ ap (next (key_now h)) alike.counter
+
+abbrev conflict_told : ℕ → Runner → Seen → ℕ → World → Known → Stepped
+conflict_told id r seen modified w known =
+    replied (Conflict id seen.key seen.mod_rev modified) id (Live (record { task = r.task; failures = r.failures + 1; known = known })) w
+
+fail_by : (id : ℕ) (r : Runner) (seen : Seen) (modified : ℕ) (w : World) (more : Bool) → HasReached w.standing →
+    cond more (conflict_told id r seen modified (kept_world w) (after_conflict r.task (kept w.standing).history r.known))
+    (replied (GaveUp id (r.failures + 1) seen.key seen.mod_rev modified) id Over (kept_world w))
+    ≡ kept_stepped (cond more (conflict_told id r seen modified w (after_conflict r.task w.standing.history r.known))
+    (replied (GaveUp id (r.failures + 1) seen.key seen.mod_rev modified) id Over w))
+fail_by id r seen modified w true reached =
+    ap (conflict_told id r seen modified (kept_world w)) (conflict_kept r.task w.standing.floor w.standing.history r.known reached)
+fail_by id r seen modified w false reached = refl
+
+-- a commit that succeeded, after which the store's revision is this
+abbrev taken_at : ℕ → Runner → List ReadAnswer → Run → World → Standing → ℕ → Stepped
+taken_at id r reads run w after revision = record {
+  reply = Ok (Committed id revision (r.failures + 1) run.output run.trace (answers_told r.task.level reads));
+  next = record { standing = after; runners = with_slot id Over w.runners; entries = w.entries ++ entry_of r.task reads run revision ∷ [] };
+}
+
+decided_kept : (id : ℕ) (r : Runner) (reads : List ReadAnswer) (run : Run) (done : Done) (o : Option FailedCompare) (w : World) →
+    HasReached w.standing → now w.standing.history ≤ now done.history →
+    decided id r reads run (record { answer = done.answer; history = cut (w.standing.floor - 1) done.history }) o (kept_world w)
+    ≡ kept_stepped (decided id r reads run done o w)
+decided_kept id r reads run done None w reached grown =
+    let s : Standing = w.standing in
+    let after : Standing = with_history s done.history in
+    let still : HasReached after = omega (arith, reached, grown) in
+    ap (taken_at id r reads run w (kept after)) (counted after still)
+decided_kept id r reads run done (Some failed) w reached grown =
+    fail_by id r (seen_in (slice_get (seen_by reads (latest_writes run.writes)) failed.index)) failed.mod_rev w
+    (nat_lt (r.failures + 1) r.task.limit) reached
+
+told_kept : (id : ℕ) (r : Runner) (reads : List ReadAnswer) (run : Run) (o : Result Done StoreRefusal) (w : World) → HasReached w.standing →
+    Grows w.standing.history o → commit_told id r reads run (kept_done w.standing.floor o) (kept_world w) ≡ kept_stepped (commit_told id r reads run o w)
+told_kept id r reads run (Ok done) w reached grown = decided_kept id r reads run done done.answer.failed w reached grown
+told_kept id r reads run (Err cause) w reached grown = refl
+
+commit_kept : (id : ℕ) (r : Runner) (reads : List ReadAnswer) (run : Run) (w : World) → HasReached w.standing →
+    commit id r reads run (kept_world w) ≡ kept_stepped (commit id r reads run w)
+unfolding commit
+commit_kept id r reads run w reached =
+    let s : Standing = w.standing in
+    ap (λ (o : Result Done StoreRefusal). commit_told id r reads run o (kept_world w)) (committed_kept (terms_of s) reached r.task.level reads run)
+    ∙ told_kept id r reads run (committed (terms_of s) r.task.level reads run) w reached (committed_grows (terms_of s) r.task.level reads run)
+
+finish_kept : (id : ℕ) (r : Runner) (reads : List ReadAnswer) (run : Run) (end : End) (w : World) → HasReached w.standing →
+    finish id r reads run end (kept_world w) ≡ kept_stepped (finish id r reads run end w)
+finish_kept id r reads run DoneEnd w reached = commit_kept id r reads run w reached
+finish_kept id r reads run (AbortedEnd text) w reached = refl
+finish_kept id r reads run (FaultedEnd fault) w reached = refl
+
+on_kept : (id : ℕ) (r : Runner) (reads : List ReadAnswer) (a : Answered) (w : World) → HasReached w.standing →
+    step_on id r reads a (kept_world w) ≡ kept_stepped (step_on id r reads a w)
+on_kept id r reads (Wants key trace) w reached = fetch_kept id r key (at_of r.task.level reads) w reached
+on_kept id r reads (EndedRun run) w reached = finish_kept id r reads run run.end w reached
+
+live_kept : (id : ℕ) (r : Runner) (w : World) → HasReached w.standing → step_live id r (kept_world w) ≡ kept_stepped (step_live id r w)
+unfolding step_live
+live_kept id r w reached = on_kept id r r.known.reads (run_on r.task.program r.known.reads) w reached
+
+runner_kept : (id : ℕ) (o : Option Runner) (w : World) → HasReached w.standing → step_runner id o (kept_world w) ≡ kept_stepped (step_runner id o w)
+runner_kept id None w reached = refl
+runner_kept id (Some r) w reached = live_kept id r w reached
+
+-- calls
+txn_by : (txn : StoreTxn) (w : World) (o : Result (StoreStep TxnAnswer) StoreRefusal) → HasReached w.standing →
+    HasReached (store_after_call w.standing o) →
+    called (reply_to TxnDone (kept_step o)) (store_after_call (kept w.standing) (kept_step o))
+    (if_changed (kept w.standing) (store_after_call (kept w.standing) (kept_step o)) txn) (kept_world w)
+    ≡ kept_stepped (called (reply_to TxnDone o) (store_after_call w.standing o) (if_changed w.standing (store_after_call w.standing o) txn) w)
+txn_by txn w (Ok done) reached still =
+    let s : Standing = w.standing in
+    let entered : ℕ → ℕ → Stepped = λ before after.
+    called (Ok (TxnDone done.answer)) (kept done.next) (cond (nat_lt before after) (Foreign txn ∷ []) []) (kept_world w) in
+    ap (λ n. entered n (now (kept done.next).history)) (counted s reached) ∙ ap (entered (now s.history)) (counted done.next still)
+txn_by txn w (Err cause) reached still =
+    let s : Standing = w.standing in
+    let entered : ℕ → Stepped = λ n. called (denied (Store cause)) (kept s) (cond (nat_lt n n) (Foreign txn ∷ []) []) (kept_world w) in
+    ap entered (counted s reached)
+
+call_kept : {A : Type 0} (tell : A → Reply) (entry : Entry) (o : Result (StoreStep A) StoreRefusal) (w : World) →
+    called (reply_to tell (kept_step o)) (store_after_call (kept w.standing) (kept_step o)) (if_taken (kept_step o) entry) (kept_world w)
+    ≡ kept_stepped (called (reply_to tell o) (store_after_call w.standing o) (if_taken o entry) w)
+call_kept tell entry (Ok done) w = refl
+call_kept tell entry (Err cause) w = refl
+
+quiet_kept : {A : Type 0} (tell : A → Reply) (o : Result (StoreStep A) StoreRefusal) (w : World) →
+    quietly_called (reply_to tell (kept_step o)) (store_after_call (kept w.standing) (kept_step o)) (kept_world w)
+    ≡ kept_stepped (quietly_called (reply_to tell o) (store_after_call w.standing o) w)
+quiet_kept tell (Ok done) w = refl
+quiet_kept tell (Err cause) w = refl
+
+poll_kept : (id : ℕ) (o : Result (StoreStep Batch) StoreRefusal) (w : World) →
+    quietly_called (poll_reply id w.standing.floor (kept_step o)) (store_after_poll id (kept w.standing) (kept_step o)) (kept_world w)
+    ≡ kept_stepped (quietly_called (poll_reply id w.standing.floor o) (store_after_poll id w.standing o) w)
+poll_kept id (Ok done) w = refl
+poll_kept id (Err cause) w = refl
+
+-- what an event comes to where that much is kept
+abbrev step_over : WorldEvent → World → Stepped
+step_over (Compact revision) w = compact_kept revision w
+step_over event w = step event w
+
+pub step_kept : (event : WorldEvent) (w : World) → HasKept w.standing → step_over event (kept_world w) ≡ kept_stepped (step event w)
+step_kept (Start program level limit) w k = start_kept (record { program = program; level = level; limit = limit }) w
+step_kept (Step id) w k = runner_kept id (runner_at id w.runners) w k.reached
+step_kept (Txn txn) w k =
+    let s : Standing = w.standing in
+    ap (λ (o : Result (StoreStep TxnAnswer) StoreRefusal).
+    called (reply_to TxnDone o) (store_after_call (kept s) o) (if_changed (kept s) (store_after_call (kept s) o) txn) (kept_world w))
+    (transacted_kept s k.reached txn)
+    ∙ txn_by txn w (transacted s txn) k.reached ((txn_follows s txn).kept k).reached
+step_kept (Grant id ttl) w k =
+    let s : Standing = w.standing in
+    ap (λ (o : Result (StoreStep (Unit {0})) StoreRefusal).
+    called (reply_to (λ _. Granted id) o) (store_after_call (kept s) o) (if_taken o (GrantEntry id ttl s.moment)) (kept_world w)) (granted_kept s id ttl)
+    ∙ call_kept (λ _. Granted id) (GrantEntry id ttl s.moment) (granted s id ttl) w
+step_kept (Keep id) w k =
+    let s : Standing = w.standing in
+    ap (λ (o : Result (StoreStep (Unit {0})) StoreRefusal).
+    called (reply_to (λ _. Kept id) o) (store_after_call (kept s) o) (if_taken o (Renew id s.moment)) (kept_world w)) (kept_alive_kept s id)
+    ∙ call_kept (λ _. Kept id) (Renew id s.moment) (kept_alive s id) w
+step_kept (Revoke id) w k =
+    let s : Standing = w.standing in
+    ap (λ (o : Result (StoreStep ℕ) StoreRefusal).
+    called (reply_to (Revoked id) o) (store_after_call (kept s) o) (if_taken o (RevokeEntry id)) (kept_world w)) (revoked_kept s k.reached id)
+    ∙ call_kept (Revoked id) (RevokeEntry id) (revoked s id) w
+step_kept (Advance moment) w k =
+    ap (λ (a : StoreAdvance). called (advance_reply moment a.expired a.cause) a.leaves (expiries a.expired) (kept_world w))
+    (advanced_kept w.standing k.reached moment)
+step_kept (WatchKey key from) w k =
+    let s : Standing = w.standing in
+    ap (λ (o : Result (StoreStep ℕ) StoreRefusal). quietly_called (reply_to Watching o) (store_after_call (kept s) o) (kept_world w))
+    (watched_kept s k.reached (Key key) from)
+    ∙ quiet_kept Watching (watched s (Key key) from) w
+step_kept (WatchRange first end from) w k =
+    let s : Standing = w.standing in
+    ap (λ (o : Result (StoreStep ℕ) StoreRefusal). quietly_called (reply_to Watching o) (store_after_call (kept s) o) (kept_world w))
+    (watched_kept s k.reached (Range first end) from)
+    ∙ quiet_kept Watching (watched s (Range first end) from) w
+step_kept (Poll watcher most) w k =
+    let s : Standing = w.standing in
+    ap (λ (o : Result (StoreStep Batch) StoreRefusal). quietly_called (poll_reply watcher s.floor o) (store_after_poll watcher (kept s) o) (kept_world w))
+    (polled_kept s k watcher most)
+    ∙ poll_kept watcher (polled s watcher most) w
+step_kept (Cancel watcher) w k =
+    let s : Standing = w.standing in
+    ap (λ (o : Result (StoreStep (Unit {0})) StoreRefusal). quietly_called (reply_to (λ _. Cancelled watcher) o) (store_after_call (kept s) o) (kept_world w))
+    (cancelled_kept s watcher)
+    ∙ quiet_kept (λ _. Cancelled watcher) (cancelled s watcher) w
+step_kept (Compact revision) w k =
+    let s : Standing = w.standing in
+    ap (λ (o : Result (StoreStep (Unit {0})) StoreRefusal). quietly_called (reply_to (λ _. Compacted revision) o) (store_after_call (kept s) o) (kept_world w))
+    (compacted_kept s k revision)
+    ∙ quiet_kept (λ _. Compacted revision) (raised s revision) w
+
+-- ---- what is told of the whole world
+
+-- what an event told and left over what is kept, it tells and leaves of the whole world, too
+pub record Lifted (event : WorldEvent) (reply : Result Reply Denied) (w next : World) : Type 0 where
+  pub after : World
+  pub tells : Tells event reply w after
+  pub is : next ≡ kept_world after
+
+want_is : (cause : StoreRefusal) → is_want_of_store cause ≡ true → cause ≡ OutOfMemory
+want_is OutOfMemory want = refl
+want_is other want = absurd (cc)
+
+not_want : (cause : StoreRefusal) → is_want_of_store cause ≡ false → cause ≢ OutOfMemory
+not_want cause not same = let both : true ≡ false = ap is_want_of_store (sym same) ∙ not in absurd (cc)
+
+-- a reply by the step
+step_tells_by : (cause : Refusal) (event : WorldEvent) (d : Denied) (old new : World) → is_want cause ≡ false → IsStep (step event old) (Err d) new →
+    RefusalTells cause event d old new
+step_tells_by (Store cause) event d old new not is = refusal_tells event d cause old new (λ want. absurd (not_want cause not want)) (λ _. is)
+step_tells_by BadLimit event d old new not is = is
+step_tells_by NoRunner event d old new not is = is
+
+want_tells_by : (cause : Refusal) (event : WorldEvent) (d : Denied) (old new : World) → is_want cause ≡ true → WantTells event d.expired old new →
+    RefusalTells cause event d old new
+want_tells_by (Store cause) event d old new want is = refusal_tells event d cause old new (λ _. is) (λ not. absurd (not (want_is cause want)))
+want_tells_by BadLimit event d old new want is = absurd (cc)
+want_tells_by NoRunner event d old new want is = absurd (cc)
+
+stepped_lifts : (event : WorldEvent) (reply : Result Reply Denied) (w next : World) → step event (kept_world w) ≡ kept_stepped (step event w) →
+    IsStep (step event (kept_world w)) reply next → IsStep (step event w) reply (step event w).next × (next ≡ kept_world (step event w).next)
+stepped_lifts event reply w next same is = (
+  record { reply_is = sym (ap (λ (x : Stepped). x.reply) same) ∙ is.reply_is; next_is = refl },
+  sym is.next_is ∙ ap (λ (x : Stepped). x.next) same,
+)
+
+-- want of memory
+abbrev WantLifts : WorldEvent → List Expired → World → World → Type 0
+WantLifts event expired w next = (after : World) × WantTells event expired w after × (next ≡ kept_world after)
+
+taken_too : (event : WorldEvent) (w : World) → step event (kept_world w) ≡ kept_stepped (step event w) → IsOk (step event (kept_world w)).reply →
+    IsOk (step event w).reply
+taken_too event w same is = subst (λ (x : Stepped). IsOk x.reply) same is
+
+stopped_of : (s left : Standing) (moment : ℕ) (expired : List Expired) → StoreCutShort (advanced s moment) expired OutOfMemory left →
+    IsStopped (advanced s moment) expired left
+stopped_of s left moment expired (inl is) =
+    let never : OutOfMemory ≢ OutOfMemory = subst (λ (a : StoreAdvance). NoWant a.cause) is (advanced_never s moment) in absurd (never refl)
+stopped_of s left moment expired (inr (want, stopped)) = stopped
+
+cut_lifts : (moment : ℕ) (expired : List Expired) (w next : World) → HasReached w.standing → w.standing.moment ≤ moment →
+    IsCutShort moment expired (kept_world w) next → WantLifts (Advance moment) expired w next
+cut_lifts moment expired w next reached forward cut =
+    let s : Standing = w.standing in
+    let whole : IsCutShortToo s moment expired OutOfMemory next.standing =
+    cut_short_too s reached moment expired next.standing OutOfMemory (λ _. cut.come) (inr (refl, cut.stopped)) in
+    let after : World = after_expiries w whole.whole expired in (
+      after,
+      (forward, inr record { come = whole.come forward; stopped = stopped_of s whole.whole moment expired whole.cut_short; rest = refl }),
+      cut.rest ∙ ap (λ (x : Standing). (let v : World = record { standing = x; runners = w.runners; entries = w.entries ++ expiries expired } in v)) (sym whole.leaves),
+    )
+
+advance_lifts : (moment : ℕ) (expired : List Expired) (w next : World) → HasReached w.standing → w.standing.moment ≤ moment →
+    (IsUnchanged expired (kept_world w) next ⊎ IsCutShort moment expired (kept_world w) next) → WantLifts (Advance moment) expired w next
+advance_lifts moment expired w next reached forward (inl same) = (w, (forward, inl (same.0, refl)), same.1)
+advance_lifts moment expired w next reached forward (inr cut) = cut_lifts moment expired w next reached forward cut
+
+want_lifts : (event : WorldEvent) (expired : List Expired) (w next : World) → HasReached w.standing →
+    step event (kept_world w) ≡ kept_stepped (step event w) → WantTells event expired (kept_world w) next → WantLifts event expired w next
+want_lifts (Advance moment) expired w next reached same want = advance_lifts moment expired w next reached want.0 want.1
+want_lifts (Start program level limit) expired w next reached same want =
+    (w, ((want.0.0, refl), taken_too (Start program level limit) w same want.1), want.0.1)
+want_lifts (Step id) expired w next reached same want = (w, ((want.0.0, refl), taken_too (Step id) w same want.1), want.0.1)
+want_lifts (Txn txn) expired w next reached same want = (w, ((want.0.0, refl), taken_too (Txn txn) w same want.1), want.0.1)
+want_lifts (Grant id ttl) expired w next reached same want = (w, ((want.0.0, refl), taken_too (Grant id ttl) w same want.1), want.0.1)
+want_lifts (Keep id) expired w next reached same want = (w, ((want.0.0, refl), taken_too (Keep id) w same want.1), want.0.1)
+want_lifts (Revoke id) expired w next reached same want = (w, ((want.0.0, refl), taken_too (Revoke id) w same want.1), want.0.1)
+want_lifts (WatchKey key from) expired w next reached same want = (w, ((want.0.0, refl), taken_too (WatchKey key from) w same want.1), want.0.1)
+want_lifts (WatchRange first end from) expired w next reached same want =
+    (w, ((want.0.0, refl), taken_too (WatchRange first end from) w same want.1), want.0.1)
+want_lifts (Poll watcher most) expired w next reached same want = (w, ((want.0.0, refl), taken_too (Poll watcher most) w same want.1), want.0.1)
+want_lifts (Cancel watcher) expired w next reached same want = (w, ((want.0.0, refl), taken_too (Cancel watcher) w same want.1), want.0.1)
+want_lifts (Compact revision) expired w next reached same want = absurd want
+
+refused_lifts : (event : WorldEvent) (d : Denied) (w next : World) → HasReached w.standing → step event (kept_world w) ≡ kept_stepped (step event w) →
+    (((is_want d.cause ≡ true) × WantTells event d.expired (kept_world w) next)
+    ⊎ ((is_want d.cause ≡ false) × IsStep (step event (kept_world w)) (Err d) next)) → Lifted event (Err d) w next
+refused_lifts event d w next reached same (inl want) =
+    let lifts : WantLifts event d.expired w next = want_lifts event d.expired w next reached same want.1 in
+    record { after = lifts.0; tells = want_tells_by d.cause event d w lifts.0 want.0 lifts.1; is = lifts.2 }
+refused_lifts event d w next reached same (inr is) =
+    let lifts = stepped_lifts event (Err d) w next same is.1 in
+    record { after = (step event w).next; tells = step_tells_by d.cause event d w (step event w).next is.0 lifts.0; is = lifts.1 }
+
+-- an event that is no compaction
+tells_lift : (event : WorldEvent) (reply : Result Reply Denied) (w next : World) → HasReached w.standing →
+    step event (kept_world w) ≡ kept_stepped (step event w) → Tells event reply (kept_world w) next → Lifted event reply w next
+tells_lift event (Ok reply) w next reached same tells =
+    let lifts = stepped_lifts event (Ok reply) w next same tells in
+    record { after = (step event w).next; tells = lifts.0; is = lifts.1 }
+tells_lift event (Err d) w next reached same tells =
+    refused_lifts event d w next reached same (refusal_cases d.cause event d (kept_world w) next tells)
+
+-- a compaction wants no memory
+is_plain : (cause : StoreRefusal) → cause ≢ OutOfMemory → is_want_of_store cause ≡ false
+is_plain cause not = by (is_want_of_store cause) refl
+  where
+    by : (b : Bool) → is_want_of_store cause ≡ b → b ≡ false
+    by true is = absurd (not (want_is cause is))
+    by false is = refl
+
+compact_tells : (revision : ℕ) (w : World) (o : Result (StoreStep (Unit {0})) StoreRefusal) (reply : Result Reply Denied) → NeverWants o →
+    reply_to (λ _. Compacted revision) o ≡ reply → IsStep (step (Compact revision) w) reply (step (Compact revision) w).next →
+    Tells (Compact revision) reply w (step (Compact revision) w).next
+compact_tells revision w (Ok done) reply never told is =
+    subst (λ (r : Result Reply Denied). Tells (Compact revision) r w (step (Compact revision) w).next) told
+    (subst (λ (r : Result Reply Denied). IsStep (step (Compact revision) w) r (step (Compact revision) w).next) (sym told) is)
+compact_tells revision w (Err cause) reply never told is =
+    subst (λ (r : Result Reply Denied). Tells (Compact revision) r w (step (Compact revision) w).next) told
+    (step_tells_by (Store cause) (Compact revision) (record { cause = Store cause; expired = [] }) w (step (Compact revision) w).next (is_plain cause never)
+    (subst (λ (r : Result Reply Denied). IsStep (step (Compact revision) w) r (step (Compact revision) w).next) (sym told) is))
+
+compact_lifts : (revision : ℕ) (reply : Result Reply Denied) (w next : World) → HasKept w.standing →
+    IsStep (compact_kept revision (kept_world w)) reply next → Lifted (Compact revision) reply w next
+compact_lifts revision reply w next k is =
+    let same : compact_kept revision (kept_world w) ≡ kept_stepped (step (Compact revision) w) = step_kept (Compact revision) w k in
+    let replied_so : (step (Compact revision) w).reply ≡ reply = sym (ap (λ (x : Stepped). x.reply) same) ∙ is.reply_is in
+    record {
+      after = (step (Compact revision) w).next;
+      tells = compact_tells revision w (raised w.standing revision) reply (raised_never w.standing revision) replied_so
+          (record { reply_is = replied_so; next_is = refl });
+      is = sym is.next_is ∙ ap (λ (x : Stepped). x.next) same;
+    }
+
+event_lifts : (event : WorldEvent) (reply : Result Reply Denied) (w next : World) → HasKept w.standing → KeptTells event reply (kept_world w) next →
+    Lifted event reply w next
+event_lifts (Compact revision) reply w next k tells = compact_lifts revision reply w next k tells
+event_lifts (Start program level limit) reply w next k tells =
+    tells_lift (Start program level limit) reply w next k.reached (step_kept (Start program level limit) w k) tells
+event_lifts (Step id) reply w next k tells = tells_lift (Step id) reply w next k.reached (step_kept (Step id) w k) tells
+event_lifts (Txn txn) reply w next k tells = tells_lift (Txn txn) reply w next k.reached (step_kept (Txn txn) w k) tells
+event_lifts (Grant id ttl) reply w next k tells = tells_lift (Grant id ttl) reply w next k.reached (step_kept (Grant id ttl) w k) tells
+event_lifts (Keep id) reply w next k tells = tells_lift (Keep id) reply w next k.reached (step_kept (Keep id) w k) tells
+event_lifts (Revoke id) reply w next k tells = tells_lift (Revoke id) reply w next k.reached (step_kept (Revoke id) w k) tells
+event_lifts (Advance moment) reply w next k tells = tells_lift (Advance moment) reply w next k.reached (step_kept (Advance moment) w k) tells
+event_lifts (WatchKey key from) reply w next k tells = tells_lift (WatchKey key from) reply w next k.reached (step_kept (WatchKey key from) w k) tells
+event_lifts (WatchRange first end from) reply w next k tells =
+    tells_lift (WatchRange first end from) reply w next k.reached (step_kept (WatchRange first end from) w k) tells
+event_lifts (Poll watcher most) reply w next k tells = tells_lift (Poll watcher most) reply w next k.reached (step_kept (Poll watcher most) w k) tells
+event_lifts (Cancel watcher) reply w next k tells = tells_lift (Cancel watcher) reply w next k.reached (step_kept (Cancel watcher) w k) tells
+
+-- ---- the opening stays
+
+appended_opens : (old new : World) → HasAppended old new → new.standing.history.opening ≡ old.standing.history.opening
+appended_opens old new more =
+    sym (ap (λ (r : Replayed). r.history.opening) more.replays) ∙ (replay_only_adds more.more (without_moment old.standing)).opening
+
+stepped_opens : (event : WorldEvent) (w : World) → IsSound w → (step event w).next.standing.history.opening ≡ w.standing.history.opening
+stepped_opens event w sound = appended_opens w (step event w).next (events_append (event ∷ []) w sound)
+
+cut_opens : (moment : ℕ) (expired : List Expired) (old new : World) → IsCutShort moment expired old new →
+    new.standing.history.opening ≡ old.standing.history.opening
+cut_opens moment expired old new cut =
+    subst (λ (a : StoreAdvance). a.leaves.history.opening ≡ old.standing.history.opening) cut.come
+    (at_moment_follows (length expired) old.standing moment).keeps.opening
+
+unchanged_opens : (expired : List Expired) (old new : World) → IsUnchanged expired old new → new.standing.history.opening ≡ old.standing.history.opening
+unchanged_opens expired old new same = ap (λ (w : World). w.standing.history.opening) same.1
+
+advance_opens : (moment : ℕ) (expired : List Expired) (old new : World) → (IsUnchanged expired old new ⊎ IsCutShort moment expired old new) →
+    new.standing.history.opening ≡ old.standing.history.opening
+advance_opens moment expired old new (inl same) = unchanged_opens expired old new same
+advance_opens moment expired old new (inr cut) = cut_opens moment expired old new cut
+
+want_opens : (event : WorldEvent) (expired : List Expired) (old new : World) → WantTells event expired old new →
+    new.standing.history.opening ≡ old.standing.history.opening
+want_opens (Start program level limit) expired old new want = unchanged_opens expired old new want.0
+want_opens (Step id) expired old new want = unchanged_opens expired old new want.0
+want_opens (Txn txn) expired old new want = unchanged_opens expired old new want.0
+want_opens (Grant id ttl) expired old new want = unchanged_opens expired old new want.0
+want_opens (Keep id) expired old new want = unchanged_opens expired old new want.0
+want_opens (Revoke id) expired old new want = unchanged_opens expired old new want.0
+want_opens (Advance moment) expired old new want = advance_opens moment expired old new want.1
+want_opens (WatchKey key from) expired old new want = unchanged_opens expired old new want.0
+want_opens (WatchRange first end from) expired old new want = unchanged_opens expired old new want.0
+want_opens (Poll watcher most) expired old new want = unchanged_opens expired old new want.0
+want_opens (Cancel watcher) expired old new want = unchanged_opens expired old new want.0
+want_opens (Compact revision) expired old new want = absurd want
+
+is_step_opens : (event : WorldEvent) (reply : Result Reply Denied) (old new : World) → IsSound old → IsStep (step event old) reply new →
+    new.standing.history.opening ≡ old.standing.history.opening
+is_step_opens event reply old new sound is =
+    subst (λ (w : World). w.standing.history.opening ≡ old.standing.history.opening) is.next_is (stepped_opens event old sound)
+
+refused_opens : (event : WorldEvent) (d : Denied) (old new : World) → IsSound old →
+    (((is_want d.cause ≡ true) × WantTells event d.expired old new) ⊎ ((is_want d.cause ≡ false) × IsStep (step event old) (Err d) new)) →
+    new.standing.history.opening ≡ old.standing.history.opening
+refused_opens event d old new sound (inl want) = want_opens event d.expired old new want.1
+refused_opens event d old new sound (inr is) = is_step_opens event (Err d) old new sound is.1
+
+tells_opens : (event : WorldEvent) (reply : Result Reply Denied) (old new : World) → IsSound old → Tells event reply old new →
+    new.standing.history.opening ≡ old.standing.history.opening
+tells_opens event (Ok reply) old new sound told = is_step_opens event (Ok reply) old new sound told
+tells_opens event (Err d) old new sound told = refused_opens event d old new sound (refusal_cases d.cause event d old new told)
+
+-- ---- the calls of a world
+
+-- what a call leaves of a world that keeps this
+pub record Leaves (event : WorldEvent) (reply : Result Reply Denied) (opened : ℕ) (old new : World) : Type 0 where
+  pub tells : Tells event reply (whole_world opened old) (whole_world opened new)
+  pub is_kept : IsKeptBy new.standing (whole_world opened new)
+
+-- a world of which this is kept, and whose store opened there
+kept_again : (opened : ℕ) (after new : World) → IsSound after → after.standing.history.opening.number ≡ opened → new ≡ kept_world after →
+    (whole_world opened new ≡ after) × IsKeptBy new.standing (whole_world opened new)
+kept_again opened after new sound opens is =
+    let same : whole_world opened new ≡ after = ap (whole_world opened) is ∙ whole_of opened after sound opens in (
+      same,
+      subst (λ (w : World). IsKeptBy new.standing w) (sym same) (record { sound = sound; stands = ap (λ (w : World). w.standing) is }),
+    )
+
+pub step_leaves : (event : WorldEvent) (reply : Result Reply Denied) (opened : ℕ) (old new : World) → IsKeptBy old.standing (whole_world opened old) →
+    KeptTells event reply old new → Leaves event reply opened old new
+step_leaves event reply opened old new x tells =
+    let w : World = whole_world opened old in
+    let lifted : Lifted event reply w new =
+    event_lifts event reply w new x.sound.kept (subst (λ (m : World). KeptTells event reply m new) (kept_of opened old x) tells) in
+    let sound : IsSound lifted.after = tells_sound event reply w lifted.after x.sound lifted.tells in
+    let opens : lifted.after.standing.history.opening.number ≡ opened =
+    ap (λ (o : Opening). o.number) (tells_opens event reply w lifted.after x.sound lifted.tells) ∙ opens_at opened old in
+    let again = kept_again opened lifted.after new sound opens lifted.is in
+    record {
+      tells = subst (λ (v : World). Tells event reply w v) (sym again.0) lifted.tells;
+      is_kept = again.1;
+    }
+
+-- the revision that the next fetch of a runner names is reached
+pub bases_are_reached : (opened : ℕ) (m : World) → IsKeptBy m.standing (whole_world opened m) → BasesAreReached m
+bases_are_reached opened m x id r found =
+    let w : World = whole_world opened m in
+    let counter : now (kept w.standing).history ≡ now w.standing.history = counted w.standing x.sound.kept.reached in
+    let same : now m.standing.history ≡ now w.standing.history = ap (λ (s : Standing). now s.history) x.stands ∙ counter in
+    subst (λ n. at_of r.task.level r.known.reads ≤ n) (sym same) (base_is_reached w id r x.sound found)
+
+-- a world that opens keeps all
+opened_is_kept : (start : ℕ) → IsKeptBy (opened_world start).standing (opened_world start)
+opened_is_kept start = record {
+  sound = opened_is_sound start;
+  stands = ap (with_history (opened_world start).standing) (sym (cut_at_the_opening (opened_world start).standing.history (0 - 1) (omega arith)));
+}
+
+pub opened_leaves : (start : ℕ) (m : World) → m ≡ opened_world start → IsKeptBy m.standing (whole_world start m)
+opened_leaves start m is = subst (λ (w : World). IsKeptBy w.standing (whole_world start w)) (sym is) (opened_is_kept start)
+
+-- a start
+pub started_leaves : (task : Task) (result : Result ℕ AllocError) (opened : ℕ) (old new : World) → IsKeptBy old.standing (whole_world opened old) →
+    OnOk result (new ≡ (start_runner task old).next) → OnErr result (new ≡ old) → IsKeptBy new.standing (whole_world opened new)
+started_leaves task (Ok id) opened old new x ok err =
+    let w : World = whole_world opened old in
+    let event : WorldEvent = Start task.program task.level task.limit in
+    let next : World = (start_runner task w).next in
+    let same : new ≡ kept_world next =
+    ok ∙ ap (λ (m : World). (start_runner task m).next) (kept_of opened old x) ∙ ap (λ (s : Stepped). s.next) (start_kept task w) in
+    let opens : next.standing.history.opening.number ≡ opened = ap (λ (o : Opening). o.number) (stepped_opens event w x.sound) ∙ opens_at opened old in
+    (kept_again opened next new (step_is_sound event w x.sound) opens same).1
+started_leaves task (Err e) opened old new x ok err = subst (λ (m : World). IsKeptBy m.standing (whole_world opened m)) (sym err) x
+
+pub started_next : (task : Task) (opened : ℕ) (old new : World) → IsKeptBy old.standing (whole_world opened old) → new ≡ (start_runner task old).next →
+    whole_world opened new ≡ (start_runner task (whole_world opened old)).next
+started_next task opened old new x is =
+    let w : World = whole_world opened old in
+    let event : WorldEvent = Start task.program task.level task.limit in
+    let next : World = (start_runner task w).next in
+    let same : new ≡ kept_world next =
+    is ∙ ap (λ (m : World). (start_runner task m).next) (kept_of opened old x) ∙ ap (λ (s : Stepped). s.next) (start_kept task w) in
+    let opens : next.standing.history.opening.number ≡ opened = ap (λ (o : Opening). o.number) (stepped_opens event w x.sound) ∙ opens_at opened old in
+    (kept_again opened next new (step_is_sound event w x.sound) opens same).0
+
+pub started_number : (task : Task) (opened : ℕ) (old : World) → IsKeptBy old.standing (whole_world opened old) →
+    (start_runner task old).reply ≡ (start_runner task (whole_world opened old)).reply
+started_number task opened old x =
+    ap (λ (m : World). (start_runner task m).reply) (kept_of opened old x) ∙ ap (λ (s : Stepped). s.reply) (start_kept task (whole_world opened old))
+
+-- the state now
+pub state_of_whole : (opened : ℕ) (m : World) (state : List StateEntry) → IsKeptBy m.standing (whole_world opened m) → IsStateOf m.standing.history state →
+    IsStateOf (whole_world opened m).standing.history state
+state_of_whole opened m state x is key =
+    let w : World = whole_world opened m in
+    let alike : IsAlike w.standing.floor (kept w.standing).history w.standing.history =
+    cut_is_alike w.standing.floor w.standing.history x.sound.kept.reached in
+    is key ∙ ap (λ (s : Standing). entry_now key (key_now s.history key)) x.stands
+    ∙ ap (λ (state : List ℕ → Option KeyState). entry_now key (state key)) alike.keys_now
+
+pub state_told : (opened : ℕ) (m seen : World) {h : History} (result : Result (List StateEntry) AllocError) → IsKeptBy m.standing (whole_world opened m) →
+    whole_world opened m ≡ seen → h ≡ m.standing.history → IfOk result (λ state. IsStateOf h state) →
+    IfOk result (λ state. IsStateOf seen.standing.history state)
+state_told opened m seen (Ok state) x is same told =
+    subst (λ (w : World). IsStateOf w.standing.history state) is
+    (state_of_whole opened m state x (subst (λ (g : History). IsStateOf g state) same told))
+state_told opened m seen (Err e) x is same told = tt
+
+-- the store stands for the history that the entries replay to
+pub stands_replayed : (opened : ℕ) (m seen : World) → IsKeptBy m.standing (whole_world opened m) → whole_world opened m ≡ seen →
+    m.standing ≡ kept (whole_store seen.standing.history.opening.number seen.entries m.standing)
+stands_replayed opened m seen x is =
+    x.stands ∙ ap (λ n. kept (whole_store n m.entries m.standing)) (sym (opens_at opened m))
+    ∙ ap (λ (w : World). kept (whole_store w.standing.history.opening.number w.entries m.standing)) is

@@ -1,0 +1,24 @@
+use Rattle.std.proofs.Common.{ℕ, subst, sym}
+use Rattle.stm_watch.specs.declared.watched.Watched.TheVariants.{Key}
+use Rattle.stm_watch.specs.Places.{watchings}
+use Rattle.stm_watch.specs.Calls.{watch, WatchTells}
+use Rattle.stm_txn.specs.Standing.{Standing, Tells, watched, with_watchers}
+use Rattle.stm_txn.specs.Store.{StoreView}
+use Rattle.stm_txn.proofs.Watches.{watch_tells}
+use Rattle.stm_txn.proofs.store.Store.watch_key.Goals as goal
+
+pub returns-clause-step : goal.returns-clause-step
+returns-clause-step c =
+    let s : Standing = record {
+      history = c.self.inside.keys.history;
+      floor = c.self.inside.keys.floor;
+      live = c.self.inside.leases.live;
+      moment = c.self.inside.moment;
+      watchers = watchings c.self.inside.watchers;
+    } in
+    subst (λ (v : StoreView). Tells (watched v.standing (Key c.args.key.now) c.args.from) c.told_watch.result (with_watchers s (watchings c.watch_key-watched.new.self)))
+    c.self.view_is
+    (subst (λ r. Tells (watched s (Key c.args.key.now) c.args.from) r (with_watchers s (watchings c.watch_key-watched.new.self))) (sym c.told_watch.ensures)
+    (watch_tells s (Key c.args.key.now) c.args.from c.watch_key-watched.result (watchings c.watch_key-watched.new.self)
+    (subst (λ (n : ℕ). WatchTells (watch s.history n (Key c.args.key.now) c.args.from s.watchers) c.watch_key-watched.result (watchings c.watch_key-watched.new.self))
+    c.self.invariant.3 c.watch_key-watched.ensures.answer)))

@@ -3,12 +3,16 @@ import os
 import re
 
 FUNCTION = re.compile(r"(\s*)(?:pub(?:\([a-z]+\))? )?(?:const )?fn (\w+)")
+# What stands outside of functions: a table, say.
+ITEM = re.compile(r"(?:pub(?:\([a-z]+\))? )?(?:static|const (?!fn)|struct|enum|trait|type) ?")
 IMPLEMENTATION = re.compile(r"impl\s*(?:<.*?>)?\s*(?:([\w:]+)(?:<.*>)? for )?&?(\w+)")
 
 
 def ending(path, lines, place):
     """The end of the name by which the prover tells the function that a line of a source stands in; None where it stands in none."""
     while place and not FUNCTION.match(lines[place]):
+        if ITEM.match(lines[place]):
+            return None
         place -= 1
     found = FUNCTION.match(lines[place])
     if not found:

@@ -229,8 +229,15 @@ impl Attempt {
         ensures { IfOk result (λ copy. copy ≡ self.now) }
     {
         let program = copy_program(&self.program)?;
-        let reads = self.reads.clone()?;
-        let prefetched = self.prefetched.clone()?;
+        let Ok(reads) = self.reads.clone() else {
+            drop(program);
+            return Err(AllocError);
+        };
+        let Ok(prefetched) = self.prefetched.clone() else {
+            drop(reads);
+            drop(program);
+            return Err(AllocError);
+        };
         Ok(Attempt {
             program,
             level: self.level,

@@ -146,8 +146,15 @@ fn made_ready(
         unreachable!();
     };
     let writes = WriteBuffer::of(alloc, run.writes.as_slice())?;
-    let program = program.clone()?;
-    let answers = reads.clone()?;
+    let Ok(program) = program.clone() else {
+        drop(writes);
+        return Err(AllocError);
+    };
+    let Ok(answers) = reads.clone() else {
+        drop(program);
+        drop(writes);
+        return Err(AllocError);
+    };
     Ok(ready_of(program, level, answers, writes, take_run(progress)))
 }
 

@@ -38,8 +38,9 @@ pub fn fetch(alloc: Global, store: &mut Store, key: &str, at: u64) -> Result<Rea
     ensures store { store.new.standing ≡ store.old.standing }
 {
     let txn = read_one(alloc, key, at)?;
-    let answer = store.txn(&txn)?;
+    let told = store.txn(&txn);
     drop(txn);
+    let answer = told?;
     let read = take_only_read(answer.answers)?;
     Ok(read)
 }

@@ -101,12 +101,15 @@ pub fn commit(alloc: Global, store: &mut Store, ready: &Ready) -> Result<Sent, R
 {
     let _keys_differ = ready.answers.as_slice();
     let txn = compile(alloc, ready.level, &ready.answers, &ready.writes)?;
-    let answer = store.txn(&txn)?;
+    let sent = store.txn(&txn);
     drop(txn);
+    let answer = sent?;
     match answer.failed {
-        None => Ok(Sent::Committed {
-            revision: answer.revision,
-        }),
+        None => {
+            let revision = answer.revision;
+            drop(answer);
+            Ok(Sent::Committed { revision })
+        }
         Some(failed) => {
             let told = conflict(alloc, &ready.answers, &ready.writes, failed, answer.answers)?;
             Ok(told)

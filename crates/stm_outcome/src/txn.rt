@@ -174,8 +174,15 @@ impl Clone for Txn {
 
     fn clone(&self) -> Result<Txn, AllocError> {
         let compares = self.compares.clone()?;
-        let success = self.success.clone()?;
-        let failure = self.failure.clone()?;
+        let Ok(success) = self.success.clone() else {
+            drop(compares);
+            return Err(AllocError);
+        };
+        let Ok(failure) = self.failure.clone() else {
+            drop(success);
+            drop(compares);
+            return Err(AllocError);
+        };
         Ok(Txn {
             compares,
             success,

@@ -760,8 +760,15 @@ impl Store {
         ensures { IfOk result (λ copy. copy ≡ self.now) }
     {
         let watchers = self.watchers.copy()?;
-        let leases = self.leases.copy()?;
-        let keys = self.keys.copy()?;
+        let Ok(leases) = self.leases.copy() else {
+            drop(watchers);
+            return Err(AllocError);
+        };
+        let Ok(keys) = self.keys.copy() else {
+            drop(leases);
+            drop(watchers);
+            return Err(AllocError);
+        };
         Ok(Store {
             keys,
             leases,

@@ -23,7 +23,7 @@ returns-in_err-read-clause-told c =
 
 pub returns-clause-told : goal.returns-clause-told
 returns-clause-told c =
-    tells_read c.args.store.now.standing c.txn.new.self.standing c.args.key.now c.args.at c.in_ok-answer.answer.answers c.in_ok-read.read
-    (fetch_shows c.args.store.now.standing c.txn.new.self.standing c.args.key.now c.args.at c.in_ok-txn.txn c.in_ok-answer.answer c.in_ok-txn.ensures
+    tells_read c.args.store.now.standing c.txn-told.new.self.standing c.args.key.now c.args.at c.in_ok-answer.answer.answers c.in_ok-read.read
+    (fetch_shows c.args.store.now.standing c.txn-told.new.self.standing c.args.key.now c.args.at c.in_ok-txn.txn c.in_ok-answer.answer c.in_ok-txn.ensures
     c.requires.named c.requires.reached c.in_ok-answer.ensures.step)
     c.in_ok-read.ensures

@@ -23,9 +23,9 @@ returns-in_err-answer-clause-step c = λ run ended.
     let txn_is : c.in_ok-txn.txn ≡ commit_of ready.level ready.answers ready.writes =
     c.in_ok-txn.ensures ∙ ap (λ (r : ReadyRun). commit_of r.level r.answers r.writes) c.ready.view_is in
     let exit = err_from_is_err_and c.from_residual-in_err-answer.result c.from_residual-in_err-answer.ensures.1 in
-    refused_with (sent c.args.store.now.standing ready.level ready.answers run) c.args.store.now.standing c.txn.new.self.standing
+    refused_with (sent c.args.store.now.standing ready.level ready.answers run) c.args.store.now.standing c.txn-sent.new.self.standing
     c.from_residual-in_err-answer.result exit.0 c.in_err-answer.field-0.0 exit.1 exit.2
-    (is_refused c.args.store.now.standing c.txn.new.self.standing ready run c.in_ok-txn.txn c.in_err-answer.field-0.0 kept c.requires.named ended txn_is
+    (is_refused c.args.store.now.standing c.txn-sent.new.self.standing ready run c.in_ok-txn.txn c.in_err-answer.field-0.0 kept c.requires.named ended txn_is
     c.in_err-answer.ensures.step (ap (λ (v : StoreView). v.standing) c.in_err-answer.ensures.err))
 
 -- no compare failed
@@ -35,7 +35,7 @@ returns-in-None-clause-step c = λ run ended.
     let kept : IsRunOnItsAnswers ready = subst IsRunOnItsAnswers c.ready.view_is c.ready.invariant in
     let txn_is : c.in_ok-txn.txn ≡ commit_of ready.level ready.answers ready.writes =
     c.in_ok-txn.ensures ∙ ap (λ (r : ReadyRun). commit_of r.level r.answers r.writes) c.ready.view_is in
-    tells_committed c.args.store.now.standing c.txn.new.self.standing ready.level ready.answers run c.in_ok-answer.answer
+    tells_committed c.args.store.now.standing c.txn-sent.new.self.standing ready.level ready.answers run c.in_ok-answer.answer
     (sym (comes_to c.args.store.now.standing ready run c.in_ok-txn.txn kept c.requires.named ended txn_is) ∙ c.in_ok-answer.ensures.step)
     c.in-None.is
 
@@ -48,10 +48,10 @@ returns-in_err-told-in-Some-clause-step c = λ run ended.
     c.in_ok-txn.ensures ∙ ap (λ (r : ReadyRun). commit_of r.level r.answers r.writes) c.ready.view_is in
     let exit = err_from_is_err_and c.from_residual-in_err-told-in-Some.result c.from_residual-in_err-told-in-Some.ensures.1 in
     let down =
-    is_turned_down c.args.store.now.standing c.txn.new.self.standing ready.level ready.answers run c.in_ok-answer.answer c.in-Some.failed
+    is_turned_down c.args.store.now.standing c.txn-sent.new.self.standing ready.level ready.answers run c.in_ok-answer.answer c.in-Some.failed
     (sym (comes_to c.args.store.now.standing ready run c.in_ok-txn.txn kept c.requires.named ended txn_is) ∙ c.in_ok-answer.ensures.step)
     c.in-Some.is in
-    refused_with (sent c.args.store.now.standing ready.level ready.answers run) c.args.store.now.standing c.txn.new.self.standing
+    refused_with (sent c.args.store.now.standing ready.level ready.answers run) c.args.store.now.standing c.txn-sent.new.self.standing
     c.from_residual-in_err-told-in-Some.result exit.0 OutOfMemory exit.1 exit.2 (inl refl, down.unchanged)
 
 -- a compare failed
@@ -61,7 +61,7 @@ returns-in_ok-told-in-Some-clause-step c = λ run ended.
     let kept : IsRunOnItsAnswers ready = subst IsRunOnItsAnswers c.ready.view_is c.ready.invariant in
     let txn_is : c.in_ok-txn.txn ≡ commit_of ready.level ready.answers ready.writes =
     c.in_ok-txn.ensures ∙ ap (λ (r : ReadyRun). commit_of r.level r.answers r.writes) c.ready.view_is in
-    tells_told c.args.store.now.standing c.txn.new.self.standing ready run c.in_ok-answer.answer c.in-Some.failed c.in_ok-told-in-Some.told
+    tells_told c.args.store.now.standing c.txn-sent.new.self.standing ready run c.in_ok-answer.answer c.in-Some.failed c.in_ok-told-in-Some.told
     (writes_are_latest ready run kept ended)
     (sym (comes_to c.args.store.now.standing ready run c.in_ok-txn.txn kept c.requires.named ended txn_is) ∙ c.in_ok-answer.ensures.step)
     c.in-Some.is
@@ -77,7 +77,7 @@ returns-in_ok-told-in-Some-clause-answers c =
     let txn_is : c.in_ok-txn.txn ≡ commit_of ready.level ready.answers ready.writes =
     c.in_ok-txn.ensures ∙ ap (λ (r : ReadyRun). commit_of r.level r.answers r.writes) c.ready.view_is in
     let down =
-    is_turned_down c.args.store.now.standing c.txn.new.self.standing ready.level ready.answers kept.run c.in_ok-answer.answer c.in-Some.failed
+    is_turned_down c.args.store.now.standing c.txn-sent.new.self.standing ready.level ready.answers kept.run c.in_ok-answer.answer c.in-Some.failed
     (sym (comes_to c.args.store.now.standing ready kept.run c.in_ok-txn.txn kept c.requires.named kept.is_run txn_is) ∙ c.in_ok-answer.ensures.step)
     c.in-Some.is in
     let distinct : IsDistinct bytes_eq (map (λ (a : ReadAnswer). a.key) ready.answers) =

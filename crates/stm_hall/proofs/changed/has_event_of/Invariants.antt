@@ -1,4 +1,4 @@
-use Rattle.std.proofs.Common.{◌≡◌, drop, is_some}
+use Rattle.std.proofs.Common.{◌≡◌, drop}
 use Rattle.stm_keys.specs.Events.{event_about}
 use Rattle.stm_hall.proofs.changed.has_event_of.Given as goal
 

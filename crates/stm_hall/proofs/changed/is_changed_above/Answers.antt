@@ -1,4 +1,4 @@
-use Rattle.std.proofs.Common.{◌≡◌, ◌≤◌, ◌∙◌, max, sym, ap, arith, ℕ, List, Option, true, false}
+use Rattle.std.proofs.Common.{◌≡◌, ◌∙◌, max, sym, ap, arith, ℕ, List, Option}
 use Rattle.std.specs.Prelude.{nat_lt, option_copied}
 use Rattle.stm_history.specs.declared.key_state.KeyState.{KeyState}
 use Rattle.stm_history.specs.Opening.{opened_state}

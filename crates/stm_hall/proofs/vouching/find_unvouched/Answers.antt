@@ -1,6 +1,5 @@
-use Rattle.std.proofs.Common.{◌∙◌, true, false, cond, None, ap, sym}
+use Rattle.std.proofs.Common.{◌∙◌, cond, None, ap, sym}
 use Rattle.std.specs.List.{find}
-use Rattle.stm_compile.specs.Levels.{is_comparing}
 use Rattle.stm_attempt.specs.ReadyRun.{ReadyRun}
 use Rattle.stm_hall.specs.Verdicts.{has_other_value, first_unvouched}
 use Rattle.stm_hall.proofs.vouching.find_unvouched.Goals as goal

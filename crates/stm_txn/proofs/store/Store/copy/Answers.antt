@@ -4,11 +4,11 @@ use Rattle.stm_txn.proofs.store.Store.copy.Goals as goal
 
 pub invariant_of-result : goal.invariant_of-result
 invariant_of-result c =
-    parts_copied c.self.inside.keys c.in_ok-keys.keys c.self.inside.leases c.in_ok-leases.leases c.self.inside.watchers c.in_ok-watchers.watchers
-    c.in_ok-keys.ensures c.in_ok-leases.ensures c.in_ok-watchers.ensures c.self.invariant
+    parts_copied c.self.inside.keys c.in-Ok-copy.keys c.self.inside.leases c.in-Ok.leases c.self.inside.watchers c.in_ok-watchers.watchers
+    c.in-Ok-copy.ensures c.in-Ok.ensures c.in_ok-watchers.ensures c.self.invariant
 
 pub returns : goal.returns
 returns c =
-    store_copied c.self.inside.keys c.in_ok-keys.keys c.self.inside.leases c.in_ok-leases.leases c.self.inside.watchers c.in_ok-watchers.watchers
-    c.in_ok-keys.ensures c.in_ok-leases.ensures c.in_ok-watchers.ensures c.self.inside.moment
+    store_copied c.self.inside.keys c.in-Ok-copy.keys c.self.inside.leases c.in-Ok.leases c.self.inside.watchers c.in_ok-watchers.watchers
+    c.in-Ok-copy.ensures c.in-Ok.ensures c.in_ok-watchers.ensures c.self.inside.moment
     ∙ c.self.view_is

@@ -5,7 +5,7 @@ use std::alloc::Global;
 use std::process::Abort;
 use stm_commands::{
     Format, Kept, RecipeWords, Std, check_explained_to, check_to, check_whole_to, recipe_to,
-    script_as_to, script_explained_to, script_to,
+    script_explained_to, script_to,
 };
 
 /// What a command left: its status, how often its first reader was read, and its output and its standard error.
@@ -32,27 +32,12 @@ pub fn script(alloc: Global, scenario: &[u8], is_endless: bool, faults: Faults) 
     }
 }
 
-/// Runs a scenario, whose report is written in a format.
-pub fn script_as(alloc: Global, format: Format, scenario: &str) -> Left {
-    let mut input = Std::new(reader_of(scenario.as_bytes(), false, NONE.scenario));
+/// Runs a scenario, which is named `s.json`. What is wrong with it is explained.
+pub fn script_explained(alloc: Global, scenario: &[u8]) -> Left {
+    let source = Std::new(reader_of(scenario, false, NONE.scenario));
+    let mut input = Kept::new(alloc, "s.json", source);
     let mut out = Std::new(writer_of(alloc, NONE.out));
     let mut err = Std::new(writer_of(alloc, NONE.err));
-    let status = script_as_to(alloc, format, &mut input, &mut out, &mut err);
-    let reads = input.device.calls;
-    Left {
-        status,
-        reads,
-        out,
-        err,
-    }
-}
-
-/// Runs a scenario, which is named `s.json`. What is wrong with it is explained.
-pub fn script_explained(alloc: Global, scenario: &[u8], faults: Faults) -> Left {
-    let source = Std::new(reader_of(scenario, false, faults.scenario));
-    let mut input = Kept::new(alloc, "s.json", source);
-    let mut out = Std::new(writer_of(alloc, faults.out));
-    let mut err = Std::new(writer_of(alloc, faults.err));
     let status = script_explained_to(alloc, Format::Lines, &mut input, &mut out, &mut err);
     let reads = input.source.device.calls;
     Left {
@@ -114,15 +99,10 @@ pub fn recipe(alloc: Global, words: &RecipeWords<'_>, faults: Faults) -> Left {
     }
 }
 
-/// What was written to the output.
-pub fn output(left: &Left) -> &[u8] {
-    left.out.device.bytes.as_slice()
-}
-
 /// Asserts the status, what was written, and what was said.
 pub fn is_left(rt: &impl Abort, left: &Left, of: &str, status: u8, written: &[u8], said: &[u8]) {
     assert_eq!(rt; left.status, status, "{of}");
-    assert!(rt; output(left) == written, "{of}");
+    assert!(rt; left.out.device.bytes.as_slice() == written, "{of}");
     assert!(rt; left.err.device.bytes.as_slice() == said, "{of}");
 }
 

@@ -24,9 +24,9 @@ const BAD: &str = "[[\"step\",-1]]";
 /// What is said of it: 36 bytes.
 const SAID: &str = "stmrun: bad scenario at /0/1: Range\n";
 
-/// What `reserve` prints, 70 bytes: 14 writes of at most five.
-const RESERVATION: &str = concat!(
-    r#"[["if",["eq",["rev","s"],0],[],[["abort","held"]]],["put","s","h",7]]"#,
+/// What `release` prints, 78 bytes: 16 writes of at most five.
+const RELEASE: &str = concat!(
+    r#"[["if",["eq",["get","a\"\n"],"é"],[["del","a\"\n"]],[["abort","not held"]]]]"#,
     "\n",
 );
 
@@ -63,13 +63,13 @@ enum Failing {
     RecipeMessage,
 }
 
-/// Prints the program of a reservation.
-fn reserve(alloc: Global, faults: Faults) -> Left {
+/// Prints the program that releases a slot, of texts with a quote, a line feed and a letter beyond ASCII.
+fn release(alloc: Global, faults: Faults) -> Left {
     let words = RecipeWords {
-        name: "reserve_slot",
-        first: Some("s"),
-        second: Some("h"),
-        third: Some("7"),
+        name: "release_slot",
+        first: Some("a\"\n"),
+        second: Some("é"),
+        third: None,
     };
     recipe(alloc, &words, faults)
 }
@@ -120,7 +120,7 @@ fn run(alloc: Global, failing: Failing, fault: Fault) -> Left {
             check(alloc, SCENARIO, REPORT, false, faults)
         }
         Failing::CheckMessage => check(alloc, BAD, REPORT, false, faults),
-        Failing::RecipeOutput => reserve(alloc, faults),
+        Failing::RecipeOutput => release(alloc, faults),
         Failing::RecipeMessage => dequeue(alloc, faults),
     }
 }
@@ -220,7 +220,7 @@ const WRITERS: [(Failing, usize, usize, &str); 5] = [
     (Failing::ScriptOutput, 7, 12, REPORT),
     (Failing::CheckOutput, 1, 4, "yes\n"),
     (Failing::CheckOutput, 7, 1, "yes\n"),
-    (Failing::RecipeOutput, 5, 14, RESERVATION),
+    (Failing::RecipeOutput, 5, 16, RELEASE),
 ];
 
 /// Standard errors, and the number of calls for what is said.

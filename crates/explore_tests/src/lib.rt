@@ -1,16 +1,8 @@
-//! Tests of the command `explore` over memory: what is printed of whole scenarios, bad texts and rules with their explanations, and
-//! what is told while it searches.
+//! Tests of what an observer of a search is told that nobody sees from outside. The command `explore` itself is tested from outside, by the cases
+//! of `tests/explore`.
 //!
 //! This crate has no code but tests. They stand here, and not beside what they test, since a crate with tests is proved twice.
 #![tactic(auto)]
 
 #[cfg(test)]
-mod explanations;
-#[cfg(test)]
-mod faulted;
-#[cfg(test)]
-mod progress;
-#[cfg(test)]
-mod scenarios;
-#[cfg(test)]
-mod searches;
+mod endings;

@@ -1,14 +1,15 @@
-//! Worked examples of programs and their meaning, of attempts and commits, of recipes, and of the worlds that run programs, by the public
-//! calls of their crates.
+//! Worked examples of programs and their meaning, of what the readers of recipes tell, of reports that are read, and of the
+//! histories and lists below the store, by the public calls of their crates. What programs come to in a world stands in `tests/programs` and
+//! `tests/worlds`.
 //!
-//! This crate has no code but tests: one module for each crate that is tested, named for it, and the players that run their rows. They
+//! This crate has no code but tests: one module for each crate that is tested, named for it, and the player that runs their rows. They
 //! stand here, and not beside what they test, since a crate with tests is proved twice.
 #![tactic(auto)]
 
 #[cfg(test)]
-mod attempts;
+mod history;
 #[cfg(test)]
-mod commits;
+mod lists;
 #[cfg(test)]
 mod meaning;
 #[cfg(test)]
@@ -18,4 +19,4 @@ mod program;
 #[cfg(test)]
 mod recipes;
 #[cfg(test)]
-mod worlds;
+mod reports;

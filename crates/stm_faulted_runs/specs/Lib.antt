@@ -1,10 +1,9 @@
 pub use Rattle.stm_steps.specs.Meaning
+pub use Rattle.stm_sites.specs.Sites
+pub use Rattle.stm_sites.specs.Found
 pub use Rattle.stm_explain.specs.Explaining
 pub use Rattle.stm_world.specs.World
 pub use Rattle.stm_texts.specs.Reading
-pub mod Sites
-pub mod Tells
-pub mod Found
 pub mod Laws
 pub mod Reads
 pub mod Places

@@ -6,8 +6,8 @@ use Rattle.stm_steps.specs.declared.fault.Fault.{Fault}
 use Rattle.stm_steps.specs.Answer.{Lookup}
 use Rattle.stm_world.specs.declared.event.WorldEvent.{WorldEvent}
 use Rattle.stm_world.specs.declared.event.WorldEvent.TheVariants.{Start}
-use Rattle.stm_faulted_runs.specs.declared.finding.FoundFault.{FoundFault}
-use Rattle.stm_faulted_runs.specs.Found.{fault_of}
+use Rattle.stm_sites.specs.declared.finding.FoundFault.{FoundFault}
+use Rattle.stm_sites.specs.Found.{fault_of}
 
 -- the JSON Pointer of these indices
 abbrev pub pointer : List ℕ → List ℕ

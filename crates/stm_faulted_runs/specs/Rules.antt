@@ -15,8 +15,8 @@ use Rattle.stm_world.specs.World.{opened, world_after}
 use Rattle.stm_json.specs.Outcome.{Outcome}
 use Rattle.stm_texts.specs.declared.scenario.Scenario.{Scenario}
 use Rattle.stm_explain.specs.Explaining.{IsExplanationOf}
-use Rattle.stm_faulted_runs.specs.declared.finding.FoundFault.{FoundFault}
-use Rattle.stm_faulted_runs.specs.Found.{fault_of}
+use Rattle.stm_sites.specs.declared.finding.FoundFault.{FoundFault}
+use Rattle.stm_sites.specs.Found.{fault_of}
 use Rattle.stm_faulted_runs.specs.Places.{TellsPlace}
 
 abbrev pub rule_head : Fault → List ℕ

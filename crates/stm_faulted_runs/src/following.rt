@@ -3,6 +3,7 @@ ghost use Rattle.std.specs.Prelude.{◌≤◌, ◌<◌, length, IfOk, IfSome};
 ghost use Rattle.stm_history.specs.declared.revisions.TheConstants.{HIGHEST_NUMBER};
 
 use std::alloc::{AllocError, Global};
+use std::mem::replace;
 use stm_history::{HIGHEST_NUMBER, Text};
 use stm_retry::{Reply, Store};
 use stm_steps::State;
@@ -85,7 +86,7 @@ fn note_conflict(
         Some(index) => {
             let now = store.keys().revision();
             let state = renewed(alloc, &runners[index], store, now)?;
-            runners[index] = state;
+            drop(replace(&mut runners[index], state));
             Ok(())
         }
         None => Ok(()),
@@ -95,7 +96,7 @@ fn note_conflict(
 /// Lets go of what a runner was told, whose run is over.
 pub(crate) fn forget(alloc: Global, runners: &mut [State], runner: u64) {
     if let Some(index) = index_of(runners, runner) {
-        runners[index] = State::new(alloc);
+        drop(replace(&mut runners[index], State::new(alloc)));
     }
 }
 

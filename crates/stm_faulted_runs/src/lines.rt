@@ -1,5 +1,5 @@
 //! Lines that explain runs.
-ghost use Rattle.std.specs.Prelude.{◌≡◌, ◌++◌, [], ◌∷◌, IfOk, OnOk, string_bytes};
+ghost use Rattle.std.specs.Prelude.{◌≡◌, ◌++◌, [], ◌∷◌, Ok as OkOf, IfOk, OnOk, string_bytes};
 ghost use Rattle.stm_explain.specs.Explaining.{IsExplanationOf};
 ghost use Rattle.stm_faulted_runs.specs.Lines.{run_head, told_by, IsMoreOfTold, IsLineOf, Adds};
 ghost use Rattle.stm_faulted_runs.specs.ToldFaults.{told_run, told_as};
@@ -110,17 +110,27 @@ fn push_run(
     Ok(())
 }
 
-/// The fault that the reply to the event with this number tells, if it tells one.
-pub(crate) fn fault_in(event: u64, reply: &Result<Reply, Denied>) -> Option<ToldFault>
-    ensures { told_by event reply.now ≡ told_as result }
+/// The fault that a reply to the event with this number tells, if it tells one.
+fn fault_told(event: u64, reply: &Reply) -> Option<ToldFault>
+    ensures { told_by event (OkOf reply.now) ≡ told_as result }
 {
     match reply {
-        Ok(Reply::Faulted { runner, fault }) => Some(ToldFault {
+        Reply::Faulted { runner, fault } => Some(ToldFault {
             event,
             runner: *runner,
             fault: *fault,
         }),
         _ => None,
+    }
+}
+
+/// The fault that is told where the event with this number has its reply, or is denied.
+pub(crate) fn fault_in(event: u64, reply: &Result<Reply, Denied>) -> Option<ToldFault>
+    ensures { told_by event reply.now ≡ told_as result }
+{
+    match reply {
+        Ok(reply) => fault_told(event, reply),
+        Err(_) => None,
     }
 }
 

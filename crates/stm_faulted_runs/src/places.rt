@@ -1,14 +1,14 @@
 //! Where a fault stands in a text of JSON, and what is said of it.
 ghost use Rattle.std.specs.Prelude.{◌≡◌, ◌++◌, [], ◌∷◌, Some as SomeOf, codes, slice_get, IfOk, OnOk, string_bytes};
 ghost use Rattle.stm_json.specs.Outcome.{step};
-ghost use Rattle.stm_faulted_runs.specs.Found.{fault_of};
+ghost use Rattle.stm_sites.specs.Found.{fault_of};
 ghost use Rattle.stm_faulted_runs.specs.Places.{pointer, TellsPlace, IsMore, IsMoreOf};
 ghost use Rattle.stm_faulted_runs.specs.Origins.{origin_in};
 
-use crate::finding::{FoundFault, find_fault};
 use crate::reasons::reason;
 use crate::runs::{Explained, StartedRun, run_at};
 use std::alloc::{AllocError, Global};
+use stm_sites::{FoundFault, find_fault};
 use stm_steps::{Fault, Lookup};
 
 /// Where a fault stands, and what is said of that.
@@ -55,6 +55,17 @@ fn words_of(alloc: Global, steps: &[usize], reason: &str) -> Result<String, Allo
     words_at(alloc, pointer.as_str(), reason)
 }
 
+/// What is said of a fault that was found, at its place in the text.
+fn more_of(alloc: Global, steps: &[usize], found: &FoundFault) -> Result<String, AllocError>
+    ensures { IfOk result (λ more. TellsPlace steps.now (string_bytes more)) }
+{
+    let site = &found.site;
+    let reason = reason(alloc, found.fault, site.node, site.values.as_slice())?;
+    let more = words_of(alloc, steps, reason.as_str());
+    drop(reason);
+    more
+}
+
 /// The place of a fault that was found in the program to which these indices lead.
 pub(crate) fn place_of_fault(
     alloc: Global,
@@ -64,10 +75,8 @@ pub(crate) fn place_of_fault(
     ensures { IfOk result (λ place. TellsPlace (steps.items ++ found.now.site.place) (string_bytes place.more)) }
 {
     let mut steps = steps;
-    let site = &found.site;
-    steps.extend_from_slice(site.place.as_slice())?;
-    let reason = reason(alloc, found.fault, site.node, site.values.as_slice())?;
-    let more = words_of(alloc, steps.as_slice(), reason.as_str())?;
+    steps.extend_from_slice(found.site.place.as_slice())?;
+    let more = more_of(alloc, steps.as_slice(), found)?;
     Ok(Place { steps, more })
 }
 
@@ -124,10 +133,12 @@ fn place_in_run<L: Lookup>(
     ensures { IfOk result (λ place. IsMore run.now.element fault (fault_of (L.answers lookup.now) run.now.program.now.statements) (string_bytes place.more)) }
 {
     let found = find_fault(alloc, run.program, lookup)?;
-    match found {
-        Some(found) => place_where_same(alloc, run.element, fault, &found),
+    let place = match &found {
+        Some(found) => place_where_same(alloc, run.element, fault, found),
         None => place_of_element(alloc, run.element),
-    }
+    };
+    drop(found);
+    place
 }
 
 /// Where the run with a number, counted from 0, comes to this fault over a look-up; the whole scenario, where there is no such run.

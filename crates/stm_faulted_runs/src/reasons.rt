@@ -1,10 +1,10 @@
 //! Why a node stops a run, by its values.
 
-use crate::site::Node;
 use serde_json::{Value as Json, json};
 use std::alloc::{AllocError, Global};
 use stm_explain::shown;
 use stm_program::Operator;
+use stm_sites::Node;
 use stm_steps::{Fault, Value};
 
 /// A value as JSON.

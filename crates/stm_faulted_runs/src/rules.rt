@@ -8,7 +8,6 @@ ghost use Rattle.stm_texts.specs.Reading.{IsOpening, scenario_in};
 ghost use Rattle.stm_world.specs.World.{world_after};
 ghost use Rattle.stm_faulted_runs.specs.Rules.{IsRuleLine, ExplainsProgram, ExplainsOver, ExplainsRule, rule_head, left_by};
 
-use crate::finding::{FoundFault, find_fault};
 use crate::lines::words_of;
 use crate::places::place_of_fault;
 use crate::scripts::Named;
@@ -19,6 +18,7 @@ use stm_json::ReadError;
 use stm_program::Program;
 use stm_program_json::read_program;
 use stm_retry::{State, World, WorldEvent};
+use stm_sites::{FoundFault, find_fault};
 use stm_steps::Fault;
 use stm_texts::{Scenario, read_scenario};
 
@@ -50,10 +50,12 @@ fn explained_with(
     ensures { IfOk result (λ line. ExplainsProgram rule.now.name.now rule.now.text.now (state_answers state.now) (OkOf program.now) (string_bytes line)) }
 {
     let found = find_fault(alloc, program, state)?;
-    match found {
-        Some(found) => fault_line(alloc, rule, &found),
+    let line = match &found {
+        Some(found) => fault_line(alloc, rule, found),
         None => Ok(String::new(alloc)),
-    }
+    };
+    drop(found);
+    line
 }
 
 /// The line of a rule with this JSON, where the program that it spells comes to a fault on a state.

@@ -19,6 +19,7 @@ use Rattle.stm_check.specs.Wrong.{AreRight}
 use Rattle.stm_texts.specs.declared.scenario.Scenario.{Scenario}
 use Rattle.stm_report.specs.Report.{report_of, event_lines}
 use Rattle.stm_report.specs.Script.{IsRunReport}
+use Rattle.stm_report.specs.FormatScript.{IsRunText}
 use Rattle.stm_report.specs.Laws.{ChecksSayYes, IsOfRightReport, ScriptsPassChecks}
 use Rattle.stm_report.proofs.LinesRight.{point_at, all_right}
 
@@ -50,7 +51,7 @@ checks_say_yes s replies w holds =
     (all_right start s.events laws)
 
 run_is_checked : (s : Scenario) (text : List ℕ) → IsRunReport s text → IsOfRightReport s text
-unfolding IsRunReport
+unfolding IsRunText
 run_is_checked s text written =
     let start : ℕ = unwrap_or s.opening 1 in
     record {

@@ -2,7 +2,6 @@ pub mod LineLoops
 pub mod KeptLines
 pub mod LeaseLemmas
 pub mod LiveLeases
-pub mod ScriptLemmas
 pub mod RightRuns
 pub mod RunLists
 pub mod RunsTold

@@ -6,10 +6,11 @@ use Rattle.stm_world.specs.World.{opened, world_after, replies_to}
 use Rattle.stm_world.proofs.Headlines.{headline}
 use Rattle.stm_texts.specs.declared.scenario.Scenario.{Scenario}
 use Rattle.stm_report.specs.Script.{IsRunReport}
+use Rattle.stm_report.specs.FormatScript.{IsRunText}
 use Rattle.stm_report.specs.Laws.{IsOfRightRun, ReportsAreOfRightRuns}
 
 run_is_right : (s : Scenario) (text : List ℕ) → IsRunReport s text → IsOfRightRun s text
-unfolding IsRunReport
+unfolding IsRunText
 run_is_right s text report = record {
   replies = replies_to s.events (opened (unwrap_or s.opening 1));
   world = world_after s.events (opened (unwrap_or s.opening 1));

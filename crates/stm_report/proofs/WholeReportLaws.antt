@@ -6,6 +6,7 @@ use Rattle.stm_json.specs.Outcome.{Outcome}
 use Rattle.stm_texts.specs.declared.scenario.Scenario.{Scenario}
 use Rattle.stm_texts.specs.Reading.{scenario_in}
 use Rattle.stm_report.specs.Script.{IsRunReport, IsReportOf}
+use Rattle.stm_report.specs.FormatScript.{IsRunText}
 use Rattle.stm_check.specs.declared.judging.CheckFault.{CheckFault}
 use Rattle.stm_check.specs.declared.judging.CheckFault.TheVariants.{OutOfMemory, BadScenario, BadReport, Device}
 use Rattle.stm_check.specs.Judging.{Sources}
@@ -38,7 +39,7 @@ scenario_or (Ok s) other = s
 scenario_or (Err fault) other = other
 
 one_of_scenario : (s : Scenario) (a b : List ℕ) → IsRunReport s a → IsRunReport s b → a ≡ b
-unfolding IsRunReport
+unfolding IsRunText
 one_of_scenario s a b first second = first ∙ sym second
 
 one_of_reading : (reading : Outcome Scenario) (a b : List ℕ) → IsReportOf reading a → IsReportOf reading b → a ≡ b

@@ -62,8 +62,9 @@ Writes format bytes before after failed (Err Write) =
 
 -- ---- the script
 
--- What a script did, by its answer, as of a script that writes lines. At the end of a good one exactly the report of the input in its
--- format was written; at a bad scenario, want of memory and a failed source nothing was; at a failed sink a front of it was.
+-- What a script did, by its answer. At the end of a good one exactly the report of the input in its format was written; at a bad scenario,
+-- want of memory and a failed source nothing was; at a failed sink a front of it was. Each fault of a device is answered exactly where the
+-- device has failed.
 abbrev pub DoesAs : {A : Type 0} → Format → Devices → Result A ScriptFault → Type 0
 DoesAs format d (Ok u) =
     (d.source_failed ≡ false) × (d.sink_failed ≡ false)

@@ -41,68 +41,54 @@ fn object_of(alloc: Global, line: Json, names: &[&str]) -> Result<Json, AllocErr
     }
 }
 
-/// The line of a runner's event as an object.
-fn runner_object(alloc: Global, reply: &Reply, line: Json) -> Result<Json, AllocError>
+/// The names of the fields of the line of a runner's event.
+fn runner_fields(reply: &Reply) -> &'static [&'static str]
     requires { IsOfRunner reply.now }
-    ensures { IfOk result (λ v. view v ≡ object_of (reply_fields reply.now) (view line)) }
+    ensures { map (λ name. name.now) result.now ≡ reply_fields reply.now }
 {
     match reply {
-        Reply::Started { .. } => object_of(alloc, line, &["event", "kind", "runner"]),
-        Reply::Fetched { .. } => object_of(
-            alloc,
-            line,
-            &[
-                "event", "kind", "runner", "key", "mod_rev", "of_rev", "revision",
-            ],
-        ),
-        Reply::Committed { .. } => object_of(
-            alloc,
-            line,
-            &[
-                "event", "kind", "runner", "revision", "attempts", "output", "trace", "answers",
-            ],
-        ),
-        Reply::Conflict { .. } => object_of(
-            alloc,
-            line,
-            &["event", "kind", "runner", "key", "seen", "now"],
-        ),
-        Reply::GaveUp { .. } => object_of(
-            alloc,
-            line,
-            &["event", "kind", "runner", "attempts", "key", "seen", "now"],
-        ),
-        Reply::Aborted { .. } => object_of(alloc, line, &["event", "kind", "runner", "text"]),
-        Reply::Faulted { .. } => object_of(alloc, line, &["event", "kind", "runner", "fault"]),
-        Reply::Ended { .. } => object_of(alloc, line, &["event", "kind", "runner", "cause"]),
+        Reply::Started { .. } => &["event", "kind", "runner"],
+        Reply::Fetched { .. } => &[
+            "event", "kind", "runner", "key", "mod_rev", "of_rev", "revision",
+        ],
+        Reply::Committed { .. } => &[
+            "event", "kind", "runner", "revision", "attempts", "output", "trace", "answers",
+        ],
+        Reply::Conflict { .. } => &["event", "kind", "runner", "key", "seen", "now"],
+        Reply::GaveUp { .. } => &["event", "kind", "runner", "attempts", "key", "seen", "now"],
+        Reply::Aborted { .. } => &["event", "kind", "runner", "text"],
+        Reply::Faulted { .. } => &["event", "kind", "runner", "fault"],
+        Reply::Ended { .. } => &["event", "kind", "runner", "cause"],
         _ => unreachable!(),
     }
 }
 
-/// The line of an event that was taken, as an object.
-fn reply_object(alloc: Global, reply: &Reply, line: Json) -> Result<Json, AllocError>
-    ensures { IfOk result (λ v. view v ≡ object_of (reply_fields reply.now) (view line)) }
+/// The names of the fields of the line of an event that was taken.
+fn reply_fields(reply: &Reply) -> &'static [&'static str]
+    ensures { map (λ name. name.now) result.now ≡ reply_fields reply.now }
 {
     match reply {
-        Reply::Txn { .. } => object_of(
-            alloc,
-            line,
-            &["event", "kind", "succeeded", "revision", "answers"],
-        ),
-        Reply::Granted { .. } => object_of(alloc, line, &["event", "kind", "lease"]),
-        Reply::Kept { .. } => object_of(alloc, line, &["event", "kind", "lease"]),
-        Reply::Revoked { .. } => object_of(alloc, line, &["event", "kind", "lease", "revision"]),
-        Reply::Advanced { .. } => object_of(alloc, line, &["event", "kind", "now", "expired"]),
-        Reply::Compacted { .. } => object_of(alloc, line, &["event", "kind", "revision"]),
-        Reply::Watching { .. } => object_of(alloc, line, &["event", "kind", "watcher"]),
-        Reply::Batch { .. } => object_of(
-            alloc,
-            line,
-            &["event", "kind", "watcher", "upto", "events"],
-        ),
-        Reply::Lost { .. } => object_of(alloc, line, &["event", "kind", "watcher", "floor"]),
-        Reply::Cancelled { .. } => object_of(alloc, line, &["event", "kind", "watcher"]),
-        _ => runner_object(alloc, reply, line),
+        Reply::Txn { .. } => &["event", "kind", "succeeded", "revision", "answers"],
+        Reply::Granted { .. } => &["event", "kind", "lease"],
+        Reply::Kept { .. } => &["event", "kind", "lease"],
+        Reply::Revoked { .. } => &["event", "kind", "lease", "revision"],
+        Reply::Advanced { .. } => &["event", "kind", "now", "expired"],
+        Reply::Compacted { .. } => &["event", "kind", "revision"],
+        Reply::Watching { .. } => &["event", "kind", "watcher"],
+        Reply::Batch { .. } => &["event", "kind", "watcher", "upto", "events"],
+        Reply::Lost { .. } => &["event", "kind", "watcher", "floor"],
+        Reply::Cancelled { .. } => &["event", "kind", "watcher"],
+        _ => runner_fields(reply),
+    }
+}
+
+/// The names of the fields of the line of an event with its reply.
+fn event_fields(reply: &Result<Reply, Denied>) -> &'static [&'static str]
+    ensures { map (λ name. name.now) result.now ≡ event_fields reply.now }
+{
+    match reply {
+        Ok(reply) => reply_fields(reply),
+        Err(_) => &["event", "kind", "cause", "expired"],
     }
 }
 
@@ -116,10 +102,7 @@ pub(crate) fn event_object(
     ensures no_float { IfOk result (λ v. has_float (view v) ≡ false) }
 {
     let line = event_json(alloc, number, reply)?;
-    match reply {
-        Ok(reply) => reply_object(alloc, reply, line),
-        Err(_) => object_of(alloc, line, &["event", "kind", "cause", "expired"]),
-    }
+    object_of(alloc, line, event_fields(reply))
 }
 
 /// The object of a present key.

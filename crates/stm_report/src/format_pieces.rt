@@ -19,7 +19,7 @@ const MOST_SHOWN: usize = 20;
 const KEPT: usize = 18;
 
 /// A piece of what is written.
-#[derive(Clone, Copy, Debug)]
+#[derive(Clone, Copy)]
 pub(crate) enum Piece<'a> {
     /// A text of this crate.
     Say(&'a str),

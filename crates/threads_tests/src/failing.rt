@@ -1,12 +1,12 @@
 //! Devices that fail at each of their calls in turn, under the command `threads`. What is expected comes from the rules, and never from a run.
 
-use crate::commands::{is_left, threads};
-use crate::devices::{Fault, Faults, NONE};
+use crate::devices::{Fault, Faults, NONE, reader_of, writer_of};
 use std::alloc::Global;
 use std::io::ErrorKind;
 use std::process::Abort;
 use std::sync::Wait;
 use std::thread::Threads;
+use stm_threading::{Std, threads_to};
 
 /// 49 bytes: 50 reads of at most one byte, the last of which tells the end, or 8 of at most seven.
 const JOBS: &str = "[[\"start\",\"ReadCommitted\",1,[[\"put\",\"a\",\"1\",0]]]]";
@@ -63,6 +63,20 @@ fn whole(failing: Failing) -> Ending {
     }
 }
 
+/// The scenario of the command whose device has this fault, and how its devices fail.
+fn failing_by(failing: Failing, fault: Fault) -> (&'static str, Faults) {
+    let (mut scenario, mut faults) = (JOBS, NONE);
+    match failing {
+        Failing::Input => faults.input = fault,
+        Failing::Output => faults.out = fault,
+        Failing::Message => {
+            scenario = BAD;
+            faults.err = fault;
+        }
+    }
+    (scenario, faults)
+}
+
 /// Asserts that a run by two threads ends so, where the device has this fault.
 fn ends<T: Abort + Threads + Wait + Sync>(
     rt: &T,
@@ -71,20 +85,15 @@ fn ends<T: Abort + Threads + Wait + Sync>(
     fault: Fault,
     ending: Ending,
 ) {
-    let (scenario, faults) = match failing {
-        Failing::Input => (
-            JOBS,
-            Faults {
-                input: fault,
-                ..NONE
-            },
-        ),
-        Failing::Output => (JOBS, Faults { out: fault, ..NONE }),
-        Failing::Message => (BAD, Faults { err: fault, ..NONE }),
-    };
+    let (scenario, faults) = failing_by(failing, fault);
+    let mut input = Std::new(reader_of(scenario, faults.input));
+    let mut out = Std::new(writer_of(alloc, faults.out));
+    let mut err = Std::new(writer_of(alloc, faults.err));
+    let ended = threads_to(rt, alloc, &mut input, 2, &mut out, &mut err);
     let (status, written, said) = ending;
-    let left = threads(rt, alloc, scenario, 2, faults);
-    is_left(rt, &left, "a device fails", status, written, said);
+    assert_eq!(rt; ended, status);
+    assert!(rt; out.device.bytes.as_slice() == written);
+    assert!(rt; err.device.bytes.as_slice() == said);
 }
 
 /// A device that needs so many calls, of which each fails in turn, and at last none.

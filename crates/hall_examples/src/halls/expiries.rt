@@ -1,8 +1,8 @@
 //! A hall over a store with two leases, whose keys are put and whose leases expire in the hall. What is expected comes from
 //! the rules of leases and of entries, and never from a run.
 
-use crate::halls::making::Change;
 use crate::halls::player::{Opening, Step, is_told};
+use crate::making::Change;
 use std::test::Fail;
 
 /// Keys on lease 1 and lease 2, one of which moves from the first to the second.

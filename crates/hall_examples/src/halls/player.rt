@@ -2,9 +2,9 @@
 //!
 //! An example is a list of steps and one text: a test that holds a hall in hand over many calls is slow to prove.
 
-use crate::halls::attempts::{attempted, emit_a};
-use crate::halls::making::{Change, changes_of, read_of};
-use crate::halls::shown::{tell_advanced, tell_entries, tell_fetched, tell_foreign, tell_judged};
+use crate::attempts::{attempted, program};
+use crate::making::{Change, changes_of, read_of};
+use crate::shown::{tell_advanced, tell_entries, tell_fetched, tell_foreign, tell_judged};
 use std::alloc::{AllocError, Global};
 use std::process::Abort;
 use std::test::Fail;
@@ -230,7 +230,7 @@ fn play(
 }
 
 fn played(alloc: Global, opening: Opening, steps: &[Step]) -> Result<String, Fail> {
-    let program = emit_a(alloc)?;
+    let program = program(alloc, r#"[["emit",["get","a"]]]"#)?;
     let told = play(alloc, &program, opening, steps);
     drop(program);
     told

@@ -1,8 +1,8 @@
 //! What a hall says to a fetch of a caller that has seen more, and to attempts that read what it has or has not. What is
 //! expected comes from the rules of fetches and commits, and never from a run.
 
-use crate::halls::making::Change;
 use crate::halls::player::{Opening, Step, is_told};
+use crate::making::Change;
 use std::test::Fail;
 
 /// A store that put "a" as "1" at revision 2.

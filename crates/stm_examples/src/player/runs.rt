@@ -1,12 +1,22 @@
 //! What is told of programs that run alone, and of states.
 use crate::player::made::{program_of, state_of};
-use crate::player::shown::{tell_run, tell_writes};
 use std::alloc::{AllocError, Global};
 use std::test::Fail;
 use stm_meaning::{
     Answered, Lookup, Run, State, apply_alone, latest_writes, run_alone, run_answered,
 };
 use stm_program::{Program, Write};
+
+/// Writes, a space before each.
+fn tell_writes(told: &mut String, writes: &[Write]) -> Result<(), AllocError> {
+    for written in writes {
+        match written {
+            Write::Put { key, value, lease } => write!(told, " {key}={value}/{lease}")?,
+            Write::Del { key } => write!(told, " -{key}")?,
+        }
+    }
+    Ok(())
+}
 
 /// Each write of the effect of these writes on a state.
 fn tell_effect(
@@ -40,71 +50,40 @@ fn tell_counts(
     tell_effect(alloc, told, writes, state)
 }
 
-/// What is looked at of a run.
-#[derive(Clone, Copy)]
-pub enum Look {
-    /// Its end, and what it emitted.
-    End,
-    /// The numbers of its reads and latest writes, and its effect.
-    Counts,
-    /// Its end, what it emitted, and its effect.
-    Outcome,
-}
-
-fn tell_looked(
-    alloc: Global,
-    told: &mut String,
-    run: &Run,
-    state: &State,
-    look: Look,
-) -> Result<(), AllocError> {
-    match look {
-        Look::End => tell_run(told, run),
-        Look::Counts => tell_counts(alloc, told, run, state),
-        Look::Outcome => {
-            tell_run(told, run)?;
-            tell_effect(alloc, told, run.writes.as_slice(), state)
-        }
-    }
-}
-
 fn tell_alone(
     alloc: Global,
     told: &mut String,
     program: &Program,
     state: &State,
-    look: Look,
 ) -> Result<(), AllocError> {
     let run = run_alone(alloc, program, state)?;
-    let done = tell_looked(alloc, told, &run, state, look);
+    let done = tell_counts(alloc, told, &run, state);
     drop(run);
     done
 }
 
-/// Tells a program's run on a state of these entries.
-pub fn tell_on(
+/// The same of a program's run on a state of these entries.
+fn tell_on(
     alloc: Global,
     told: &mut String,
     program: &Program,
     entries: &[(&str, &str, u8)],
-    look: Look,
 ) -> Result<(), AllocError> {
     let state = state_of(alloc, entries)?;
-    let done = tell_alone(alloc, told, program, &state, look);
+    let done = tell_alone(alloc, told, program, &state);
     drop(state);
     done
 }
 
 /// The same of the program of a text.
-pub fn tell_text(
+pub fn tell_effect_of(
     alloc: Global,
     told: &mut String,
     text: &str,
     entries: &[(&str, &str, u8)],
-    look: Look,
 ) -> Result<(), Fail> {
     let program = program_of(alloc, text)?;
-    let done = tell_on(alloc, told, &program, entries, look);
+    let done = tell_on(alloc, told, &program, entries);
     drop(program);
     Ok(done?)
 }

@@ -1,7 +1,0 @@
-//! Tests of the command line, by the public calls of `stm_arguments`.
-//!
-//! This crate has no code but tests. They stand here, and not beside what they test, since a crate with tests is proved twice.
-#![tactic(auto)]
-
-#[cfg(test)]
-mod lines;

@@ -1,0 +1,190 @@
+//! An attempt for which an answer was prefetched. What is expected comes from the rule of the base revision, and never
+//! from a run.
+ghost use Rattle.std.specs.Prelude.{◌≡◌, ◌≤◌, All, None, Some, IfOk};
+ghost use Rattle.stm_history.specs.declared.revisions.TheConstants.{HIGHEST_NUMBER};
+ghost use Rattle.stm_outcome.specs.Numbers.{ReadFits};
+ghost use Rattle.stm_attempt.specs.Known.{HaveDistinctKeys};
+ghost use Rattle.stm_attempt.specs.Fetches.{ShowOneRevision};
+ghost use Rattle.stm_attempt.specs.AttemptState.{IsOf, awaited};
+ghost use Rattle.stm_attempt.specs.Next.{key_asked};
+
+use crate::attempts::program;
+use std::alloc::{AllocError, Global};
+use std::process::Abort;
+use std::test::Fail;
+use stm_attempt::{Attempt, Next};
+use stm_history::{KeyState, ReadAnswer, Sequence, Text};
+use stm_meaning::Value;
+use stm_program::{Level, Program};
+
+/// "a" has the value "1" since revision 2, and was read at revision 5.
+fn answer_of_a(alloc: Global) -> Result<ReadAnswer, AllocError>
+    ensures { IfOk result ReadFits }
+{
+    let key = Text::copy_of(alloc, "a")?;
+    let value = Text::copy_of(alloc, "1")?;
+    Ok(ReadAnswer {
+        key,
+        kv: Some(KeyState {
+            value,
+            create_rev: 2,
+            mod_rev: 2,
+            version: 1,
+            lease: 0,
+        }),
+        of_rev: 5,
+        revision: 5,
+    })
+}
+
+/// That answer alone.
+fn prefetched(alloc: Global) -> Result<Sequence<ReadAnswer>, AllocError>
+    ensures { IfOk result (λ answers. HaveDistinctKeys answers × All ReadFits answers × ShowOneRevision answers) }
+{
+    let mut answers = Vec::new(alloc);
+    answers.push(answer_of_a(alloc)?)?;
+    Ok(Sequence::of(answers))
+}
+
+/// An attempt for which that was prefetched.
+fn prepared(alloc: Global) -> Result<Attempt, AllocError>
+    ensures { IfOk result (λ attempt. attempt.program ≡ None) }
+{
+    let answers = prefetched(alloc)?;
+    let attempt = Attempt::from_prefetch(alloc, Level::Serializable, answers)?;
+    Ok(attempt)
+}
+
+/// Values, a space before each, and texts in quotes.
+fn tell_values(told: &mut String, values: &[Value]) -> Result<(), AllocError> {
+    for value in values {
+        match value {
+            Value::Text(text) => write!(told, " \"{text}\"")?,
+            Value::Number(number) => write!(told, " {number}")?,
+        }
+    }
+    Ok(())
+}
+
+fn tell_next(told: &mut String, next: &Next) -> Result<(), AllocError> {
+    match next {
+        Next::Fetch { key, at } => write!(told, "Fetch {key} at {at}"),
+        Next::Ready(ready) => {
+            told.push_str("Ready")?;
+            tell_values(told, ready.output.as_slice())
+        }
+        Next::Aborted(_) => told.push_str("Aborted"),
+        Next::Faulted(_) => told.push_str("Faulted"),
+    }
+}
+
+/// Supplies that a key is absent at a revision.
+fn supply(attempt: &mut Attempt, key: &Text, revision: u64) -> Result<(), AllocError>
+    requires asked { awaited attempt.old ≡ Some key.now }
+    requires bounded { revision ≤ HIGHEST_NUMBER }
+    ensures { attempt.new.program ≡ attempt.old.program }
+{
+    let key = key.clone()?;
+    attempt.supply(ReadAnswer {
+        key,
+        kv: None,
+        of_rev: revision,
+        revision,
+    })?;
+    Ok(())
+}
+
+/// What an attempt answers once it has taken that the key it asked for is absent at a revision; the same where it asked for none.
+fn supplied(
+    program: &Program,
+    attempt: &mut Attempt,
+    asked: &Next,
+    revision: u64,
+) -> Result<Next, AllocError>
+    requires of { IsOf program.now attempt.old }
+    requires asked { awaited attempt.old ≡ key_asked asked.now }
+    requires bounded { revision ≤ HIGHEST_NUMBER }
+{
+    if let Next::Fetch { key, .. } = asked {
+        supply(attempt, key, revision)?;
+    }
+    attempt.advance(program)
+}
+
+/// What an attempt answered, and what it answers then.
+fn tell_both(
+    told: &mut String,
+    program: &Program,
+    attempt: &mut Attempt,
+    asked: &Next,
+    revision: u64,
+) -> Result<(), AllocError>
+    requires of { IsOf program.now attempt.old }
+    requires asked { awaited attempt.old ≡ key_asked asked.now }
+    requires bounded { revision ≤ HIGHEST_NUMBER }
+{
+    tell_next(told, asked)?;
+    told.push_str(", ")?;
+    let next = supplied(program, attempt, asked, revision)?;
+    let done = tell_next(told, &next);
+    drop(next);
+    done
+}
+
+/// The same of an attempt that has not begun.
+fn tell_begun(
+    told: &mut String,
+    program: &Program,
+    attempt: &mut Attempt,
+    revision: u64,
+) -> Result<(), AllocError>
+    requires of { IsOf program.now attempt.old }
+    requires bounded { revision ≤ HIGHEST_NUMBER }
+{
+    let asked = attempt.advance(program)?;
+    let done = tell_both(told, program, attempt, &asked, revision);
+    drop(asked);
+    done
+}
+
+/// The same of an attempt of its own.
+fn tell_prepared(
+    alloc: Global,
+    told: &mut String,
+    program: &Program,
+    revision: u64,
+) -> Result<(), AllocError>
+    requires { revision ≤ HIGHEST_NUMBER }
+{
+    let mut attempt = prepared(alloc)?;
+    let done = tell_begun(told, program, &mut attempt, revision);
+    drop(attempt);
+    done
+}
+
+/// The same of the program that emits "b" and then "a".
+fn tell_attempt(alloc: Global, told: &mut String, revision: u64) -> Result<(), Fail>
+    requires { revision ≤ HIGHEST_NUMBER }
+{
+    let program = program(alloc, r#"[["emit",["get","b"]],["emit",["get","a"]]]"#)?;
+    let done = tell_prepared(alloc, told, &program, revision);
+    drop(program);
+    Ok(done?)
+}
+
+/// Asserts what is told of that program's attempt, to which "b" is absent at a revision.
+fn is_told(rt: &impl Abort, alloc: Global, revision: u64, expected: &str) -> Result<(), Fail>
+    requires { revision ≤ HIGHEST_NUMBER }
+{
+    let mut told = String::new(alloc);
+    tell_attempt(alloc, &mut told, revision)?;
+    assert_eq!(rt; told.as_str(), expected);
+    Ok(())
+}
+
+// "a" was prefetched at revision 5. Where the first read is of another revision it is dropped, else it is taken.
+#[test]
+fn prefetched_answers_serve_their_revision(rt: HostRuntime) -> Result<(), Fail> {
+    is_told(&rt, rt.alloc(), 6, "Fetch b at 0, Fetch a at 6")?;
+    is_told(&rt, rt.alloc(), 5, "Fetch b at 0, Ready \"\" \"1\"")
+}

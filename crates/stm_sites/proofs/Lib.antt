@@ -1,0 +1,3 @@
+pub mod BlockLemmas
+pub mod SiteLemmas
+pub mod TurnLemmas

@@ -1,0 +1,5 @@
+pub use Rattle.stm_steps.specs.Meaning
+pub mod Sites
+pub mod Tells
+pub mod Found
+pub mod Laws

@@ -20,7 +20,6 @@ use stm_program::{Level, Program};
 /// read, and what was prefetched for it.
 ///
 /// Between two calls its program stands where it wants a key, and goes on from there.
-#[derive(Drop)]
 pub struct Attempt {
     program: Option<Program>,
     level: Level,
@@ -30,6 +29,20 @@ pub struct Attempt {
     prefetched: ReadSet,
     progress: Progress,
     alloc: Global,
+}
+
+impl Drop for Attempt {
+    fn drop(self) {
+        let Attempt {
+            program: _,
+            level: _,
+            reads: _,
+            told: _,
+            prefetched: _,
+            progress: _,
+            alloc: _,
+        } = self;
+    }
 }
 
 impl Model for Attempt {

@@ -20,10 +20,19 @@ use stm_meaning::Lookup;
 ///
 /// Beside it stands an index from each key to the place of its answer, so that a look-up is no search. (The
 /// read set of the Go package `clientv3/concurrency`, which keeps no order.)
-#[derive(Debug, Drop)]
+#[derive(Debug)]
 pub struct ReadSet {
     answers: Vec<ReadAnswer>,
     places: IndexMap<String, usize>,
+}
+
+impl Drop for ReadSet {
+    fn drop(self) {
+        let ReadSet {
+            answers: _,
+            places: _,
+        } = self;
+    }
 }
 
 impl Model for ReadSet {
@@ -114,7 +123,7 @@ impl ReadSet {
     pub fn into_answers(self) -> Sequence<ReadAnswer>
         ensures { result ≡ self }
     {
-        let ReadSet { answers, .. } = self;
+        let ReadSet { answers, places: _ } = self;
         Sequence::of(answers)
     }
 }

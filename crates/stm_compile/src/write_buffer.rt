@@ -11,10 +11,19 @@ use stm_program::Write;
 /// The last write of each key, in the order of first writes. Contracts see the list of them.
 ///
 /// (The write set of the Go package `clientv3/concurrency`, which keeps no order.)
-#[derive(Debug, Drop)]
+#[derive(Debug)]
 pub struct WriteBuffer {
     writes: IndexMap<String, Write>,
     alloc: Global,
+}
+
+impl Drop for WriteBuffer {
+    fn drop(self) {
+        let WriteBuffer {
+            writes: _,
+            alloc: _,
+        } = self;
+    }
 }
 
 impl Model for WriteBuffer {

@@ -34,10 +34,15 @@ use stm_txn::{AdvanceRefused, Expired, Refusal, Store, Txn, TxnAnswer};
 /// entries replay from the opening state to the history and the live leases of now. The output and the trace of a
 /// committed program are those of its run alone on the store at its point, at `ReadCommitted` those of its run on the
 /// answers that it read.
-#[derive(Drop)]
 pub struct Hall {
     alloc: Global,
     log: Log,
+}
+
+impl Drop for Hall {
+    fn drop(self) {
+        let Hall { alloc: _, log: _ } = self;
+    }
 }
 
 impl Model for Hall {

@@ -29,9 +29,15 @@ pub(crate) enum Bytes {
 /// A text: a key, a value or a message.
 ///
 /// Contracts see its bytes, and never where they stand.
-#[derive(Debug, Drop)]
+#[derive(Debug)]
 pub struct Text {
     bytes: Bytes,
+}
+
+impl Drop for Text {
+    fn drop(self) {
+        let Text { bytes: _ } = self;
+    }
 }
 
 impl Model for Text {

@@ -19,9 +19,15 @@ pub(crate) enum Held {
 /// The events of a revision, in the order of operations. One made by `one` takes no memory of its own.
 ///
 /// Contracts see them in order, and never where they stand.
-#[derive(Debug, Drop)]
+#[derive(Debug)]
 pub(crate) struct Events {
     held: Held,
+}
+
+impl Drop for Events {
+    fn drop(self) {
+        let Events { held: _ } = self;
+    }
 }
 
 impl Model for Events {

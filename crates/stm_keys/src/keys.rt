@@ -30,7 +30,7 @@ use stm_history::{Change, HIGHEST_REVISION, KeyState, Text};
 /// Contracts see the history that is kept, the list of the present keys, the revision that the store had before any change, and the
 /// floor. The fields are the number below the kept revisions, these revisions, the oldest first, each put with its key's full state, for
 /// each key what it was before them and the numbers of those that changed it, and how many keys are present: theirs are the first chains.
-#[derive(Debug, Drop)]
+#[derive(Debug)]
 pub struct Keys {
     opened: u64,
     floor: u64,
@@ -38,6 +38,19 @@ pub struct Keys {
     revisions: Revisions,
     chains: Chains,
     present: usize,
+}
+
+impl Drop for Keys {
+    fn drop(self) {
+        let Keys {
+            opened: _,
+            floor: _,
+            below: _,
+            revisions: _,
+            chains: _,
+            present: _,
+        } = self;
+    }
 }
 
 impl Model for Keys {

@@ -10,9 +10,15 @@ use stm_history::Text;
 /// The text of a key, which all events of the key share: it stands once for all of them.
 ///
 /// Contracts see its bytes.
-#[derive(Debug, Drop)]
+#[derive(Debug)]
 pub struct SharedText {
     text: Arc<Text>,
+}
+
+impl Drop for SharedText {
+    fn drop(self) {
+        let SharedText { text: _ } = self;
+    }
 }
 
 impl Model for SharedText {

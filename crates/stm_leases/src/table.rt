@@ -20,7 +20,6 @@ use stm_lists::Lists;
 ///
 /// Contracts see the live leases by id, the lease of each attached key by the key's bytes, and the
 /// number `spare`: so many calls of `attach` have their room.
-#[derive(Drop)]
 pub struct Leases {
     leases: IndexMap<u64, Lease>,
     attached: IndexMap<String, Attachment>,
@@ -30,6 +29,19 @@ pub struct Leases {
     due: Tournament,
     spare: usize,
     alloc: Global,
+}
+
+impl Drop for Leases {
+    fn drop(self) {
+        let Leases {
+            leases: _,
+            attached: _,
+            keys: _,
+            due: _,
+            spare: _,
+            alloc: _,
+        } = self;
+    }
 }
 
 impl Model for Leases {

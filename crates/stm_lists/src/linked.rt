@@ -19,12 +19,21 @@ use std::marker::Model;
 /// A list or a node is named by the id that its making gave. A call that takes such an id has the
 /// condition that the list or the node is there, which `has_list` and `has_node` test. Every call
 /// takes constant time, and none but `reserve`, `new_list` and a `push_back` without room takes memory.
-#[derive(Drop)]
 pub struct Lists<T> {
     nodes: Slab<Node<T>>,
     heads: Slab<Head>,
     // How many pushes are sure of their room.
     spare: usize,
+}
+
+impl<T: Drop> Drop for Lists<T> {
+    fn drop(self) {
+        let Lists {
+            nodes: _,
+            heads: _,
+            spare: _,
+        } = self;
+    }
 }
 
 impl<T> Model for Lists<T> {

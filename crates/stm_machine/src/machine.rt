@@ -22,12 +22,22 @@ use stm_steps::{Lookup, Run, Session};
 ///
 /// Contracts see where it stands, the parts of the program that wait, innermost first, and what the run has come
 /// to. What finishing the run comes to is `finish` of that.
-#[derive(Drop)]
 pub struct Machine {
     focus: Focus,
     stack: Stack,
     session: Session,
     alloc: Global,
+}
+
+impl Drop for Machine {
+    fn drop(self) {
+        let Machine {
+            focus: _,
+            stack: _,
+            session: _,
+            alloc: _,
+        } = self;
+    }
 }
 
 impl Model for Machine {
@@ -119,7 +129,12 @@ impl Machine {
         requires { IsSome (run_at self) }
         ensures { run_at self ≡ Some result }
     {
-        let Machine { focus, session, .. } = self;
+        let Machine {
+            focus,
+            stack: _,
+            session,
+            alloc: _,
+        } = self;
         match focus {
             Focus::Ended(end) => session.into_run(end),
             _ => unreachable!(),

@@ -7,9 +7,14 @@ use std::alloc::{AllocError, Global};
 use std::marker::Model;
 
 /// The parts of a program that wait. Contracts see the innermost first, and for how many more there is room.
-#[derive(Drop)]
 pub(crate) struct Stack {
     frames: Vec<Frame>,
+}
+
+impl Drop for Stack {
+    fn drop(self) {
+        let Stack { frames: _ } = self;
+    }
 }
 
 impl Model for Stack {

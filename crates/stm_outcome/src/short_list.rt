@@ -10,9 +10,15 @@ use std::marker::Model;
 ///
 /// Contracts see its elements in order, and never where they lie. It is made from a `Vec` without taking
 /// memory, and gives one back without taking memory where it has spilled.
-#[derive(Debug, Drop)]
+#[derive(Debug)]
 pub struct ShortList<T> {
     items: SmallVec<T, 1>,
+}
+
+impl<T: Drop> Drop for ShortList<T> {
+    fn drop(self) {
+        let ShortList { items: _ } = self;
+    }
 }
 
 impl<T> Model for ShortList<T> {

@@ -14,9 +14,15 @@ use std::marker::Model;
 /// It has at most 4096 nodes (a node is a statement, an expression or a condition), which stand at most
 /// 32 deep in one another. A text in it has at most 65536 bytes, a loop's limit is at most 1000, and a
 /// lease's id at most 9223372036854775807.
-#[derive(Debug, Drop)]
+#[derive(Debug)]
 pub struct Program {
     statements: Vec<Stmt>,
+}
+
+impl Drop for Program {
+    fn drop(self) {
+        let Program { statements: _ } = self;
+    }
 }
 
 impl Model for Program {

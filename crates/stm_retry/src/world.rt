@@ -39,12 +39,21 @@ use stm_world::{Denied, Entry, Refusal, Reply, WorldEvent};
 /// entries lead, also where a compaction has dropped revisions of the store. In every world the entries replay from
 /// the opening store to the history and the live leases, each is legal at its point, what a runner knows is true of
 /// the history, and the store stands for it: it has the revisions from its floor on.
-#[derive(Drop)]
 pub struct World {
     alloc: Global,
     /// The revision at which the store opened.
     opened: u64,
     machine: Machine,
+}
+
+impl Drop for World {
+    fn drop(self) {
+        let World {
+            alloc: _,
+            opened: _,
+            machine: _,
+        } = self;
+    }
 }
 
 impl Model for World {
@@ -265,7 +274,11 @@ impl World {
     pub fn into_store(self) -> Store
         ensures { result.standing ≡ kept self.standing }
     {
-        let World { machine, .. } = self;
+        let World {
+            alloc: _,
+            opened: _,
+            machine,
+        } = self;
         let Machine { store, .. } = machine;
         store
     }

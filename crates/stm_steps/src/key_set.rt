@@ -10,9 +10,15 @@ use stm_history::Text;
 /// Keys, each once, in the order in which they came first. Contracts see the list of them.
 ///
 /// Whether a key is among them is found without a search.
-#[derive(Debug, Drop)]
+#[derive(Debug)]
 pub struct KeySet {
     keys: IndexSet<Text>,
+}
+
+impl Drop for KeySet {
+    fn drop(self) {
+        let KeySet { keys: _ } = self;
+    }
 }
 
 impl Model for KeySet {

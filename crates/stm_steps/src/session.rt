@@ -27,7 +27,7 @@ pub const TURN_LIMIT: u64 = 10_000;
 ///
 /// A run is a row of these steps over a new session: those below, and what is computed of values between
 /// them. Where a growth is refused, a step leaves the session as it was, so that it can be taken again.
-#[derive(Debug, Drop)]
+#[derive(Debug)]
 pub struct Session {
     variables: Variables,
     turns: u64,
@@ -35,6 +35,19 @@ pub struct Session {
     trace: Vec<TraceItem>,
     writes: WriteLog,
     reads: KeySet,
+}
+
+impl Drop for Session {
+    fn drop(self) {
+        let Session {
+            variables: _,
+            turns: _,
+            output: _,
+            trace: _,
+            writes: _,
+            reads: _,
+        } = self;
+    }
 }
 
 impl Model for Session {
@@ -196,18 +209,34 @@ impl Session {
     pub fn into_run(self, end: End) -> Run
         ensures { result ≡ run_of end self }
     {
+        let Session {
+            variables: _,
+            turns: _,
+            output,
+            trace,
+            writes,
+            reads,
+        } = self;
         Run {
             end,
-            output: self.output,
-            trace: Sequence::of(self.trace),
-            writes: self.writes.into_sequence(),
-            reads: self.reads,
+            output,
+            trace: Sequence::of(trace),
+            writes: writes.into_sequence(),
+            reads,
         }
     }
     /// What each `get` and `rev` gave, in order. It takes no memory.
     pub fn into_trace(self) -> Sequence<TraceItem>
         ensures { result ≡ self.trace }
     {
-        Sequence::of(self.trace)
+        let Session {
+            variables: _,
+            turns: _,
+            output: _,
+            trace,
+            writes: _,
+            reads: _,
+        } = self;
+        Sequence::of(trace)
     }
 }

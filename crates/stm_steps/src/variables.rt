@@ -12,9 +12,15 @@ use stm_program::Variable;
 pub const VARIABLE_COUNT: usize = 16;
 
 /// The values of the sixteen variables. Contracts see them as a list.
-#[derive(Debug, Drop)]
+#[derive(Debug)]
 pub(crate) struct Variables {
     values: Vec<Value>,
+}
+
+impl Drop for Variables {
+    fn drop(self) {
+        let Variables { values: _ } = self;
+    }
 }
 
 impl Model for Variables {

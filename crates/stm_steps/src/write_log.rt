@@ -14,10 +14,19 @@ use stm_program::Write;
 ///
 /// Beside it stands an index from each written key to the place of its last write, so that a run's work
 /// grows with its steps alone.
-#[derive(Debug, Drop)]
+#[derive(Debug)]
 pub(crate) struct WriteLog {
     writes: Vec<Write>,
     last_places: IndexMap<String, usize>,
+}
+
+impl Drop for WriteLog {
+    fn drop(self) {
+        let WriteLog {
+            writes: _,
+            last_places: _,
+        } = self;
+    }
 }
 
 impl Model for WriteLog {

@@ -37,13 +37,24 @@ use stm_watch::{Batch, PollRefusal, WatchRefusal, Watchers};
 ///
 /// Each key hangs on the lease that its state names, and a watcher is ready exactly where events of it are pending, or
 /// where it is lost: that is kept in every store.
-#[derive(Drop)]
 pub struct Store {
     keys: Keys,
     leases: Leases,
     moment: u64,
     watchers: Watchers,
     alloc: Global,
+}
+
+impl Drop for Store {
+    fn drop(self) {
+        let Store {
+            keys: _,
+            leases: _,
+            moment: _,
+            watchers: _,
+            alloc: _,
+        } = self;
+    }
 }
 
 impl Model for Store {

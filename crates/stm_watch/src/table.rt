@@ -18,11 +18,20 @@ use stm_keys::{Event, Keys};
 /// Watchers at their places, and the lists and pages on which they are found.
 ///
 /// Contracts see what stands at each place: nothing where a watcher was cancelled.
-#[derive(Drop)]
 pub(crate) struct Table {
     slots: Slots,
     index: Index,
     ranges: Ranges,
+}
+
+impl Drop for Table {
+    fn drop(self) {
+        let Table {
+            slots: _,
+            index: _,
+            ranges: _,
+        } = self;
+    }
 }
 
 impl Model for Table {

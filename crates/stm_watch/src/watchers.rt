@@ -30,11 +30,20 @@ pub struct Batch {
 /// Contracts see the floor of the store, and the watchers by number, 1 first, each with the first revision of which events of it are
 /// pending, if there is one; nothing stands where one was cancelled. One is lost where that revision is below the floor. They stand for a
 /// history where each that is not lost has the one of that history.
-#[derive(Drop)]
 pub struct Watchers {
     table: Table,
     floor: u64,
     alloc: Global,
+}
+
+impl Drop for Watchers {
+    fn drop(self) {
+        let Watchers {
+            table: _,
+            floor: _,
+            alloc: _,
+        } = self;
+    }
 }
 
 /// A watcher that was told up to a revision, and is ready where events of later ones are there.

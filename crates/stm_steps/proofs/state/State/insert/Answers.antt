@@ -6,7 +6,7 @@ use Rattle.stm_steps.proofs.Entries.{entry_of, with_entry-at, with_entry-gap, wi
 use Rattle.stm_steps.proofs.state.State.insert.Goals as goal
 
 -- the entry in place of the one that has its key
-replaced : (c : goal.Joined-index_mut-entry-2) → let entry : StateEntry = entry_of c.args.key c.args.value c.args.mod_rev in
+replaced : (c : goal.After-drop-index_mut-in-Ok) → let entry : StateEntry = entry_of c.args.key c.args.value c.args.mod_rev in
     set c.self.inside.entries.items c.in-Ok.at entry ≡ with_entry entry c.self.inside.entries.items
 replaced c =
     let entry : StateEntry = entry_of c.args.key c.args.value c.args.mod_rev in

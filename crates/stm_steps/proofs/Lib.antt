@@ -2,3 +2,4 @@ pub mod IntegerRange
 pub mod WrittenNumber
 pub mod PlaceLemmas
 pub mod Entries
+pub mod SearchedLemmas

@@ -1,13 +1,14 @@
 -- The places of the last writes, as a write is added.
 use Rattle.std.proofs.Common.{◌≡◌, ℕ, ◌<◌, Bool, true, false, cond, List, [], ◌∷◌, ◌++◌, length, Option, None, Some, refl, sym, ◌∙◌, ap, arith, length-append}
+use Rattle.std.proofs.Common.{drop, take, subst}
 use Rattle.std.specs.Prelude.{bytes_eq, slice_get}
 use Rattle.std.specs.Map.{update}
-use Rattle.std.proofs.lemmas.List.{get_or_append_left}
+use Rattle.std.proofs.lemmas.List.{get_or_append_left, take-append-drop, drop_all}
 use Rattle.std.proofs.lemmas.Option.{slice_get-get_or, none-some, same_Some}
 use Rattle.std.proofs.Math.Seq.{get_or-append_seam}
 use Rattle.stm_program.specs.declared.write.Write.{Write}
-use Rattle.stm_program.specs.Writes.{key_of}
-use Rattle.stm_program.proofs.WriteLemmas.{last_write-more, last_write-none}
+use Rattle.stm_program.specs.Writes.{key_of, last_write}
+use Rattle.stm_program.proofs.WriteLemmas.{last_write-more, last_write-none, last_write-append, or_else}
 use Rattle.stm_steps.specs.LastPlaces.{write_at, AreLastPlaces}
 
 -- no writes, and no places
@@ -16,6 +17,12 @@ none_written places none = record {
   within = λ key i at. absurd (none-some i (sym (none key) ∙ at));
   last = λ key. ap (λ place. write_at [] place) (none key) ∙ sym (last_write-none key);
 }
+
+-- the same, behind so many of no writes
+pub none_behind_none : (n : ℕ) (ws : List Write) (places : List ℕ → Option ℕ) → ws ≡ [] → ((key : List ℕ) → places key ≡ None) →
+    AreLastPlaces (drop n ws) places
+none_behind_none n [] places none absent = subst (λ l. AreLastPlaces l places) (sym (drop_all n [] (omega arith))) (none_written places absent)
+none_behind_none n (w ∷ ws) places none absent = absurd (cc)
 
 -- the added write stands at the end
 last_place : (ws : List Write) (w : Write) → slice_get (ws ++ w ∷ []) (length ws) ≡ Some w
@@ -55,3 +62,10 @@ place_added ws w places after kept told = record {
       ∙ ap (λ found. cond (bytes_eq (key_of w) key) (Some w) found) (kept.last key)
       ∙ sym (last_write-more key ws w);
 }
+
+-- the last write of a key in a list that is cut in two: the later part is looked at first
+pub last_of_both : (key : List ℕ) (n : ℕ) (ws : List Write) (found : Option Write) → last_write key (drop n ws) ≡ found →
+    last_write key ws ≡ or_else found (last_write key (take n ws))
+last_of_both key n ws found in_later =
+    ap (last_write key) (sym (take-append-drop n ws)) ∙ last_write-append key (take n ws) (drop n ws)
+    ∙ ap (λ o. or_else o (last_write key (take n ws))) in_later

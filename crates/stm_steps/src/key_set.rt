@@ -1,7 +1,10 @@
 //! Keys in the order in which they came.
-ghost use Rattle.std.specs.Prelude.{◌≡◌, [], length, OnOk, OnErr};
+ghost use Rattle.std.specs.Prelude.{◌≡◌, ◌<◌, ◌≤◌, [], false, length, bytes_eq, OnOk, OnErr};
+ghost use Rattle.std.specs.List.{list_any};
 ghost use Rattle.stm_steps.specs.Session.{with_key};
+ghost use Rattle.stm_steps.specs.declared.searched.TheConstants.{MOST_SEARCHED};
 
+use crate::searched::MOST_SEARCHED;
 use indexmap::IndexSet;
 use std::alloc::{AllocError, Global};
 use std::marker::Model;
@@ -9,24 +12,38 @@ use stm_history::Text;
 
 /// Keys, each once, in the order in which they came first. Contracts see the list of them.
 ///
-/// Whether a key is among them is found without a search.
+/// Those behind the first sixteen stand in a table, too: whether a key is among them is found without a long search.
 #[derive(Debug)]
 pub struct KeySet {
-    keys: IndexSet<Text>,
+    keys: Vec<Text>,
+    indexed: IndexSet<Text>,
 }
 
 impl Drop for KeySet {
     fn drop(self) {
-        let KeySet { keys: _ } = self;
+        let KeySet {
+            keys: _,
+            indexed: _,
+        } = self;
     }
 }
 
 impl Model for KeySet {
-    ghost use Rattle.std.specs.Prelude.{List, ℕ};
+    ghost use Rattle.std.specs.Prelude.{◌≡◌, List, ℕ, drop};
+    ghost use Rattle.stm_steps.specs.declared.searched.TheConstants.{MOST_SEARCHED};
 
     ghost Value = { List (List ℕ) };
 
-    ghost view = { λ s. s.keys.keys };
+    ghost view = { λ s. s.keys.items };
+
+    ghost invariant = { λ s. s.indexed.keys ≡ drop MOST_SEARCHED s.keys.items };
+}
+
+/// Whether a key is one of these.
+fn is_among(keys: &[Text], key: &Text) -> bool
+    ensures { result ≡ list_any (bytes_eq key.now) keys.now }
+{
+    keys.contains(key)
 }
 
 impl KeySet {
@@ -35,8 +52,59 @@ impl KeySet {
         ensures { result ≡ [] }
     {
         KeySet {
-            keys: IndexSet::new(alloc),
+            keys: Vec::new(alloc),
+            indexed: IndexSet::new(alloc),
         }
+    }
+
+    /// Whether a key is among them, where there are more than are searched.
+    fn is_among_many(&self, key: &Text) -> bool
+        requires { MOST_SEARCHED ≤ length self.now }
+        ensures { result ≡ list_any (bytes_eq key.now) self.now }
+    {
+        let (searched, _) = self.keys.as_slice().split_at(MOST_SEARCHED);
+        if is_among(searched, key) {
+            return true;
+        }
+        self.indexed.contains(key)
+    }
+
+    /// Whether a key is among them.
+    fn contains(&self, key: &Text) -> bool
+        ensures { result ≡ list_any (bytes_eq key.now) self.now }
+    {
+        if self.keys.len() <= MOST_SEARCHED {
+            is_among(self.keys.as_slice(), key)
+        } else {
+            self.is_among_many(key)
+        }
+    }
+
+    /// Adds a new key behind those that are searched, and to the table.
+    fn push_indexed(&mut self, key: &Text) -> Result<(), AllocError>
+        requires place { MOST_SEARCHED ≤ length self.old }
+        requires new_key { list_any (bytes_eq key.now) self.old ≡ false }
+        ensures ok { OnOk result (self.new ≡ with_key key.now self.old) }
+        ensures err { OnErr result (self.new ≡ self.old) }
+    {
+        let copy = key.clone()?;
+        let indexed = key.clone()?;
+        self.keys.reserve(1)?;
+        self.indexed.insert(indexed)?;
+        self.keys.push_reserved(copy);
+        Ok(())
+    }
+
+    /// Adds a new key to those that are searched.
+    fn push_searched(&mut self, key: &Text) -> Result<(), AllocError>
+        requires place { length self.old < MOST_SEARCHED }
+        requires new_key { list_any (bytes_eq key.now) self.old ≡ false }
+        ensures ok { OnOk result (self.new ≡ with_key key.now self.old) }
+        ensures err { OnErr result (self.new ≡ self.old) }
+    {
+        let copy = key.clone()?;
+        self.keys.push(copy)?;
+        Ok(())
     }
 
     /// Adds a key at the end, unless it is there already. Want of memory leaves the keys as they were.
@@ -44,11 +112,14 @@ impl KeySet {
         ensures ok { OnOk result (self.new ≡ with_key key.now self.old) }
         ensures err { OnErr result (self.new ≡ self.old) }
     {
-        if self.keys.contains(key) {
+        if self.contains(key) {
             return Ok(());
         }
-        self.keys.insert(key.clone()?)?;
-        Ok(())
+        if self.keys.len() < MOST_SEARCHED {
+            self.push_searched(key)
+        } else {
+            self.push_indexed(key)
+        }
     }
 
     /// The number of keys.

@@ -6,6 +6,7 @@ mod key_set;
 mod lookup;
 mod numbers;
 mod run;
+mod searched;
 mod session;
 mod state;
 mod stop;

@@ -4,6 +4,7 @@ ghost use Rattle.stm_steps.specs.Values.{arithmetic, computed, text_of, written_
 
 use crate::fault::Fault;
 use crate::value::Value;
+use itoa::Buffer;
 use std::alloc::{AllocError, Global};
 use stm_history::Text;
 use stm_program::Operator;
@@ -63,9 +64,9 @@ pub fn spell(alloc: Global, value: &Value) -> Result<Result<Value, Fault>, Alloc
 {
     match value {
         Value::Number(number) => {
-            let number = *number;
-            let text = format!(in alloc; "{number}")?;
-            Ok(Ok(Value::Text(Text::new(text))))
+            let mut digits = Buffer::new();
+            let text = Text::copy_of(alloc, digits.format(*number))?;
+            Ok(Ok(Value::Text(text)))
         }
         Value::Text(_) => Ok(Err(Fault::Kind)),
     }

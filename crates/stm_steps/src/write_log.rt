@@ -1,22 +1,25 @@
-//! The writes of a run, in which the last one of a key is found without a search.
-ghost use Rattle.std.specs.Prelude.{◌≡◌, [], ◌∷◌, ◌++◌, OnOk, OnErr};
+//! The writes of a run, in which the last one of a key is found without a long search.
+ghost use Rattle.std.specs.Prelude.{◌≡◌, ◌<◌, ◌≤◌, [], ◌∷◌, ◌++◌, Some, length, drop, slice_get, OnOk, OnErr};
 ghost use Rattle.std.specs.Option.{option_copied};
 ghost use Rattle.std.specs.Map;
-ghost use Rattle.stm_program.specs.Writes.{last_write};
+ghost use Rattle.stm_program.specs.Writes.{last_write as last_of_key};
+ghost use Rattle.stm_steps.specs.declared.searched.TheConstants.{MOST_SEARCHED};
 
+use crate::searched::MOST_SEARCHED;
 use indexmap::IndexMap;
 use std::alloc::{AllocError, Global};
 use std::marker::Model;
 use stm_history::Sequence;
-use stm_program::Write;
+use stm_program::{Write, last_write};
 
 /// Writes in order. Contracts see the list of them.
 ///
-/// Beside it stands an index from each written key to the place of its last write, so that a run's work
-/// grows with its steps alone.
+/// Beside it stands an index of the writes behind the first sixteen, from each key to the place of its last write, so that a run's work grows
+/// with its steps alone.
 #[derive(Debug)]
 pub(crate) struct WriteLog {
     writes: Vec<Write>,
+    // of the writes behind those that are searched, counted from there
     last_places: IndexMap<String, usize>,
 }
 
@@ -30,17 +33,26 @@ impl Drop for WriteLog {
 }
 
 impl Model for WriteLog {
-    ghost use Rattle.std.specs.Prelude.{List};
+    ghost use Rattle.std.specs.Prelude.{List, drop};
     ghost use Rattle.std.specs.Map;
     ghost use Rattle.indexmap.specs.IndexMap.{get_by_text};
     ghost use Rattle.stm_program.specs.declared.write.Write.{Write};
+    ghost use Rattle.stm_steps.specs.declared.searched.TheConstants.{MOST_SEARCHED};
     ghost use Rattle.stm_steps.specs.LastPlaces.{AreLastPlaces};
 
     ghost Value = { List Write };
 
     ghost view = { λ s. s.writes.items };
 
-    ghost invariant = { λ s. AreLastPlaces s.writes.items (get_by_text s.last_places) };
+    ghost invariant = { λ s. AreLastPlaces (drop MOST_SEARCHED s.writes.items) (get_by_text s.last_places) };
+}
+
+/// The write at a place.
+fn write_at(writes: &[Write], place: usize) -> &Write
+    requires { place < length writes.now }
+    ensures { slice_get writes.now place ≡ Some result.now }
+{
+    &writes[place]
 }
 
 impl WriteLog {
@@ -54,24 +66,75 @@ impl WriteLog {
         }
     }
 
-    /// Adds a write at the end. Want of memory leaves the writes as they were.
-    pub fn push(&mut self, write: Write) -> Result<(), AllocError>
+    /// Adds a write behind those that are searched, and its place to the index.
+    fn push_indexed(&mut self, write: Write) -> Result<(), AllocError>
+        requires { MOST_SEARCHED ≤ length self.old }
         ensures ok { OnOk result (self.new ≡ self.old ++ write ∷ []) }
         ensures err { OnErr result (self.new ≡ self.old) }
     {
         let key = String::from_str(*self.writes.allocator(), write.key())?;
         self.writes.reserve(1)?;
-        self.last_places.insert(key, self.writes.len())?;
+        self.last_places
+            .insert(key, self.writes.len() - MOST_SEARCHED)?;
         self.writes.push_reserved(write);
         Ok(())
     }
 
+    /// Adds a write to those that are searched.
+    fn push_searched(&mut self, write: Write) -> Result<(), AllocError>
+        requires { length self.old < MOST_SEARCHED }
+        ensures ok { OnOk result (self.new ≡ self.old ++ write ∷ []) }
+        ensures err { OnErr result (self.new ≡ self.old) }
+    {
+        self.writes.push(write)?;
+        Ok(())
+    }
+
+    /// Adds a write at the end. Want of memory leaves the writes as they were.
+    pub fn push(&mut self, write: Write) -> Result<(), AllocError>
+        ensures ok { OnOk result (self.new ≡ self.old ++ write ∷ []) }
+        ensures err { OnErr result (self.new ≡ self.old) }
+    {
+        if self.writes.len() < MOST_SEARCHED {
+            self.push_searched(write)
+        } else {
+            self.push_indexed(write)
+        }
+    }
+
+    /// The last write of a key behind those that are searched.
+    fn last_indexed(&self, key: &str) -> Option<&Write>
+        requires { MOST_SEARCHED ≤ length self.now }
+        ensures { option_copied result ≡ last_of_key key.now (drop MOST_SEARCHED self.now) }
+    {
+        let (_, indexed) = self.writes.as_slice().split_at(MOST_SEARCHED);
+        let place = *self.last_places.get(key)?;
+        Some(write_at(indexed, place))
+    }
+
+    /// The last write of a key, where there are more than are searched.
+    fn last_of_many(&self, key: &str) -> Option<&Write>
+        requires { MOST_SEARCHED ≤ length self.now }
+        ensures { option_copied result ≡ last_of_key key.now self.now }
+    {
+        match self.last_indexed(key) {
+            Some(write) => Some(write),
+            None => {
+                let (searched, _) = self.writes.as_slice().split_at(MOST_SEARCHED);
+                last_write(searched, key)
+            }
+        }
+    }
+
     /// The last write of a key.
     pub fn last(&self, key: &str) -> Option<&Write>
-        ensures { option_copied result ≡ last_write key.now self.now }
+        ensures { option_copied result ≡ last_of_key key.now self.now }
     {
-        let place = *self.last_places.get(key)?;
-        Some(&self.writes[place])
+        if self.writes.len() <= MOST_SEARCHED {
+            last_write(self.writes.as_slice(), key)
+        } else {
+            self.last_of_many(key)
+        }
     }
 
     /// The writes in order. It takes no memory.

@@ -1,10 +1,10 @@
 -- The places of the answers of an attempt, as an answer is added.
 use Rattle.std.proofs.Common.{◌≡◌, ℕ, ◌<◌, Bool, true, false, cond, List, [], ◌∷◌, ◌++◌, length, Option, None, Some, refl, sym, ◌∙◌, ap, arith}
-use Rattle.std.proofs.Common.{length-append, IfSome, All, String, map}
-use Rattle.std.specs.Prelude.{bytes_eq, slice_get, string_bytes}
+use Rattle.std.proofs.Common.{length-append, IfSome, All, String, map, ◌≤◌, drop, take, subst}
+use Rattle.std.specs.Prelude.{bytes_eq, slice_get, string_bytes, fold, min}
 use Rattle.std.specs.Map.{update, lookup}
-use Rattle.std.specs.List.{AllByRecursion, AllZip, IsDistinct}
-use Rattle.std.proofs.lemmas.List.{get_or_append_left}
+use Rattle.std.specs.List.{AllByRecursion, AllZip, IsDistinct, find}
+use Rattle.std.proofs.lemmas.List.{get_or_append_left, drop_all, drop-append-le, take-append-drop}
 use Rattle.std.proofs.lemmas.List.Elements.{recursion_from_All, All-from_recursion}
 use Rattle.std.proofs.lemmas.Option.{slice_get-get_or, none-some, same_Some}
 use Rattle.std.proofs.Math.Seq.{get_or-append_seam}
@@ -12,7 +12,7 @@ use Rattle.stm_history.specs.declared.key_state.ReadAnswer.{ReadAnswer}
 use Rattle.stm_program.proofs.WriteLemmas.{bytes_eq-self, bytes_eq-same}
 use Rattle.stm_outcome.specs.Numbers.{ReadFits}
 use Rattle.stm_compile.specs.Answers.{answer_in}
-use Rattle.stm_compile.specs.Places.{answer_at, AreAnswerPlaces}
+use Rattle.stm_compile.specs.Places.{answer_at, AreAnswerPlaces, AreRead}
 
 -- ---- the answer for a key, with one more at the end
 
@@ -67,7 +67,6 @@ none_read : (places : List ℕ → Option ℕ) → ((key : List ℕ) → places 
 none_read places none = record {
   within = λ key i at. absurd (none-some i (sym (none key) ∙ at));
   answer = λ key. ap (λ place. answer_at [] place) (none key);
-  distinct = none_alike;
 }
 
 pub nothing_found : {A : Type 0} (es : List (String A × ℕ)) (key : List ℕ) → es ≡ [] → lookup (λ k. bytes_eq key (string_bytes k)) es ≡ None
@@ -75,10 +74,16 @@ nothing_found [] key none = refl
 nothing_found (e ∷ es) key none = absurd (cc)
 
 -- a set of which nothing was read
-pub none_kept : (answers : List ReadAnswer) (places : List ℕ → Option ℕ) → answers ≡ [] → ((key : List ℕ) → places key ≡ None) →
-    All ReadFits answers × AreAnswerPlaces answers places
-none_kept [] places none absent = (All-from_recursion ReadFits [] tt, none_read places absent)
-none_kept (a ∷ answers) places none absent = absurd (cc)
+pub none_kept : (n : ℕ) (answers : List ReadAnswer) (places : List ℕ → Option ℕ) → answers ≡ [] → ((key : List ℕ) → places key ≡ None) →
+    All ReadFits answers × AreRead n answers places
+none_kept n [] places none absent = (
+  All-from_recursion ReadFits [] tt,
+  record {
+    placed = subst (λ (l : List ReadAnswer). AreAnswerPlaces l places) (sym (drop_all n [] (omega arith))) (none_read places absent);
+    distinct = none_alike;
+  },
+)
+none_kept n (a ∷ answers) places none absent = absurd (cc)
 
 -- the added answer stands at the end
 last_place : (answers : List ReadAnswer) (a : ReadAnswer) → slice_get (answers ++ a ∷ []) (length answers) ≡ Some a
@@ -119,7 +124,64 @@ place_added answers a places after kept new told = record {
       ∙ answer_after (bytes_eq a.key key) answers a (places key) (kept.within key)
       ∙ ap (λ found. cond (bytes_eq a.key key) (Some a) found) (kept.answer key)
       ∙ sym (answer_in-more answers a key new);
-  distinct = distinct_added answers a kept.distinct new;
+}
+
+-- ---- answers that are searched, and those behind them
+
+-- the first of two that is there
+abbrev pub or_else : Option ReadAnswer → Option ReadAnswer → Option ReadAnswer
+or_else None other = other
+or_else (Some a) other = Some a
+
+answer_in-append : (key : List ℕ) (xs ys : List ReadAnswer) → answer_in key (xs ++ ys) ≡ or_else (answer_in key xs) (answer_in key ys)
+answer_in-append key [] ys = refl
+answer_in-append key (x ∷ xs) ys = by (bytes_eq x.key key) (answer_in-append key xs ys)
+  where
+    by : (b : Bool) → answer_in key (xs ++ ys) ≡ or_else (answer_in key xs) (answer_in key ys)
+        → cond b (Some x) (answer_in key (xs ++ ys)) ≡ or_else (cond b (Some x) (answer_in key xs)) (answer_in key ys)
+    by true e = refl
+    by false e = e
+
+-- the answer for a key in a list that is cut in two: the first part is looked at first
+pub answer_of_both : (key : List ℕ) (n : ℕ) (answers : List ReadAnswer) (found : Option ReadAnswer) → answer_in key (take n answers) ≡ found →
+    answer_in key answers ≡ or_else found (answer_in key (drop n answers))
+answer_of_both key n answers found in_first =
+    ap (answer_in key) (sym (take-append-drop n answers)) ∙ answer_in-append key (take n answers) (drop n answers)
+    ∙ ap (λ o. or_else o (answer_in key (drop n answers))) in_first
+
+none_second : (first second : Option ReadAnswer) → or_else first second ≡ None → second ≡ None
+none_second None second none = none
+none_second (Some a) second none = absurd (cc)
+
+-- a key that has no answer has none behind so many
+new_behind : (key : List ℕ) (n : ℕ) (answers : List ReadAnswer) → answer_in key answers ≡ None → answer_in key (drop n answers) ≡ None
+new_behind key n answers new =
+    none_second (answer_in key (take n answers)) (answer_in key (drop n answers)) (sym (answer_of_both key n answers _ refl) ∙ new)
+
+-- what a search finds is the answer for the key
+pub first_is_answer : (key : List ℕ) (answers : List ReadAnswer) → find (λ (a : ReadAnswer). bytes_eq a.key key) answers ≡ answer_in key answers
+first_is_answer key [] = refl
+first_is_answer key (a ∷ answers) = ap (cond (bytes_eq a.key key) (Some a)) (first_is_answer key answers)
+
+-- one answer more, of those that are searched
+pub read_searched : (n : ℕ) (answers : List ReadAnswer) (a : ReadAnswer) (places : List ℕ → Option ℕ) → AreRead n answers places →
+    length answers < n → answer_in a.key answers ≡ None → AreRead n (answers ++ a ∷ []) places
+read_searched n answers a places read few new =
+    let same : drop n (answers ++ a ∷ []) ≡ drop n answers =
+    drop_all n (answers ++ a ∷ []) (omega (arith, length-append answers (a ∷ []))) ∙ sym (drop_all n answers (omega arith)) in
+    record {
+      placed = subst (λ l. AreAnswerPlaces l places) (sym same) read.placed;
+      distinct = distinct_added answers a read.distinct new;
+    }
+
+-- one answer more behind them, whose place is told
+pub read_indexed : (n : ℕ) (answers : List ReadAnswer) (a : ReadAnswer) (places after : List ℕ → Option ℕ) → AreRead n answers places →
+    n ≤ length answers → answer_in a.key answers ≡ None →
+    ((key : List ℕ) → after key ≡ update bytes_eq places a.key (Some (length (drop n answers))) key) → AreRead n (answers ++ a ∷ []) after
+read_indexed n answers a places after read many new told = record {
+  placed = subst (λ l. AreAnswerPlaces l after) (sym (drop-append-le n answers (a ∷ []) many))
+      (place_added (drop n answers) a places after read.placed (new_behind a.key n answers new) told);
+  distinct = distinct_added answers a read.distinct new;
 }
 
 -- ---- an answer that is found fits where all do
@@ -135,14 +197,28 @@ found_fits key (a ∷ answers) all = chosen_fits (bytes_eq a.key key) a (answer_
 pub answer_fits : (key : List ℕ) (answers : List ReadAnswer) → All ReadFits answers → IfSome (answer_in key answers) ReadFits
 answer_fits key answers all = found_fits key answers (recursion_from_All ReadFits answers all)
 
+-- ---- the least revision that answers carry
+
+fold_is_below : (n first : ℕ) (answers : List ReadAnswer) → n ≡ fold (λ least (b : ReadAnswer). min least b.revision) first answers → n ≤ first
+fold_is_below n first [] e = omega (arith, e)
+fold_is_below n first (a ∷ answers) e = omega (arith, fold_is_below n (min first a.revision) answers e)
+
+-- what is least behind all of them
+pub least_is_below : (n first i : ℕ) (answers : List ReadAnswer) → fold (λ least (b : ReadAnswer). min least b.revision) n (drop i answers)
+    ≡ fold (λ least (b : ReadAnswer). min least b.revision) first answers → length answers ≤ i → n ≤ first
+least_is_below n first i answers kept all =
+    fold_is_below n first answers (sym (ap (λ (l : List ReadAnswer). fold (λ least (b : ReadAnswer). min least b.revision) n l) (drop_all i answers all)) ∙ kept)
+
 -- ---- a copy of the index
 
-pub places_copied : (answers : List ReadAnswer) (places copy : List ℕ → Option ℕ) → AreAnswerPlaces answers places →
-    ((key : List ℕ) → copy key ≡ places key) → AreAnswerPlaces answers copy
-places_copied answers places copy kept same = record {
-  within = λ key i at. kept.within key i (sym (same key) ∙ at);
-  answer = λ key. ap (answer_at answers) (same key) ∙ kept.answer key;
-  distinct = kept.distinct;
+pub places_copied : (n : ℕ) (answers : List ReadAnswer) (places copy : List ℕ → Option ℕ) → AreRead n answers places →
+    ((key : List ℕ) → copy key ≡ places key) → AreRead n answers copy
+places_copied n answers places copy read same = record {
+  placed = record {
+    within = λ key i at. read.placed.within key i (sym (same key) ∙ at);
+    answer = λ key. ap (answer_at (drop n answers)) (same key) ∙ read.placed.answer key;
+  };
+  distinct = read.distinct;
 }
 
 -- copies of texts and numbers are found like their originals

@@ -1,16 +1,15 @@
--- The table of a write buffer, as a write is added, and what the latest writes of latest writes are.
-use Rattle.std.proofs.Common.{◌≡◌, ℕ, List, [], ◌∷◌, ◌++◌, Bool, true, false, cond, map, Option, None, Some, refl, sym, ◌∙◌, ap, subst, String}
-use Rattle.std.proofs.Common.{suc, ◌+◌, ◌<◌, length, take, get_or, arith}
+-- The writes of a write buffer, as a write is added, and what the latest writes of latest writes are.
+use Rattle.std.proofs.Common.{◌≡◌, ℕ, List, [], ◌∷◌, ◌++◌, Bool, true, false, cond, map, Option, None, Some, refl, sym, ◌∙◌, ap, subst}
+use Rattle.std.proofs.Common.{suc, ◌+◌, ◌<◌, length, set, take, get_or, arith}
 use Rattle.std.proofs.Math.Seq.{take-suc}
-use Rattle.std.specs.Prelude.{bytes_eq, string_bytes, ◌||◌, is_some}
-use Rattle.std.specs.List.{IsDistinct, AllByRecursion}
-use Rattle.std.specs.Map.{values_of, lookup}
-use Rattle.indexmap.specs.IndexMap.{insert_entry}
+use Rattle.std.proofs.lemmas.Option.{same_Some}
+use Rattle.std.proofs.lemmas.Iterator.Adapters.{position_from-zero}
+use Rattle.std.specs.Prelude.{bytes_eq, ◌||◌, is_some}
+use Rattle.std.specs.List.{IsDistinct, AllByRecursion, position, position_from}
 use Rattle.stm_program.specs.declared.write.Write.{Write}
 use Rattle.stm_program.specs.Writes.{key_of, last_write, is_written, latest_of, latest_after, latest_writes}
-use Rattle.stm_program.proofs.WriteLemmas.{bytes_eq-same, bytes_eq-flip, last_write-none, last_write-append, last_write-one, is_written-more, or_else}
+use Rattle.stm_program.proofs.WriteLemmas.{bytes_eq-flip, last_write-none, last_write-append, last_write-one, is_written-more, or_else}
 use Rattle.stm_program.proofs.LatestLemmas.{with_write, latest_writes-more, latest_writes-distinct}
-use Rattle.stm_compile.specs.Buffered.{AreUnderTheirKeys, IsBuffer}
 
 -- ---- writes of distinct keys
 
@@ -76,82 +75,61 @@ buffer_taken ws i w copy old new below at same made so_far =
     ap (λ (n : ℕ). take n ws) (sym next) ∙ take-suc ws i w below ∙ ap (λ x. take i ws ++ x ∷ []) (sym at ∙ sym same) in
     made ∙ ap (λ l. latest_writes (l ++ copy ∷ [])) so_far ∙ latest_and_more (take i ws) copy ∙ ap latest_writes (sym taken)
 
--- ---- the table
+-- ---- a write at its place
 
-or_none : (o : Option Write) → o ≡ or_else o None
-or_none None = refl
-or_none (Some w) = refl
+-- the write at this place, counted from j, is replaced by the new one
+abbrev IsPlaced : Write → List Write → ℕ → ℕ → Type 0
+IsPlaced w ws j i = (k : ℕ) × (i ≡ j + k) × (k < length ws) × (with_write w ws ≡ set ws k w)
 
-module _ {A : Type 0} where
-  same_text : String A → String A → Bool
-  same_text k l = bytes_eq (string_bytes k) (string_bytes l)
+placed_from : (w : Write) (ws : List Write) (j i : ℕ) → position_from (λ x. bytes_eq (key_of x) (key_of w)) j ws ≡ Some i → IsPlaced w ws j i
+placed_from w [] j i found = absurd (cc)
+placed_from w (x ∷ ws) j i found = by (bytes_eq (key_of x) (key_of w)) (bytes_eq-flip (key_of w) (key_of x)) (placed_from w ws (j + 1) i) found
+  where
+    by : (b : Bool) → bytes_eq (key_of w) (key_of x) ≡ b →
+        (position_from (λ y. bytes_eq (key_of y) (key_of w)) (j + 1) ws ≡ Some i → IsPlaced w ws (j + 1) i) →
+        cond b (Some j) (position_from (λ y. bytes_eq (key_of y) (key_of w)) (j + 1) ws) ≡ Some i → IsPlaced w (x ∷ ws) j i
+    by true same rest at =
+        let first : j ≡ i = same_Some j i at in
+        (0, omega (arith, first), omega arith, ap (λ b. cond b (w ∷ ws) (x ∷ with_write w ws)) same)
+    by false other rest at =
+        let r : IsPlaced w ws (j + 1) i = rest at in
+        (suc r.0, omega (arith, r.1), omega (arith, r.2), ap (λ b. cond b (w ∷ ws) (x ∷ with_write w ws)) other ∙ ap (λ l. x ∷ l) r.3)
 
-  -- an inserted write takes the place of its key's, or goes last
-  writes_inserted : (es : List (String A × Write)) (k : String A) (w : Write) → string_bytes k ≡ key_of w → AreUnderTheirKeys es →
-      values_of (insert_entry same_text es k w) ≡ with_write w (values_of es)
-  unfolding same_text
-  writes_inserted [] k w is_key keyed = refl
-  writes_inserted (e ∷ es) k w is_key keyed =
-      by (same_text k e.0) (writes_inserted es k w is_key keyed.1)
-      ∙ ap (λ b. cond b (w ∷ values_of es) (e.1 ∷ with_write w (values_of es)))
-      (ap (λ t. bytes_eq t (string_bytes e.0)) is_key ∙ ap (bytes_eq (key_of w)) keyed.0)
-    where
-      by : (b : Bool) → values_of (insert_entry same_text es k w) ≡ with_write w (values_of es) →
-          values_of (cond b ((e.0, w) ∷ es) (e ∷ insert_entry same_text es k w)) ≡ cond b (w ∷ values_of es) (e.1 ∷ with_write w (values_of es))
-      by true rest = refl
-      by false rest = ap (λ ws. e.1 ∷ ws) rest
+new_from : (w : Write) (ws : List Write) (j : ℕ) → position_from (λ x. bytes_eq (key_of x) (key_of w)) j ws ≡ None → with_write w ws ≡ ws ++ w ∷ []
+new_from w [] j none = refl
+new_from w (x ∷ ws) j none = by (bytes_eq (key_of x) (key_of w)) (bytes_eq-flip (key_of w) (key_of x)) (new_from w ws (j + 1)) none
+  where
+    by : (b : Bool) → bytes_eq (key_of w) (key_of x) ≡ b →
+        (position_from (λ y. bytes_eq (key_of y) (key_of w)) (j + 1) ws ≡ None → with_write w ws ≡ ws ++ w ∷ []) →
+        cond b (Some j) (position_from (λ y. bytes_eq (key_of y) (key_of w)) (j + 1) ws) ≡ None → with_write w (x ∷ ws) ≡ x ∷ ws ++ w ∷ []
+    by true same rest none = absurd (cc)
+    by false other rest none = ap (λ b. cond b (w ∷ ws) (x ∷ with_write w ws)) other ∙ ap (λ l. x ∷ l) (rest none)
 
-  keyed_inserted : (es : List (String A × Write)) (k : String A) (w : Write) → string_bytes k ≡ key_of w → AreUnderTheirKeys es →
-      AreUnderTheirKeys (insert_entry same_text es k w)
-  unfolding same_text
-  keyed_inserted [] k w is_key keyed = (is_key, tt)
-  keyed_inserted (e ∷ es) k w is_key keyed = by (same_text k e.0) refl (keyed_inserted es k w is_key keyed.1)
-    where
-      by : (b : Bool) → same_text k e.0 ≡ b → AreUnderTheirKeys (insert_entry same_text es k w) →
-          AreUnderTheirKeys (cond b ((e.0, w) ∷ es) (e ∷ insert_entry same_text es k w))
-      by true same rest = (sym (bytes_eq-same (string_bytes k) (string_bytes e.0) same) ∙ is_key, keyed.1)
-      by false other rest = (keyed.0, rest)
+-- one write more of writes of distinct keys
+more_of_distinct : (w : Write) (ws : List Write) → IsDistinct bytes_eq (map key_of ws) → with_write w ws ≡ latest_writes (ws ++ w ∷ [])
+more_of_distinct w ws distinct = ap (with_write w) (sym (latest_of_distinct ws distinct)) ∙ sym (latest_writes-more ws w)
 
-  -- the writes of a table with one more
-  pub more_written : (es : List (String A × Write)) (k : String A) (w : Write) → string_bytes k ≡ key_of w → IsBuffer es →
-      values_of (insert_entry (λ a b. bytes_eq (string_bytes a) (string_bytes b)) es k w) ≡ latest_writes (values_of es ++ w ∷ [])
-  unfolding same_text
-  more_written es k w is_key buffer =
-      writes_inserted es k w is_key buffer.under_keys
-      ∙ ap (with_write w) (sym (latest_of_distinct (values_of es) buffer.distinct))
-      ∙ sym (latest_writes-more (values_of es) w)
+-- in the place of its key's
+pub replaced_write : (w : Write) (ws : List Write) (i : ℕ) → IsDistinct bytes_eq (map key_of ws) →
+    position (λ x. bytes_eq (key_of x) (key_of w)) ws ≡ Some i → (i < length ws) × (set ws i w ≡ latest_writes (ws ++ w ∷ []))
+replaced_write w ws i distinct found =
+    let placed : IsPlaced w ws 0 i =
+    placed_from w ws 0 i (sym (position_from-zero (λ x. bytes_eq (key_of x) (key_of w)) ws) ∙ found) in
+    let at : placed.0 ≡ i = omega (arith, placed.1) in (
+      omega (arith, at, placed.2),
+      ap (λ (n : ℕ). set ws n w) (sym at) ∙ sym placed.3 ∙ more_of_distinct w ws distinct,
+    )
 
-  -- which is a table of a buffer again
-  pub buffer_more : (es : List (String A × Write)) (k : String A) (w : Write) → string_bytes k ≡ key_of w → IsBuffer es →
-      IsBuffer (insert_entry (λ a b. bytes_eq (string_bytes a) (string_bytes b)) es k w)
-  unfolding same_text
-  buffer_more es k w is_key buffer = record {
-    under_keys = keyed_inserted es k w is_key buffer.under_keys;
-    distinct = subst (λ ws. IsDistinct bytes_eq (map key_of ws)) (sym (more_written es k w is_key buffer)) (latest_writes-distinct (values_of es ++ w ∷ []));
-  }
+-- or at the end
+pub added_write : (w : Write) (ws : List Write) → IsDistinct bytes_eq (map key_of ws) →
+    position (λ x. bytes_eq (key_of x) (key_of w)) ws ≡ None → ws ++ w ∷ [] ≡ latest_writes (ws ++ w ∷ [])
+added_write w ws distinct none =
+    sym (new_from w ws 0 (sym (position_from-zero (λ x. bytes_eq (key_of x) (key_of w)) ws) ∙ none)) ∙ more_of_distinct w ws distinct
 
-  pub buffer_none : (es : List (String A × Write)) → es ≡ [] → IsBuffer es
-  unfolding IsDistinct
-  buffer_none es none = subst (λ (fs : List (String A × Write)). IsBuffer fs) (sym none) (record { under_keys = tt; distinct = tt })
+-- the latest writes are of distinct keys
+pub distinct_latest : (ws latest : List Write) → latest ≡ latest_writes ws → IsDistinct bytes_eq (map key_of latest)
+distinct_latest ws latest same = subst (λ (l : List Write). IsDistinct bytes_eq (map key_of l)) (sym same) (latest_writes-distinct ws)
 
-  -- the write under a key is the last one of the key
-  pub found_is_last : (es : List (String A × Write)) (key : List ℕ) → AreUnderTheirKeys es → IsDistinct bytes_eq (map key_of (values_of es)) →
-      lookup (λ k. bytes_eq key (string_bytes k)) es ≡ last_write key (values_of es)
-  unfolding IsDistinct
-  found_is_last [] key keyed distinct = sym (last_write-none key)
-  found_is_last (e ∷ es) key keyed distinct =
-      let test : bytes_eq key (string_bytes e.0) ≡ bytes_eq (key_of e.1) key =
-      ap (bytes_eq key) keyed.0 ∙ bytes_eq-flip key (key_of e.1) in
-      ap (λ b. cond b (Some e.1) (lookup (λ k. bytes_eq key (string_bytes k)) es)) test
-      ∙ ap (cond (bytes_eq (key_of e.1) key) (Some e.1)) (found_is_last es key keyed.1 distinct.1)
-      ∙ by (bytes_eq (key_of e.1) key) refl
-      ∙ ap (or_else (last_write key (values_of es))) (sym (last_write-one key e.1))
-      ∙ sym (last_write-append key (e.1 ∷ []) (values_of es))
-    where
-      by : (b : Bool) → bytes_eq (key_of e.1) key ≡ b → cond b (Some e.1) (last_write key (values_of es))
-          ≡ or_else (last_write key (values_of es)) (cond b (Some e.1) None)
-      by true same =
-          let none : last_write key (values_of es) ≡ None =
-          ap (λ k. last_write k (values_of es)) (sym (bytes_eq-same (key_of e.1) key same)) ∙ new_unwritten (key_of e.1) (values_of es) distinct.0 in
-          ap (λ o. or_else o (Some e.1)) (sym none)
-      by false other = or_none (last_write key (values_of es))
+pub distinct_none : (ws : List Write) → ws ≡ [] → IsDistinct bytes_eq (map key_of ws)
+unfolding IsDistinct
+distinct_none ws none = subst (λ (l : List Write). IsDistinct bytes_eq (map key_of l)) (sym none) tt

@@ -1,7 +1,6 @@
 pub mod Levels
 pub mod Answers
 pub mod Places
-pub mod Buffered
 pub mod Now
 pub mod CommitTxn
 pub mod Committed

@@ -73,16 +73,12 @@ fn push_unmodified(
 }
 
 /// The compares of the keys that were written.
-fn write_compares(
-    alloc: Global,
-    first: u64,
-    writes: &WriteBuffer,
-) -> Result<Vec<Compare>, AllocError>
+fn write_compares(alloc: Global, first: u64, writes: &[Write]) -> Result<Vec<Compare>, AllocError>
     requires { first ≤ HIGHEST_NUMBER }
     ensures { IfOk result (λ compares. compares.items ≡ map (is_unmodified first) writes.now) }
 {
     let mut compares = Vec::with_capacity(alloc, writes.len())?;
-    for write in writes.values() {
+    for write in writes {
         push_unmodified(alloc, &mut compares, first, write)?;
     }
     Ok(compares)
@@ -97,7 +93,7 @@ fn all_compares(
     ensures { IfOk result (λ compares. compares.items ≡ map is_as_read reads.now ++ map (is_unmodified (first_carried reads.now)) writes.now) }
 {
     let mut compares = read_compares(alloc, reads.as_slice())?;
-    let mut written = write_compares(alloc, reads.first_carried(), writes)?;
+    let mut written = write_compares(alloc, reads.first_carried(), writes.as_slice())?;
     compares.append(&mut written)?;
     Ok(compares)
 }
@@ -150,11 +146,11 @@ fn push_operation(ops: &mut Vec<Op>, write: &Write) -> Result<(), AllocError>
 }
 
 /// The writes, as operations.
-fn operations(alloc: Global, writes: &WriteBuffer) -> Result<Vec<Op>, AllocError>
+fn operations(alloc: Global, writes: &[Write]) -> Result<Vec<Op>, AllocError>
     ensures { IfOk result (λ ops. ops.items ≡ map write_op writes.now) }
 {
     let mut ops = Vec::with_capacity(alloc, writes.len())?;
-    for write in writes.values() {
+    for write in writes {
         push_operation(&mut ops, write)?;
     }
     Ok(ops)
@@ -210,7 +206,7 @@ pub fn compile(
     ensures { IfOk result (λ txn. txn ≡ commit_of level reads.now writes.now) }
 {
     let compares = compares(alloc, level, reads, writes)?;
-    let success = operations(alloc, writes)?;
+    let success = operations(alloc, writes.as_slice())?;
     let failure = rereads(alloc, level, reads)?;
     Ok(Txn {
         compares: ShortList::of(compares),

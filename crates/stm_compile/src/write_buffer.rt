@@ -1,42 +1,66 @@
 //! What an attempt has written.
-ghost use Rattle.std.specs.Prelude.{◌≡◌, ◌<◌, [], ◌∷◌, ◌++◌, length, slice_get, option_copied, OnOk, OnErr, IfOk};
-ghost use Rattle.stm_program.specs.Writes.{last_write, latest_writes};
+ghost use Rattle.std.specs.Prelude.{◌≡◌, ◌<◌, [], ◌∷◌, ◌++◌, None, Some, bytes_eq, length, slice_get, option_copied, OnOk, OnErr, IfOk};
+ghost use Rattle.std.specs.List.{position};
+ghost use Rattle.stm_program.specs.Writes.{key_of, last_write as last_of_key, latest_writes as latest_of_each};
 
-use indexmap::IndexMap;
-use indexmap::map::Values;
+use crate::read_set::MOST_SEARCHED;
 use std::alloc::{AllocError, Global};
 use std::marker::Model;
-use stm_program::Write;
+use stm_program::{Write, last_write, latest_writes};
 
 /// The last write of each key, in the order of first writes. Contracts see the list of them.
 ///
 /// (The write set of the Go package `clientv3/concurrency`, which keeps no order.)
 #[derive(Debug)]
 pub struct WriteBuffer {
-    writes: IndexMap<String, Write>,
-    alloc: Global,
+    writes: Vec<Write>,
 }
 
 impl Drop for WriteBuffer {
     fn drop(self) {
-        let WriteBuffer {
-            writes: _,
-            alloc: _,
-        } = self;
+        let WriteBuffer { writes: _ } = self;
     }
 }
 
 impl Model for WriteBuffer {
-    ghost use Rattle.std.specs.Prelude.{◌≡◌, List};
-    ghost use Rattle.indexmap.specs.IndexMap.{values};
+    ghost use Rattle.std.specs.Prelude.{List, bytes_eq, map};
+    ghost use Rattle.std.specs.List.{IsDistinct};
     ghost use Rattle.stm_program.specs.declared.write.Write.{Write};
-    ghost use Rattle.stm_compile.specs.Buffered.{IsBuffer};
+    ghost use Rattle.stm_program.specs.Writes.{key_of};
 
     ghost Value = { List Write };
 
-    ghost view = { λ s. values s.writes };
+    ghost view = { λ s. s.writes.items };
 
-    ghost invariant = { λ s. IsBuffer s.writes.entries };
+    ghost invariant = { λ s. IsDistinct bytes_eq (map key_of s.writes.items) };
+}
+
+/// The place of the first of these writes that is of a key.
+fn place_of(writes: &[Write], key: &str) -> Option<usize>
+    ensures { result ≡ position (λ w. bytes_eq (key_of w) key.now) writes.now }
+{
+    writes.iter().position(|write| write.key() == key)
+}
+
+/// The last write of each key, for writes that are few: each is searched for.
+fn search_latest(alloc: Global, writes: &[Write]) -> Result<WriteBuffer, AllocError>
+    ensures { IfOk result (λ buffer. buffer ≡ latest_of_each writes.now) }
+{
+    let mut buffer = WriteBuffer::with_room(alloc, writes.len())?;
+    for write in writes {
+        buffer.write(write.clone()?)?;
+    }
+    Ok(buffer)
+}
+
+/// The last write of each key, by a table.
+fn tabulate_latest(alloc: Global, writes: &[Write]) -> Result<WriteBuffer, AllocError>
+    ensures { IfOk result (λ buffer. buffer ≡ latest_of_each writes.now) }
+{
+    let latest = latest_writes(alloc, writes)?;
+    Ok(WriteBuffer {
+        writes: latest.into_vec(),
+    })
 }
 
 impl WriteBuffer {
@@ -45,32 +69,61 @@ impl WriteBuffer {
         ensures { result ≡ [] }
     {
         WriteBuffer {
-            writes: IndexMap::new(alloc),
-            alloc,
+            writes: Vec::new(alloc),
         }
+    }
+
+    /// Nothing written, and room for the writes of so many keys.
+    fn with_room(alloc: Global, count: usize) -> Result<WriteBuffer, AllocError>
+        ensures { IfOk result (λ buffer. buffer ≡ []) }
+    {
+        let writes = Vec::with_capacity(alloc, count)?;
+        Ok(WriteBuffer { writes })
     }
 
     /// The last write of each key of a run, in the order of first writes. Want of memory is its only refusal.
     pub fn of(alloc: Global, writes: &[Write]) -> Result<WriteBuffer, AllocError>
-        ensures { IfOk result (λ buffer. buffer ≡ latest_writes writes.now) }
+        ensures { IfOk result (λ buffer. buffer ≡ latest_of_each writes.now) }
     {
-        let mut buffer = WriteBuffer::new(alloc);
-        for write in writes {
-            buffer.write(write.clone()?)?;
+        if writes.len() <= MOST_SEARCHED {
+            search_latest(alloc, writes)
+        } else {
+            tabulate_latest(alloc, writes)
         }
-        Ok(buffer)
     }
 
-    /// Writes a key: in the place of its earlier write, or at the end.
+    /// Writes a key in the place of its earlier write.
+    fn replace(&mut self, place: usize, write: Write)
+        requires { position (λ w. bytes_eq (key_of w) (key_of write)) self.old ≡ Some place }
+        ensures { self.new ≡ latest_of_each (self.old ++ write ∷ []) }
+    {
+        self.writes[place] = write;
+    }
+
+    /// Writes a key that was not written yet.
+    fn add(&mut self, write: Write) -> Result<(), AllocError>
+        requires { position (λ w. bytes_eq (key_of w) (key_of write)) self.old ≡ None }
+        ensures ok { OnOk result (self.new ≡ latest_of_each (self.old ++ write ∷ [])) }
+        ensures err { OnErr result (self.new ≡ self.old) }
+    {
+        self.writes.push(write)?;
+        Ok(())
+    }
+
+    /// Writes a key: in the place of its earlier write, or at the end. It searches the writes.
     ///
     /// Want of memory is its only refusal, and leaves the writes as they were.
     pub fn write(&mut self, write: Write) -> Result<(), AllocError>
-        ensures ok { OnOk result (self.new ≡ latest_writes (self.old ++ write ∷ [])) }
+        ensures ok { OnOk result (self.new ≡ latest_of_each (self.old ++ write ∷ [])) }
         ensures err { OnErr result (self.new ≡ self.old) }
     {
-        let key = String::from_str(self.alloc, write.key())?;
-        self.writes.insert(key, write)?;
-        Ok(())
+        match place_of(self.writes.as_slice(), write.key()) {
+            Some(place) => {
+                self.replace(place, write);
+                Ok(())
+            }
+            None => self.add(write),
+        }
     }
 
     /// The number of keys written.
@@ -85,23 +138,20 @@ impl WriteBuffer {
         requires { place < length self.now }
         ensures { slice_get self.now place ≡ Some result.now }
     {
-        match self.writes.get_index(place) {
-            Some((_, write)) => write,
-            None => unreachable!(),
-        }
+        &self.writes[place]
     }
 
-    /// The last write of a key, `None` where it was not written.
+    /// The last write of a key, `None` where it was not written. It searches the writes.
     pub fn get(&self, key: &str) -> Option<&Write>
-        ensures { option_copied result ≡ last_write key.now self.now }
+        ensures { option_copied result ≡ last_of_key key.now self.now }
     {
-        self.writes.get(key)
+        last_write(self.writes.as_slice(), key)
     }
 
     /// The writes in order.
-    pub(crate) fn values(&self) -> Values<'_, String, Write>
-        ensures { result ≡ self.now }
+    pub(crate) fn as_slice(&self) -> &[Write]
+        ensures { result.now ≡ self.now }
     {
-        self.writes.values()
+        self.writes.as_slice()
     }
 }

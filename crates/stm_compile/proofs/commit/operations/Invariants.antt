@@ -1,8 +1,7 @@
-use Rattle.std.proofs.Common.{◌≡◌, map}
-use Rattle.std.specs.Map.Iter.{deref}
+use Rattle.std.proofs.Common.{◌≡◌, map, take}
 use Rattle.stm_compile.specs.CommitTxn.{write_op}
 use Rattle.stm_compile.proofs.commit.operations.Given as goal
 
 -- an operation for each write so far
 abbrev pub invariant-loop-write : goal.invariant-loop-write
-invariant-loop-write l = l.ops.items ≡ map write_op (map deref l.yielded)
+invariant-loop-write l = l.ops.items ≡ map write_op (take l.write-index l.writes)

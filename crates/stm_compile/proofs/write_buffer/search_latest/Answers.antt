@@ -1,10 +1,10 @@
 use Rattle.std.proofs.Common.{sym, ◌∙◌}
 use Rattle.stm_program.proofs.LatestLemmas.{latest_writes-none}
 use Rattle.stm_compile.proofs.BufferLemmas.{buffer_taken}
-use Rattle.stm_compile.proofs.write_buffer.WriteBuffer.of.Goals as goal
+use Rattle.stm_compile.proofs.write_buffer.search_latest.Goals as goal
 
 pub loop-write-init : goal.loop-write-init
-loop-write-init c = c.new-buffer.ensures ∙ sym latest_writes-none
+loop-write-init c = c.in_ok-buffer.ensures ∙ sym latest_writes-none
 
 pub loop-write-preserved : goal.loop-write-preserved
 loop-write-preserved c =

@@ -1,14 +1,11 @@
 -- The parts that wait, as the code keeps them.
-use Rattle.std.proofs.Common.{◌≡◌, refl, sym, ◌∙◌, ap, ℕ, zero, suc, ◌+◌, ◌-◌, ◌<◌, ◌≤◌, List, [], ◌∷◌, ◌++◌, length, get_or, take, drop, reverse, arith}
+use Rattle.std.proofs.Common.{◌≡◌, refl, ◌∙◌, ap, ℕ, zero, suc, ◌+◌, ◌-◌, ◌<◌, ◌≤◌, List, [], ◌∷◌, length, get_or, drop, arith}
 use Rattle.std.specs.Prelude.{None, Some}
-use Rattle.std.proofs.lemmas.List.{take_all, take_more, reverse-append}
 use Rattle.stm_program.specs.Syntax.{Statement, Block, End, Then}
 use Rattle.stm_program.specs.BlockView.{block_of}
 use Rattle.stm_steps.specs.Session.{Session}
 use Rattle.stm_steps.specs.Outcome.{begin_turn}
-use Rattle.stm_machine.specs.declared.frame.Frame.{Frame}
 use Rattle.stm_machine.specs.Parts.{first_of, behind_first, TurnsLeft, turns_from, behind_turn}
-use Rattle.stm_machine.specs.Frames.{top_of, below_top}
 use Rattle.stm_machine.specs.Moves.{nothing, goes, moved, begin_statement, begin_block, turn_moved, take_turn}
 
 -- ---- the statements that are left of a block
@@ -78,19 +75,3 @@ pub turns_end : (v : ℕ) (body : Block) (next left : ℕ) (s : Session) → beh
 unfolding take_turn
 turns_end v body next zero s is = refl
 turns_end v body next (suc left) s is = absurd (cc)
-
--- ---- the stack
-
-pub none_top : (frames : List Frame) → length frames ≡ 0 → None ≡ top_of (reverse frames)
-none_top [] none = refl
-none_top (f ∷ frames) none = absurd (omega (arith, none))
-
-pub one_top : (frames : List Frame) (m : ℕ) (f : Frame) → m + 1 ≡ length frames → f ≡ get_or frames m f → Some f ≡ top_of (reverse frames)
-one_top frames m f whole is =
-    let split : frames ≡ take m frames ++ f ∷ [] =
-    sym (take_all (m + 1) frames (omega (arith, whole))) ∙ take_more frames m f (omega (arith, whole)) ∙ ap (λ y. take m frames ++ y ∷ []) (sym is) in
-    sym (ap top_of (ap reverse split ∙ reverse-append (take m frames) (f ∷ [])))
-
--- without the last one
-pub all_but_top : (frames rest : List Frame) (f : Frame) → frames ≡ rest ++ f ∷ [] → reverse rest ≡ below_top (reverse frames)
-all_but_top frames rest f is = sym (ap below_top (ap reverse is ∙ reverse-append rest (f ∷ [])))

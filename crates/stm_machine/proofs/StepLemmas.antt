@@ -1,6 +1,6 @@
 -- One step of a machine keeps what finishing comes to; where none is made, the machine stands.
 use Rattle.std.proofs.Common.{◌≡◌, refl, sym, ◌∙◌, ap, ℕ, List, [], ◌∷◌}
-use Rattle.std.specs.Prelude.{Option, None, Some, IsSome, option_map}
+use Rattle.std.specs.Prelude.{Option, None, Some, IsSome}
 use Rattle.stm_program.specs.declared.write.Write.{Write}
 use Rattle.stm_steps.specs.declared.value.Value.{Value}
 use Rattle.stm_steps.specs.declared.stop.Stop.TheVariants.{Wants}
@@ -10,19 +10,18 @@ use Rattle.stm_steps.specs.declared.run.Run.{Run}
 use Rattle.stm_steps.specs.declared.run.Answered.TheVariants.{Ended as EndedRun, Wants as WantsKey}
 use Rattle.stm_steps.specs.Answer.{Answer, Lookup}
 use Rattle.stm_steps.specs.Session.{Session, fresh}
-use Rattle.stm_steps.specs.Outcome.{Outcome, Gives, Stops, found_or_wanted}
+use Rattle.stm_steps.specs.Outcome.{Outcome, Gives, Stops}
 use Rattle.stm_steps.specs.Steps.{get_answered, rev_answered, get_of, get_key, rev_key, run_of}
 use Rattle.stm_program.specs.Writes.{last_write}
 use Rattle.stm_steps.specs.Meaning.{answered, run_block, run_over}
 use Rattle.stm_steps.specs.Answer.{AgreesWith}
 use Rattle.stm_machine.specs.declared.focus.Item.{Item}
-use Rattle.stm_machine.specs.declared.focus.Item.TheVariants.{Value as ValueItem}
 use Rattle.stm_machine.specs.declared.focus.Focus.{Focus}
 use Rattle.stm_machine.specs.declared.focus.Focus.TheVariants.{Evaluate, Test, Get, Rev, Give, Ended}
 use Rattle.stm_machine.specs.declared.frame.Frame.{Frame}
 use Rattle.stm_machine.specs.State.{MachineState, key_asked, run_from}
 use Rattle.stm_machine.specs.Finish.{on_value, onward_of, ended, finish_from, finish}
-use Rattle.stm_machine.specs.Moves.{goes, begin_expression, begin_condition}
+use Rattle.stm_machine.specs.Moves.{begin_expression, begin_condition}
 use Rattle.stm_machine.specs.Steps.{state_after, read_step, give_step, step_from, StandsAt, Stands}
 use Rattle.stm_machine.specs.Laws.{StartsAtTheProgram, StepsFinishAlike, NoStepStands, StandingAtAKeyWantsIt, StandingAtNoKeyHasRun, EndedMachinesHaveRun}
 use Rattle.stm_machine.proofs.OutcomeLemmas.{and_then_nothing}
@@ -61,17 +60,6 @@ rev_agrees : (look whole : Lookup) → AgreesWith look whole → (key : List ℕ
     rev_key look key s ≡ Gives x t → rev_key whole key s ≡ Gives x t
 unfolding rev_key
 rev_agrees look whole agree key s t x found = rev_answered-agrees key (look key) (whole key) s t x (agree key) found
-
--- ---- a read, as the code has it
-
-pub found_steps : (frames : List Frame) (key : List ℕ) (found : Option Value) (s : Session) →
-    read_step frames (found_or_wanted key found s) ≡ option_map (λ m. state_after m frames s) (option_map (λ x. goes (Give (ValueItem x))) found)
-found_steps frames key None s = refl
-found_steps frames key (Some x) s = refl
-
-pub none_found : (found : Option Value) → option_map (λ x. goes (Give (ValueItem x))) found ≡ None → found ≡ None
-none_found None none = refl
-none_found (Some x) none = absurd (cc)
 
 -- ---- one step
 

@@ -34,7 +34,7 @@ use Rattle.stm_machine.specs.declared.frame.TruthFrame.{TruthFrame}
 use Rattle.stm_machine.specs.declared.frame.TruthFrame.TheVariants.{Not, And, Or, If}
 use Rattle.stm_machine.specs.declared.frame.NextFrame.{NextFrame}
 use Rattle.stm_machine.specs.declared.frame.NextFrame.TheVariants.{Rest, Loop}
-use Rattle.stm_machine.specs.declared.moves.Move.{Move}
+use Rattle.stm_machine.specs.Moves.{Move}
 use Rattle.stm_machine.specs.Parts.{turns_from}
 use Rattle.stm_machine.specs.State.{MachineState, state_of}
 use Rattle.stm_machine.specs.Moves.{goes, at_value, at_truth, at_get, at_rev, at_abort, frames_after, begin_expression, begin_condition, begin_statement}

@@ -1,5 +1,5 @@
 -- The moves of a machine, each a value: the parts that it leaves waiting, and where the machine stands then.
-use Rattle.std.specs.Prelude.{ℕ, suc, zero, Bool, true, false, not, List, ◌∷◌, Option, None, Some, Result, Ok, Err}
+use Rattle.std.specs.Prelude.{◌≡◌, ℕ, suc, zero, Bool, true, false, not, List, ◌∷◌, Option, None, Some, Result, Ok, Err}
 use Rattle.stm_program.specs.Syntax as tree
 use Rattle.stm_program.specs.Syntax.{Expression, Condition, Statement, Block, End, Then}
 use Rattle.stm_steps.specs.declared.value.Value.{Value}
@@ -30,7 +30,6 @@ use Rattle.stm_machine.specs.declared.frame.TruthFrame.{TruthFrame}
 use Rattle.stm_machine.specs.declared.frame.TruthFrame.TheVariants.{Not, And, Or, If}
 use Rattle.stm_machine.specs.declared.frame.NextFrame.{NextFrame}
 use Rattle.stm_machine.specs.declared.frame.NextFrame.TheVariants.{Rest, Loop}
-use Rattle.stm_machine.specs.declared.moves.Move.{Move}
 use Rattle.stm_machine.specs.Parts.{TurnsLeft, turns_from}
 
 -- ---- where a machine stands
@@ -64,6 +63,12 @@ at_abort (Err fault) = at_fault fault
 
 -- ---- moves
 
+-- what a machine makes of where it stands: the parts that it leaves waiting, `above` inside `below`, and where it stands then
+pub record Move : Type 0 where
+  pub below : Option Frame
+  pub above : Option Frame
+  pub focus : Focus
+
 -- the machine stands there, and no part more waits
 abbrev pub goes : Focus → Move
 goes focus = record { below = None; above = None; focus = focus }
@@ -83,6 +88,11 @@ with_frame (Some f) frames = f ∷ frames
 -- the parts that wait after a move
 abbrev pub frames_after : Move → List Frame → List Frame
 frames_after m frames = with_frame m.above (with_frame m.below frames)
+
+-- A move is made: the machine stands where it leads, and the parts that it leaves wait inside those before.
+pub record IsMade (m : Move) (before : List Frame) (focus : Focus) (after : List Frame) : Type 0 where
+  pub stands : focus ≡ m.focus
+  pub waiting : after ≡ frames_after m before
 
 -- ---- the start of an expression, a condition, a statement, a block
 

@@ -12,9 +12,8 @@ use Rattle.stm_machine.specs.declared.focus.Item.TheVariants.{Value as ValueItem
 use Rattle.stm_machine.specs.declared.focus.Focus.{Focus}
 use Rattle.stm_machine.specs.declared.focus.Focus.TheVariants.{Evaluate, Test, Get, Rev, Give, Ended}
 use Rattle.stm_machine.specs.declared.frame.Frame.{Frame}
-use Rattle.stm_machine.specs.declared.moves.Move.{Move}
 use Rattle.stm_machine.specs.State.{MachineState, state_of}
-use Rattle.stm_machine.specs.Moves.{Moved, frames_after, begin_expression, begin_condition, take_item}
+use Rattle.stm_machine.specs.Moves.{Move, Moved, frames_after, begin_expression, begin_condition, take_item}
 
 -- the state after a move, where these parts wait behind it
 abbrev pub state_after : Move → List Frame → Session → MachineState

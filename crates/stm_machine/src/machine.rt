@@ -6,10 +6,10 @@ ghost use Rattle.stm_machine.specs.Laws.{FinishAlike};
 
 use crate::focus::Focus;
 use crate::frame::{Frame, NextFrame};
-use crate::moves::{leave_waiting, nothing};
+use crate::moves::nothing;
 use crate::parts::Remaining;
 use crate::stack::Stack;
-use crate::steps::next_move;
+use crate::steps::go_on;
 use std::alloc::{AllocError, Global};
 use std::marker::Model;
 use std::mem;
@@ -64,8 +64,7 @@ impl Machine {
             statements: Arc::new(alloc, statements)?,
         };
         let block = Remaining::of(&block)?;
-        let mut stack = Stack::new(alloc);
-        stack.make_room()?;
+        let mut stack = Stack::with_room(alloc)?;
         stack.push(Frame::Next(NextFrame::Rest(block)));
         let session = Session::new(alloc)?;
         Ok(Machine {
@@ -86,18 +85,17 @@ impl Machine {
         ensures err { OnErr result (self.new ≡ self.old) }
     {
         self.stack.make_room()?;
-        let made = next_move(
+        let made = go_on(
             self.alloc,
             lookup,
             &self.focus,
             &mut self.stack,
             &mut self.session,
         )?;
-        let Some(made) = made else {
+        let Some(next) = made else {
             return Ok(false);
         };
-        let focus = leave_waiting(&mut self.stack, made);
-        drop(mem::replace(&mut self.focus, focus));
+        drop(mem::replace(&mut self.focus, next));
         Ok(true)
     }
 

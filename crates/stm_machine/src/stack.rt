@@ -1,10 +1,12 @@
 //! The stack of a machine.
-ghost use Rattle.std.specs.Prelude.{◌≡◌, ◌+◌, ◌≤◌, ◌∷◌, [], OnOk};
-ghost use Rattle.std.specs.Option.{option_copied};
+ghost use Rattle.std.specs.Prelude.{◌≡◌, ◌+◌, ◌≤◌, ◌∷◌, [], IfOk, OnOk};
 
 use crate::frame::Frame;
 use std::alloc::{AllocError, Global};
 use std::marker::Model;
+
+/// For how many parts a stack has room at the start, which spares most programs a growth.
+const FIRST_ROOM: usize = 8;
 
 /// The parts of a program that wait. Contracts see the innermost first, and for how many more there is room.
 pub(crate) struct Stack {
@@ -33,13 +35,13 @@ impl Model for Stack {
 impl Stack {
     ghost use Rattle.stm_machine.specs.Frames.{top_of, below_top};
 
-    /// No parts. It takes no memory.
-    pub(crate) fn new(alloc: Global) -> Stack
-        ensures { result.frames ≡ [] }
+    /// No parts, and room for the first ones.
+    pub(crate) fn with_room(alloc: Global) -> Result<Stack, AllocError>
+        ensures frames { IfOk result (λ s. s.frames ≡ []) }
+        ensures room { IfOk result (λ s. 2 ≤ s.room) }
     {
-        Stack {
-            frames: Vec::new(alloc),
-        }
+        let frames = Vec::with_capacity(alloc, FIRST_ROOM)?;
+        Ok(Stack { frames })
     }
 
     /// Makes room for two more.
@@ -60,22 +62,12 @@ impl Stack {
         self.frames.push_reserved(frame);
     }
 
-    /// The innermost part.
-    pub(crate) fn top(&self) -> Option<&Frame>
-        ensures { option_copied result ≡ top_of self.now.frames }
-    {
-        let count = self.frames.len();
-        if count == 0 {
-            return None;
-        }
-        Some(&self.frames[count - 1])
-    }
-
-    /// Takes the innermost part away, where there is one.
-    pub(crate) fn pop(&mut self)
+    /// Takes out the innermost part, where there is one.
+    pub(crate) fn take(&mut self) -> Option<Frame>
+        ensures taken { result ≡ top_of self.old.frames }
         ensures frames { self.new.frames ≡ below_top self.old.frames }
         ensures room { self.old.room ≤ self.new.room }
     {
-        drop(self.frames.pop());
+        self.frames.pop()
     }
 }

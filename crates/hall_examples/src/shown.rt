@@ -37,6 +37,21 @@ pub(crate) fn tell_fetched(
     }
 }
 
+/// What was fetched of one key, or why it was not.
+pub(crate) fn tell_one_fetched(
+    told: &mut String,
+    fetched: &Result<ReadAnswer, FetchRefusal>,
+) -> Result<(), AllocError> {
+    match fetched {
+        Ok(read) => {
+            write!(told, "{}:", read.revision)?;
+            tell_read(told, read)
+        }
+        Err(FetchRefusal::Behind { seen, now }) => write!(told, "Behind {seen} {now}"),
+        Err(FetchRefusal::Store(cause)) => write!(told, "{cause}"),
+    }
+}
+
 /// The revision of a foreign transaction, or why it was refused.
 pub(crate) fn tell_foreign(
     told: &mut String,

@@ -6,7 +6,7 @@ use Rattle.stm_history.specs.declared.key_state.ReadAnswer.{ReadAnswer}
 use Rattle.stm_outcome.specs.declared.answer.OpAnswer.{OpAnswer}
 use Rattle.stm_outcome.specs.declared.answer.OpAnswer.TheVariants.{Get, Put, Del}
 use Rattle.stm_outcome.specs.Numbers.{ReadFits, OpsFit}
-use Rattle.stm_calls.specs.Reads.{reads_in, IsRead, IsOneRead}
+use Rattle.stm_calls.specs.Reads.{reads_in}
 
 -- ---- one after another
 
@@ -29,26 +29,6 @@ one_taken before after answer left rest all added first told =
 pub all_reads : (reads : List ReadAnswer) → reads_in (map (λ a. Get a) reads) ≡ reads
 all_reads [] = refl
 all_reads (a ∷ reads) = ap (λ l. a ∷ l) (all_reads reads)
-
--- ---- one read
-
-nothing_ends : (before : List OpAnswer) (last : OpAnswer) → [] ≡ before ++ last ∷ [] → ⊥
-nothing_ends [] last is = absurd (cc)
-nothing_ends (x ∷ before) last is = absurd (cc)
-
-last_is_all : (before : List OpAnswer) (last first : OpAnswer) → first ∷ [] ≡ before ++ last ∷ [] → first ≡ last
-last_is_all [] last first is = cc
-last_is_all (x ∷ before) last first is = let rest : [] ≡ before ++ last ∷ [] = cc in absurd (nothing_ends before last rest)
-
--- the last answer where one read was answered
-pub last_of_one : (answers items before : List OpAnswer) (last : OpAnswer) → IsOneRead answers → items ≡ answers → items ≡ before ++ last ∷ [] →
-    answers ≡ last ∷ []
-last_of_one answers items before last one same ends =
-    one.1 ∙ ap (λ (a : OpAnswer). a ∷ []) (last_is_all before last (Get one.0) (sym one.1 ∙ sym same ∙ ends))
-
-pub last_is_read : (answers items before : List OpAnswer) (last : OpAnswer) → IsOneRead answers → items ≡ answers → items ≡ before ++ last ∷ [] →
-    IsRead last
-last_is_read answers items before last one same ends = (one.0, sym (last_is_all before last (Get one.0) (sym one.1 ∙ sym same ∙ ends)))
 
 -- ---- numbers
 

@@ -2,12 +2,15 @@
 --
 -- etcd's API reference, "Range": a read that names a revision shows the key as it was there, 0 names the current one, and a
 -- compacted revision can't be read.
-use Rattle.std.specs.Prelude.{◌≡◌, ◌⊎◌, ℕ, if◌then◌else◌, List, [], ◌∷◌, Result, Ok, Err}
+use Rattle.std.specs.Prelude.{◌≡◌, ◌⊎◌, ℕ, true, nat_eq, nat_lt, if◌then◌else◌, List, [], ◌∷◌, length, Option, None, Result, Ok, Err, IsOk}
+use Rattle.stm_history.specs.declared.key_state.KeyState.{KeyState}
 use Rattle.stm_history.specs.declared.key_state.ReadAnswer.{ReadAnswer}
 use Rattle.stm_history.specs.History.{History, now, key_at}
 use Rattle.stm_outcome.specs.declared.txn.Txn.{Txn}
 use Rattle.stm_outcome.specs.declared.refusal.Refusal.{Refusal}
-use Rattle.stm_outcome.specs.declared.refusal.Refusal.TheVariants.{OutOfMemory, Compacted}
+use Rattle.stm_outcome.specs.declared.answer.OpAnswer.TheVariants.{Get}
+use Rattle.stm_outcome.specs.declared.answer.TxnAnswer.{TxnAnswer}
+use Rattle.stm_outcome.specs.declared.refusal.Refusal.TheVariants.{OutOfMemory, EmptyKey, FutureRevision, Compacted}
 use Rattle.stm_outcome.specs.Terms.{is_below_floor}
 use Rattle.stm_outcome.specs.Commits.{Read, read_op, revision_read}
 use Rattle.stm_txn.specs.Standing.{Standing}
@@ -15,6 +18,10 @@ use Rattle.stm_txn.specs.Standing.{Standing}
 -- the key at the revision that the fetch names; the answer carries the store's revision
 abbrev pub fetched : History → List ℕ → ℕ → ReadAnswer
 fetched h key at = record { key = key; kv = key_at h key (revision_read h at); of_rev = revision_read h at; revision = now h }
+
+-- the same, of a key that was this then
+abbrev pub answer_with : History → List ℕ → ℕ → Option KeyState → ReadAnswer
+answer_with h key at state = record { key = key; kv = state; of_rev = revision_read h at; revision = now h }
 
 -- a read of a key at a revision
 abbrev pub read_at : List ℕ → ℕ → Read
@@ -28,7 +35,23 @@ fetch_of key at = record { compares = []; success = read_op (read_at key at) ∷
 abbrev pub fetch_told : Standing → List ℕ → ℕ → Result ReadAnswer Refusal
 fetch_told s key at = if is_below_floor s.floor at then Err Compacted else Ok (fetched s.history key at)
 
+-- what a read comes to, whatever key and revision it names
+abbrev pub read_told : Standing → List ℕ → ℕ → Result ReadAnswer Refusal
+read_told s key at =
+    if nat_eq (length key) 0 then Err EmptyKey
+    else if nat_lt (now s.history) at then Err FutureRevision
+    else fetch_told s key at
+
+-- the answer to a transaction that reads once
+abbrev pub one_read : ReadAnswer → TxnAnswer
+one_read read = record { succeeded = true; revision = read.revision; answers = Get read ∷ []; failed = None }
+
 -- A fetch comes to what its definition says, unless memory ran out.
 abbrev pub IsFetch : Result ReadAnswer Refusal → Result ReadAnswer Refusal → Type 0
 IsFetch defined (Ok answer) = defined ≡ Ok answer
 IsFetch defined (Err cause) = (cause ≡ OutOfMemory) ⊎ (defined ≡ Err cause)
+
+-- A read comes to what its definition says. Want of memory is told only where the definition answers.
+abbrev pub ReadTells : Result ReadAnswer Refusal → Result ReadAnswer Refusal → Type 0
+ReadTells defined (Ok answer) = defined ≡ Ok answer
+ReadTells defined (Err cause) = (defined ≡ Err cause) ⊎ ((cause ≡ OutOfMemory) × IsOk defined)

@@ -1,5 +1,6 @@
 pub mod Reads
 pub mod Fetched
+pub mod ReadRefusals
 pub mod Sent
 pub mod Prefetch
 pub mod Numbers

@@ -1,5 +1,5 @@
 -- The answers of reads, among those of a transaction.
-use Rattle.std.specs.Prelude.{◌≡◌, List, [], ◌∷◌}
+use Rattle.std.specs.Prelude.{List, [], ◌∷◌}
 use Rattle.stm_history.specs.declared.key_state.ReadAnswer.{ReadAnswer}
 use Rattle.stm_outcome.specs.declared.answer.OpAnswer.{OpAnswer}
 use Rattle.stm_outcome.specs.declared.answer.OpAnswer.TheVariants.{Get, Put, Del}
@@ -10,11 +10,3 @@ reads_in [] = []
 reads_in (Get read ∷ answers) = read ∷ reads_in answers
 reads_in (Put ∷ answers) = reads_in answers
 reads_in (Del count ∷ answers) = reads_in answers
-
--- an answer is that of a read
-abbrev pub IsRead : OpAnswer → Type 0
-IsRead answer = (read : ReadAnswer) × (answer ≡ Get read)
-
--- one read was answered, and nothing else
-abbrev pub IsOneRead : List OpAnswer → Type 0
-IsOneRead answers = (read : ReadAnswer) × (answers ≡ Get read ∷ [])

@@ -1,7 +1,6 @@
 //! The answers of a transaction that reads.
 ghost use Rattle.std.specs.Prelude.{◌≡◌, [], ◌∷◌, ◌++◌, IfOk, OnOk};
-ghost use Rattle.stm_outcome.specs.declared.answer.OpAnswer.TheVariants.{Get};
-ghost use Rattle.stm_calls.specs.Reads.{reads_in, IsRead, IsOneRead};
+ghost use Rattle.stm_calls.specs.Reads.{reads_in};
 
 use std::alloc::{AllocError, Global};
 use stm_history::ReadAnswer;
@@ -33,28 +32,4 @@ pub(crate) fn take_reads(
         push_read(&mut reads, answer)?;
     }
     Ok(reads)
-}
-
-/// The answer of a read.
-fn read_of(answer: OpAnswer) -> ReadAnswer
-    requires { IsRead answer }
-    ensures { answer ≡ Get result }
-{
-    match answer {
-        OpAnswer::Get(read) => read,
-        OpAnswer::Put => unreachable!(),
-        OpAnswer::Del(_) => unreachable!(),
-    }
-}
-
-/// The answer of a transaction that read once. Want of memory is the only refusal.
-pub fn take_only_read(answers: ShortList<OpAnswer>) -> Result<ReadAnswer, AllocError>
-    requires { IsOneRead answers }
-    ensures { IfOk result (λ read. answers ≡ Get read ∷ []) }
-{
-    let mut answers = answers.into_vec()?;
-    match answers.pop() {
-        Some(answer) => Ok(read_of(answer)),
-        None => unreachable!(),
-    }
 }

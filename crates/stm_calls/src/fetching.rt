@@ -1,31 +1,109 @@
 //! The fetch of a key.
-ghost use Rattle.std.specs.Prelude.{◌≡◌, ◌<◌, ◌≤◌, length, IfOk};
+ghost use Rattle.std.specs.Prelude.{◌≡◌, ◌<◌, ◌≤◌, length, option_copied, IfOk, IfErr, OnOk};
+ghost use Rattle.stm_history.specs.declared.revisions.TheConstants.{HIGHEST_REVISION};
 ghost use Rattle.stm_history.specs.History.{now};
+ghost use Rattle.stm_outcome.specs.Commits.{revision_read};
 ghost use Rattle.stm_outcome.specs.Numbers.{ReadFits};
-ghost use Rattle.stm_calls.specs.Fetched.{fetch_of, fetch_told, IsFetch};
+ghost use Rattle.stm_calls.specs.Fetched.{fetch_told, read_told, answer_with, IsFetch, ReadTells};
+ghost use Rattle.stm_calls.specs.ReadRefusals.{cause_read};
 
-use crate::answers::take_only_read;
 use std::alloc::{AllocError, Global};
-use stm_history::{ReadAnswer, Text};
-use stm_txn::{Op, Refusal, ShortList, Store, Txn};
+use stm_history::{KeyState, ReadAnswer, Text};
+use stm_keys::{Keys, ReadRefusal};
+use stm_txn::{Refusal, Store};
 
-/// The transaction that reads one key at a revision, 0 for the current one, and does nothing else. Want of memory is the
-/// only refusal.
-pub fn read_one(alloc: Global, key: &str, at: u64) -> Result<Txn, AllocError>
-    ensures { IfOk result (λ txn. txn ≡ fetch_of key.now at) }
+/// Why the store refuses a read.
+fn cause_of(refusal: ReadRefusal) -> Refusal
+    ensures { result ≡ cause_read refusal }
 {
+    match refusal {
+        ReadRefusal::FutureRevision => Refusal::FutureRevision,
+        ReadRefusal::Compacted => Refusal::Compacted,
+    }
+}
+
+/// What a key, which is not empty, was at a revision, 0 for the current one.
+fn find_named<'a>(store: &'a Store, key: &str, at: u64) -> Result<Option<&'a KeyState>, Refusal>
+    requires { 0 < length key.now }
+    ensures found { IfOk result (λ state. read_told store.now.standing key.now at ≡ Ok (answer_with store.now.standing.history key.now at (option_copied state))) }
+    ensures refused { IfErr result (λ cause. read_told store.now.standing key.now at ≡ Err cause) }
+{
+    let keys = store.keys();
+    let _counter = keys.revision();
+    match keys.get_at(key, at) {
+        Ok(state) => Ok(state),
+        Err(refusal) => Err(cause_of(refusal)),
+    }
+}
+
+/// What a key was at a revision, 0 for the current one.
+fn find_state<'a>(store: &'a Store, key: &str, at: u64) -> Result<Option<&'a KeyState>, Refusal>
+    ensures found { IfOk result (λ state. read_told store.now.standing key.now at ≡ Ok (answer_with store.now.standing.history key.now at (option_copied state))) }
+    ensures refused { IfErr result (λ cause. read_told store.now.standing key.now at ≡ Err cause) }
+{
+    if key.is_empty() {
+        return Err(Refusal::EmptyKey);
+    }
+    find_named(store, key, at)
+}
+
+/// A copy of what a key was, where it was present.
+fn copy_state(state: Option<&KeyState>) -> Result<Option<KeyState>, AllocError>
+    ensures { IfOk result (λ copy. copy ≡ option_copied state.entry) }
+{
+    match state {
+        None => Ok(None),
+        Some(state) => Ok(Some(state.clone()?)),
+    }
+}
+
+/// The revision that a read names, 0 for the current one.
+fn revision_of(keys: &Keys, at: u64) -> u64
+    ensures { result ≡ revision_read keys.now.history at }
+{
+    if at == 0 { keys.revision() } else { at }
+}
+
+/// The answer to a read of a key, which was this. Want of memory is the only refusal.
+fn answer_to(
+    alloc: Global,
+    keys: &Keys,
+    key: &str,
+    at: u64,
+    state: Option<&KeyState>,
+) -> Result<ReadAnswer, AllocError>
+    ensures answer { IfOk result (λ answer. answer ≡ answer_with keys.now.history key.now at (option_copied state.entry)) }
+    ensures counter { OnOk result (now keys.now.history ≤ HIGHEST_REVISION) }
+{
+    let kv = copy_state(state)?;
     let key = Text::copy_of(alloc, key)?;
-    let mut success = ShortList::new(alloc);
-    success.push(Op::Get { key, rev: at })?;
-    Ok(Txn {
-        compares: ShortList::new(alloc),
-        success,
-        failure: ShortList::new(alloc),
+    Ok(ReadAnswer {
+        key,
+        kv,
+        of_rev: revision_of(keys, at),
+        revision: keys.revision(),
     })
 }
 
-/// Fetches a key, which is not empty, at a revision that the store has reached, 0 for the current one. It is one
-/// transaction, which reads and nothing else.
+/// Reads a key at a revision, 0 for the current one. It is refused as a transaction is that does this and nothing else.
+///
+/// The answer shows the key at that revision, and carries the store's. `EmptyKey`: the key is empty. Then `FutureRevision`: the
+/// revision is above the store's. Then `Compacted`: it is not 0 and below the store's floor. `OutOfMemory` may come only where none
+/// of these does. (etcd's API reference, "Range".)
+pub fn read(alloc: Global, store: &Store, key: &str, at: u64) -> Result<ReadAnswer, Refusal>
+    ensures told { ReadTells (read_told store.now.standing key.now at) result }
+    ensures in_range { IfOk result ReadFits }
+{
+    match find_state(store, key, at) {
+        Ok(state) => {
+            let answer = answer_to(alloc, store.keys(), key, at, state)?;
+            Ok(answer)
+        }
+        Err(cause) => Err(cause),
+    }
+}
+
+/// Fetches a key, which is not empty, at a revision that the store has reached, 0 for the current one.
 ///
 /// The answer shows the key at that revision, and carries the store's. `Compacted`: the revision is not 0 and below the
 /// store's floor. `OutOfMemory` may come before it. The store is as it was, refused or not. (etcd's API reference,
@@ -37,10 +115,5 @@ pub fn fetch(alloc: Global, store: &mut Store, key: &str, at: u64) -> Result<Rea
     ensures in_range { IfOk result ReadFits }
     ensures store { store.new.standing ≡ store.old.standing }
 {
-    let txn = read_one(alloc, key, at)?;
-    let told = store.txn(&txn);
-    drop(txn);
-    let answer = told?;
-    let read = take_only_read(answer.answers)?;
-    Ok(read)
+    read(alloc, store, key, at)
 }

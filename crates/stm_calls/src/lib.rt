@@ -1,4 +1,4 @@
-//! What an attempt asks of a store, one transaction each: the fetch of a key, and the commit. Beside them what those who
+//! What an attempt asks of a store: the fetch of a key, and the commit, which is one transaction. Beside them what those who
 //! keep such a store have in common: copies of what a commit tells, and the store's present keys and its state.
 #![tactic(auto)]
 
@@ -10,9 +10,8 @@ mod sending;
 mod sent;
 mod state;
 
-pub use answers::take_only_read;
 pub use copies::{Copies, copies_of};
-pub use fetching::{fetch, read_one};
+pub use fetching::{fetch, read};
 pub use present::present_keys;
 pub use sending::{commit, conflict};
 pub use sent::Sent;

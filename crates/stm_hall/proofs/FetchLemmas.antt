@@ -1,8 +1,9 @@
 -- What a fetch answers, and that it changes nothing.
 use Rattle.std.proofs.Common.{◌≡◌, inl, inr, ℕ, ◌<◌, ◌≤◌, List, [], ◌∷◌, Bool, true, cond, Option, Some, None, Result, Ok, Err, refl, sym, ◌∙◌, ap}
 use Rattle.std.proofs.Common.{subst}
-use Rattle.std.proofs.lemmas.Bool.{lt-ltb, le-ltb}
+use Rattle.std.proofs.lemmas.Bool.{lt-ltb, le-ltb, false≢true}
 use Rattle.std.specs.List.{list_all}
+use Rattle.stm_history.specs.declared.key_state.ReadAnswer.{ReadAnswer}
 use Rattle.stm_history.specs.History.{History, now, key_now}
 use Rattle.stm_outcome.specs.declared.txn.Txn.{Txn}
 use Rattle.stm_outcome.specs.declared.txn.Op.{Op}
@@ -15,6 +16,8 @@ use Rattle.stm_outcome.specs.Compares.{first_failed}
 use Rattle.stm_outcome.specs.Outcome.{Done, outcome, with_changes, chosen}
 use Rattle.stm_txn.specs.Standing.{Standing, IsRefusalOf, with_history, step_of, transacted, terms_of}
 use Rattle.stm_outcome.proofs.Applying.{branch_run, is_done}
+use Rattle.stm_calls.specs.Fetched.{fetch_of, read_told, one_read, ReadTells}
+use Rattle.stm_calls.proofs.FetchLemmas.{done_of, read_comes_to}
 use Rattle.stm_hall.specs.declared.refusal.FetchRefusal.{FetchRefusal}
 use Rattle.stm_hall.specs.declared.refusal.FetchRefusal.TheVariants.{Behind, Store}
 use Rattle.stm_hall.specs.Fetching.{is_read, OnlyReads, answered, fetched, FetchTells}
@@ -85,3 +88,27 @@ pub tells_refused : (s : Standing) (seen : ℕ) (txn : Txn) (cause : Refusal) �
 tells_refused s seen txn cause reached refused =
     subst (λ (o : Result TxnAnswer FetchRefusal). FetchTells o (Err (Store cause))) (sym (not_behind s seen txn reached))
     (refused_by s (outcome (terms_of s) txn) cause refused)
+
+-- ---- the fetch of one key
+
+alone : (s : Standing) (seen : ℕ) (key : List ℕ) (at : ℕ) → seen ≤ now s.history →
+    fetched s seen (fetch_of key at) ≡ answered (done_of s (read_told s key at))
+alone s seen key at reached = not_behind s seen (fetch_of key at) reached ∙ ap answered (read_comes_to s key at)
+
+pub tells_read : (s : Standing) (seen : ℕ) (key : List ℕ) (at : ℕ) (read : ReadAnswer) → seen ≤ now s.history → read_told s key at ≡ Ok read →
+    fetched s seen (fetch_of key at) ≡ Ok (one_read read)
+tells_read s seen key at read reached told =
+    alone s seen key at reached ∙ ap (λ (r : Result ReadAnswer Refusal). answered (done_of s r)) told
+
+read_refused : (s : Standing) (told : Result ReadAnswer Refusal) (cause : Refusal) → ReadTells told (Err cause) →
+    FetchTells (answered (done_of s told)) (Err (Store cause))
+read_refused s (Ok read) cause (inl is) = absurd (cc)
+read_refused s (Ok read) cause (inr want) = inr (ap (λ (c : Refusal). Store c) want.0, refl)
+read_refused s (Err first) cause (inl is) = inl (ap (λ (r : Result ReadAnswer Refusal). answered (done_of s r)) is)
+read_refused s (Err first) cause (inr want) = absurd (false≢true want.1)
+
+pub tells_read_refused : (s : Standing) (seen : ℕ) (key : List ℕ) (at : ℕ) (cause : Refusal) → seen ≤ now s.history →
+    ReadTells (read_told s key at) (Err cause) → FetchTells (fetched s seen (fetch_of key at)) (Err (Store cause))
+tells_read_refused s seen key at cause reached refused =
+    subst (λ (o : Result TxnAnswer FetchRefusal). FetchTells o (Err (Store cause))) (sym (alone s seen key at reached))
+    (read_refused s (read_told s key at) cause refused)

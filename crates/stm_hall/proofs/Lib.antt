@@ -4,8 +4,11 @@ pub mod CommitEntries
 pub mod CallLemmas
 pub mod Sending
 pub mod FetchLemmas
-pub mod TurningDown
 pub mod Keeping
 pub mod WorkedExamples
 pub mod TrueReads
 pub mod ChangedAbove
+pub mod Judging
+pub mod WholeFaults
+pub mod FirstFailed
+pub mod Copies

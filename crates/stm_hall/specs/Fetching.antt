@@ -4,6 +4,7 @@
 -- it has seen, and is told where the store is behind it, is our own.
 use Rattle.std.specs.Prelude.{◌≡◌, ◌⊎◌, ℕ, Bool, true, false, nat_lt, if◌then◌else◌, Result, Ok, Err, IsOk}
 use Rattle.std.specs.List.{list_all}
+use Rattle.stm_history.specs.declared.key_state.ReadAnswer.{ReadAnswer}
 use Rattle.stm_history.specs.History.{now}
 use Rattle.stm_outcome.specs.declared.txn.Txn.{Txn}
 use Rattle.stm_outcome.specs.declared.txn.Op.{Op}
@@ -13,6 +14,7 @@ use Rattle.stm_outcome.specs.declared.refusal.Refusal.{Refusal}
 use Rattle.stm_outcome.specs.declared.refusal.Refusal.TheVariants.{OutOfMemory}
 use Rattle.stm_outcome.specs.Outcome.{Done, outcome}
 use Rattle.stm_txn.specs.Standing.{Standing, terms_of}
+use Rattle.stm_calls.specs.Fetched.{one_read}
 use Rattle.stm_hall.specs.declared.refusal.FetchRefusal.{FetchRefusal}
 use Rattle.stm_hall.specs.declared.refusal.FetchRefusal.TheVariants.{Behind, Store}
 
@@ -39,3 +41,8 @@ fetched s seen txn =
 abbrev pub FetchTells : Result TxnAnswer FetchRefusal → Result TxnAnswer FetchRefusal → Type 0
 FetchTells defined (Ok answer) = defined ≡ Ok answer
 FetchTells defined (Err cause) = (defined ≡ Err cause) ⊎ ((cause ≡ Store OutOfMemory) × IsOk defined)
+
+-- the fetch of one key, told as the transaction of its read is
+abbrev pub told_alone : Result ReadAnswer FetchRefusal → Result TxnAnswer FetchRefusal
+told_alone (Ok read) = Ok (one_read read)
+told_alone (Err cause) = Err cause

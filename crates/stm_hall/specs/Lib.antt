@@ -7,5 +7,6 @@ pub mod Entering
 pub mod Laws
 pub mod Names
 pub mod Prepared
+pub mod Judging
 pub mod Showing
 pub use Rattle.stm_calls.specs.StateOf

@@ -1,17 +1,17 @@
--- What is prepared for a commit before the hall is taken.
+-- What was prepared for a commit.
 --
--- The documentation of the Go package `clientv3/concurrency`, "STM": a commit is one transaction. That it is compiled before the
--- store is locked is our own.
-use Rattle.std.specs.Prelude.{◌≡◌}
-use Rattle.stm_attempt.specs.ReadyRun.{ReadyRun}
-use Rattle.stm_hall.specs.declared.prepared.Prepared.{Prepared}
-use Rattle.stm_hall.specs.Verdicts.{txn_of, answers_kept}
+-- The documentation of the Go package `clientv3/concurrency`, "STM": a commit is one transaction. That what it needs is made before it is sent, is our own.
+use Rattle.std.specs.Prelude.{◌≡◌, List, map, Option}
+use Rattle.stm_history.specs.declared.change.Change.{Change}
+use Rattle.stm_outcome.specs.declared.refusal.Refusal.{Refusal}
+use Rattle.stm_outcome.specs.Checks.{fault_of}
+use Rattle.stm_outcome.specs.Terms.{most_operations}
+use Rattle.stm_compile.specs.Now.{as_change}
+use Rattle.stm_attempt.specs.ReadyRun.{ReadyRun, IsRunOnItsAnswers}
+use Rattle.stm_hall.specs.Verdicts.{txn_of}
 
--- it is the transaction of this attempt, and what its entry keeps
-pub record IsPreparedFor (prepared : Prepared) (ready : ReadyRun) : Type 0 where
-  pub txn : prepared.txn ≡ txn_of ready
-  pub program : prepared.draft.program ≡ ready.program
-  pub level : prepared.draft.level ≡ ready.level
-  pub answers : prepared.draft.answers ≡ answers_kept ready.level ready.answers
-  pub output : prepared.draft.output ≡ ready.output
-  pub trace : prepared.draft.trace ≡ ready.trace
+-- this is what is wrong with the commit of an attempt as a whole, and these are the changes that its writes make
+pub record IsPrepared (ready : ReadyRun) (fault : Option Refusal) (changes : List Change) : Type 0 where
+  pub run : IsRunOnItsAnswers ready
+  pub wrong : fault ≡ fault_of most_operations (txn_of ready)
+  pub written : changes ≡ map as_change ready.writes

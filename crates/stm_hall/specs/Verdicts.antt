@@ -37,10 +37,6 @@ use Rattle.stm_hall.specs.HallState.{HallState, HallStep, hall_of, gone_on}
 abbrev pub txn_of : ReadyRun → Txn
 txn_of ready = commit_of ready.level ready.answers ready.writes
 
--- the same transaction without its writes: it compares, and reads again where a compare fails
-abbrev pub asking : Txn → Txn
-asking txn = record { compares = txn.compares; success = []; failure = txn.failure }
-
 -- its entry, after which the store's revision is this: the answers that it read are kept at ReadCommitted alone
 abbrev pub entry_of : ReadyRun → ℕ → Entry
 entry_of ready revision = Program ready.program ready.level (answers_kept ready.level ready.answers) ready.output ready.trace revision

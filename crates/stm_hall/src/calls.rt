@@ -4,15 +4,17 @@
 ghost use Rattle.std.specs.Prelude.{◌≡◌, ◌+◌, ◌≤◌, ◌<◌, ◌++◌, ◌∷◌, [], if◌then◌else◌, length, vec_len, vec_capacity, false, Some, None, IfSome, IsOk, IfOk, IfErr};
 ghost use Rattle.std.specs.Option.{option_map_or};
 ghost use Rattle.stm_entries.specs.declared.entry.Entry.TheVariants.{Foreign};
-ghost use Rattle.stm_outcome.specs.Numbers.{AnswerFits};
+ghost use Rattle.stm_outcome.specs.Numbers.{AnswerFits, ReadFits};
+ghost use Rattle.stm_calls.specs.Fetched.{fetch_of};
 ghost use Rattle.stm_outcome.specs.Outcome.{would_change};
-ghost use Rattle.stm_hall.specs.Fetching.{OnlyReads, fetched, FetchTells};
+ghost use Rattle.stm_hall.specs.Fetching.{OnlyReads, fetched, told_alone, FetchTells};
 ghost use Rattle.stm_hall.specs.Entering.{MakesOf, or_want, expiries, AdvancesTo, StopsAt};
 
 use crate::refusal::FetchRefusal;
 use std::alloc::{AllocError, Global};
+use stm_calls::read;
 use stm_entries::Entry;
-use stm_history::Sequence;
+use stm_history::{ReadAnswer, Sequence};
 use stm_txn::{AdvanceRefused, Expired, Refusal, Store, Txn, TxnAnswer};
 
 /// Answers reads, for a caller that has seen this revision. It changes nothing.
@@ -28,6 +30,28 @@ pub(crate) fn fetch(store: &mut Store, seen: u64, txn: &Txn) -> Result<TxnAnswer
         return Err(FetchRefusal::Behind { seen, now });
     }
     match store.txn(txn) {
+        Ok(answer) => Ok(answer),
+        Err(cause) => Err(FetchRefusal::Store(cause)),
+    }
+}
+
+/// Fetches one key at a revision, 0 for the current one, for a caller that has seen this revision.
+pub(crate) fn fetch_one(
+    alloc: Global,
+    store: &Store,
+    seen: u64,
+    key: &str,
+    at: u64,
+) -> Result<ReadAnswer, FetchRefusal>
+    ensures answer { FetchTells (fetched store.now.standing seen (fetch_of key.now at)) (told_alone result) }
+    ensures seen { IfOk result (λ answer. seen ≤ answer.revision) }
+    ensures numbers { IfOk result ReadFits }
+{
+    let counter = store.keys().revision();
+    if counter < seen {
+        return Err(FetchRefusal::Behind { seen, now: counter });
+    }
+    match read(alloc, store, key, at) {
         Ok(answer) => Ok(answer),
         Err(cause) => Err(FetchRefusal::Store(cause)),
     }

@@ -1,25 +1,34 @@
 //! The commit of an attempt.
-ghost use Rattle.std.specs.Prelude.{◌≡◌, ◌<◌, ◌≤◌, List, Some, None, IfOk, length};
-ghost use Rattle.stm_entries.specs.declared.entry.Entry.{Entry as AnEntry};
+ghost use Rattle.std.specs.Prelude.{◌≡◌, ◌<◌, ◌≤◌, map, None, Some, Err, IfOk, length};
+ghost use Rattle.stm_history.specs.declared.revisions.TheConstants.{HIGHEST_NUMBER};
+ghost use Rattle.stm_history.specs.History.{key_now};
+ghost use Rattle.stm_outcome.specs.Compares.{first_failed};
+ghost use Rattle.stm_compile.specs.Answers.{answer_now};
+ghost use Rattle.stm_compile.specs.CommitTxn.{reread_keys};
 ghost use Rattle.stm_compile.specs.Conflicts.{seen_by};
+ghost use Rattle.stm_compile.specs.Now.{as_change};
 ghost use Rattle.stm_attempt.specs.ReadyRun.{IsRunOnItsAnswers};
 ghost use Rattle.stm_calls.specs.Reads.{reads_in};
 ghost use Rattle.stm_calls.specs.Prefetch.{MayBePrefetched};
-ghost use Rattle.stm_history.specs.declared.revisions.TheConstants.{HIGHEST_NUMBER};
-ghost use Rattle.stm_hall.specs.Prepared.{IsPreparedFor};
-ghost use Rattle.stm_hall.specs.Verdicts.{txn_of, asking, failed_with, first_unvouched, CommitsAs, CanGoOn};
+ghost use Rattle.stm_hall.specs.declared.causes.Cause.TheVariants.{Unvouched as IsUnvouched};
+ghost use Rattle.stm_hall.specs.declared.refusal.CommitRefusal.TheVariants.{Unvouched as RefusesValue};
+ghost use Rattle.stm_hall.specs.Judging.{cause_of, TurnsDown};
+ghost use Rattle.stm_hall.specs.Verdicts.{txn_of, failed_with, CommitsAs, CanGoOn};
 
-use crate::drafts::entry_from;
+use crate::causes::Cause;
+use crate::entering::entry_from;
 use crate::prepared::Prepared;
 use crate::refusal::CommitRefusal;
+use crate::rereads::read_again;
 use crate::verdict::Verdict;
 use crate::vouching::find_unvouched;
 use std::alloc::{AllocError, Global};
 use stm_attempt::Ready;
 use stm_calls::{Sent, conflict};
 use stm_entries::Entry;
-use stm_history::ReadAnswer;
-use stm_txn::{FailedCompare, MOST_OPERATIONS, OpAnswer, Refusal, ShortList, Store, Txn};
+use stm_history::{Change, Text};
+use stm_keys::Keys;
+use stm_txn::{FailedCompare, OpAnswer, Refusal, ShortList, Store};
 
 /// The verdict on an attempt of which a compare failed, and whose keys were read again with these answers.
 fn tell_failure(
@@ -51,115 +60,116 @@ fn tell_failure(
     }
 }
 
-/// Sends the commit of an attempt, each value of which is the store's.
+/// Tells that a compare of an attempt's commit failed, and what the keys that it read are now.
+fn fail(
+    alloc: Global,
+    store: &Store,
+    ready: &Ready,
+    failed: FailedCompare,
+) -> Result<Verdict, AllocError>
+    requires { first_failed (key_now store.now.standing.history) 0 (txn_of ready.now).compares ≡ Some failed }
+    ensures verdict { IfOk result (λ verdict. verdict ≡ failed_with ready.now failed (map (answer_now store.now.standing.history) (reread_keys ready.now.level ready.now.answers))) }
+    ensures answers { IfOk result CanGoOn }
+{
+    let _keys_differ = ready.answers.as_slice();
+    let keys = store.keys();
+    let _counter = keys.revision();
+    let again = read_again(alloc, keys, ready.level, &ready.answers)?;
+    tell_failure(alloc, ready, failed, ShortList::of(again))
+}
+
+/// The key of the first value that an attempt says it read, and that is not the store's.
+fn find_false_key(keys: &Keys, ready: &Ready) -> Result<Text, AllocError>
+    requires { cause_of keys.now.history ready.now ≡ Some IsUnvouched }
+    ensures { IfOk result (λ key. TurnsDown keys.now.history ready.now (Err (RefusesValue key))) }
+{
+    match find_unvouched(keys, ready) {
+        None => unreachable!(),
+        Some(unvouched) => {
+            let key = unvouched.key.clone()?;
+            Ok(key)
+        }
+    }
+}
+
+/// Turns down the commit of an attempt, for a cause that was found. Nothing is written.
+fn turn_down(
+    alloc: Global,
+    store: &Store,
+    ready: &Ready,
+    cause: Cause,
+) -> Result<Verdict, CommitRefusal>
+    requires { cause_of store.now.standing.history ready.now ≡ Some cause }
+    ensures verdict { TurnsDown store.now.standing.history ready.now result }
+    ensures answers { IfOk result CanGoOn }
+{
+    match cause {
+        Cause::Wrong(fault) => Err(CommitRefusal::Store(fault)),
+        Cause::Fails(failed) => {
+            let verdict = fail(alloc, store, ready, failed)?;
+            Ok(verdict)
+        }
+        Cause::Unvouched => {
+            let key = find_false_key(store.keys(), ready)?;
+            Err(CommitRefusal::Unvouched { key })
+        }
+    }
+}
+
+/// Makes the commit of an attempt that nothing but the store's leases, its last revision and memory can refuse.
 ///
-/// The room of its entry is made before it is sent, so that a commit that the store took is never without it.
-fn send(
+/// The room of its entry is made before its changes, so that a commit that the store took is never without it.
+fn make(
     alloc: Global,
     store: &mut Store,
     entries: &mut Vec<Entry>,
-    ready: &Ready,
-    prepared: Prepared,
+    ready: Ready,
+    changes: Vec<Change>,
 ) -> Result<Verdict, CommitRefusal>
-    requires is_its { IsPreparedFor prepared ready.now }
-    requires vouched { first_unvouched store.old.standing.history ready.now.level ready.now.answers ≡ None }
-    ensures verdict { CommitsAs ready.now result store.old.standing entries.old.items store.new.standing entries.new.items }
+    requires clear { cause_of store.old.standing.history ready ≡ None }
+    requires run { IsRunOnItsAnswers ready }
+    requires changes { changes.items ≡ map as_change ready.writes }
+    ensures verdict { CommitsAs ready result store.old.standing entries.old.items store.new.standing entries.new.items }
     ensures answers { IfOk result CanGoOn }
 {
-    let _keys_differ = ready.answers.as_slice();
     if entries.reserve(1).is_err() {
-        drop(prepared);
+        drop(changes);
+        drop(ready);
         return Err(CommitRefusal::Store(Refusal::OutOfMemory));
     }
-    let answer = match store.txn(&prepared.txn) {
-        Ok(answer) => answer,
-        Err(cause) => {
-            drop(prepared);
-            return Err(CommitRefusal::Store(cause));
-        }
-    };
-    match answer.failed {
-        None => {
+    match store.write(changes) {
+        Ok(revision) => {
             let index = entries.len();
-            let revision = answer.revision;
-            drop(answer);
-            entries.push_reserved(entry_from(prepared.draft, revision));
-            drop(prepared.txn);
+            entries.push_reserved(entry_from(alloc, ready, revision));
             Ok(Verdict::Committed { index, revision })
         }
-        Some(compare) => {
-            drop(prepared);
-            let verdict = tell_failure(alloc, ready, compare, answer.answers)?;
-            Ok(verdict)
+        Err(cause) => {
+            drop(ready);
+            Err(CommitRefusal::Store(cause))
         }
     }
 }
 
-/// The transaction of a commit without its writes: it compares, and reads again where a compare fails.
-fn without_writes(alloc: Global, txn: Txn) -> Txn
-    ensures { result ≡ asking txn }
-{
-    Txn {
-        compares: txn.compares,
-        success: ShortList::new(alloc),
-        failure: txn.failure,
-    }
-}
-
-/// Turns down the commit of an attempt, a value of which is not the store's: for what is wrong with the whole
-/// transaction, for a compare that fails, or else for that value. Nothing is written.
-fn turn_down(
-    alloc: Global,
-    store: &mut Store,
-    ready: &Ready,
-    txn: Txn,
-    unvouched: &ReadAnswer,
-) -> Result<Verdict, CommitRefusal>
-    requires is_its { txn ≡ txn_of ready.now }
-    requires unvouched { first_unvouched store.old.standing.history ready.now.level ready.now.answers ≡ Some unvouched.now }
-    ensures verdict { (entries : List AnEntry) → CommitsAs ready.now result store.old.standing entries store.new.standing entries }
-    ensures answers { IfOk result CanGoOn }
-{
-    let _keys_differ = ready.answers.as_slice();
-    if txn.success.len() > MOST_OPERATIONS {
-        drop(txn);
-        return Err(CommitRefusal::Store(Refusal::TooManyOps));
-    }
-    let asked = without_writes(alloc, txn);
-    let sent = store.txn(&asked);
-    drop(asked);
-    let answer = sent?;
-    match answer.failed {
-        None => {
-            drop(answer);
-            let key = unvouched.key.clone()?;
-            Err(CommitRefusal::Unvouched { key })
-        }
-        Some(compare) => {
-            let verdict = tell_failure(alloc, ready, compare, answer.answers)?;
-            Ok(verdict)
-        }
-    }
-}
-
-/// Commits an attempt, for which this was prepared.
+/// Commits an attempt that was prepared.
 pub(crate) fn commit(
     alloc: Global,
     store: &mut Store,
     entries: &mut Vec<Entry>,
-    ready: &Ready,
     prepared: Prepared,
 ) -> Result<Verdict, CommitRefusal>
-    requires { IsPreparedFor prepared ready.now }
-    ensures verdict { CommitsAs ready.now result store.old.standing entries.old.items store.new.standing entries.new.items }
+    ensures verdict { CommitsAs prepared result store.old.standing entries.old.items store.new.standing entries.new.items }
     ensures answers { IfOk result CanGoOn }
-    ensures run { IsRunOnItsAnswers ready.now }
+    ensures run { IsRunOnItsAnswers prepared }
 {
-    // (the attempt's type tells that it is a run on its answers)
-    let _is_run = ready.answers.as_slice();
-    let unvouched = find_unvouched(store.keys(), ready);
-    match unvouched {
-        None => send(alloc, store, entries, ready, prepared),
-        Some(unvouched) => turn_down(alloc, store, ready, prepared.txn, unvouched),
+    match prepared.find_cause(store.keys()) {
+        None => {
+            let (ready, changes) = prepared.into_parts();
+            make(alloc, store, entries, ready, changes)
+        }
+        Some(cause) => {
+            let told = turn_down(alloc, store, prepared.attempt(), cause);
+            drop(prepared);
+            told
+        }
     }
 }

@@ -1,18 +1,19 @@
 //! The hall.
 ghost use Rattle.std.specs.Prelude.{◌≡◌, ◌≤◌, ◌↔◌, None, IfOk, IfErr, IsTrue};
 ghost use Rattle.stm_history.specs.History.{now};
-ghost use Rattle.stm_outcome.specs.Numbers.{AnswerFits};
+ghost use Rattle.stm_outcome.specs.Numbers.{AnswerFits, ReadFits};
+ghost use Rattle.stm_calls.specs.Fetched.{fetch_of};
 ghost use Rattle.stm_calls.specs.StateOf.{IsStateOf};
 ghost use Rattle.stm_compile.specs.Conflicts.{changes_above};
 ghost use Rattle.stm_hall.specs.HallState.{made_over};
 ghost use Rattle.stm_hall.specs.Locked.{IsLocked};
 ghost use Rattle.stm_hall.specs.Laws.{GoesOn, ChangesAsAlone};
-ghost use Rattle.stm_hall.specs.Fetching.{OnlyReads, fetched, FetchTells};
-ghost use Rattle.stm_hall.specs.Prepared.{IsPreparedFor};
+ghost use Rattle.stm_hall.specs.Fetching.{OnlyReads, fetched, told_alone, FetchTells};
 ghost use Rattle.stm_hall.specs.Verdicts.{verdict_of, CommitTells, CanGoOn};
 ghost use Rattle.stm_hall.specs.Showing.{IsShown};
 ghost use Rattle.stm_hall.specs.Entering.{made, TxnTells, IsAdvanced, HasStopped};
 
+use crate::calls::fetch_one;
 use crate::changed::is_changed_above;
 use crate::log::Log;
 use crate::prepared::Prepared;
@@ -90,6 +91,20 @@ impl Hall {
         self.log.fetch(seen, txn)
     }
 
+    /// Fetches one key at a revision, 0 for the current one, for a caller that has seen this revision in an answer, 0 for none.
+    ///
+    /// It answers what `fetch` answers to a transaction that reads this key and does nothing else, and is refused as that is: `Behind`
+    /// exactly where the store's counter is below what the caller has seen; then `EmptyKey`; then `FutureRevision`: the revision is
+    /// above the store's; then `Compacted`: it is not 0 and below the store's floor. `OutOfMemory` may come only where none of these
+    /// does. (etcd's API reference, "Range".)
+    pub fn fetch_one(&self, seen: u64, key: &str, at: u64) -> Result<ReadAnswer, FetchRefusal>
+        ensures answer { FetchTells (fetched self.now.standing seen (fetch_of key.now at)) (told_alone result) }
+        ensures seen { IfOk result (λ answer. seen ≤ answer.revision) }
+        ensures numbers { IfOk result ReadFits }
+    {
+        fetch_one(self.alloc, &self.log.store, seen, key, at)
+    }
+
     /// Commits an attempt that is ready, by one transaction.
     ///
     /// `Committed` says that no compare failed and the writes are applied; the attempt is an entry, whose place is told.
@@ -111,20 +126,15 @@ impl Hall {
         self.log.commit(self.alloc, ready)
     }
 
-    /// Commits an attempt as `commit` does, with what was prepared for it, so that less is done while the hall is
-    /// locked.
-    pub fn commit_prepared(
-        &mut self,
-        ready: &Ready,
-        prepared: Prepared,
-    ) -> Result<Verdict, CommitRefusal>
-        requires { IsPreparedFor prepared ready.now }
-        ensures verdict { CommitTells (verdict_of self.old ready.now) self.old result self.new }
+    /// Commits an attempt as `commit` does, that was prepared for it, so that less is done while the hall is locked: its changes are moved into the store,
+    /// and the attempt into its entry.
+    pub fn commit_prepared(&mut self, prepared: Prepared) -> Result<Verdict, CommitRefusal>
+        ensures verdict { CommitTells (verdict_of self.old prepared) self.old result self.new }
         ensures answers { IfOk result CanGoOn }
-        ensures alone { IfOk result (λ verdict. ChangesAsAlone ready.now verdict self.old self.new) }
+        ensures alone { IfOk result (λ verdict. ChangesAsAlone prepared verdict self.old self.new) }
         ensures goes_on { GoesOn self.old self.new }
     {
-        self.log.commit_prepared(self.alloc, ready, prepared)
+        self.log.commit_prepared(self.alloc, prepared)
     }
 
     /// Makes a transaction of another client, which is an entry where it changed something.

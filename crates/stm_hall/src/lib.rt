@@ -6,14 +6,19 @@
 #![tactic(auto)]
 
 mod calls;
+mod causes;
 mod changed;
 mod committing;
-mod drafts;
+mod conflicts;
+mod copying;
+mod entering;
+mod faults;
 mod hall;
 pub mod laws;
 mod log;
 mod prepared;
 mod refusal;
+mod rereads;
 mod showing;
 mod verdict;
 mod vouching;

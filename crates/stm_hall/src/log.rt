@@ -3,13 +3,12 @@ ghost use Rattle.std.specs.Prelude.{◌≡◌, ◌≤◌, None, IfOk, IfErr};
 ghost use Rattle.stm_outcome.specs.Numbers.{AnswerFits};
 ghost use Rattle.stm_attempt.specs.ReadyRun.{IsRunOnItsAnswers};
 ghost use Rattle.stm_hall.specs.Fetching.{OnlyReads, fetched, FetchTells};
-ghost use Rattle.stm_hall.specs.Prepared.{IsPreparedFor};
 ghost use Rattle.stm_hall.specs.Verdicts.{verdict_of, CommitTells, CanGoOn};
 ghost use Rattle.stm_hall.specs.Entering.{made, TxnTells, IsAdvanced, HasStopped};
 
 use crate::calls::{advance, fetch, make_txn};
 use crate::committing::commit;
-use crate::prepared::{Prepared, prepare};
+use crate::prepared::{Prepared, prepare_copy};
 use crate::refusal::{CommitRefusal, FetchRefusal};
 use crate::verdict::Verdict;
 use std::alloc::Global;
@@ -51,29 +50,27 @@ impl Log {
         fetch(&mut self.store, seen, txn)
     }
 
-    /// Commits an attempt, for which this was prepared.
+    /// Commits an attempt that was prepared.
     pub(crate) fn commit_prepared(
         &mut self,
         alloc: Global,
-        ready: &Ready,
         prepared: Prepared,
     ) -> Result<Verdict, CommitRefusal>
-        requires { IsPreparedFor prepared ready.now }
-        ensures verdict { CommitTells (verdict_of self.old ready.now) self.old result self.new }
+        ensures verdict { CommitTells (verdict_of self.old prepared) self.old result self.new }
         ensures answers { IfOk result CanGoOn }
-        ensures run { IsRunOnItsAnswers ready.now }
+        ensures run { IsRunOnItsAnswers prepared }
     {
-        commit(alloc, &mut self.store, &mut self.entries, ready, prepared)
+        commit(alloc, &mut self.store, &mut self.entries, prepared)
     }
 
-    /// Commits an attempt that is ready.
+    /// Commits an attempt that is ready, by a copy of it.
     pub(crate) fn commit(&mut self, alloc: Global, ready: &Ready) -> Result<Verdict, CommitRefusal>
         ensures verdict { CommitTells (verdict_of self.old ready.now) self.old result self.new }
         ensures answers { IfOk result CanGoOn }
         ensures run { IsRunOnItsAnswers ready.now }
     {
-        let prepared = prepare(alloc, ready)?;
-        self.commit_prepared(alloc, ready, prepared)
+        let prepared = prepare_copy(alloc, ready)?;
+        self.commit_prepared(alloc, prepared)
     }
 
     /// Makes another client's transaction.

@@ -46,7 +46,7 @@ fn find_other_value<'a>(keys: &Keys, answers: &'a [ReadAnswer]) -> Option<&'a Re
 }
 
 /// Whether a commit at this level compares what was read.
-fn is_comparing(level: Level) -> bool
+pub(crate) fn is_comparing(level: Level) -> bool
     ensures { result ≡ is_comparing level }
 {
     match level {

@@ -3,23 +3,19 @@ use Rattle.std.proofs.Common.{◌≡◌, ℕ, List, [], ◌∷◌, Bool, true, f
 use Rattle.std.specs.Prelude.{nat_eq, nat_lt}
 use Rattle.stm_history.specs.declared.key_state.ReadAnswer.{ReadAnswer}
 use Rattle.stm_history.specs.History.{History, now, key_at}
-use Rattle.stm_outcome.specs.declared.txn.Txn.{Txn}
 use Rattle.stm_outcome.specs.declared.answer.OpAnswer.TheVariants.{Get as GetAnswer}
 use Rattle.stm_outcome.specs.declared.answer.TxnAnswer.{TxnAnswer}
 use Rattle.stm_outcome.specs.declared.refusal.Refusal.{Refusal}
 use Rattle.stm_outcome.specs.Branches.{begun, read_answer}
 use Rattle.stm_outcome.specs.Outcome.{Done, outcome}
 use Rattle.stm_txn.specs.Standing.{Standing, terms_of}
-use Rattle.stm_outcome.specs.Numbers.{AnswerFits, ReadFits}
 use Rattle.stm_outcome.specs.Terms.{Terms}
 use Rattle.stm_outcome.proofs.Applying.{done_by, is_done}
 use Rattle.stm_compile.specs.Answers.{answer_now}
-use Rattle.stm_calls.specs.Fetched.{fetch_of}
-use Rattle.stm_calls.specs.Reads.{IsOneRead}
-use Rattle.stm_calls.proofs.FetchLemmas.{read_fits}
+use Rattle.stm_calls.specs.Fetched.{fetch_of, one_read}
 use Rattle.stm_hall.specs.declared.refusal.FetchRefusal.{FetchRefusal}
 use Rattle.stm_hall.specs.declared.refusal.FetchRefusal.TheVariants.{Behind}
-use Rattle.stm_hall.specs.Fetching.{OnlyReads, answered, fetched}
+use Rattle.stm_hall.specs.Fetching.{answered, fetched}
 use Rattle.stm_workers.specs.Calls.{AnswersInSomeHall, shown_at}
 
 -- one read of the key was answered, which carries the store's revision, and is shown at the revision that was asked for
@@ -80,52 +76,15 @@ shown_by s seen key at answer came =
     subst (ShowsKey key at) d.2 (shown_by_done (terms_of s) key at d.0 d.1)
 
 -- a fetch that is answered, in whichever hall it was made
-pub shows_key : (seen : ℕ) (key : List ℕ) (at : ℕ) (txn : Txn) (result : Result TxnAnswer FetchRefusal) (answer : TxnAnswer) → txn ≡ fetch_of key at →
-    AnswersInSomeHall seen txn result → result ≡ Ok answer → ShowsKey key at answer
-shows_key seen key at txn result answer is told came =
-    let here : AnswersInSomeHall seen (fetch_of key at) (Ok answer) =
-    subst (λ (t : Txn). AnswersInSomeHall seen t (Ok answer)) is
-    (subst (λ (r : Result TxnAnswer FetchRefusal). AnswersInSomeHall seen txn r) came told) in
-    shown_by here.0 seen key at answer here.1
-
--- it only reads
-pub fetch_only_reads : (key : List ℕ) (at : ℕ) (txn : Txn) → txn ≡ fetch_of key at → OnlyReads txn
-fetch_only_reads key at txn is = subst OnlyReads (sym is) (record { success = refl; failure = refl })
-
-pub one_read : (key : List ℕ) (at : ℕ) (answer : TxnAnswer) → ShowsKey key at answer → IsOneRead answer.answers
-one_read key at answer shows = (shows.read, shows.only)
-
--- the read that was taken is the one that was answered
-pub read_taken : (key : List ℕ) (at : ℕ) (answer : TxnAnswer) (read : ReadAnswer) (shows : ShowsKey key at answer) →
-    answer.answers ≡ GetAnswer read ∷ [] → shows.read ≡ read
-read_taken key at answer read shows taken =
-    let both : GetAnswer shows.read ∷ [] ≡ GetAnswer read ∷ [] = sym shows.only ∙ taken in cc (both)
-
-pub taken_key : (key : List ℕ) (at : ℕ) (answer : TxnAnswer) (read : ReadAnswer) (shows : ShowsKey key at answer) → answer.answers ≡ GetAnswer read ∷ [] →
-    read.key ≡ key
-taken_key key at answer read shows taken = ap (λ (a : ReadAnswer). a.key) (sym (read_taken key at answer read shows taken)) ∙ shows.key_is
-
-pub taken_revision : (key : List ℕ) (at : ℕ) (answer : TxnAnswer) (read : ReadAnswer) (shows : ShowsKey key at answer) →
-    answer.answers ≡ GetAnswer read ∷ [] → read.revision ≡ answer.revision
-taken_revision key at answer read shows taken =
-    ap (λ (a : ReadAnswer). a.revision) (sym (read_taken key at answer read shows taken)) ∙ shows.carries
-
--- it is shown at the revision that was asked for
-pub taken_shown : (key : List ℕ) (at : ℕ) (answer : TxnAnswer) (read : ReadAnswer) (shows : ShowsKey key at answer) →
-    answer.answers ≡ GetAnswer read ∷ [] → read.of_rev ≡ shown_at at read.revision
-taken_shown key at answer read shows taken =
-    ap (λ (a : ReadAnswer). a.of_rev) (sym (read_taken key at answer read shows taken)) ∙ shows.shows
-    ∙ ap (λ (n : ℕ). shown_at at n) (sym (taken_revision key at answer read shows taken))
-
-pub taken_fits : (answer : TxnAnswer) (read : ReadAnswer) → AnswerFits answer → answer.answers ≡ GetAnswer read ∷ [] → ReadFits read
-taken_fits answer read fits taken = read_fits answer read fits taken
-
--- ---- in whichever hall it was made
+pub read_shows : (seen : ℕ) (key : List ℕ) (at : ℕ) (read : ReadAnswer) → AnswersInSomeHall seen (fetch_of key at) (Ok (one_read read)) →
+    (read.key ≡ key) × (read.of_rev ≡ shown_at at read.revision)
+read_shows seen key at read told =
+    let shows : ShowsKey key at (one_read read) = shown_by told.0 seen key at (one_read read) told.1 in
+    let both : GetAnswer read ∷ [] ≡ GetAnswer shows.read ∷ [] = shows.only in
+    let same : read ≡ shows.read = cc (both) in
+    (ap (λ (a : ReadAnswer). a.key) same ∙ shows.key_is, ap (λ (a : ReadAnswer). a.of_rev) same ∙ shows.shows)
 
 -- the fetch of a key, as it was asked for
-pub in_some_hall : (seen : ℕ) (asked key : List ℕ) (at : ℕ) (txn : Txn) (result outcome : Result TxnAnswer FetchRefusal) → asked ≡ key →
-    txn ≡ fetch_of asked at → AnswersInSomeHall seen txn result → result ≡ outcome → AnswersInSomeHall seen (fetch_of key at) outcome
-in_some_hall seen asked key at txn result outcome same is by came =
-    subst (λ (k : List ℕ). AnswersInSomeHall seen (fetch_of k at) outcome) same
-    (subst (λ (t : Txn). AnswersInSomeHall seen t outcome) is
-    (subst (λ (r : Result TxnAnswer FetchRefusal). AnswersInSomeHall seen txn r) came by))
+pub in_some_hall : (seen : ℕ) (asked key : List ℕ) (at : ℕ) (result : Result TxnAnswer FetchRefusal) → asked ≡ key →
+    AnswersInSomeHall seen (fetch_of asked at) result → AnswersInSomeHall seen (fetch_of key at) result
+in_some_hall seen asked key at result same by = subst (λ (k : List ℕ). AnswersInSomeHall seen (fetch_of k at) result) same by

@@ -1,5 +1,5 @@
 -- What a run of jobs comes to.
-use Rattle.std.proofs.Common.{◌≡◌, ℕ, ◌+◌, ◌<◌, true, List, length, count_by, Option, Some, None, IfSome, IfNone, Result, Ok, IfOk, refl, sym, ◌∙◌, ap, subst}
+use Rattle.std.proofs.Common.{◌≡◌, ℕ, ◌+◌, ◌<◌, true, List, length, count_by, Result, Ok, IfOk, refl, sym, ◌∙◌, ap, subst}
 use Rattle.stm_draw.specs.declared.table.JobSeat.{JobSeat}
 use Rattle.stm_draw.specs.declared.view.Size.{Size}
 use Rattle.stm_hall.specs.HallState.{HallState}

@@ -1,5 +1,5 @@
 -- The law of jobs that aborted or came to a fault.
-use Rattle.std.proofs.Common.{◌≡◌, ◌⊎◌, inl, inr, ℕ, ◌<◌, ◌≤◌, true, List, [], ◌∷◌, Option, Some, None, slice_get, refl, sym, ◌∙◌, ap, subst}
+use Rattle.std.proofs.Common.{◌≡◌, inl, inr, ℕ, ◌<◌, true, List, [], ◌∷◌, Option, Some, None, refl, sym, ◌∙◌, ap, subst}
 use Rattle.std.proofs.Math.Logic.{∥∥₁_elim}
 use Rattle.std.specs.Coded.{Coded-set}
 use Rattle.std.specs.List.{AllByRecursion}
@@ -33,10 +33,9 @@ use Rattle.stm_job.specs.declared.job_end.JobEnd.TheVariants.{Committed as Commi
 use Rattle.stm_job.specs.declared.job_end.JobEnd.TheVariants.{GaveUp}
 use Rattle.stm_workers.specs.declared.stop.Stop.{Stop}
 use Rattle.stm_workers.specs.declared.stop.Stop.TheVariants.{OutOfMemory, Aborted, Faulted, Refused}
-use Rattle.stm_workers.specs.Ends.{start_point, AreOfOneState, MayHaveStopped, IsBorneOut}
+use Rattle.stm_workers.specs.Ends.{start_point, AreOfOneState, IsBorneOut}
 use Rattle.stm_workers.specs.Attempts.{JobState, end_told, reads_told, fetch_refusal_told, commit_refusal_told, job_end_told, end_after}
-use Rattle.stm_workers.specs.Attempts.{IsStop, StopsAt, EndsByStop, EndsByVerdict, HasCome, HasSomeRun}
-use Rattle.stm_workers.specs.Gathered.{RanTo}
+use Rattle.stm_workers.specs.Attempts.{IsStop, HasCome, HasSomeRun}
 use Rattle.stm_workers.specs.Stops.{IsEndAlone, OnStop, StopsAreOfOneState}
 use Rattle.stm_workers.proofs.EndLaws.{there, within}
 

@@ -188,9 +188,7 @@ impl<'a, R: RunOfJobs, W: Wait, G: Gate> Executor<'a, R, W, G> {
         ensures stops { IfErr result (λ stop. HasStopped job.now (state_of attempt.old seen.old) stop seen.new) }
     {
         let ready = self.evaluate(place, job, attempt, seen)?;
-        let sent = self.send(place, share, &ready);
-        drop(ready);
-        let verdict = sent?;
+        let verdict = self.send(place, share, ready)?;
         *seen = greatest_of(*seen, &verdict);
         Ok(verdict)
     }

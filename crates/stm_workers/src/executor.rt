@@ -13,7 +13,6 @@ use std::alloc::Global;
 use std::sync::ledger::Share;
 use std::sync::{Mutex, Wait};
 use stm_attempt::{ReadAnswer, Ready, Text};
-use stm_calls::{read_one, take_only_read};
 use stm_hall::{Verdict, prepare};
 
 /// What each worker of a run calls the hall with: the lock round it, which is held for one fetch or one commit at a time, and the gate.
@@ -38,13 +37,10 @@ impl<'a, R: RunOfJobs, W: Wait, G: Gate> Executor<'a, R, W, G> {
         ensures answered { IfOk result (IsAnswered seen.old key.now at) }
         ensures refused { IfErr result (λ stop. (stop ≡ OutOfMemory) ⊎ IsUnanswered seen.old key.now at stop) }
     {
-        let txn = read_one(self.alloc, key.as_str(), at)?;
         // Under the lock: one key is looked up, and its value copied.
-        let told = self.locked.lock(self.rt).fetch(*seen, &txn);
-        drop(txn);
+        let told = self.locked.lock(self.rt).fetch(*seen, key.as_str(), at);
         match told {
-            Ok(told) => {
-                let answer = take_only_read(told.answers)?;
+            Ok(answer) => {
                 *seen = answer.revision;
                 Ok(answer)
             }
@@ -52,26 +48,26 @@ impl<'a, R: RunOfJobs, W: Wait, G: Gate> Executor<'a, R, W, G> {
         }
     }
 
-    /// Sends one commit. What it writes and what its entry keeps is made before the lock is taken.
+    /// Sends one commit. What it writes is made before the lock is taken; its entry is the attempt itself.
     pub(crate) fn send(
         &self,
         place: usize,
         share: &mut Share<R>,
-        ready: &Ready,
+        ready: Ready,
     ) -> Result<Verdict, Stop>
         requires part { 0 < share.old.parts }
-        requires of_a_job { is_run_of_some R.jobs ready.now.program ready.now.level ≡ true }
+        requires of_a_job { is_run_of_some R.jobs ready.program ready.level ≡ true }
         ensures parts { share.new.parts ≡ share.old.parts }
         ensures committed { IfOk result (λ verdict. share.new.amount ≡ share.old.amount + committed_by verdict) }
         ensures stopped { OnErr result (share.new.amount ≡ share.old.amount) }
         ensures answers { IfOk result CanGoOn }
-        ensures judged { IfOk result (λ verdict. JudgedInSomeHall ready.now (Ok verdict)) }
-        ensures refused { IfErr result (λ stop. (stop ≡ OutOfMemory) ⊎ IsTurnedAway ready.now stop) }
+        ensures judged { IfOk result (λ verdict. JudgedInSomeHall ready (Ok verdict)) }
+        ensures refused { IfErr result (λ stop. (stop ≡ OutOfMemory) ⊎ IsTurnedAway ready stop) }
     {
         let prepared = prepare(self.alloc, ready)?;
         self.gate.before_commit(place);
-        // Under the lock: the compares, the look at the values, and the writes; the entry is moved in.
-        let verdict = self.locked.lock(self.rt).commit(share, ready, prepared);
+        // Under the lock: the compares, the look at the values, and the writes; these and the entry are moved in.
+        let verdict = self.locked.lock(self.rt).commit(share, prepared);
         self.gate.after_commit(place);
         match verdict {
             Ok(verdict) => Ok(verdict),

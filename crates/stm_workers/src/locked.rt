@@ -2,18 +2,17 @@
 
 ghost use Rattle.stm_workers.specs.Codes.{entries_set, halls_set, histories_set, numbers_set, truths_set};
 ghost use Rattle.std.specs.Prelude.{◌≡◌, ◌+◌, ◌<◌, ◌≤◌, true, OnErr, IfOk};
-ghost use Rattle.stm_outcome.specs.Numbers.{AnswerFits};
-ghost use Rattle.stm_hall.specs.Fetching.{OnlyReads, FetchTells, fetched};
-ghost use Rattle.stm_hall.specs.Prepared.{IsPreparedFor};
+ghost use Rattle.stm_outcome.specs.Numbers.{ReadFits};
+ghost use Rattle.stm_calls.specs.Fetched.{fetch_of};
+ghost use Rattle.stm_hall.specs.Fetching.{told_alone};
 ghost use Rattle.stm_hall.specs.Verdicts.{CanGoOn, CommitTells, verdict_of};
 ghost use Rattle.stm_workers.specs.Commits.{commits_in};
 ghost use Rattle.stm_workers.specs.Calls.{HasGoneOn, HasKeptStore, AnswersInSomeHall, JudgedInSomeHall, committed_by, is_run_of_some, takes_commits_of};
 
 use std::marker::Brand;
 use std::sync::ledger::{Book, Ledger, Share};
-use stm_attempt::Ready;
+use stm_attempt::ReadAnswer;
 use stm_hall::{CommitRefusal, FetchRefusal, Hall, Prepared, Verdict};
-use stm_txn::{Txn, TxnAnswer};
 
 /// One run of jobs: its table, how many jobs and seats that has, the jobs, and the hall that was handed in. Its ledger counts commits;
 /// each worker has one part of it, and so has who started them.
@@ -80,37 +79,31 @@ impl<R: RunOfJobs> Locked<R> {
         Locked { hall, commits }
     }
 
-    /// Answers reads for a worker that has seen this revision, as the hall does. It changes nothing.
-    pub fn fetch(&mut self, seen: u64, txn: &Txn) -> Result<TxnAnswer, FetchRefusal>
-        requires { OnlyReads txn.now }
-        ensures told { FetchTells (fetched self.old.hall.standing seen txn.now) result }
-        ensures same { self.new.hall ≡ self.old.hall }
-        ensures answer { AnswersInSomeHall seen txn.now result }
+    /// Fetches a key for a worker that has seen this revision, as the hall does.
+    pub fn fetch(&self, seen: u64, key: &str, at: u64) -> Result<ReadAnswer, FetchRefusal>
+        ensures answer { AnswersInSomeHall seen (fetch_of key.now at) (told_alone result) }
         ensures seen { IfOk result (λ answer. seen ≤ answer.revision) }
-        ensures numbers { IfOk result AnswerFits }
+        ensures numbers { IfOk result ReadFits }
     {
-        self.hall.fetch(seen, txn)
+        self.hall.fetch_one(seen, key, at)
     }
 
-    /// Commits an attempt of one of the run's jobs, for which this was prepared, as the hall does. A commit counts in the share of who sent
-    /// it.
+    /// Commits an attempt of one of the run's jobs that was prepared, as the hall does. A commit counts in the share of who sent it.
     pub fn commit(
         &mut self,
         mine: &mut Share<R>,
-        ready: &Ready,
         prepared: Prepared,
     ) -> Result<Verdict, CommitRefusal>
         requires part { 0 < mine.old.parts }
-        requires is_its { IsPreparedFor prepared ready.now }
-        requires of_a_job { is_run_of_some R.jobs ready.now.program ready.now.level ≡ true }
-        ensures told { CommitTells (verdict_of self.old.hall ready.now) self.old.hall result self.new.hall }
-        ensures judged { JudgedInSomeHall ready.now result }
+        requires of_a_job { is_run_of_some R.jobs prepared.program prepared.level ≡ true }
+        ensures told { CommitTells (verdict_of self.old.hall prepared) self.old.hall result self.new.hall }
+        ensures judged { JudgedInSomeHall prepared result }
         ensures parts { mine.new.parts ≡ mine.old.parts }
         ensures committed { IfOk result (λ verdict. mine.new.amount ≡ mine.old.amount + committed_by verdict) }
         ensures refused { OnErr result (mine.new.amount ≡ mine.old.amount) }
         ensures answers { IfOk result CanGoOn }
     {
-        let verdict = self.hall.commit_prepared(ready, prepared)?;
+        let verdict = self.hall.commit_prepared(prepared)?;
         count(&mut self.commits, mine, &verdict);
         Ok(verdict)
     }

@@ -5,11 +5,16 @@ use crate::halls::player::{Opening, Step, is_told};
 use std::test::Fail;
 
 /// Steps on such a hall, and what is told of them.
-const EXAMPLES: [(&[Step], &str); 5] = [
+const EXAMPLES: [(&[Step], &str); 6] = [
     // What was put at the revision that was dropped is still there.
     (
         &[Step::Fetch("a", 3), Step::State],
         "3: a 1@2 at 3 of 3; 2 keys; ",
+    ),
+    // No revision below the one that the store was compacted at can be read.
+    (
+        &[Step::FetchAt("a", 3, 3), Step::FetchAt("a", 2, 3)],
+        "3: a 1@2 at 3 of 3; Compacted; ",
     ),
     // A key that was changed at a dropped revision is changed above the revisions before it.
     (

@@ -4,7 +4,9 @@
 
 use crate::attempts::{attempted, program};
 use crate::making::{Change, changes_of, read_of};
-use crate::shown::{tell_advanced, tell_entries, tell_fetched, tell_foreign, tell_judged};
+use crate::shown::{
+    tell_advanced, tell_entries, tell_fetched, tell_foreign, tell_judged, tell_one_fetched,
+};
 use std::alloc::{AllocError, Global};
 use std::process::Abort;
 use std::test::Fail;
@@ -30,6 +32,8 @@ pub(crate) enum Step {
     Advance(u64),
     /// Tells what a caller that has seen a revision reads of a key.
     Fetch(&'static str, u64),
+    /// Tells what it fetches of a key at a revision, and which it has seen.
+    FetchAt(&'static str, u64, u64),
     /// Tells the verdict on an attempt that emits "a" and was told this value and modification revision of it, at most 2, that on the
     /// same one once more, prepared, and how many entries there are then.
     Emit(&'static str, u64),
@@ -76,11 +80,25 @@ fn fetch(
     done
 }
 
+fn fetch_at(
+    told: &mut String,
+    hall: &Hall,
+    key: &str,
+    at: u64,
+    seen: u64,
+) -> Result<(), AllocError> {
+    let fetched = hall.fetch_one(seen, key, at);
+    let done = tell_one_fetched(told, &fetched);
+    drop(fetched);
+    done
+}
+
 fn commit(told: &mut String, hall: &mut Hall, ready: &Ready) -> Result<(), AllocError> {
     let judged = hall.commit(ready);
     let done = tell_judged(told, &judged);
     drop(judged);
-    done
+    done?;
+    told.push_str("; ")
 }
 
 /// The verdict on an attempt whose commit is prepared.
@@ -88,10 +106,10 @@ fn commit_prepared(
     alloc: Global,
     told: &mut String,
     hall: &mut Hall,
-    ready: &Ready,
+    ready: Ready,
 ) -> Result<(), AllocError> {
     let prepared = prepare(alloc, ready)?;
-    let judged = hall.commit_prepared(ready, prepared);
+    let judged = hall.commit_prepared(prepared);
     let done = tell_judged(told, &judged);
     drop(judged);
     done
@@ -102,13 +120,13 @@ fn commit_twice(
     alloc: Global,
     told: &mut String,
     hall: &mut Hall,
-    next: &Next,
+    ready: Ready,
 ) -> Result<(), AllocError> {
-    let Next::Ready(ready) = next else {
-        return told.push_str("no commit");
-    };
-    commit(told, hall, ready)?;
-    told.push_str("; ")?;
+    let done = commit(told, hall, &ready);
+    if done.is_err() {
+        drop(ready);
+        return done;
+    }
     commit_prepared(alloc, told, hall, ready)?;
     write!(told, "; {} entries", hall.entries().len())
 }
@@ -125,10 +143,10 @@ fn emit(
     if mod_rev > 2 {
         return told.push_str("no attempt");
     }
-    let next = attempted(alloc, program, value, mod_rev)?;
-    let done = commit_twice(alloc, told, hall, &next);
-    drop(next);
-    done
+    match attempted(alloc, program, value, mod_rev)? {
+        Next::Ready(ready) => commit_twice(alloc, told, hall, ready),
+        _ => told.push_str("no commit"),
+    }
 }
 
 fn tell_keys(told: &mut String, hall: &Hall) -> Result<(), AllocError> {
@@ -150,6 +168,7 @@ fn take(
         Step::Foreign(changes) => foreign(alloc, told, hall, changes),
         Step::Advance(moment) => advance(told, hall, moment),
         Step::Fetch(key, seen) => fetch(alloc, told, hall, key, seen),
+        Step::FetchAt(key, at, seen) => fetch_at(told, hall, key, at, seen),
         Step::Emit(value, mod_rev) => emit(alloc, told, hall, program, value, mod_rev),
         Step::IsChangedAbove(key, since) => write!(told, "{}", hall.is_changed_above(key, since)),
         Step::State => tell_keys(told, hall),

@@ -1,5 +1,46 @@
+use Rattle.std.proofs.Common.{◌∙◌, List, map, sym, ap, subst}
+use Rattle.stm_history.specs.History.{History}
+use Rattle.stm_txn.specs.Standing.{Standing}
+use Rattle.stm_entries.specs.declared.entry.Entry.{Entry}
+use Rattle.stm_compile.specs.Now.{as_change}
+use Rattle.stm_attempt.specs.ReadyRun.{ReadyRun, IsRunOnItsAnswers}
+use Rattle.stm_hall.specs.Judging.{cause_of}
+use Rattle.stm_hall.specs.Verdicts.{CommitsAs}
+use Rattle.stm_hall.proofs.Judging.{turned_there}
 use Rattle.stm_hall.proofs.committing.commit.Goals as goal
 
--- the transaction is the attempt's
-pub turn_down-requires-clause-is_its : goal.turn_down-requires-clause-is_its
-turn_down-requires-clause-is_its c = c.requires.txn
+-- nothing turns it down
+pub make-requires-clause-clear : goal.make-requires-clause-clear
+make-requires-clause-clear c =
+    let h : History = c.args.store.now.standing.history in
+    ap (cause_of h) c.into_parts-ready.ensures.ready
+    ∙ ap (λ (x : History). cause_of x c.args.prepared) (sym c.keys.ensures.history)
+    ∙ sym c.find_cause.ensures.cause
+    ∙ c.in-None.is
+
+pub make-requires-clause-run : goal.make-requires-clause-run
+make-requires-clause-run c = subst IsRunOnItsAnswers (sym c.into_parts-ready.ensures.ready) c.find_cause.ensures.run
+
+pub make-requires-clause-changes : goal.make-requires-clause-changes
+make-requires-clause-changes c = c.into_parts-ready.ensures.changes ∙ ap (λ (r : ReadyRun). map as_change r.writes) (sym c.into_parts-ready.ensures.ready)
+
+pub returns-in-None-clause-verdict : goal.returns-in-None-clause-verdict
+returns-in-None-clause-verdict c =
+    let s : Standing = c.args.store.now.standing in
+    let es : List Entry = c.args.entries.now.items in
+    subst (λ (r : ReadyRun). CommitsAs r c.make.result s es c.make.new.store.standing c.make.new.entries.items) c.into_parts-ready.ensures.ready
+    c.make.ensures.verdict
+
+-- a cause was found
+pub turn_down-told-requires : goal.turn_down-told-requires
+turn_down-told-requires c =
+    let h : History = c.args.store.now.standing.history in
+    ap (cause_of h) c.attempt.ensures
+    ∙ ap (λ (x : History). cause_of x c.args.prepared) (sym c.keys.ensures.history)
+    ∙ sym c.find_cause.ensures.cause
+    ∙ c.in-Some.is
+
+pub returns-in-Some-clause-verdict : goal.returns-in-Some-clause-verdict
+returns-in-Some-clause-verdict c =
+    turned_there c.args.store.now.standing c.args.entries.now.items c.args.prepared c.attempt.result.now c.turn_down-told.result c.turn_down-told.ensures.verdict
+    c.attempt.ensures

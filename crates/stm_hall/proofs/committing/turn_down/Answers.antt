@@ -1,130 +1,44 @@
-use Rattle.std.proofs.Common.{◌≡◌, ◌≤◌, ◌<◌, ◌∙◌, length, map, None, Some, Err, inl, inr, refl, sym, ap, subst, arith}
-use Rattle.std.specs.Prelude.{bytes_eq}
-use Rattle.std.specs.List.{IsDistinct}
+use Rattle.std.proofs.Common.{◌∙◌, Some, Err, ap, subst}
 use Rattle.std.proofs.lemmas.Result.{err_from_is_err_and}
-use Rattle.stm_history.specs.declared.key_state.ReadAnswer.{ReadAnswer}
-use Rattle.stm_outcome.specs.declared.txn.Txn.{Txn}
-use Rattle.stm_outcome.specs.declared.refusal.Refusal.TheVariants.{OutOfMemory, TooManyOps}
-use Rattle.stm_outcome.specs.Terms.{most_operations}
-use Rattle.stm_txn.specs.Standing.{Standing}
-use Rattle.stm_txn.specs.Store.{StoreView}
-use Rattle.stm_attempt.specs.ReadyRun.{ReadyRun, IsRunOnItsAnswers}
-use Rattle.stm_hall.specs.declared.refusal.CommitRefusal.TheVariants.{Store, Unvouched}
-use Rattle.stm_hall.specs.HallState.{HallState, hall_of}
-use Rattle.stm_hall.specs.Verdicts.{txn_of, asking, verdict_of}
-use Rattle.stm_hall.proofs.CallLemmas.{same_hall}
-use Rattle.stm_hall.proofs.Sending.{verdict_at_fault, place_seen, rereads_go_on, tells_failed, refused_with}
-use Rattle.stm_hall.proofs.TurningDown.{too_many_writes, asked_answered, asked_compared, asked_reread, nothing_written, tells_unvouched, tells_asked_refused}
+use Rattle.stm_history.specs.History.{History}
+use Rattle.stm_hall.specs.declared.causes.Cause.{Cause}
+use Rattle.stm_hall.specs.declared.refusal.CommitRefusal.TheVariants.{Unvouched as RefusesValue}
+use Rattle.stm_hall.specs.Judging.{cause_of, TurnsDown}
+use Rattle.stm_hall.proofs.Judging.{caused_by_compare, turned_wrong, turned_failed, turned_out}
 use Rattle.stm_hall.proofs.committing.turn_down.Goals as goal
 
--- the attempt writes more than a transaction may
-pub returns-then-len-gt-MOST_OPERATIONS-clause-verdict : goal.returns-then-len-gt-MOST_OPERATIONS-clause-verdict
-returns-then-len-gt-MOST_OPERATIONS-clause-verdict c = λ entries start.
-    let ready : ReadyRun = c.args.ready.now in
-    let s : Standing = c.args.store.now.standing in
-    let more : most_operations < length (txn_of ready).success =
-    subst (λ (t : Txn). most_operations < length t.success) c.requires.is_its (omega (arith, c.len.ensures, c.if-len-gt-MOST_OPERATIONS.true)) in
-    (inr (verdict_at_fault (hall_of s entries start) ready TooManyOps (too_many_writes most_operations (txn_of ready) more)), refl)
+-- wrong as a whole
+pub returns-in-Wrong-clause-verdict : goal.returns-in-Wrong-clause-verdict
+returns-in-Wrong-clause-verdict c =
+    turned_wrong c.args.store.now.standing.history c.args.ready.now c.in-Wrong.fault (c.requires ∙ ap (λ (x : Cause). Some x) c.in-Wrong.is)
 
--- the store refused what is asked
-pub returns-in_err-answer-clause-verdict : goal.returns-in_err-answer-clause-verdict
-returns-in_err-answer-clause-verdict c = λ entries start.
-    let ready : ReadyRun = c.args.ready.now in
-    let kept : IsRunOnItsAnswers ready = subst IsRunOnItsAnswers c.ready.view_is c.ready.invariant in
-    let s : Standing = c.args.store.now.standing in
-    let next : Standing = c.txn-sent.new.self.standing in
-    let hall : HallState = hall_of s entries start in
-    let after : HallState = hall_of next entries start in
-    let exit = err_from_is_err_and c.from_residual.result c.from_residual.ensures.1 in
-    let few : length (txn_of ready).success ≤ most_operations =
-    subst (λ (t : Txn). length t.success ≤ most_operations) c.requires.is_its (omega (arith, c.len.ensures, c.if-len-gt-MOST_OPERATIONS.false)) in
-    refused_with (verdict_of hall ready) hall after c.from_residual.result (Store c.in_err-answer.field-0.0) (exit.1 ∙ ap (λ e. Err e) exit.2)
-    (tells_asked_refused hall after ready c.without_writes-asked.result c.in_err-answer.field-0.0 kept
-    (c.without_writes-asked.ensures ∙ ap asking c.requires.is_its) few c.in_err-answer.ensures.step
-    (same_hall s next entries entries start (ap (λ (v : StoreView). v.standing) c.in_err-answer.ensures.err) refl))
+-- a compare failed
+pub fail-requires : goal.fail-requires
+fail-requires c =
+    (caused_by_compare c.args.store.now.standing.history c.args.ready.now c.in-Fails.failed (c.requires ∙ ap (λ (x : Cause). Some x) c.in-Fails.is)).1
 
--- no compare failed, and a growth was refused
-pub returns-in_err-key-in-None-clause-verdict : goal.returns-in_err-key-in-None-clause-verdict
-returns-in_err-key-in-None-clause-verdict c = λ entries start.
-    let ready : ReadyRun = c.args.ready.now in
-    let s : Standing = c.args.store.now.standing in
-    let next : Standing = c.txn-sent.new.self.standing in
-    let hall : HallState = hall_of s entries start in
-    let exit = err_from_is_err_and c.from_residual-in_err-key-in-None.result c.from_residual-in_err-key-in-None.ensures.1 in
-    let a = asked_answered s next ready c.without_writes-asked.result c.in_ok-answer.answer (c.without_writes-asked.ensures ∙ ap asking c.requires.is_its)
-    c.in_ok-answer.ensures.step in
-    refused_with (verdict_of hall ready) hall (hall_of next entries start) c.from_residual-in_err-key-in-None.result (Store OutOfMemory)
-    (exit.1 ∙ ap (λ e. Err e) exit.2)
-    (inl refl, same_hall s next entries entries start (nothing_written s next (txn_of ready) c.in_ok-answer.answer a c.in-None.is) refl)
-
--- no compare failed
-pub returns-in_ok-key-in-None-clause-verdict : goal.returns-in_ok-key-in-None-clause-verdict
-returns-in_ok-key-in-None-clause-verdict c = λ entries start.
-    let ready : ReadyRun = c.args.ready.now in
-    let kept : IsRunOnItsAnswers ready = subst IsRunOnItsAnswers c.ready.view_is c.ready.invariant in
-    let s : Standing = c.args.store.now.standing in
-    let next : Standing = c.txn-sent.new.self.standing in
-    let hall : HallState = hall_of s entries start in
-    let few : length (txn_of ready).success ≤ most_operations =
-    subst (λ (t : Txn). length t.success ≤ most_operations) c.requires.is_its (omega (arith, c.len.ensures, c.if-len-gt-MOST_OPERATIONS.false)) in
-    let a = asked_answered s next ready c.without_writes-asked.result c.in_ok-answer.answer (c.without_writes-asked.ensures ∙ ap asking c.requires.is_its)
-    c.in_ok-answer.ensures.step in (
-      inr (tells_unvouched hall ready c.args.unvouched.now (asked_compared hall ready next c.in_ok-answer.answer None kept few a c.in-None.is)
-          c.requires.unvouched
-          ∙ ap (λ k. Err (Unvouched k)) (sym c.in_ok-key-in-None.ensures.cases)),
-      same_hall s next entries entries start (nothing_written s next (txn_of ready) c.in_ok-answer.answer a c.in-None.is) refl,
-    )
-
--- ---- a compare failed
-
-pub tell_failure-requires-clause-place : goal.tell_failure-requires-clause-place
-tell_failure-requires-clause-place c =
-    let ready : ReadyRun = c.args.ready.now in
-    let is : c.without_writes-asked.result ≡ asking (txn_of ready) = c.without_writes-asked.ensures ∙ ap asking c.requires.is_its in
-    let within = rw c.in-Some.is at c.in_ok-answer.ensures.place in
-    place_seen ready c.without_writes-asked.result c.in-Some.compare.index (ap (λ (t : Txn). t.compares) is) within
-
-pub tell_failure-requires-clause-in_range : goal.tell_failure-requires-clause-in_range
-tell_failure-requires-clause-in_range c = rw c.in-Some.is at c.in_ok-answer.ensures.numbers.failed
-
-pub tell_failure-requires-clause-rereads : goal.tell_failure-requires-clause-rereads
-tell_failure-requires-clause-rereads c =
-    let s : Standing = c.args.store.now.standing in
-    let next : Standing = c.txn-sent.new.self.standing in
-    let ready : ReadyRun = c.args.ready.now in
-    let a = asked_answered s next ready c.without_writes-asked.result c.in_ok-answer.answer (c.without_writes-asked.ensures ∙ ap asking c.requires.is_its)
-    c.in_ok-answer.ensures.step in
-    let distinct : IsDistinct bytes_eq (map (λ (x : ReadAnswer). x.key) ready.answers) =
-    subst (λ (r : ReadyRun). IsDistinct bytes_eq (map (λ (x : ReadAnswer). x.key) r.answers)) c.ready.view_is c.as_slice-keys_differ.ensures.distinct in
-    rereads_go_on s next ready c.in_ok-answer.answer.answers distinct c.in_ok-answer.ensures.numbers.answers
-    (asked_reread s next ready c.in_ok-answer.answer c.in-Some.compare a c.in-Some.is)
+pub returns-in_ok-verdict-in-Fails-clause-verdict : goal.returns-in_ok-verdict-in-Fails-clause-verdict
+returns-in_ok-verdict-in-Fails-clause-verdict c =
+    turned_failed c.args.store.now.standing.history c.args.ready.now c.in-Fails.failed c.in_ok-verdict-in-Fails.verdict
+    (c.requires ∙ ap (λ (x : Cause). Some x) c.in-Fails.is) c.in_ok-verdict-in-Fails.ensures.verdict
 
 -- and a growth was refused
-pub returns-in_err-verdict-in-Some-clause-verdict : goal.returns-in_err-verdict-in-Some-clause-verdict
-returns-in_err-verdict-in-Some-clause-verdict c = λ entries start.
-    let ready : ReadyRun = c.args.ready.now in
-    let s : Standing = c.args.store.now.standing in
-    let next : Standing = c.txn-sent.new.self.standing in
-    let hall : HallState = hall_of s entries start in
-    let exit = err_from_is_err_and c.from_residual-in_err-verdict-in-Some.result c.from_residual-in_err-verdict-in-Some.ensures.1 in
-    let a = asked_answered s next ready c.without_writes-asked.result c.in_ok-answer.answer (c.without_writes-asked.ensures ∙ ap asking c.requires.is_its)
-    c.in_ok-answer.ensures.step in
-    refused_with (verdict_of hall ready) hall (hall_of next entries start) c.from_residual-in_err-verdict-in-Some.result (Store OutOfMemory)
-    (exit.1 ∙ ap (λ e. Err e) exit.2)
-    (inl refl, same_hall s next entries entries start (asked_reread s next ready c.in_ok-answer.answer c.in-Some.compare a c.in-Some.is).unchanged refl)
+pub returns-in_err-verdict-in-Fails-clause-verdict : goal.returns-in_err-verdict-in-Fails-clause-verdict
+returns-in_err-verdict-in-Fails-clause-verdict c =
+    let exit = err_from_is_err_and c.from_residual.result c.from_residual.ensures.1 in
+    turned_out c.args.store.now.standing.history c.args.ready.now c.from_residual.result (exit.1 ∙ ap (λ e. Err e) exit.2)
 
-pub returns-in_ok-verdict-in-Some-clause-verdict : goal.returns-in_ok-verdict-in-Some-clause-verdict
-returns-in_ok-verdict-in-Some-clause-verdict c = λ entries start.
-    let ready : ReadyRun = c.args.ready.now in
-    let kept : IsRunOnItsAnswers ready = subst IsRunOnItsAnswers c.ready.view_is c.ready.invariant in
-    let s : Standing = c.args.store.now.standing in
-    let next : Standing = c.txn-sent.new.self.standing in
-    let hall : HallState = hall_of s entries start in
-    let few : length (txn_of ready).success ≤ most_operations =
-    subst (λ (t : Txn). length t.success ≤ most_operations) c.requires.is_its (omega (arith, c.len.ensures, c.if-len-gt-MOST_OPERATIONS.false)) in
-    let a = asked_answered s next ready c.without_writes-asked.result c.in_ok-answer.answer (c.without_writes-asked.ensures ∙ ap asking c.requires.is_its)
-    c.in_ok-answer.ensures.step in
-    let down = asked_reread s next ready c.in_ok-answer.answer c.in-Some.compare a c.in-Some.is in
-    tells_failed hall (hall_of next entries start) ready c.in-Some.compare c.in_ok-answer.answer.answers next c.in_ok-verdict-in-Some.verdict
-    (asked_compared hall ready next c.in_ok-answer.answer (Some c.in-Some.compare) kept few a c.in-Some.is)
-    down c.in_ok-verdict-in-Some.ensures.verdict (same_hall s next entries entries start down.unchanged refl)
+-- a value is not the store's
+pub find_false_key-requires : goal.find_false_key-requires
+find_false_key-requires c =
+    ap (λ (h : History). cause_of h c.args.ready.now) c.keys.ensures.history ∙ c.requires ∙ ap (λ (x : Cause). Some x) c.in-Unvouched.is
+
+pub returns-in_err-key-in-Unvouched-clause-verdict : goal.returns-in_err-key-in-Unvouched-clause-verdict
+returns-in_err-key-in-Unvouched-clause-verdict c =
+    let exit = err_from_is_err_and c.from_residual-in_err-key-in-Unvouched.result c.from_residual-in_err-key-in-Unvouched.ensures.1 in
+    turned_out c.args.store.now.standing.history c.args.ready.now c.from_residual-in_err-key-in-Unvouched.result (exit.1 ∙ ap (λ e. Err e) exit.2)
+
+pub returns-in_ok-key-in-Unvouched-clause-verdict : goal.returns-in_ok-key-in-Unvouched-clause-verdict
+returns-in_ok-key-in-Unvouched-clause-verdict c =
+    subst (λ (h : History). TurnsDown h c.args.ready.now (Err (RefusesValue c.in_ok-key-in-Unvouched.key))) c.keys.ensures.history
+    c.in_ok-key-in-Unvouched.ensures

@@ -1,15 +1,11 @@
-use Rattle.std.proofs.Common.{◌∙◌, ap}
-use Rattle.stm_compile.specs.CommitTxn.{commit_of}
-use Rattle.stm_attempt.specs.ReadyRun.{ReadyRun}
+use Rattle.std.proofs.Common.{map, ◌∙◌, ap, subst}
+use Rattle.stm_compile.specs.Now.{as_change}
+use Rattle.stm_attempt.specs.ReadyRun.{ReadyRun, IsRunOnItsAnswers}
 use Rattle.stm_hall.proofs.prepared.prepare.Goals as goal
 
--- the transaction is the attempt's, and so are the copies
-pub returns-clause-prepared : goal.returns-clause-prepared
-returns-clause-prepared c = record {
-  txn = c.in_ok-txn.ensures ∙ ap (λ (r : ReadyRun). commit_of r.level r.answers r.writes) c.ready.view_is;
-  program = c.in-Ok.ensures.program;
-  level = c.in-Ok.ensures.level;
-  answers = c.in-Ok.ensures.answers;
-  output = c.in-Ok.ensures.output;
-  trace = c.in-Ok.ensures.trace;
+pub invariant_of-result : goal.invariant_of-result
+invariant_of-result c = record {
+  run = subst IsRunOnItsAnswers c.ready.view_is c.ready.invariant;
+  wrong = c.find_fault-fault.ensures;
+  written = c.in-Ok.ensures ∙ ap (λ (r : ReadyRun). map as_change r.writes) c.ready.view_is;
 }

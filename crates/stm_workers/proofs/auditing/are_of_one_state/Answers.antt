@@ -1,5 +1,5 @@
-use Rattle.std.proofs.Common.{◌≡◌, ℕ, arith, subst, sym}
-use Rattle.stm_workers.proofs.AuditLemmas.{of_its_revision, before_the_run, above_the_counter, shown_at_its_revision}
+use Rattle.std.proofs.Common.{arith}
+use Rattle.stm_workers.proofs.AuditLemmas.{before_the_run, above_the_counter, shown_at_its_revision}
 use Rattle.stm_workers.proofs.auditing.are_of_one_state.Goals as goal
 
 pub returns-then-revision-begun : goal.returns-then-revision-begun

@@ -1,4 +1,4 @@
-use Rattle.std.proofs.Common.{refl, sym, ◌∙◌, arith}
+use Rattle.std.proofs.Common.{arith}
 use Rattle.stm_workers.proofs.AuditLemmas.{first_of_two_fails, second_of_two_decides}
 use Rattle.stm_workers.proofs.auditing.is_shown_at.Goals as goal
 

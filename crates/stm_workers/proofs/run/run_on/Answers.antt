@@ -1,4 +1,4 @@
-use Rattle.std.proofs.Common.{◌≡◌, ◌+◌, List, All, length, ap, sym, subst, ◌∙◌, count_by}
+use Rattle.std.proofs.Common.{◌+◌, List, All, length, ap, sym, subst, ◌∙◌, count_by}
 use Rattle.std.proofs.lemmas.Result.{IfOk-weaker}
 use Rattle.stm_draw.specs.declared.table.JobSeat.{JobSeat}
 use Rattle.stm_draw.specs.declared.view.Size.{Size}

@@ -5,8 +5,8 @@ use Rattle.stm_workers.proofs.LockedLemmas.{ready_of_some}
 use Rattle.stm_workers.proofs.executor.Executor.try_once.Goals as goal
 
 -- what is ready is a run of the job
-pub send-sent-requires-clause-of_a_job : goal.send-sent-requires-clause-of_a_job
-send-sent-requires-clause-of_a_job g c =
+pub send-requires-clause-of_a_job : goal.send-requires-clause-of_a_job
+send-requires-clause-of_a_job g c =
     ready_of_some g.R.RunOfJobs.jobs c.args.job.now c.in_ok-ready.ready c.in_ok-ready.ensures.ready c.requires.of_a_job
 
 -- the verdict was seen, after what the fetches told

@@ -24,18 +24,18 @@ invariant_of-self-2 g c =
     record {
       gone_on = goes_further g.R.RunOfJobs.before old.hall c.commit_prepared.new.self old.gone_on c.commit_prepared.ensures.goes_on;
       kept = keeps_further g.R.RunOfJobs.before old.hall c.commit_prepared.new.self old.kept
-          (verdict_keeps old.hall c.commit_prepared.new.self c.args.ready.now c.in_ok-verdict.verdict came);
-      takes = verdict_takes g.R.RunOfJobs.jobs g.R.RunOfJobs.before old.hall c.commit_prepared.new.self c.args.ready.now c.in_ok-verdict.verdict old.gone_on
+          (verdict_keeps old.hall c.commit_prepared.new.self c.args.prepared c.in_ok-verdict.verdict came);
+      takes = verdict_takes g.R.RunOfJobs.jobs g.R.RunOfJobs.before old.hall c.commit_prepared.new.self c.args.prepared c.in_ok-verdict.verdict old.gone_on
           old.takes c.requires.of_a_job came;
       counted = adds_up (commits_in g.R.RunOfJobs.before.entries) (commits_in old.hall.entries) (commits_in c.commit_prepared.new.self.entries)
           old.commits.total c.count.new.commits.total (committed_by c.in_ok-verdict.verdict)
-          (verdict_adds old.hall c.commit_prepared.new.self c.args.ready.now c.in_ok-verdict.verdict came) old.counted c.count.ensures.total;
+          (verdict_adds old.hall c.commit_prepared.new.self c.args.prepared c.in_ok-verdict.verdict came) old.counted c.count.ensures.total;
     }
 
 pub returns-in_err-verdict-clause-judged : goal.returns-in_err-verdict-clause-judged
 returns-in_err-verdict-clause-judged g c =
     let exit = err_from_is_err_and c.from_residual.result c.from_residual.ensures.1 in
-    refused_so c.args.ready.now c.args.self.now.hall c.commit_prepared.new.self c.from_residual.result exit.0 c.in_err-verdict.field-0.0 exit.1 exit.2
+    refused_so c.args.prepared c.args.self.now.hall c.commit_prepared.new.self c.from_residual.result exit.0 c.in_err-verdict.field-0.0 exit.1 exit.2
     c.in_err-verdict.ensures.verdict
 
 pub returns-clause-judged : goal.returns-clause-judged

@@ -1,0 +1,138 @@
+-- The first compare that fails, looked for one after another.
+use Rattle.std.proofs.Common.{◌≡◌, ℕ, zero, suc, ◌+◌, ◌<◌, ◌≤◌, List, [], ◌∷◌, ◌++◌, map, length, take, drop, Bool, true, false, cond, Option, Some, None, ◌↔◌, refl, sym, ◌∙◌, ap, arith}
+use Rattle.std.proofs.lemmas.Bool.{false≢true}
+use Rattle.std.proofs.lemmas.List.{take_more, map-append}
+use Rattle.std.proofs.lemmas.Option.{get_or_from_slice_get, slice_get_within}
+use Rattle.std.specs.Prelude.{slice_get}
+use Rattle.stm_history.specs.declared.key_state.KeyState.{KeyState}
+use Rattle.stm_history.specs.History.{mod_of}
+use Rattle.stm_outcome.specs.declared.txn.Compare.{Compare}
+use Rattle.stm_outcome.specs.declared.answer.FailedCompare.{FailedCompare}
+use Rattle.stm_outcome.specs.Compares.{holds, first_failed}
+use Rattle.stm_outcome.specs.Commits.{mod_is, mod_is_below}
+use Rattle.stm_outcome.proofs.Applying.{mod_compares}
+
+-- ---- a list from a place on
+
+drop_at : {X : Type 0} (xs : List X) (i : ℕ) (x : X) → slice_get xs i ≡ Some x → drop i xs ≡ x ∷ drop (suc i) xs
+drop_at [] i x at = absurd (cc)
+drop_at (y ∷ ys) zero x at = let same : y ≡ x = cc in ap (λ (z : _). z ∷ ys) same
+drop_at (y ∷ ys) (suc i) x at = drop_at ys i x at
+
+drop_all : {X : Type 0} (xs : List X) (i : ℕ) → length xs ≤ i → drop i xs ≡ []
+drop_all [] zero all = refl
+drop_all [] (suc i) all = refl
+drop_all (x ∷ xs) zero all = let more : suc (length xs) ≤ zero = all in absurd (omega (arith, more))
+drop_all (x ∷ xs) (suc i) all = let more : suc (length xs) ≤ suc i = all in let fewer : length xs ≤ i = omega (arith, more) in drop_all xs i fewer
+
+-- one more element of a front is mapped
+pub mapped_more : {X Y : Type 0} (f : X → Y) (xs : List X) (i : ℕ) (x : X) → slice_get xs i ≡ Some x →
+    map f (take i xs) ++ f x ∷ [] ≡ map f (take (i + 1) xs)
+mapped_more f xs i x at =
+    let within : i < length xs = slice_get_within xs i x at in
+    sym (map-append f (take i xs) (x ∷ []))
+    ∙ ap (λ (y : _). map f (take i xs ++ y ∷ [])) (sym (get_or_from_slice_get xs i x x at))
+    ∙ ap (map f) (sym (take_more xs i x within))
+
+-- ---- a compare of a list
+
+abbrev found_at : ℕ → ℕ → Option FailedCompare
+found_at index modified = Some (record { index = index; mod_rev = modified })
+
+here : {X : Type 0} (state : List ℕ → Option KeyState) (f : X → Compare) (xs : List X) (before i : ℕ) (x : X) (b : Bool) → slice_get xs i ≡ Some x →
+    holds (f x) (state (f x).key) ≡ b →
+    first_failed state (before + i) (map f (drop i xs))
+    ≡ cond b (first_failed state (before + i + 1) (map f (drop (suc i) xs))) (found_at (before + i) (mod_of (state (f x).key)))
+here state f xs before i x b at is =
+    ap (λ (l : List _). first_failed state (before + i) (map f l)) (drop_at xs i x at)
+    ∙ ap (λ (t : Bool). cond t (first_failed state (before + i + 1) (map f (drop (suc i) xs))) (found_at (before + i) (mod_of (state (f x).key)))) is
+
+-- one holds, so it is looked for behind it
+pub passed_by : {X : Type 0} (state : List ℕ → Option KeyState) (f : X → Compare) (xs : List X) (before i : ℕ) (x : X) (found : Option FailedCompare) →
+    slice_get xs i ≡ Some x → holds (f x) (state (f x).key) ≡ true → first_failed state (before + i) (map f (drop i xs)) ≡ found →
+    first_failed state (before + (i + 1)) (map f (drop (i + 1) xs)) ≡ found
+passed_by state f xs before i x found at holds_here so_far =
+    let step : i + 1 ≡ suc i = omega arith in
+    let count : before + (i + 1) ≡ before + i + 1 = omega arith in
+    ap (λ (n : ℕ). first_failed state n (map f (drop (i + 1) xs))) count
+    ∙ ap (λ (n : ℕ). first_failed state (before + i + 1) (map f (drop n xs))) step
+    ∙ sym (here state f xs before i x true at holds_here) ∙ so_far
+
+-- one fails, and is found
+pub failed_here : {X : Type 0} (state : List ℕ → Option KeyState) (f : X → Compare) (xs : List X) (before i : ℕ) (x : X) (index modified : ℕ)
+    (found : Option FailedCompare) → slice_get xs i ≡ Some x → holds (f x) (state (f x).key) ≡ false → index ≡ before + i →
+    modified ≡ mod_of (state (f x).key) → first_failed state (before + i) (map f (drop i xs)) ≡ found →
+    found_at index modified ≡ found
+failed_here state f xs before i x index modified found at fails place told so_far =
+    ap (λ (n : ℕ). found_at n modified) place
+    ∙ ap (λ (n : ℕ). found_at (before + i) n) told
+    ∙ sym (here state f xs before i x false at fails) ∙ so_far
+
+-- all hold
+pub none_fails : {X : Type 0} (state : List ℕ → Option KeyState) (f : X → Compare) (xs : List X) (before i : ℕ) (found : Option FailedCompare) →
+    length xs ≤ i → first_failed state (before + i) (map f (drop i xs)) ≡ found → None ≡ found
+none_fails state f xs before i found all so_far =
+    sym (ap (λ (l : List _). first_failed state (before + i) (map f l)) (drop_all xs i all)) ∙ so_far
+
+-- ---- two lists behind one another
+
+pub fails_first : (state : List ℕ → Option KeyState) (from : ℕ) (cs ds : List Compare) (f : FailedCompare) → first_failed state from cs ≡ Some f →
+    first_failed state from (cs ++ ds) ≡ Some f
+fails_first state from [] ds f is = absurd (cc)
+fails_first state from (c ∷ cs) ds f is = by (holds c (state c.key)) is (fails_first state (from + 1) cs ds f)
+  where
+    by : (b : Bool) → cond b (first_failed state (from + 1) cs) (found_at from (mod_of (state c.key))) ≡ Some f →
+        (first_failed state (from + 1) cs ≡ Some f → first_failed state (from + 1) (cs ++ ds) ≡ Some f) →
+        cond b (first_failed state (from + 1) (cs ++ ds)) (found_at from (mod_of (state c.key))) ≡ Some f
+    by true found later = later found
+    by false found later = found
+
+pub fails_behind : (state : List ℕ → Option KeyState) (from behind : ℕ) (cs ds : List Compare) → first_failed state from cs ≡ None →
+    behind ≡ from + length cs → first_failed state from (cs ++ ds) ≡ first_failed state behind ds
+fails_behind state from behind [] ds none is =
+    let there : behind ≡ from + zero = is in
+    let same : from ≡ behind = omega (arith, there) in
+    ap (λ (n : ℕ). first_failed state n ds) same
+fails_behind state from behind (c ∷ cs) ds none is =
+    let there : behind ≡ from + suc (length cs) = is in
+    let next : behind ≡ (from + 1) + length cs = omega (arith, there) in
+    by (holds c (state c.key)) none (λ later. fails_behind state (from + 1) behind cs ds later next)
+  where
+    by : (b : Bool) → cond b (first_failed state (from + 1) cs) (found_at from (mod_of (state c.key))) ≡ None →
+        (first_failed state (from + 1) cs ≡ None → first_failed state (from + 1) (cs ++ ds) ≡ first_failed state behind ds) →
+        cond b (first_failed state (from + 1) (cs ++ ds)) (found_at from (mod_of (state c.key))) ≡ first_failed state behind ds
+    by true all later = later all
+    by false all later = absurd (cc)
+
+-- ---- the compares of a commit
+
+not_so : {P : Type 0} (b : Bool) → (b ≡ true) ↔ P → b ≡ false → P → ⊥
+not_so b told isnt p = false≢true (sym isnt ∙ told.1 p)
+
+does_not : (b : Bool) → (b ≡ true → ⊥) → b ≡ false
+does_not true isnt = absurd (isnt refl)
+does_not false isnt = refl
+
+-- by what is told of a key that was read
+pub read_holds : (key : List ℕ) (number : ℕ) (s : Option KeyState) (told : Bool) → (told ≡ true) ↔ (mod_of s ≡ number) → told ≡ true →
+    holds (mod_is key number) s ≡ true
+read_holds key number s told means so = (mod_compares.equal key number s).1 (means.0 so)
+
+pub read_fails : (key : List ℕ) (number : ℕ) (s : Option KeyState) (told : Bool) → (told ≡ true) ↔ (mod_of s ≡ number) → told ≡ false →
+    holds (mod_is key number) s ≡ false
+read_fails key number s told means isnt =
+    does_not (holds (mod_is key number) s) (λ so. not_so told means isnt ((mod_compares.equal key number s).0 so))
+
+-- and of one that is written
+pub write_holds : (key : List ℕ) (first : ℕ) (s : Option KeyState) (told : Bool) → (told ≡ true) ↔ (mod_of s ≤ first) → told ≡ true →
+    holds (mod_is_below key (first + 1)) s ≡ true
+write_holds key first s told means so =
+    let most : mod_of s ≤ first = means.0 so in
+    (mod_compares.below key (first + 1) s).1 (omega (arith, most))
+
+pub write_fails : (key : List ℕ) (first : ℕ) (s : Option KeyState) (told : Bool) → (told ≡ true) ↔ (mod_of s ≤ first) → told ≡ false →
+    holds (mod_is_below key (first + 1)) s ≡ false
+write_fails key first s told means isnt =
+    does_not (holds (mod_is_below key (first + 1)) s) (λ so.
+    let less : mod_of s < first + 1 = (mod_compares.below key (first + 1) s).0 so in
+    not_so told means isnt (omega (arith, less)))

@@ -8,6 +8,7 @@ use Rattle.stm_world.specs.declared.refusal.Denied.{Denied}
 use Rattle.stm_world.specs.Log.{Line, IsLogOf}
 use Rattle.stm_world.specs.World.{World, opened, step, replies_to}
 use Rattle.stm_world.specs.Headline.{OfEachLog}
+use Rattle.stm_txn.specs.Standing.{Setup}
 
 -- a log with these events and their replies after what it has
 abbrev pub logged : List WorldEvent → List (Result Reply Denied) → List Line → List Line
@@ -47,11 +48,11 @@ logged_is_log events w = record {
   answered = replies_in events w [] ∙ append-nil (reverse (replies_to events w));
 }
 
-pub log_of_is_log : (start : ℕ) (events : List WorldEvent) → IsLogOf events (replies_to events (opened start)) (log_of start events)
+pub log_of_is_log : (start : Setup) (events : List WorldEvent) → IsLogOf events (replies_to events (opened start)) (log_of start events)
 log_of_is_log start events = logged_is_log events (opened start)
 
 -- what holds of the log of each run
-pub of_each_log : (P : ℕ → List Line → Type 0) → ((start : ℕ) (events : List WorldEvent) → P start (log_of start events)) → OfEachLog P
+pub of_each_log : (P : Setup → List Line → Type 0) → ((start : Setup) (events : List WorldEvent) → P start (log_of start events)) → OfEachLog P
 of_each_log P holds start events = (log_of start events, log_of_is_log start events, holds start events)
 
 -- ---- there is one log, or none ----

@@ -4,7 +4,7 @@
 //! those behind the stop, the keys, the leases and the entries are of the world that was stopped.
 ghost use Rattle.std.specs.Prelude.{◌≤◌};
 ghost use Rattle.stm_history.specs.declared.revisions.TheConstants.{HIGHEST_REVISION};
-ghost use Rattle.stm_texts.specs.Reading.{IsOpening};
+ghost use Rattle.stm_texts.specs.Opens.{IsOpening};
 
 use crate::scenarios::scenario_of;
 use anyhow::{Result, bail};

@@ -1,11 +1,12 @@
 -- What a script does: from the bytes of a source to the report in a sink.
-use Rattle.std.specs.Prelude.{◌≡◌, ℕ, List, Bool, true, false, Option, Result, Ok, Err, IfSome, unwrap_or}
+use Rattle.std.specs.Prelude.{◌≡◌, ℕ, List, Bool, true, false, Option, Result, Ok, Err, IfSome}
 use Rattle.std.specs.Io.KnownBytes.{Appends, Keeps}
 use Rattle.stm_world.specs.declared.event.WorldEvent.{WorldEvent}
 use Rattle.stm_world.specs.World.{World, opened, world_after, replies_to}
 use Rattle.stm_texts.specs.declared.scenario.Scenario.{Scenario}
 use Rattle.stm_json.specs.Outcome.{Outcome}
 use Rattle.stm_texts.specs.Reading.{scenario_in}
+use Rattle.stm_texts.specs.Opens.{setup_of}
 use Rattle.stm_report.specs.declared.run_script.ScriptFault.{ScriptFault}
 use Rattle.stm_report.specs.declared.run_script.ScriptFault.TheVariants.{OutOfMemory, Bad, Read, Write}
 use Rattle.stm_report.specs.Report.{IsReport}
@@ -20,7 +21,7 @@ IsReportFrom w events text = IsReport (world_after events w) (replies_to events 
 
 -- the text is the report of a scenario's run, over an empty store at its opening revision
 unfoldable pub IsRunReport : Scenario → List ℕ → Type 0
-IsRunReport s text = IsReportFrom (opened (unwrap_or s.opening 1)) s.events text
+IsRunReport s text = IsReportFrom (opened (setup_of s.opening)) s.events text
 
 -- a scenario was read, and the text is the report of its run
 abbrev pub IsReportOf : Outcome Scenario → List ℕ → Type 0

@@ -2,13 +2,13 @@
 ghost use Rattle.std.specs.Prelude.{◌≡◌, ◌≤◌, ◌+◌, false, IfOk, string_bytes};
 ghost use Rattle.stm_devices.specs.declared.transfer.TheConstants.{MOST_READ};
 ghost use Rattle.stm_report.specs.Script.{IsReportFrom, IsRunReport, Answers, Reports, Does};
-ghost use Rattle.stm_texts.specs.Reading.{IsOpening};
+ghost use Rattle.stm_texts.specs.Opens.{IsOpening};
 
 use crate::report_text::report;
 use std::alloc::{AllocError, Global};
 use stm_devices::{ReadFault, Sink, Source, read_all, write_all};
 use stm_retry::World;
-use stm_texts::{BadInput, ReadError, Scenario, WorldEvent, read_scenario};
+use stm_texts::{BadInput, ReadError, Scenario, WorldEvent, opens_with, read_scenario};
 use thiserror::Error;
 
 /// Why a script failed.
@@ -47,8 +47,8 @@ fn run_report(alloc: Global, scenario: &Scenario) -> Result<String, AllocError>
     requires { IsOpening scenario.now.opening }
     ensures { IfOk result (λ text. IsRunReport scenario.now (string_bytes text)) }
 {
-    let opening = scenario.opening.unwrap_or(1);
-    let mut world = World::with_revision(alloc, opening)?;
+    let opening = opens_with(scenario.opening);
+    let mut world = World::with_limits(alloc, opening.revision, opening.operations)?;
     let text = report_from(alloc, &mut world, scenario.events.as_slice());
     drop(world);
     text

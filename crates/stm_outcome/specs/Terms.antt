@@ -24,9 +24,13 @@ most_operations = MOST_OPERATIONS
 abbrev pub terms_at : ℕ → ℕ → History → Live → Terms
 terms_at limit floor h live = record { history = h; is_live = is_live_in live; floor = floor; limit = limit }
 
+-- the terms of one whose limit is the highest
+abbrev pub terms_above : ℕ → History → Live → Terms
+terms_above floor h live = terms_at most_operations floor h live
+
 -- the terms on which most is taken: every revision can be read, and the limit is the highest
 abbrev pub widest_terms : History → Live → Terms
-widest_terms h live = terms_at most_operations 0 h live
+widest_terms h live = terms_above 0 h live
 
 -- a read names a revision, not 0 for the current one, that is below the floor
 abbrev pub is_below_floor : ℕ → ℕ → Bool

@@ -1,8 +1,8 @@
 //! Why an operation of a branch is refused.
-ghost use Rattle.std.specs.Prelude.{◌≡◌, ℕ};
+ghost use Rattle.std.specs.Prelude.{◌≡◌};
 ghost use Rattle.stm_history.specs.History.{now};
 ghost use Rattle.stm_outcome.specs.Branches.{read_refusal, op_refusal, branch_refusal};
-ghost use Rattle.stm_outcome.specs.Terms.{terms_at};
+ghost use Rattle.stm_outcome.specs.Terms.{terms_above};
 
 use stm_keys::Keys;
 use stm_leases::Leases;
@@ -21,9 +21,9 @@ fn find_read_refusal(keys: &Keys, rev: u64) -> Option<Refusal>
     }
 }
 
-/// Why an operation is refused, `None` where it is not: whatever the limit of operations is.
+/// Why an operation is refused, `None` where it is not.
 fn find_op_refusal(op: &Op, keys: &Keys, leases: &Leases) -> Option<Refusal>
-    ensures { (limit : ℕ) → result ≡ op_refusal (terms_at limit keys.now.floor keys.now.history leases.now.live) op.now }
+    ensures { result ≡ op_refusal (terms_above keys.now.floor keys.now.history leases.now.live) op.now }
 {
     match op {
         Op::Get { rev, .. } => find_read_refusal(keys, *rev),
@@ -40,7 +40,7 @@ fn find_op_refusal(op: &Op, keys: &Keys, leases: &Leases) -> Option<Refusal>
 
 /// The first refusal along a branch.
 pub(crate) fn find_refusal(ops: &[Op], keys: &Keys, leases: &Leases) -> Option<Refusal>
-    ensures { (limit : ℕ) → result ≡ branch_refusal (terms_at limit keys.now.floor keys.now.history leases.now.live) ops.now }
+    ensures { result ≡ branch_refusal (terms_above keys.now.floor keys.now.history leases.now.live) ops.now }
 {
     for op in ops {
         if let Some(refusal) = find_op_refusal(op, keys, leases) {

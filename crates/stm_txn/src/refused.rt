@@ -1,6 +1,6 @@
 //! Why a call would be refused, found without changing anything.
 ghost use Rattle.std.specs.Prelude.{◌≡◌, ℕ, Option, None};
-ghost use Rattle.stm_outcome.specs.Terms.{terms_at};
+ghost use Rattle.stm_outcome.specs.Terms.{terms_at, terms_above};
 ghost use Rattle.stm_leases.specs.Live.{is_id, is_ttl, grant_refusal};
 ghost use Rattle.stm_outcome.specs.declared.answer.FailedCompare.{FailedCompare as AFailedCompare};
 ghost use Rattle.stm_outcome.specs.Checks.{fault_of, has_clash};
@@ -17,7 +17,7 @@ use stm_outcome::{Op, Refusal, Txn, find_failed, find_fault};
 
 /// Why a branch would be refused, whose first failed compare does not matter for that.
 fn find_run_refusal(keys: &Keys, leases: &Leases, ops: &[Op]) -> Option<Refusal>
-    ensures { (limit : ℕ) (failed : Option AFailedCompare) → result ≡ refusal_of (outcome_copied (terms_at limit keys.now.floor keys.now.history leases.now.live) failed ops.now) }
+    ensures { (failed : Option AFailedCompare) → result ≡ refusal_of (outcome_copied (terms_above keys.now.floor keys.now.history leases.now.live) failed ops.now) }
 {
     if let Some(refusal) = find_refusal(ops, keys, leases) {
         return Some(refusal);
@@ -29,7 +29,7 @@ fn find_run_refusal(keys: &Keys, leases: &Leases, ops: &[Op]) -> Option<Refusal>
     }
 }
 
-/// Why the branch that the compares pick would be refused, of a transaction that is right as a whole.
+/// Why the branch that the compares pick would be refused, of a transaction that is right as a whole at a limit of operations.
 fn find_chosen_refusal(keys: &Keys, leases: &Leases, txn: &Txn) -> Option<Refusal>
     ensures { (limit : ℕ) → fault_of limit txn.now ≡ None
         → result ≡ refusal_of (outcome (terms_at limit keys.now.floor keys.now.history leases.now.live) txn.now) }

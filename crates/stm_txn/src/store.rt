@@ -201,11 +201,10 @@ impl Store {
         requires positive { 1 ≤ start }
         requires bounded { start ≤ HIGHEST_REVISION }
         requires unwatched { watchers ≡ no_watchers }
-        ensures standing { result.standing ≡ opening (record { revision = start; limit = limit }) }
+        ensures standing { result.standing ≡ record (opening (at_revision start)) { limit = limit } }
         ensures present { result.present ≡ [] }
         ensures log { StandsFor result.standing.live [] }
     {
-        let _most = limit.count();
         Store {
             keys: Keys::with_revision(alloc, start),
             leases: Leases::new(alloc),
@@ -380,6 +379,13 @@ impl Store {
         })
     }
 
+    /// The first refusal along a branch.
+    fn branch_refusal(&self, ops: &[Op]) -> Option<Refusal>
+        ensures { result ≡ branch_refusal (terms_of self.now.standing) ops.now }
+    {
+        find_refusal(ops, &self.keys, &self.leases)
+    }
+
     /// Runs one branch, whose first failed compare is given.
     fn run(&mut self, ops: &[Op], failed: Option<FailedCompare>) -> Result<TxnAnswer, Refusal>
         requires { has_clash ops.now ≡ false }
@@ -393,7 +399,7 @@ impl Store {
         ensures refused { IfErr result (IsRefusalOf (outcome_copied (terms_of self.old.standing) failed ops.now)) }
         ensures err { OnErr result (self.new ≡ self.old) }
     {
-        if let Some(refusal) = find_refusal(ops, &self.keys, &self.leases) {
+        if let Some(refusal) = self.branch_refusal(ops) {
             return Err(refusal);
         }
         if uses_up(&self.keys, ops) {

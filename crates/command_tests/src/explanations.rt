@@ -84,7 +84,7 @@ fn texts_that_nest_too_deep(rt: HostRuntime) {
 }
 
 /// Scenarios with an element that does not fit, and what is said of them.
-static FAULTS: [(&str, &str); 9] = [
+static FAULTS: [(&str, &str); 11] = [
     (
         "[[\"start\",\"serializable\",1,[]],[\"step\",1]]",
         "stmrun: bad scenario at /0/1: Shape
@@ -123,6 +123,15 @@ s.json:1:21: unknown order \"==\": one of \"=\", \"!=\", \">\", \"<\"; the neare
         "[[\"begin\",0]]",
         "stmrun: bad scenario at /0/1: Range
 s.json:1:11: found 0, where a whole number from 1 to 9223372036854775806 is wanted\n",
+    ),
+    (
+        "[[\"begin\",1,0]]",
+        "stmrun: bad scenario at /0/2: Range
+s.json:1:13: found 0, where a whole number from 1 to 128 is wanted\n",
+    ),
+    (
+        "[[\"begin\"]]",
+        "stmrun: bad scenario at /0: Shape\ns.json:1:2: elements behind \"begin\": 0 found, 1 or 2 wanted\n",
     ),
     (
         "{\"a\":1}",

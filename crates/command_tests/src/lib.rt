@@ -20,6 +20,8 @@ mod faulted;
 #[cfg(test)]
 mod formats;
 #[cfg(test)]
+mod limits;
+#[cfg(test)]
 mod many_keys;
 #[cfg(test)]
 mod readers;

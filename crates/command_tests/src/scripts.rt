@@ -20,7 +20,7 @@ pub fn refuses(rt: &impl Abort, alloc: Global, text: &[u8], said: &str) {
 }
 
 /// Bad texts, each with what is said of its first fault.
-static REFUSED: [(&str, &str); 12] = [
+static REFUSED: [(&str, &str); 15] = [
     ("[[\"step\",1]", "stmrun: bad scenario at : NotJson\n"),
     ("{}", "stmrun: bad scenario at : Shape\n"),
     (
@@ -39,6 +39,13 @@ static REFUSED: [(&str, &str); 12] = [
         "[[\"step\",1],[\"begin\",2]]",
         "stmrun: bad scenario at /1: Shape\n",
     ),
+    (
+        "[[\"begin\",1,129]]",
+        "stmrun: bad scenario at /0/2: Range\n",
+    ),
+    // The revision comes before the limit.
+    ("[[\"begin\",0,0]]", "stmrun: bad scenario at /0/1: Range\n"),
+    ("[[\"begin\",1,2,3]]", "stmrun: bad scenario at /0: Shape\n"),
     // Two faults inside one event: the first in reading order is told.
     (
         "[[\"start\",\"None\",-1,[[\"emit\",1.5]]]]",

@@ -17,12 +17,12 @@ use stm_retry::{Expired, RunStop};
 type Replies = Vec<Result<Reply, Denied>>;
 
 /// A new world, by a second call where the first was refused.
-fn world_again(alloc: Global, opening: u64) -> Result<World, AllocError>
-    requires { (1 ≤ opening) × (opening ≤ HIGHEST_REVISION) }
+fn world_again(alloc: Global, opening: Opening) -> Result<World, AllocError>
+    requires { IsOpening (Some opening) }
 {
-    match World::with_revision(alloc, opening) {
+    match World::with_limits(alloc, opening.revision, opening.operations) {
         Ok(world) => Ok(world),
-        Err(_) => World::with_revision(alloc, opening),
+        Err(_) => World::with_limits(alloc, opening.revision, opening.operations),
     }
 }
 
@@ -35,10 +35,10 @@ fn run_whole(world: &mut World, events: &[WorldEvent]) -> Result<Replies> {
 }
 
 /// The replies of a new world to these events.
-fn replies_anew(alloc: Global, opening: u64, events: &[WorldEvent]) -> Result<Replies>
-    requires { (1 ≤ opening) × (opening ≤ HIGHEST_REVISION) }
+fn replies_anew(alloc: Global, opening: Opening, events: &[WorldEvent]) -> Result<Replies>
+    requires { IsOpening (Some opening) }
 {
-    let mut world = World::with_revision(alloc, opening)?;
+    let mut world = World::with_limits(alloc, opening.revision, opening.operations)?;
     let replies = run_whole(&mut world, events);
     drop(world);
     replies
@@ -102,12 +102,12 @@ fn tell_stop(rt: &impl Eprint, stop: &RunStop) -> Result<()> {
 fn go_on(
     rt: &impl Eprint,
     alloc: Global,
-    opening: u64,
+    opening: Opening,
     world: &mut World,
     events: &[WorldEvent],
     stop: RunStop,
 ) -> Result<Replies>
-    requires { (1 ≤ opening) × (opening ≤ HIGHEST_REVISION) }
+    requires { IsOpening (Some opening) }
 {
     if stop.done > events.len() {
         bail!("more events were taken than there are");
@@ -124,11 +124,11 @@ fn go_on(
 fn replies_to(
     rt: &impl Eprint,
     alloc: Global,
-    opening: u64,
+    opening: Opening,
     world: &mut World,
     events: &[WorldEvent],
 ) -> Result<Replies>
-    requires { (1 ≤ opening) × (opening ≤ HIGHEST_REVISION) }
+    requires { IsOpening (Some opening) }
 {
     match world.run(events) {
         Ok(replies) => Ok(replies),
@@ -152,11 +152,11 @@ fn report_again(
 fn report_from(
     rt: &impl Eprint,
     alloc: Global,
-    opening: u64,
+    opening: Opening,
     world: &mut World,
     events: &[WorldEvent],
 ) -> Result<String>
-    requires { (1 ≤ opening) × (opening ≤ HIGHEST_REVISION) }
+    requires { IsOpening (Some opening) }
 {
     let replies = replies_to(rt, alloc, opening, world, events)?;
     let text = report_again(alloc, world, replies.as_slice());
@@ -168,7 +168,7 @@ fn report_from(
 fn report_of(rt: &impl Eprint, alloc: Global, scenario: &Scenario) -> Result<String>
     requires { IsOpening scenario.now.opening }
 {
-    let opening = scenario.opening.unwrap_or(1);
+    let opening = opens_with(scenario.opening);
     let mut world = world_again(alloc, opening)?;
     let text = report_from(rt, alloc, opening, &mut world, scenario.events.as_slice());
     drop(world);

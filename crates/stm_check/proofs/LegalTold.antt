@@ -1,5 +1,6 @@
 -- The entries that right lines tell are legal, each at its point.
 use Rattle.std.proofs.Common.{◌≡◌, ℕ, ◌≤◌, ◌+◌, suc, Bool, cond, List, [], ◌∷◌, length, drop, Option, Some, None, Ok, Err, refl, sym, ap, subst, arith}
+use Rattle.std.proofs.Math.Nat.{min-le_right}
 use Rattle.std.proofs.lemmas.Bool.{le-ltb}
 use Rattle.std.specs.Prelude.{Result, nat_lt}
 use Rattle.stm_history.specs.History.{now}
@@ -128,7 +129,7 @@ none_before : (n m : ℕ) → n ≡ 0 + m → n ≡ m
 none_before n m is = omega (arith, is)
 
 opens_low : (start : Setup) → (beginning start).standing.limit ≤ most_operations
-opens_low start = omega arith
+opens_low start = min-le_right start.limit most_operations
 
 pub yes_is_the_replay : YesIsTheReplay
 yes_is_the_replay s r right =

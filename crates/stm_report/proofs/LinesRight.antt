@@ -47,6 +47,7 @@ use Rattle.stm_check.specs.Wrong.{IsRight as IsRightLine, AreRight}
 use Rattle.stm_report.specs.Report.{event_lines}
 use Rattle.stm_report.proofs.RunsTold.{RunsAreTold, SaysNothing, none_are_told, says_nothing, advance_says_nothing, run_with, runs_with}
 use Rattle.stm_report.proofs.RunsTold.{same_runs, Goes, goes_on, ended_runs, failed_runs, begun_runs}
+use Rattle.stm_world.proofs.EventKeeps.{store_limit}
 use Rattle.stm_report.proofs.CallsTold.{unwatched, txn_right, grant_right, keep_right, revoke_right, advance_right, watch_stays, poll_stays}
 use Rattle.stm_report.proofs.CallsTold.{compact_same, compact_store, cancel_stays, by_reply, by_poll}
 use Rattle.stm_report.proofs.CommitsTold.{IsEntered, commit_right, commit_store}
@@ -334,7 +335,7 @@ event_goes start n log rs (Step id) reply told fresh legal right =
 event_goes start n log rs (Txn txn) reply told fresh legal right =
     let s : Standing = store start log in
     let r = transacted s txn in
-    let c = txn_right n s rs txn in
+    let c = txn_right n s rs txn (store_limit start log) in
     subst (λ (x : Result Reply Denied). GoesOn start n log rs (Txn txn) x) (sym right)
     (call_goes start n log rs (Txn txn) (reply_to TxnDone r) c.fits c.is_line c.store c.count
     (same_runs (record { event = Txn txn; reply = reply_to TxnDone r }) log rs

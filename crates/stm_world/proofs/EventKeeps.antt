@@ -1,6 +1,7 @@
 -- What an event makes of the store: what was true stays so, what watchers were told goes on, the opening stays, and nothing below the floor
 -- is pending for a watcher that is not lost.
 use Rattle.std.proofs.Common.{◌≡◌, ◌≤◌, ℕ, List, [], ◌∷◌, map, Option, Some, None, Ok, Err, refl, sym, ◌∙◌, subst, arith}
+use Rattle.std.proofs.Math.Nat.{min-le_right}
 use Rattle.std.specs.Prelude.{Result}
 use Rattle.stm_history.specs.declared.key_state.ReadAnswer.{ReadAnswer}
 use Rattle.stm_history.specs.Opening.{opening_at}
@@ -172,7 +173,7 @@ event_limit task_of (Compact revision) reply s = (compact_follows s revision).li
 
 -- the store of a log takes no more operations than any store
 pub store_limit : (start : Setup) (log : List Line) → (store start log).limit ≤ most_operations
-store_limit start [] = omega arith
+store_limit start [] = min-le_right start.limit most_operations
 store_limit start (line ∷ older) =
     subst (λ n. n ≤ most_operations) (sym (event_limit (λ id. begun id older) line.event line.reply (store start older))) (store_limit start older)
 

@@ -137,6 +137,7 @@ begun_sound w task sound =
       replays = sound.replays;
       legal = sound.legal;
       kept = sound.kept;
+      limit = sound.limit;
       truth = λ other x at. elim (nat_eq id other) as (λ b. nat_eq id other ≡ b → KnowsTruth w.standing.history x.known) [
         | true ↦ λ is. new_truth w.standing.history task x
             (sym (runner_new w.runners slot) ∙ subst (λ n. runner_at n (w.runners ++ slot ∷ []) ≡ Some x) (sym (equal_numbers id other is)) at)

@@ -2,8 +2,7 @@
 //!
 //! The replies to the events before the stop went with it. They are taken from a new world, so that all replies can be told;
 //! those behind the stop, the keys, the leases and the entries are of the world that was stopped.
-ghost use Rattle.std.specs.Prelude.{◌≤◌};
-ghost use Rattle.stm_history.specs.declared.revisions.TheConstants.{HIGHEST_REVISION};
+ghost use Rattle.std.specs.Prelude.{Some};
 ghost use Rattle.stm_texts.specs.Opens.{IsOpening};
 
 use crate::scenarios::scenario_of;
@@ -12,6 +11,7 @@ use std::alloc::{AllocError, Global};
 use stm_history::Sequence;
 use stm_report::{Denied, Reply, Scenario, World, WorldEvent, report};
 use stm_retry::{Expired, RunStop};
+use stm_texts::{Opening, opens_with};
 
 /// Replies, one for each event.
 type Replies = Vec<Result<Reply, Denied>>;

@@ -1,9 +1,8 @@
 //! The explanations of the runs of a scenario.
-ghost use Rattle.std.specs.Prelude.{◌≡◌, ◌≤◌, Ok as OkOf, IfOk, string_bytes};
+ghost use Rattle.std.specs.Prelude.{◌≡◌, Ok as OkOf, Some, IfOk, string_bytes};
 ghost use Rattle.stm_texts.specs.Reading.{scenario_in};
 ghost use Rattle.stm_texts.specs.Opens.{IsOpening, as_setup};
 ghost use Rattle.stm_faulted_runs.specs.Lines.{ExplainsEach, ExplainsRun, faults_from};
-ghost use Rattle.stm_history.specs.declared.revisions.TheConstants.{HIGHEST_REVISION};
 ghost use Rattle.stm_world.specs.World.{opened};
 ghost use Rattle.stm_faulted_runs.specs.Origins.{origin_in};
 

@@ -1,7 +1,6 @@
 //! From the bytes of a source to what is printed of its jobs in a sink.
-ghost use Rattle.std.specs.Prelude.{◌≡◌, ◌≤◌, ◌+◌, ℕ, List, false, length, sum, string_bytes, Ok, IfOk, IfErr, OnOk};
+ghost use Rattle.std.specs.Prelude.{◌≡◌, ◌≤◌, ◌+◌, List, false, length, sum, string_bytes, Some, Ok, IfOk, IfErr, OnOk};
 ghost use Rattle.stm_devices.specs.declared.transfer.TheConstants.{MOST_READ};
-ghost use Rattle.stm_history.specs.declared.revisions.TheConstants.{HIGHEST_REVISION};
 ghost use Rattle.stm_texts.specs.Reading.{scenario_in};
 ghost use Rattle.stm_texts.specs.Opens.{IsOpening, as_setup};
 ghost use Rattle.stm_txn.specs.Standing.{Setup};

@@ -13,7 +13,7 @@ use Rattle.stm_outcome.specs.declared.answer.TxnAnswer.{TxnAnswer}
 use Rattle.stm_outcome.specs.declared.refusal.Refusal.{Refusal}
 use Rattle.stm_outcome.specs.declared.refusal.Refusal.TheVariants.{OutOfMemory, EmptyKey, TooManyOps, FutureRevision, Compacted}
 use Rattle.stm_outcome.specs.declared.txn.Op.{Op}
-use Rattle.stm_outcome.specs.Terms.{most_operations, is_below_floor}
+use Rattle.stm_outcome.specs.Terms.{is_below_floor}
 use Rattle.stm_outcome.specs.Checks.{has_too_many, has_empty_key, fault_of}
 use Rattle.stm_outcome.specs.Branches.{begun, changes_of_branch, answers_after, branch_refusal}
 use Rattle.stm_outcome.specs.Outcome.{unless, finished, branch_outcome}
@@ -40,15 +40,14 @@ fetch_is_right limit key at some named =
 step_alone : Standing → List ℕ → ℕ → Step TxnAnswer
 step_alone s key at = record { answer = (read_out s.history None (read_at key at ∷ [])).answer; next = s }
 
-fetch_comes_to : (s : Standing) (key : List ℕ) (at : ℕ) (txn : Txn) → txn ≡ fetch_of key at → 0 < length key → at ≤ now s.history →
+fetch_comes_to : (s : Standing) (key : List ℕ) (at : ℕ) (txn : Txn) → txn ≡ fetch_of key at → 0 < s.limit → 0 < length key → at ≤ now s.history →
     is_below_floor s.floor at ≡ false → transacted s txn ≡ Ok (step_alone s key at)
 unfolding step_alone
-fetch_comes_to s key at txn is named reached above =
-    let some : 0 < most_operations = omega arith in
+fetch_comes_to s key at txn is some named reached above =
     ap (transacted s) is
     ∙ ap (step_of s)
     (reads_change_nothing (terms_of s) (fetch_of key at) (read_at key at ∷ []) refl refl
-    (fetch_is_right most_operations key at some named) (reached, above, tt))
+    (fetch_is_right s.limit key at some named) (reached, above, tt))
 
 -- below the floor it is refused
 below_is_refused : (s : Standing) (key : List ℕ) (at : ℕ) → at ≤ now s.history → is_below_floor s.floor at ≡ true →
@@ -58,14 +57,13 @@ below_is_refused s key at reached below =
     (le-ltb (now s.history) at reached)
     ∙ ap (λ (b : Bool). option_or (cond b (Some Compacted) None) None) below
 
-fetch_is_refused : (s : Standing) (key : List ℕ) (at : ℕ) (txn : Txn) → txn ≡ fetch_of key at → 0 < length key → at ≤ now s.history →
+fetch_is_refused : (s : Standing) (key : List ℕ) (at : ℕ) (txn : Txn) → txn ≡ fetch_of key at → 0 < s.limit → 0 < length key → at ≤ now s.history →
     is_below_floor s.floor at ≡ true → transacted s txn ≡ Err Compacted
-fetch_is_refused s key at txn is named reached below =
-    let some : 0 < most_operations = omega arith in
+fetch_is_refused s key at txn is some named reached below =
     let ops : List Op = read_op (read_at key at) ∷ [] in
     let h : History = s.history in
     ap (transacted s) is
-    ∙ ap (λ (fault : Option Refusal). step_of s (unless fault (branch_outcome (terms_of s) None ops))) (fetch_is_right most_operations key at some named)
+    ∙ ap (λ (fault : Option Refusal). step_of s (unless fault (branch_outcome (terms_of s) None ops))) (fetch_is_right s.limit key at some named)
     ∙ ap (λ (refusal : Option Refusal). step_of s (unless refusal (finished h None (changes_of_branch h ops) (answers_after h (begun h) ops))))
     (below_is_refused s key at reached below)
 
@@ -76,26 +74,26 @@ pub record IsRead (s after : Standing) (key : List ℕ) (at : ℕ) (answers : Li
   pub unchanged : after ≡ s
 
 shown_by : (s after : Standing) (key : List ℕ) (at : ℕ) (txn : Txn) (answer : TxnAnswer) (below : Bool) → is_below_floor s.floor at ≡ below →
-    txn ≡ fetch_of key at → 0 < length key → at ≤ now s.history → transacted s txn ≡ Ok record { answer = answer; next = after } →
+    txn ≡ fetch_of key at → 0 < s.limit → 0 < length key → at ≤ now s.history → transacted s txn ≡ Ok record { answer = answer; next = after } →
     IsRead s after key at answer.answers
 unfolding step_alone
-shown_by s after key at txn answer true below is named reached step =
-    let refused : transacted s txn ≡ Err Compacted = fetch_is_refused s key at txn is named reached below in
+shown_by s after key at txn answer true below is some named reached step =
+    let refused : transacted s txn ≡ Err Compacted = fetch_is_refused s key at txn is some named reached below in
     let both : Err Compacted ≡ Ok (let x : Step TxnAnswer = record { answer = answer; next = after } in x) = sym refused ∙ step in
     absurd (cc both)
-shown_by s after key at txn answer false above is named reached step =
+shown_by s after key at txn answer false above is some named reached step =
     let given : Step TxnAnswer = record { answer = answer; next = after } in
-    let same : step_alone s key at ≡ given = cc (fetch_comes_to s key at txn is named reached above) in
+    let same : step_alone s key at ≡ given = cc (fetch_comes_to s key at txn is some named reached above) in
     record {
       above = above;
       shown = sym (ap (λ (x : Step TxnAnswer). x.answer.answers) same);
       unchanged = sym (ap (λ (x : Step TxnAnswer). x.next) same);
     }
 
-pub fetch_shows : (s after : Standing) (key : List ℕ) (at : ℕ) (txn : Txn) (answer : TxnAnswer) → txn ≡ fetch_of key at → 0 < length key →
+pub fetch_shows : (s after : Standing) (key : List ℕ) (at : ℕ) (txn : Txn) (answer : TxnAnswer) → txn ≡ fetch_of key at → 0 < s.limit → 0 < length key →
     at ≤ now s.history → transacted s txn ≡ Ok record { answer = answer; next = after } → IsRead s after key at answer.answers
-fetch_shows s after key at txn answer is named reached step =
-    shown_by s after key at txn answer (is_below_floor s.floor at) refl is named reached step
+fetch_shows s after key at txn answer is some named reached step =
+    shown_by s after key at txn answer (is_below_floor s.floor at) refl is some named reached step
 
 pub is_one_read : (s after : Standing) (key : List ℕ) (at : ℕ) (answers : List OpAnswer) → IsRead s after key at answers → IsOneRead answers
 is_one_read s after key at answers is = (fetched s.history key at, is.shown)
@@ -116,18 +114,18 @@ read_fits answer read fit only = (subst OpsFit only fit.answers).0
 
 -- why it is refused
 refused_by : (s : Standing) (key : List ℕ) (at : ℕ) (txn : Txn) (cause : Refusal) (below : Bool) → is_below_floor s.floor at ≡ below →
-    txn ≡ fetch_of key at → 0 < length key → at ≤ now s.history → IsRefusalOf (transacted s txn) cause →
+    txn ≡ fetch_of key at → 0 < s.limit → 0 < length key → at ≤ now s.history → IsRefusalOf (transacted s txn) cause →
     (cause ≡ OutOfMemory) ⊎ (fetch_told s key at ≡ Err cause)
 unfolding step_alone
-refused_by s key at txn cause true below is named reached refused =
-    let same : cause ≡ Compacted = subst (λ o. IsRefusalOf o cause) (fetch_is_refused s key at txn is named reached below) refused in
+refused_by s key at txn cause true below is some named reached refused =
+    let same : cause ≡ Compacted = subst (λ o. IsRefusalOf o cause) (fetch_is_refused s key at txn is some named reached below) refused in
     inr (ap (λ (b : Bool). cond b (Err Compacted) (Ok (fetched s.history key at))) below ∙ ap (λ (x : Refusal). Err x) (sym same))
-refused_by s key at txn cause false above is named reached refused =
-    inl (subst (λ o. IsRefusalOf o cause) (fetch_comes_to s key at txn is named reached above) refused)
+refused_by s key at txn cause false above is some named reached refused =
+    inl (subst (λ o. IsRefusalOf o cause) (fetch_comes_to s key at txn is some named reached above) refused)
 
-pub tells_refusal : (s : Standing) (key : List ℕ) (at : ℕ) (txn : Txn) (cause : Refusal) → txn ≡ fetch_of key at → 0 < length key →
+pub tells_refusal : (s : Standing) (key : List ℕ) (at : ℕ) (txn : Txn) (cause : Refusal) → txn ≡ fetch_of key at → 0 < s.limit → 0 < length key →
     at ≤ now s.history → IsRefusalOf (transacted s txn) cause → (cause ≡ OutOfMemory) ⊎ (fetch_told s key at ≡ Err cause)
-tells_refusal s key at txn cause is named reached refused = refused_by s key at txn cause (is_below_floor s.floor at) refl is named reached refused
+tells_refusal s key at txn cause is some named reached refused = refused_by s key at txn cause (is_below_floor s.floor at) refl is some named reached refused
 
 -- the exit of a refusal
 pub refused_with : (defined result : Result ReadAnswer Refusal) (given cause : Refusal) → result ≡ Err given → given ≡ cause →

@@ -37,6 +37,7 @@ pub fn fetch(alloc: Global, store: &mut Store, key: &str, at: u64) -> Result<Rea
     ensures in_range { IfOk result ReadFits }
     ensures store { store.new.standing ≡ store.old.standing }
 {
+    let _takes_one = store.limit();
     let txn = read_one(alloc, key, at)?;
     let told = store.txn(&txn);
     drop(txn);

@@ -12,9 +12,11 @@ use Rattle.stm_schedules.specs.declared.moves.Move.TheVariants.{Step, Other}
 use Rattle.stm_schedules.specs.Scenarios.{has_start, up_to_last_start, behind_last_start, at_level, with_schedule}
 use Rattle.stm_schedules.specs.Schedules.{events_along}
 use Rattle.stm_texts.specs.Grammar.{level_text, SpellsEvent, SpellsElements, SpellsScenario}
-use Rattle.stm_texts.specs.Reading.{IsOpening, scenario_in}
+use Rattle.stm_texts.specs.Reading.{scenario_in}
+use Rattle.stm_texts.specs.Opens.{IsOpening}
 use Rattle.stm_texts.specs.declared.scenario.Scenario.{Scenario}
 use Rattle.stm_texts.proofs.GrammarSound.{scenario_sound}
+use Rattle.stm_texts.specs.declared.scenario.Opening.{Opening}
 use Rattle.stm_json.specs.Parts.{SpellsEach}
 use Rattle.stm_world.specs.declared.event.WorldEvent.{WorldEvent}
 use Rattle.stm_world.specs.declared.event.WorldEvent.TheVariants as event
@@ -27,7 +29,7 @@ each_spelled : (ds : Items) (es : List WorldEvent) → SpellsEach SpellsEvent ds
 each_spelled ds [] is = tt
 each_spelled ds (e ∷ es) (a, rest, is, s, others) = ((a, s), each_spelled rest es others)
 
-elements_spelled : (ds : Items) (o : Option ℕ) (es : List WorldEvent) → SpellsElements ds o es → IsOpening o × AreSpelled es
+elements_spelled : (ds : Items) (o : Option Opening) (es : List WorldEvent) → SpellsElements ds o es → IsOpening o × AreSpelled es
 elements_spelled ds None es spelled = (tt, each_spelled ds es spelled)
 elements_spelled ds (Some r) es (a, rest, is, (number, low, high), spelled) = ((low, high), each_spelled rest es spelled)
 

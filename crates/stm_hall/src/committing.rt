@@ -19,7 +19,7 @@ use stm_attempt::Ready;
 use stm_calls::{Sent, conflict};
 use stm_entries::Entry;
 use stm_history::ReadAnswer;
-use stm_txn::{FailedCompare, MOST_OPERATIONS, OpAnswer, Refusal, ShortList, Store, Txn};
+use stm_txn::{FailedCompare, OpAnswer, Refusal, ShortList, Store, Txn};
 
 /// The verdict on an attempt of which a compare failed, and whose keys were read again with these answers.
 fn tell_failure(
@@ -121,7 +121,8 @@ fn turn_down(
     ensures answers { IfOk result CanGoOn }
 {
     let _keys_differ = ready.answers.as_slice();
-    if txn.success.len() > MOST_OPERATIONS {
+    let most = store.limit();
+    if txn.success.len() > most {
         drop(txn);
         return Err(CommitRefusal::Store(Refusal::TooManyOps));
     }

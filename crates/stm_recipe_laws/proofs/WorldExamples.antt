@@ -17,6 +17,7 @@ use Rattle.stm_meaning.specs.Meaning.{evaluate, holds, run_block, run_over}
 use Rattle.stm_outcome.specs.declared.txn.Txn.{Txn}
 use Rattle.stm_outcome.specs.declared.txn.Op.TheVariants.{Put}
 use Rattle.stm_outcome.specs.declared.answer.OpAnswer.TheVariants.{Put as PutAnswer}
+use Rattle.stm_txn.specs.Standing.{at_revision}
 use Rattle.stm_attempt.specs.Settled.{settle}
 use Rattle.stm_entries.specs.declared.entry.Entry.{Entry}
 use Rattle.stm_entries.specs.declared.entry.Entry.TheVariants.{Program, Foreign}
@@ -52,7 +53,7 @@ paying =
     ∷ Step 1 ∷ Step 2 ∷ Step 2 ∷ Step 1 ∷ Step 1 ∷ Step 1 ∷ []
 
 -- the transfer has read b as 5, its commit fails, and its next attempt pays to the 12 that b has then
-transfer_is_made_again : replies_to paying (opened 1)
+transfer_is_made_again : replies_to paying (opened (at_revision 1))
     ≡ Ok (TxnDone (record { succeeded = true; revision = 2; answers = PutAnswer ∷ PutAnswer ∷ []; failed = None })) ∷ Ok (Started 1) ∷ Ok (Started 2)
     ∷ Ok (Fetched 1 (codes "a") 2 2 2) ∷ Ok (Fetched 2 (codes "b") 2 2 2) ∷ Ok (Committed 2 3 1 [] (seen.Get (codes "b") (codes "5") ∷ []) [])
     ∷ Ok (Fetched 1 (codes "b") 2 2 3) ∷ Ok (Conflict 1 (codes "b") 2 3)
@@ -128,7 +129,7 @@ abbrev took : List ℕ → List ℕ → List ℕ → List TraceItem
 took head place item = seen.Get (codes "q/head") head ∷ seen.Get (codes "q/tail") (codes "2") ∷ seen.Get place item ∷ []
 
 -- both read the same head: the second commit fails, and its next attempt takes the second item
-each_takes_one : replies_to (emptying Serializable ++ Step 4 ∷ Step 4 ∷ []) (opened 1)
+each_takes_one : replies_to (emptying Serializable ++ Step 4 ∷ Step 4 ∷ []) (opened (at_revision 1))
     ≡ Ok (Started 1) ∷ Ok (Fetched 1 (codes "q/tail") 0 1 1) ∷ Ok (Committed 1 2 1 [] (seen.Get (codes "q/tail") [] ∷ []) [])
     ∷ Ok (Started 2) ∷ Ok (Fetched 2 (codes "q/tail") 2 2 2) ∷ Ok (Committed 2 3 1 [] (seen.Get (codes "q/tail") (codes "1") ∷ []) [])
     ∷ Ok (Started 3) ∷ Ok (Started 4)
@@ -167,8 +168,8 @@ told_to_both =
     ∷ []
 
 -- At ReadCommitted nothing is compared, and both take the first item: no law speaks of such commits.
-taken_twice : replies_to (emptying ReadCommitted) (opened 1)
-    ≡ replies_to (take 14 (emptying ReadCommitted)) (opened 1)
+taken_twice : replies_to (emptying ReadCommitted) (opened (at_revision 1))
+    ≡ replies_to (take 14 (emptying ReadCommitted)) (opened (at_revision 1))
     ++ Ok (Committed 3 4 1 (Text (codes "A") ∷ []) (took [] (codes "q/0") (codes "A")) told_to_both)
     ∷ Ok (Committed 4 5 1 (Text (codes "A") ∷ []) (took [] (codes "q/0") (codes "A")) told_to_both) ∷ []
 unfolding start_runner fetch commit step_live settle enqueue_program dequeue_program run_over run_block evaluate holds equal arithmetic computed concatenated text_of num_of written_number key_in put_of del_of get_key last_write latest_writes fresh digits
@@ -183,7 +184,7 @@ reserving =
     ∷ begin (release_program (codes "s") (codes "h")) Serializable ∷ Step 3 ∷ Step 3
     ∷ begin (reserve_program (codes "s") (codes "g") 0) RepeatableReads ∷ Step 4 ∷ Step 4 ∷ []
 
-refused_while_held : replies_to reserving (opened 1)
+refused_while_held : replies_to reserving (opened (at_revision 1))
     ≡ Ok (Started 1) ∷ Ok (Fetched 1 (codes "s") 0 1 1) ∷ Ok (Committed 1 2 1 [] (seen.Rev (codes "s") 0 ∷ []) [])
     ∷ Ok (Started 2) ∷ Ok (Fetched 2 (codes "s") 2 2 2) ∷ Ok (Aborted 2 (codes "held"))
     ∷ Ok (Started 3) ∷ Ok (Fetched 3 (codes "s") 2 2 2) ∷ Ok (Committed 3 3 1 [] (seen.Get (codes "s") (codes "h") ∷ []) [])

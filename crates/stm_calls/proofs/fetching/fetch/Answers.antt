@@ -12,7 +12,7 @@ returns-in_err-answer-clause-told c =
     refused_with (fetch_told c.args.store.now.standing c.args.key.now c.args.at)
     c.from_residual-in_err-answer.result exit.0 c.in_err-answer.field-0.0 exit.1 exit.2
     (tells_refusal c.args.store.now.standing c.args.key.now c.args.at c.in_ok-txn.txn c.in_err-answer.field-0.0 c.in_ok-txn.ensures
-    c.requires.named c.requires.reached c.in_err-answer.ensures.step)
+    c.limit-takes_one.ensures.some c.requires.named c.requires.reached c.in_err-answer.ensures.step)
 
 -- it answered, and a growth was refused
 pub returns-in_err-read-clause-told : goal.returns-in_err-read-clause-told
@@ -25,5 +25,5 @@ pub returns-clause-told : goal.returns-clause-told
 returns-clause-told c =
     tells_read c.args.store.now.standing c.txn-told.new.self.standing c.args.key.now c.args.at c.in_ok-answer.answer.answers c.in_ok-read.read
     (fetch_shows c.args.store.now.standing c.txn-told.new.self.standing c.args.key.now c.args.at c.in_ok-txn.txn c.in_ok-answer.answer c.in_ok-txn.ensures
-    c.requires.named c.requires.reached c.in_ok-answer.ensures.step)
+    c.limit-takes_one.ensures.some c.requires.named c.requires.reached c.in_ok-answer.ensures.step)
     c.in_ok-read.ensures

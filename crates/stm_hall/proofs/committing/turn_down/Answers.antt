@@ -5,7 +5,6 @@ use Rattle.std.proofs.lemmas.Result.{err_from_is_err_and}
 use Rattle.stm_history.specs.declared.key_state.ReadAnswer.{ReadAnswer}
 use Rattle.stm_outcome.specs.declared.txn.Txn.{Txn}
 use Rattle.stm_outcome.specs.declared.refusal.Refusal.TheVariants.{OutOfMemory, TooManyOps}
-use Rattle.stm_outcome.specs.Terms.{most_operations}
 use Rattle.stm_txn.specs.Standing.{Standing}
 use Rattle.stm_txn.specs.Store.{StoreView}
 use Rattle.stm_attempt.specs.ReadyRun.{ReadyRun, IsRunOnItsAnswers}
@@ -17,14 +16,14 @@ use Rattle.stm_hall.proofs.Sending.{verdict_at_fault, place_seen, rereads_go_on,
 use Rattle.stm_hall.proofs.TurningDown.{too_many_writes, asked_answered, asked_compared, asked_reread, nothing_written, tells_unvouched, tells_asked_refused}
 use Rattle.stm_hall.proofs.committing.turn_down.Goals as goal
 
--- the attempt writes more than a transaction may
-pub returns-then-len-gt-MOST_OPERATIONS-clause-verdict : goal.returns-then-len-gt-MOST_OPERATIONS-clause-verdict
-returns-then-len-gt-MOST_OPERATIONS-clause-verdict c = λ entries start.
+-- the attempt writes more than the store takes in a transaction
+pub returns-then-len-gt-most-clause-verdict : goal.returns-then-len-gt-most-clause-verdict
+returns-then-len-gt-most-clause-verdict c = λ entries start.
     let ready : ReadyRun = c.args.ready.now in
     let s : Standing = c.args.store.now.standing in
-    let more : most_operations < length (txn_of ready).success =
-    subst (λ (t : Txn). most_operations < length t.success) c.requires.is_its (omega (arith, c.len.ensures, c.if-len-gt-MOST_OPERATIONS.true)) in
-    (inr (verdict_at_fault (hall_of s entries start) ready TooManyOps (too_many_writes most_operations (txn_of ready) more)), refl)
+    let more : s.limit < length (txn_of ready).success =
+    subst (λ (t : Txn). s.limit < length t.success) c.requires.is_its (omega (arith, c.len.ensures, c.limit-most.ensures.limit, c.if-len-gt-most.true)) in
+    (inr (verdict_at_fault (hall_of s entries start) ready TooManyOps (too_many_writes s.limit (txn_of ready) more)), refl)
 
 -- the store refused what is asked
 pub returns-in_err-answer-clause-verdict : goal.returns-in_err-answer-clause-verdict
@@ -36,8 +35,8 @@ returns-in_err-answer-clause-verdict c = λ entries start.
     let hall : HallState = hall_of s entries start in
     let after : HallState = hall_of next entries start in
     let exit = err_from_is_err_and c.from_residual.result c.from_residual.ensures.1 in
-    let few : length (txn_of ready).success ≤ most_operations =
-    subst (λ (t : Txn). length t.success ≤ most_operations) c.requires.is_its (omega (arith, c.len.ensures, c.if-len-gt-MOST_OPERATIONS.false)) in
+    let few : length (txn_of ready).success ≤ s.limit =
+    subst (λ (t : Txn). length t.success ≤ s.limit) c.requires.is_its (omega (arith, c.len.ensures, c.limit-most.ensures.limit, c.if-len-gt-most.false)) in
     refused_with (verdict_of hall ready) hall after c.from_residual.result (Store c.in_err-answer.field-0.0) (exit.1 ∙ ap (λ e. Err e) exit.2)
     (tells_asked_refused hall after ready c.without_writes-asked.result c.in_err-answer.field-0.0 kept
     (c.without_writes-asked.ensures ∙ ap asking c.requires.is_its) few c.in_err-answer.ensures.step
@@ -65,8 +64,8 @@ returns-in_ok-key-in-None-clause-verdict c = λ entries start.
     let s : Standing = c.args.store.now.standing in
     let next : Standing = c.txn-sent.new.self.standing in
     let hall : HallState = hall_of s entries start in
-    let few : length (txn_of ready).success ≤ most_operations =
-    subst (λ (t : Txn). length t.success ≤ most_operations) c.requires.is_its (omega (arith, c.len.ensures, c.if-len-gt-MOST_OPERATIONS.false)) in
+    let few : length (txn_of ready).success ≤ s.limit =
+    subst (λ (t : Txn). length t.success ≤ s.limit) c.requires.is_its (omega (arith, c.len.ensures, c.limit-most.ensures.limit, c.if-len-gt-most.false)) in
     let a = asked_answered s next ready c.without_writes-asked.result c.in_ok-answer.answer (c.without_writes-asked.ensures ∙ ap asking c.requires.is_its)
     c.in_ok-answer.ensures.step in (
       inr (tells_unvouched hall ready c.args.unvouched.now (asked_compared hall ready next c.in_ok-answer.answer None kept few a c.in-None.is)
@@ -120,8 +119,8 @@ returns-in_ok-verdict-in-Some-clause-verdict c = λ entries start.
     let s : Standing = c.args.store.now.standing in
     let next : Standing = c.txn-sent.new.self.standing in
     let hall : HallState = hall_of s entries start in
-    let few : length (txn_of ready).success ≤ most_operations =
-    subst (λ (t : Txn). length t.success ≤ most_operations) c.requires.is_its (omega (arith, c.len.ensures, c.if-len-gt-MOST_OPERATIONS.false)) in
+    let few : length (txn_of ready).success ≤ s.limit =
+    subst (λ (t : Txn). length t.success ≤ s.limit) c.requires.is_its (omega (arith, c.len.ensures, c.limit-most.ensures.limit, c.if-len-gt-most.false)) in
     let a = asked_answered s next ready c.without_writes-asked.result c.in_ok-answer.answer (c.without_writes-asked.ensures ∙ ap asking c.requires.is_its)
     c.in_ok-answer.ensures.step in
     let down = asked_reread s next ready c.in_ok-answer.answer c.in-Some.compare a c.in-Some.is in

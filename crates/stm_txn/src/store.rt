@@ -56,6 +56,7 @@ impl Drop for Store {
             leases: _,
             moment: _,
             watchers: _,
+            limit: _,
             alloc: _,
         } = self;
     }

@@ -68,7 +68,7 @@ abbrev transfer : Entry
 transfer = Program (of_statements (transfer_program (codes "a") (codes "b") 3)) Serializable [] []
     (seen.Get (codes "a") (codes "10") ∷ seen.Get (codes "b") (codes "12") ∷ []) 4
 
-paying_enters : entries_after 1 paying ≡ (Foreign open_accounts ∷ []) ++ (deposit ∷ transfer ∷ [])
+paying_enters : entries_after (at_revision 1) paying ≡ (Foreign open_accounts ∷ []) ++ (deposit ∷ transfer ∷ [])
 unfolding start_runner fetch commit step_live settle transfer_program deposit_program run_over run_block evaluate holds less equal arithmetic computed text_of num_of written_number key_in put_of get_key last_write latest_writes fresh digits
 paying_enters = refl
 
@@ -82,9 +82,9 @@ fifteen_at_first : total_now (replay (Foreign open_accounts ∷ []) (opening 1))
 unfolding written_number
 fifteen_at_first = refl
 
-twenty_two_at_last : total_now (history_after 1 paying) accounts ≡ Some (pos 22)
+twenty_two_at_last : total_now (history_after (at_revision 1) paying) accounts ≡ Some (pos 22)
 twenty_two_at_last =
-    recipes_in_worlds.totals 1 paying accounts (Foreign open_accounts ∷ []) (deposit ∷ transfer ∷ []) (pos 15) are_accounts paying_enters of_paying
+    recipes_in_worlds.totals (at_revision 1) paying accounts (Foreign open_accounts ∷ []) (deposit ∷ transfer ∷ []) (pos 15) are_accounts paying_enters of_paying
     fifteen_at_first
 
 -- ---- accounts that deposits make
@@ -101,7 +101,7 @@ filling_entries =
     ∷ Program (of_statements (transfer_program (codes "a") (codes "b") 3)) Serializable [] []
     (seen.Get (codes "a") (codes "10") ∷ seen.Get (codes "b") (codes "5") ∷ []) 4 ∷ []
 
-filling_enters : entries_after 1 filling ≡ filling_entries
+filling_enters : entries_after (at_revision 1) filling ≡ filling_entries
 unfolding start_runner fetch commit step_live settle transfer_program deposit_program run_over run_block evaluate holds less equal arithmetic computed text_of num_of written_number key_in put_of get_key last_write latest_writes fresh digits
 filling_enters = refl
 
@@ -114,8 +114,8 @@ of_filling = (
   ),
 )
 
-fifteen_were_deposited : counted_total (history_after 1 filling) accounts ≡ Some (pos 15)
-fifteen_were_deposited = recipes_in_worlds.deposits 1 filling accounts filling_entries are_accounts filling_enters of_filling
+fifteen_were_deposited : counted_total (history_after (at_revision 1) filling) accounts ≡ Some (pos 15)
+fifteen_were_deposited = recipes_in_worlds.deposits (at_revision 1) filling accounts filling_entries are_accounts filling_enters of_filling
 
 -- ---- two take from a queue of two, in turn
 
@@ -147,7 +147,7 @@ queue_entries =
     ∷ Program (of_statements (dequeue_program (codes "q"))) Serializable [] (Text (codes "A") ∷ []) (took [] (codes "q/0") (codes "A")) 4
     ∷ Program (of_statements (dequeue_program (codes "q"))) Serializable [] (Text (codes "B") ∷ []) (took (codes "1") (codes "q/1") (codes "B")) 5 ∷ []
 
-emptying_enters : entries_after 1 (emptying Serializable ++ Step 4 ∷ Step 4 ∷ []) ≡ queue_entries
+emptying_enters : entries_after (at_revision 1) (emptying Serializable ++ Step 4 ∷ Step 4 ∷ []) ≡ queue_entries
 unfolding start_runner fetch commit step_live settle enqueue_program dequeue_program run_over run_block evaluate holds equal arithmetic computed concatenated text_of num_of written_number key_in put_of del_of get_key last_write latest_writes fresh digits
 emptying_enters = refl
 
@@ -157,8 +157,8 @@ of_emptying = (
   (Enqueues (record { item = codes "B"; commits = (refl, refl) }), (Dequeues (refl, refl), (Dequeues (refl, refl), tt))),
 )
 
-in_order : Kept (codes "q") [] (codes "A" ∷ codes "B" ∷ []) (codes "A" ∷ codes "B" ∷ []) (history_after 1 (emptying Serializable ++ Step 4 ∷ Step 4 ∷ []))
-in_order = recipes_in_worlds.items 1 (emptying Serializable ++ Step 4 ∷ Step 4 ∷ []) (codes "q") queue_entries some emptying_enters of_emptying
+in_order : Kept (codes "q") [] (codes "A" ∷ codes "B" ∷ []) (codes "A" ∷ codes "B" ∷ []) (history_after (at_revision 1) (emptying Serializable ++ Step 4 ∷ Step 4 ∷ []))
+in_order = recipes_in_worlds.items (at_revision 1) (emptying Serializable ++ Step 4 ∷ Step 4 ∷ []) (codes "q") queue_entries some emptying_enters of_emptying
 
 abbrev told_to_both : List ReadAnswer
 told_to_both =
@@ -201,12 +201,12 @@ let_go = Program (of_statements (release_program (codes "s") (codes "h"))) Seria
 abbrev by_g : Entry
 by_g = Program (of_statements (reserve_program (codes "s") (codes "g") 0)) RepeatableReads [] [] (seen.Rev (codes "s") 0 ∷ []) 4
 
-reserving_enters : entries_after 1 reserving ≡ [] ++ (by_h ∷ (let_go ∷ []) ++ by_g ∷ [])
+reserving_enters : entries_after (at_revision 1) reserving ≡ [] ++ (by_h ∷ (let_go ∷ []) ++ by_g ∷ [])
 unfolding start_runner fetch commit step_live settle reserve_program release_program run_over run_block evaluate holds equal key_in text_in put_of del_of get_key rev_key last_write latest_writes fresh
 reserving_enters = refl
 
 freed_by_its_holder : IsFreed (codes "s") (let_go ∷ []) (replay_entry by_h (opening 1))
 freed_by_its_holder =
-    recipes_in_worlds.holders 1 reserving (codes "s") [] (let_go ∷ []) [] by_h by_g some reserving_enters
+    recipes_in_worlds.holders (at_revision 1) reserving (codes "s") [] (let_go ∷ []) [] by_h by_g some reserving_enters
     (record { holder = codes "h"; lease = 0; commits = (refl, refl) }) (record { holder = codes "g"; lease = 0; commits = (refl, refl) })
     (inr (inl (record { holder = codes "h"; commits = (refl, refl) })), tt)

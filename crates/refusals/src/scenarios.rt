@@ -1,6 +1,6 @@
 //! The scenarios of the runs.
 ghost use Rattle.std.specs.Prelude.{IfOk};
-ghost use Rattle.stm_texts.specs.Reading.{IsOpening};
+ghost use Rattle.stm_texts.specs.Opens.{IsOpening};
 
 use anyhow::Result;
 use std::alloc::Global;

@@ -127,6 +127,7 @@ pub(crate) fn described(part: Part) -> &'static str {
         Part::Event => "an event, which is an array that begins with a word,",
         Part::Beginning => "[\"begin\",REVISION]",
         Part::Opening => "a whole number from 1 to 9223372036854775806",
+        Part::MostOperations => "a whole number from 1 to 128",
         Part::Level => "a level",
         Part::Limit => "a whole number from 0 to 4294967295",
         Part::JobLimit => "a whole number from 1 to 4294967295",

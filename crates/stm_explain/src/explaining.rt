@@ -3,7 +3,7 @@ ghost use Rattle.std.specs.Prelude.{◌≡◌, ◌≤◌, length, IfOk, string_b
 ghost use Rattle.stm_explain.specs.Explaining.{IsExplanation, IsExplanationOf, explanation};
 
 use crate::allowed::{described, noun, parts_behind, words_allowed};
-use crate::forms::{Input, Part};
+use crate::forms::{Input, Part, Parts};
 use crate::offsets::{line_length, line_start, offset_of};
 use crate::position::position_of;
 use crate::syntax::told_of_text;
@@ -78,14 +78,15 @@ fn miscounted(
     alloc: Global,
     input: Input,
     word: &str,
-    wants: usize,
+    wants: Parts,
     has: usize,
 ) -> Result<String, AllocError> {
-    if wants == has {
+    if wants.are_so_many(has) {
         let nowhere = nowhere(input);
         return format!(in alloc; "\"{word}\" has no place {nowhere}");
     }
-    format!(in alloc; "elements behind \"{word}\": {has} found, {wants} wanted")
+    let number = wants.number();
+    format!(in alloc; "elements behind \"{word}\": {has} found, {number} wanted")
 }
 
 /// What is said of an array that begins with a word.
@@ -97,7 +98,7 @@ fn misworded(
     elements: &[Value],
 ) -> Result<String, AllocError> {
     match parts_behind(found.part, word) {
-        Some(parts) => miscounted(alloc, input, word, parts.count(), elements.len()),
+        Some(parts) => miscounted(alloc, input, word, parts, elements.len()),
         None => match found.value.get(0) {
             Some(first) => unknown(alloc, found.part, word, first),
             None => unfit(alloc, found),

@@ -22,10 +22,12 @@ pub enum Part {
     Scenario,
     /// An event.
     Event,
-    /// The first element of a scenario with an opening revision.
+    /// The first element of a scenario that says what its store opens with.
     Beginning,
     /// An opening revision.
     Opening,
+    /// How many operations a store takes.
+    MostOperations,
     /// A level.
     Level,
     /// How many commits a run may send.
@@ -71,6 +73,8 @@ pub enum Parts {
     Nothing,
     /// One element.
     One(Part),
+    /// One element, and a second one or not.
+    OneOrTwo(Part, Part),
     /// Two elements.
     Two(Part, Part),
     /// Three elements.
@@ -80,14 +84,27 @@ pub enum Parts {
 }
 
 impl Parts {
-    /// How many elements stand behind the word.
-    pub(crate) fn count(self) -> usize {
+    /// Whether so many elements may stand behind the word.
+    pub(crate) fn are_so_many(self, count: usize) -> bool {
         match self {
-            Parts::Nothing => 0,
-            Parts::One(_) => 1,
-            Parts::Two(..) => 2,
-            Parts::Three(..) => 3,
-            Parts::Four(..) => 4,
+            Parts::Nothing => count == 0,
+            Parts::One(_) => count == 1,
+            Parts::OneOrTwo(..) => count == 1 || count == 2,
+            Parts::Two(..) => count == 2,
+            Parts::Three(..) => count == 3,
+            Parts::Four(..) => count == 4,
+        }
+    }
+
+    /// How many elements stand behind the word, in words.
+    pub(crate) fn number(self) -> &'static str {
+        match self {
+            Parts::Nothing => "0",
+            Parts::One(_) => "1",
+            Parts::OneOrTwo(..) => "1 or 2",
+            Parts::Two(..) => "2",
+            Parts::Three(..) => "3",
+            Parts::Four(..) => "4",
         }
     }
 
@@ -96,6 +113,7 @@ impl Parts {
         match self {
             Parts::Nothing => None,
             Parts::One(part)
+            | Parts::OneOrTwo(part, _)
             | Parts::Two(part, _)
             | Parts::Three(part, _, _)
             | Parts::Four(part, _, _, _) => Some(part),
@@ -106,7 +124,7 @@ impl Parts {
     fn rest(self) -> Parts {
         match self {
             Parts::Nothing | Parts::One(_) => Parts::Nothing,
-            Parts::Two(_, second) => Parts::One(second),
+            Parts::OneOrTwo(_, second) | Parts::Two(_, second) => Parts::One(second),
             Parts::Three(_, second, third) => Parts::Two(second, third),
             Parts::Four(_, second, third, fourth) => Parts::Three(second, third, fourth),
         }
@@ -258,4 +276,7 @@ pub const LINES: [(&str, Parts); 22] = [
 ];
 
 /// What may begin a scenario, in the place of an event.
-pub const BEGINNINGS: [(&str, Parts); 1] = [("begin", Parts::One(Part::Opening))];
+pub const BEGINNINGS: [(&str, Parts); 1] = [(
+    "begin",
+    Parts::OneOrTwo(Part::Opening, Part::MostOperations),
+)];

@@ -17,6 +17,7 @@ use Rattle.stm_world.specs.Right.{Situation, IsRight, AreRight, StepIsRight}
 use Rattle.stm_world.proofs.Lines.{by_event}
 use Rattle.stm_faulted_runs.specs.Places.{Started, started_by, started_in}
 use Rattle.stm_faulted_runs.specs.Laws.{events_of, IsBegun, RunsAreBegun}
+use Rattle.stm_txn.specs.Standing.{Setup}
 
 -- ---- replies that name no new runner
 
@@ -49,7 +50,7 @@ abbrev starts : WorldEvent → Bool
 starts (Start program level limit) = true
 starts other = false
 
-silent : (start : ℕ) (log : List Line) (event : WorldEvent) (told : Result Reply Denied) → IsRight start log event told → starts event ≡ false → runner_started told ≡ None
+silent : (start : Setup) (log : List Line) (event : WorldEvent) (told : Result Reply Denied) → IsRight start log event told → starts event ≡ false → runner_started told ≡ None
 silent start log event told right other =
     by_event start log (λ (e : WorldEvent) (r : Result Reply Denied). starts e ≡ false → runner_started r ≡ None)
     (λ e r nothing not. none_named (runner_started r) (λ id. (nothing.untouched id).not_started)) (λ task not. absurd (true≢false not))

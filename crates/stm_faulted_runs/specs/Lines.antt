@@ -1,6 +1,6 @@
 -- The explanations of runs that came to a fault: a line for each of them, in order.
 use Rattle.std.specs.Prelude.{◌≡◌, ◌⊎◌, ℕ, suc, ◌-◌, List, [], ◌∷◌, ◌++◌, Bool, Option, None, Some, is_some, if◌then◌else◌, Result, Ok, Err, codes, decimal}
-use Rattle.std.specs.Prelude.{unwrap_or, slice_get}
+use Rattle.std.specs.Prelude.{slice_get}
 use Rattle.stm_history.specs.declared.key_state.ReadAnswer.{ReadAnswer}
 use Rattle.stm_steps.specs.declared.fault.Fault.{Fault}
 use Rattle.stm_steps.specs.Faults.{fault_name}
@@ -12,6 +12,7 @@ use Rattle.stm_world.specs.declared.event.WorldEvent.{WorldEvent}
 use Rattle.stm_world.specs.World.{World, opened, replies_to}
 use Rattle.stm_json.specs.Outcome.{Outcome}
 use Rattle.stm_texts.specs.declared.scenario.Scenario.{Scenario}
+use Rattle.stm_texts.specs.Opens.{setup_of}
 use Rattle.stm_explain.specs.Explaining.{IsExplanationOf}
 use Rattle.stm_faulted_runs.specs.Reads.{told_in}
 use Rattle.stm_faulted_runs.specs.Places.{Started, started_in, IsMoreOf}
@@ -89,5 +90,5 @@ origin_of name text s = record { name = name; text = text; runs = started_in (fi
 
 -- what is said of the run of a scenario; nothing where there is no scenario
 abbrev pub ExplainsRun : List ℕ → List ℕ → Outcome Scenario → List ℕ → Type 0
-ExplainsRun name text (Ok s) said = ExplainsEach (origin_of name text s) (faults_from (opened (unwrap_or s.opening 1)) s.events) said
+ExplainsRun name text (Ok s) said = ExplainsEach (origin_of name text s) (faults_from (opened (setup_of s.opening)) s.events) said
 ExplainsRun name text (Err bad) said = said ≡ []

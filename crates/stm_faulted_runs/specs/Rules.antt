@@ -1,5 +1,5 @@
 -- The explanation of a rule that comes to a fault on the state that a scenario leaves.
-use Rattle.std.specs.Prelude.{◌≡◌, ℕ, List, [], ◌++◌, Option, None, Some, Ok, Err, codes, unwrap_or}
+use Rattle.std.specs.Prelude.{◌≡◌, ℕ, List, [], ◌++◌, Option, None, Some, Ok, Err, codes}
 use Rattle.serde_json.specs.Data.{Data}
 use Rattle.serde_json.specs.Read.{read as read_text}
 use Rattle.stm_history.specs.History.{History}
@@ -14,6 +14,7 @@ use Rattle.stm_calls.specs.StateOf.{IsStateOf}
 use Rattle.stm_world.specs.World.{opened, world_after}
 use Rattle.stm_json.specs.Outcome.{Outcome}
 use Rattle.stm_texts.specs.declared.scenario.Scenario.{Scenario}
+use Rattle.stm_texts.specs.Opens.{setup_of}
 use Rattle.stm_explain.specs.Explaining.{IsExplanationOf}
 use Rattle.stm_sites.specs.declared.finding.FoundFault.{FoundFault}
 use Rattle.stm_sites.specs.Found.{fault_of}
@@ -48,7 +49,7 @@ ExplainsOver name text look said = ExplainsData name text look (read_text text) 
 
 -- the history that a scenario's run leaves
 abbrev pub left_by : Scenario → History
-left_by s = (world_after s.events (opened (unwrap_or s.opening 1))).standing.history
+left_by s = (world_after s.events (opened (setup_of s.opening))).standing.history
 
 -- what is said of a rule on the state that a scenario leaves; nothing where there is no scenario
 abbrev pub ExplainsRule : List ℕ → List ℕ → Outcome Scenario → List ℕ → Type 0

@@ -4,7 +4,8 @@ ghost use Rattle.serde_json.specs.View.{view};
 ghost use Rattle.stm_calls.specs.StateOf.{IsStateOf};
 ghost use Rattle.stm_program_json.specs.Reading.{program_of};
 ghost use Rattle.stm_steps.specs.States.{state_answers};
-ghost use Rattle.stm_texts.specs.Reading.{IsOpening, scenario_in};
+ghost use Rattle.stm_texts.specs.Reading.{scenario_in};
+ghost use Rattle.stm_texts.specs.Opens.{IsOpening};
 ghost use Rattle.stm_world.specs.World.{world_after};
 ghost use Rattle.stm_faulted_runs.specs.Rules.{IsRuleLine, ExplainsProgram, ExplainsOver, ExplainsRule, rule_head, left_by};
 
@@ -20,7 +21,7 @@ use stm_program_json::read_program;
 use stm_retry::{State, World, WorldEvent};
 use stm_sites::{FoundFault, find_fault};
 use stm_steps::Fault;
-use stm_texts::{Scenario, read_scenario};
+use stm_texts::{Scenario, opens_with, read_scenario};
 
 /// The head of a rule's line.
 fn head_of_rule(alloc: Global, fault: Fault) -> Result<String, AllocError>
@@ -108,8 +109,8 @@ fn state_after(alloc: Global, scenario: &Scenario) -> Result<State, AllocError>
     requires { IsOpening scenario.now.opening }
     ensures { IfOk result (IsStateOf (left_by scenario.now)) }
 {
-    let start = scenario.opening.unwrap_or(1);
-    let mut world = World::with_revision(alloc, start)?;
+    let opening = opens_with(scenario.opening);
+    let mut world = World::with_limits(alloc, opening.revision, opening.operations)?;
     let outcome = run_all(&mut world, scenario.events.as_slice());
     let left = world.state();
     drop(world);

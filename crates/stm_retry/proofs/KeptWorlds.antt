@@ -28,6 +28,7 @@ use Rattle.stm_outcome.specs.Outcome.{Done}
 use Rattle.stm_txn.specs.Standing.{Standing, Step as StoreStep, Advance as StoreAdvance, HasKept, with_history, kept, terms_of, transacted, granted, kept_alive}
 use Rattle.stm_txn.specs.Standing.{revoked, advanced, watched, polled, cancelled, raised, IsStopped}
 use Rattle.stm_txn.specs.Standing.{IsCutShort as StoreCutShort}
+use Rattle.stm_txn.specs.Standing.{Setup}
 use Rattle.stm_compile.specs.CommitTxn.{reread_keys}
 use Rattle.stm_compile.specs.Committed.{committed}
 use Rattle.stm_compile.specs.Conflicts.{Seen, seen_by}
@@ -68,7 +69,7 @@ use Rattle.stm_world.specs.Sound.{IsSound, after_expiries}
 use Rattle.stm_world.specs.Appended.{HasAppended}
 use Rattle.stm_world.proofs.Wants.{NoWant, NeverWants, advanced_never}
 use Rattle.stm_world.proofs.NeverOutOfMemory.{raised_never}
-use Rattle.stm_world.proofs.Calls.{txn_follows, at_moment_follows}
+use Rattle.stm_world.proofs.Calls.{txn_goes_on, at_moment_follows}
 use Rattle.stm_world.proofs.Appending.{events_append}
 use Rattle.stm_world.proofs.Sound.{opened_is_sound, step_is_sound, base_is_reached}
 use Rattle.stm_retry.specs.Tells.{IsStep, IsUnchanged, IsCutShort, WantTells, RefusalTells, Tells, is_want_of_store, is_want}
@@ -263,7 +264,7 @@ step_kept (Txn txn) w k =
     ap (λ (o : Result (StoreStep TxnAnswer) StoreRefusal).
     called (reply_to TxnDone o) (store_after_call (kept s) o) (if_changed (kept s) (store_after_call (kept s) o) txn) (kept_world w))
     (transacted_kept s k.reached txn)
-    ∙ txn_by txn w (transacted s txn) k.reached ((txn_follows s txn).kept k).reached
+    ∙ txn_by txn w (transacted s txn) k.reached ((txn_goes_on s txn).kept k).reached
 step_kept (Grant id ttl) w k =
     let s : Standing = w.standing in
     ap (λ (o : Result (StoreStep (Unit {0})) StoreRefusal).
@@ -552,14 +553,14 @@ bases_are_reached opened m x id r found =
     subst (λ n. at_of r.task.level r.known.reads ≤ n) (sym same) (base_is_reached w id r x.sound found)
 
 -- a world that opens keeps all
-opened_is_kept : (start : ℕ) → IsKeptBy (opened_world start).standing (opened_world start)
+opened_is_kept : (start : Setup) → IsKeptBy (opened_world start).standing (opened_world start)
 opened_is_kept start = record {
   sound = opened_is_sound start;
   stands = ap (with_history (opened_world start).standing) (sym (cut_at_the_opening (opened_world start).standing.history (0 - 1) (omega arith)));
 }
 
-pub opened_leaves : (start : ℕ) (m : World) → m ≡ opened_world start → IsKeptBy m.standing (whole_world start m)
-opened_leaves start m is = subst (λ (w : World). IsKeptBy w.standing (whole_world start w)) (sym is) (opened_is_kept start)
+pub opened_leaves : (start : Setup) (m : World) → m ≡ opened_world start → IsKeptBy m.standing (whole_world start.revision m)
+opened_leaves start m is = subst (λ (w : World). IsKeptBy w.standing (whole_world start.revision w)) (sym is) (opened_is_kept start)
 
 -- a start
 pub started_leaves : (task : Task) (result : Result ℕ AllocError) (opened : ℕ) (old new : World) → IsKeptBy old.standing (whole_world opened old) →

@@ -23,6 +23,7 @@ use Rattle.stm_outcome.specs.declared.refusal.Refusal.TheVariants.{LeaseIdOutOfR
 use Rattle.stm_outcome.specs.Commits.{revision_read}
 use Rattle.stm_outcome.specs.Outcome.{Done}
 use Rattle.stm_txn.specs.Standing.{terms_of}
+use Rattle.stm_txn.specs.Standing.{Setup}
 use Rattle.stm_outcome.specs.Terms.{is_below_floor}
 use Rattle.stm_world.specs.declared.reply.Reply.TheVariants.{Ended}
 use Rattle.stm_compile.specs.Committed.{committed}
@@ -281,7 +282,7 @@ stops_at events i e w new start reply within is reached want told =
     (subst (λ (x : World). WantTells e (expired_of reply) x new) reached (want_of e reply w new want told)))
 
 -- a run from a world of which the headline holds
-pub run_holds : (start : ℕ) (before events : List WorldEvent) (earlier : List (Result Reply Denied)) (old new : World) (replies : List (Result Reply Denied)) →
+pub run_holds : (start : Setup) (before events : List WorldEvent) (earlier : List (Result Reply Denied)) (old new : World) (replies : List (Result Reply Denied)) →
     replies ≡ replies_to events old → new ≡ world_after events old → Holds start before earlier old →
     Holds start (before ++ events) (earlier ++ replies) new
 run_holds start before events earlier old new replies replied reached holds =
@@ -291,7 +292,7 @@ run_holds start before events earlier old new replies replied reached holds =
     (headline_goes_on laws start before events earlier old holds))
 
 -- one event, where memory was had
-pub step_holds : (start : ℕ) (before : List WorldEvent) (earlier : List (Result Reply Denied)) (event : WorldEvent) (reply : Result Reply Denied)
+pub step_holds : (start : Setup) (before : List WorldEvent) (earlier : List (Result Reply Denied)) (event : WorldEvent) (reply : Result Reply Denied)
     (old new : World) → ran_out reply ≡ false → Tells event reply old new → Holds start before earlier old →
     Holds start (before ++ event ∷ []) (earlier ++ reply ∷ []) new
 step_holds start before earlier event reply old new had told holds =

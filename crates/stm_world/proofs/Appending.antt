@@ -176,7 +176,7 @@ event_appends (Step id) w sound = runner_by w id (runner_at id w.runners) sound 
 event_appends (Txn txn) w sound =
     let s : Standing = w.standing in
     let next : Standing = store_after_call s (transacted s txn) in
-    called_appends w (reply_to TxnDone (transacted s txn)) next (if_changed s next txn) (txn_follows s txn)
+    called_appends w (reply_to TxnDone (transacted s txn)) next (if_changed s next txn) (txn_follows s txn sound.limit)
 event_appends (Grant lease ttl) w sound =
     let s : Standing = w.standing in
     let o = granted s lease ttl in

@@ -7,6 +7,7 @@ use Rattle.stm_history.specs.Opening.{Opening}
 use Rattle.stm_history.specs.History.{History, now}
 use Rattle.stm_outcome.specs.Commits.{revision_read}
 use Rattle.stm_txn.specs.Standing.{Standing}
+use Rattle.stm_txn.specs.Standing.{Setup}
 use Rattle.stm_compile.specs.Levels.{is_serializable}
 use Rattle.stm_compile.specs.Answers.{answer_now}
 use Rattle.stm_compile.specs.CommitTxn.{reread_keys}
@@ -31,8 +32,8 @@ abbrev pub HasBase : Known → Type 0
 HasBase known = HaveOneBase known.reads × AllByRecursion (λ (a : ReadAnswer). 1 ≤ a.of_rev) known.prefetched
 
 -- at the serializable levels, in a world whose store did not open at 0
-abbrev pub IsBased : ℕ → Task → Known → Type 0
-IsBased start task known = 1 ≤ start → is_serializable task.level ≡ true → HasBase known
+abbrev pub IsBased : Setup → Task → Known → Type 0
+IsBased start task known = 1 ≤ start.revision → is_serializable task.level ≡ true → HasBase known
 
 served_base : (task : Task) (known : Known) → HasBase known → HasBase (with_served task known)
 served_base task known based =
@@ -47,12 +48,12 @@ added_count : (before after : History) → AddsTo before after → 1 ≤ before.
 added_count before after adds some =
     let same : after.opening.number ≡ before.opening.number = ap (λ (o : Opening). o.number) adds.opening in omega arith
 
-pub counter_some : (start : ℕ) (entries : List Entry) (s : Standing) → replay entries (opening start) ≡ without_moment s → 1 ≤ start → 1 ≤ now s.history
+pub counter_some : (start : Setup) (entries : List Entry) (s : Standing) → replay entries (opening start.revision) ≡ without_moment s → 1 ≤ start.revision → 1 ≤ now s.history
 counter_some start entries s replays some =
     subst (λ (r : Replayed). 1 ≤ now r.history) replays
-    (added_count (opening start).history (replay entries (opening start)).history (replay_only_adds entries (opening start)) some)
+    (added_count (opening start.revision).history (replay entries (opening start.revision)).history (replay_only_adds entries (opening start.revision)) some)
 
-fetch_based : (start : ℕ) (task : Task) (h : History) (key : List ℕ) (known : Known) → (1 ≤ start → 1 ≤ now h) → IsBased start task known →
+fetch_based : (start : Setup) (task : Task) (h : History) (key : List ℕ) (known : Known) → (1 ≤ start.revision → 1 ≤ now h) → IsBased start task known →
     IsBased start task (after_fetch task (answer_at h key (revision_read h (at_of task.level known.reads))) known)
 fetch_based start task h key known counter based some serializable =
     let before : HasBase known = based some serializable in
@@ -60,7 +61,7 @@ fetch_based start task h key known counter based some serializable =
     served_base task (record { reads = known.reads ++ a ∷ []; prefetched = known.prefetched })
     (fetching_keeps_the_base h task.level known.reads a serializable (counter some) refl before.0, before.1)
 
-conflict_based : (start : ℕ) (task : Task) (h : History) (known : Known) → (1 ≤ start → 1 ≤ now h) → IsBased start task (after_conflict task h known)
+conflict_based : (start : Setup) (task : Task) (h : History) (known : Known) → (1 ≤ start.revision → 1 ≤ now h) → IsBased start task (after_conflict task h known)
 conflict_based start task h known counter some serializable =
     served_base task (record { reads = []; prefetched = map (answer_now h) (reread_keys task.level known.reads) })
     (tt, rereads_show h (reread_keys task.level known.reads) (counter some))
@@ -68,7 +69,7 @@ conflict_based start task h known counter some serializable =
 -- ---- how a run goes on ----
 
 -- what a runner has read in its attempt is based and was asked for, and it may send a commit yet
-pub record IsWellRun (start : ℕ) (r : Runner) : Type 0 where
+pub record IsWellRun (start : Setup) (r : Runner) : Type 0 where
   pub based : IsBased start r.task r.known
   pub asked : AreAsked r.task.program r.known.reads
   pub within : r.failures < r.task.limit
@@ -77,10 +78,10 @@ some_limit : (limit : ℕ) → limit ≢ 0 → 0 < limit
 some_limit zero some = absurd (some refl)
 some_limit (suc n) some = omega arith
 
-pub begin_runs : (start : ℕ) (task : Task) → task.limit ≢ 0 → IsWellRun start (begin task)
+pub begin_runs : (start : Setup) (task : Task) → task.limit ≢ 0 → IsWellRun start (begin task)
 begin_runs start task some = record { based = λ opens serializable. (tt, tt); asked = tt; within = some_limit task.limit some }
 
-pub fetch_runs : (start : ℕ) (r : Runner) (h : History) (key : List ℕ) (trace : List TraceItem) → (1 ≤ start → 1 ≤ now h) →
+pub fetch_runs : (start : Setup) (r : Runner) (h : History) (key : List ℕ) (trace : List TraceItem) → (1 ≤ start.revision → 1 ≤ now h) →
     run_on r.task.program r.known.reads ≡ Wants key trace → IsWellRun start r →
     IsWellRun start (record r { known = after_fetch r.task (answer_at h key (revision_read h (at_of r.task.level r.known.reads))) r.known })
 fetch_runs start r h key trace counter wants well = record {
@@ -89,7 +90,7 @@ fetch_runs start r h key trace counter wants well = record {
   within = well.within;
 }
 
-pub conflict_runs : (start : ℕ) (task : Task) (failures : ℕ) (h : History) (known : Known) → (1 ≤ start → 1 ≤ now h) → failures < task.limit →
+pub conflict_runs : (start : Setup) (task : Task) (failures : ℕ) (h : History) (known : Known) → (1 ≤ start.revision → 1 ≤ now h) → failures < task.limit →
     IsWellRun start (record { task = task; failures = failures; known = after_conflict task h known })
 conflict_runs start task failures h known counter left =
     record { based = conflict_based start task h known counter; asked = conflict_asked task h known; within = left }

@@ -16,6 +16,7 @@ use Rattle.stm_outcome.specs.declared.refusal.Refusal.TheVariants.{Compacted as 
 use Rattle.stm_outcome.specs.Outcome.{Done}
 use Rattle.stm_outcome.specs.Commits.{revision_read}
 use Rattle.stm_txn.specs.Standing.{terms_of}
+use Rattle.stm_txn.specs.Standing.{Setup}
 use Rattle.stm_outcome.specs.Terms.{is_below_floor}
 use Rattle.stm_compile.specs.Committed.{committed}
 use Rattle.stm_compile.specs.Conflicts.{Seen, seen_by}
@@ -142,13 +143,13 @@ start_by count limit (Ok a) (Err b) first second = absurd (first.1 second.1)
 start_by count limit (Err a) (Ok b) first second = absurd (second.1 first.1)
 start_by count limit (Err a) (Err b) first second = ap (λ (d : Denied). Err d) (first.0 ∙ sym second.0)
 
-runner_by : (start : ℕ) (log : List Line) (id : ℕ) (o : Option Task) (a b : Result Reply Denied) → RunnerIsRight start log id o a →
+runner_by : (start : Setup) (log : List Line) (id : ℕ) (o : Option Task) (a b : Result Reply Denied) → RunnerIsRight start log id o a →
     RunnerIsRight start log id o b → a ≡ b
 runner_by start log id None a b first second = first ∙ sym second
 runner_by start log id (Some task) a b first second =
     step_by (situation start log id task) a first ∙ sym (step_by (situation start log id task) b second)
 
-pub one_right : (start : ℕ) (log : List Line) (event : WorldEvent) (a b : Result Reply Denied) → IsRight start log event a → IsRight start log event b → a ≡ b
+pub one_right : (start : Setup) (log : List Line) (event : WorldEvent) (a b : Result Reply Denied) → IsRight start log event a → IsRight start log event b → a ≡ b
 one_right start log (Start program level limit) a b first second = start_by (started log) limit a b first second
 one_right start log (Step id) a b first second = runner_by start log id (running id log) a b first second
 one_right start log (Txn txn) a b first second = first ∙ sym second
@@ -165,12 +166,12 @@ one_right start log (Compact revision) a b first second = first ∙ sym second
 -- ---- whole logs ----
 
 -- a line of this event has this reply
-right_line : (start : ℕ) (log : List Line) (event : WorldEvent) (reply : Result Reply Denied) (line : Line) → line.event ≡ event →
+right_line : (start : Setup) (log : List Line) (event : WorldEvent) (reply : Result Reply Denied) (line : Line) → line.event ≡ event →
     IsRight start log event reply → IsRight start log line.event line.reply → reply ≡ line.reply
 right_line start log event reply line same first second =
     one_right start log event reply line.reply first (subst (λ (e : WorldEvent). IsRight start log e line.reply) same second)
 
-same_right : (start : ℕ) (a b : List Line) → AreRight start a → AreRight start b →
+same_right : (start : Setup) (a b : List Line) → AreRight start a → AreRight start b →
     map (λ (line : Line). line.event) a ≡ map (λ (line : Line). line.event) b → a ≡ b
 same_right start [] [] first second events = refl
 same_right start [] (y ∷ b) first second events = absurd (cc)
@@ -182,7 +183,7 @@ same_right start (x ∷ a) (y ∷ b) first second events =
     let reply : x.reply ≡ y.reply = right_line start a x.event x.reply y (sym event) first.0 again in
     (λ i. record { event = event i; reply = reply i } ∷ rest i)
 
-replies_are : Headline → (start : ℕ) (events : List WorldEvent) (replies : List (Result Reply Denied)) (log : List Line) → IsLogOf events replies log →
+replies_are : Headline → (start : Setup) (events : List WorldEvent) (replies : List (Result Reply Denied)) (log : List Line) → IsLogOf events replies log →
     AreRight start log → replies ≡ replies_to events (opened start)
 replies_are headline start events replies log is right =
     let run = headline start events in

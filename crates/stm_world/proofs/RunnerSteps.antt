@@ -18,6 +18,7 @@ use Rattle.stm_outcome.specs.declared.refusal.Refusal.{Refusal as StoreRefusal}
 use Rattle.stm_outcome.specs.Outcome.{Done}
 use Rattle.stm_outcome.specs.Commits.{revision_read}
 use Rattle.stm_txn.specs.Standing.{Standing, HasKept, with_history, terms_of}
+use Rattle.stm_txn.specs.Standing.{Setup}
 use Rattle.stm_outcome.specs.Terms.{is_below_floor}
 use Rattle.stm_outcome.specs.declared.refusal.Refusal.TheVariants.{Compacted as CompactedRefusal}
 use Rattle.stm_compile.specs.Answers.{AreTrue}
@@ -52,37 +53,37 @@ use Rattle.stm_world.proofs.CommitCases.{Fails, fails}
 use Rattle.stm_world.proofs.CommitEntries.{Takes, Taken, taken, commit_follows_entry}
 
 -- a runner of a world that follows its log, which the log tells to run this task
-pub record Runs (start : ℕ) (log : List Line) (runners : List Slot) (entries : List Entry) (id : ℕ) (task : Task) : Type 0 where
+pub record Runs (start : Setup) (log : List Line) (runners : List Slot) (entries : List Entry) (id : ℕ) (task : Task) : Type 0 where
   pub follows : FollowsAt start log runners entries
   pub running : running id log ≡ Some task
 
-there : (start : ℕ) (log : List Line) (runners : List Slot) (entries : List Entry) (id : ℕ) (task : Task) → Runs start log runners entries id task →
+there : (start : Setup) (log : List Line) (runners : List Slot) (entries : List Entry) (id : ℕ) (task : Task) → Runs start log runners entries id task →
     runner_at id runners ≡ Some (runner_for start log id task)
 there start log runners entries id task x = x.follows.slots id ∙ ap (option_map (runner_for start log id)) x.running
 
-known_truth : (start : ℕ) (log : List Line) (runners : List Slot) (entries : List Entry) (id : ℕ) (task : Task) → Runs start log runners entries id task →
+known_truth : (start : Setup) (log : List Line) (runners : List Slot) (entries : List Entry) (id : ℕ) (task : Task) → Runs start log runners entries id task →
     KnowsTruth (store start log).history (told start id task log)
 known_truth start log runners entries id task x = x.follows.truth id (runner_for start log id task) (there start log runners entries id task x)
 
-well_run : (start : ℕ) (log : List Line) (runners : List Slot) (entries : List Entry) (id : ℕ) (task : Task) → Runs start log runners entries id task →
+well_run : (start : Setup) (log : List Line) (runners : List Slot) (entries : List Entry) (id : ℕ) (task : Task) → Runs start log runners entries id task →
     IsWellRun start (runner_for start log id task)
 well_run start log runners entries id task x = x.follows.well_run id (runner_for start log id task) (there start log runners entries id task x)
 
-counter : (start : ℕ) (log : List Line) (runners : List Slot) (entries : List Entry) (id : ℕ) (task : Task) → Runs start log runners entries id task →
-    1 ≤ start → 1 ≤ now (store start log).history
+counter : (start : Setup) (log : List Line) (runners : List Slot) (entries : List Entry) (id : ℕ) (task : Task) → Runs start log runners entries id task →
+    1 ≤ start.revision → 1 ≤ now (store start log).history
 counter start log runners entries id task x some = counter_some start entries (store start log) x.follows.replays some
 
-pub reads_truth : (start : ℕ) (log : List Line) (runners : List Slot) (entries : List Entry) (id : ℕ) (task : Task) → Runs start log runners entries id task →
+pub reads_truth : (start : Setup) (log : List Line) (runners : List Slot) (entries : List Entry) (id : ℕ) (task : Task) → Runs start log runners entries id task →
     AreTrue (store start log).history (told start id task log).reads
 reads_truth start log runners entries id task x =
     (known_truth start log runners entries id task x).0
 
-is_right : (start : ℕ) (log : List Line) (id : ℕ) (task : Task) (reply : Reply) → running id log ≡ Some task →
+is_right : (start : Setup) (log : List Line) (id : ℕ) (task : Task) (reply : Reply) → running id log ≡ Some task →
     ReplyIsRight (situation start log id task) reply → IsRight start log (Step id) (Ok reply)
 is_right start log id task reply runs right = subst (λ (o : Option Task). RunnerIsRight start log id o (Ok reply)) (sym runs) right
 
 -- a reply that ends the run
-over_now : (start : ℕ) (log : List Line) (id : ℕ) (reply : Reply) → runner_ended (Ok reply) ≡ Some id →
+over_now : (start : Setup) (log : List Line) (id : ℕ) (reply : Reply) → runner_ended (Ok reply) ≡ Some id →
     runner_in_log start (with_line (Step id) (Ok reply) log) id ≡ None
 over_now start log id reply ended =
     ap (λ b. option_map (runner_for start (with_line (Step id) (Ok reply) log) id)
@@ -90,7 +91,7 @@ over_now start log id reply ended =
     (ap (is_id id) ended ∙ same_number id)
 
 -- a reply that changes nothing of the store
-replied_follows : (start : ℕ) (log : List Line) (runners : List Slot) (entries : List Entry) (id : ℕ) (task : Task) (slot : Slot) (reply : Reply) →
+replied_follows : (start : Setup) (log : List Line) (runners : List Slot) (entries : List Entry) (id : ℕ) (task : Task) (slot : Slot) (reply : Reply) →
     Runs start log runners entries id task → ReplyIsRight (situation start log id task) reply → runner_named reply ≡ Some id →
     runner_started (Ok reply) ≡ None → store start (with_line (Step id) (Ok reply) log) ≡ store start log →
     [] ≡ line_entries start (record { event = Step id; reply = Ok reply }) log →
@@ -113,11 +114,12 @@ replied_follows start log runners entries id task slot reply x right named none 
             keeps = subst (λ (s : Standing). Keeps (store start log).history s.history) (sym same) (keeps_same (store start log).history);
             kept = subst (λ (s : Standing). HasKept (store start log) → HasKept s) (sym same) (λ k. k);
             floor = subst (λ (s : Standing). (store start log).floor ≤ s.floor) (sym same) (floor_stays (store start log));
+            limit = ap (λ (s : Standing). s.limit) same;
           }));
     }
 
 -- a reply that ends the run, and changes nothing of the store
-ended_follows : (start : ℕ) (log : List Line) (runners : List Slot) (entries : List Entry) (id : ℕ) (task : Task) (reply : Reply) →
+ended_follows : (start : Setup) (log : List Line) (runners : List Slot) (entries : List Entry) (id : ℕ) (task : Task) (reply : Reply) →
     Runs start log runners entries id task → ReplyIsRight (situation start log id task) reply → runner_named reply ≡ Some id →
     runner_started (Ok reply) ≡ None → runner_ended (Ok reply) ≡ Some id → store start (with_line (Step id) (Ok reply) log) ≡ store start log →
     [] ≡ line_entries start (record { event = Step id; reply = Ok reply }) log →
@@ -128,7 +130,7 @@ ended_follows start log runners entries id task reply x right named none ended s
 
 -- ---- a fetch ----
 
-fetched_in_log : (start : ℕ) (log : List Line) (id : ℕ) (task : Task) (key : List ℕ) (mod_rev of_rev revision : ℕ) → running id log ≡ Some task →
+fetched_in_log : (start : Setup) (log : List Line) (id : ℕ) (task : Task) (key : List ℕ) (mod_rev of_rev revision : ℕ) → running id log ≡ Some task →
     runner_in_log start (with_line (Step id) (Ok (Fetched id key mod_rev of_rev revision)) log) id ≡ Some (record {
       task = task;
       failures = failures id log;
@@ -145,7 +147,7 @@ fetched_in_log start log id task key mod_rev of_rev revision runs =
 live_is : (a r : Runner) (P : Runner → Type 0) → live_in (Some (Live a)) ≡ Some r → P a → P r
 live_is a r P is p = let same : a ≡ r = cc in subst P same p
 
-fetch_follows : (start : ℕ) (log : List Line) (runners : List Slot) (entries : List Entry) (id : ℕ) (task : Task) (key : List ℕ) (trace : List TraceItem) →
+fetch_follows : (start : Setup) (log : List Line) (runners : List Slot) (entries : List Entry) (id : ℕ) (task : Task) (key : List ℕ) (trace : List TraceItem) →
     Runs start log runners entries id task → run_on task.program (told start id task log).reads ≡ Wants key trace →
     is_below_floor (store start log).floor (at_of task.level (told start id task log).reads) ≡ false →
     FollowsStep start log (Step id) (fetch id (runner_for start log id task) key
@@ -169,7 +171,7 @@ fetch_follows start log runners entries id task key trace x wants readable =
     (well_run start log runners entries id task x)))
 
 -- by whether the base is compacted
-base_follows : (start : ℕ) (log : List Line) (runners : List Slot) (entries : List Entry) (id : ℕ) (task : Task) (key : List ℕ) (trace : List TraceItem)
+base_follows : (start : Setup) (log : List Line) (runners : List Slot) (entries : List Entry) (id : ℕ) (task : Task) (key : List ℕ) (trace : List TraceItem)
     (below : Bool) → Runs start log runners entries id task → run_on task.program (told start id task log).reads ≡ Wants key trace →
     is_below_floor (store start log).floor (at_of task.level (told start id task log).reads) ≡ below →
     FollowsStep start log (Step id) (cond below (replied (Ended id CompactedRefusal) id Over (world_at start log runners entries))
@@ -182,7 +184,7 @@ base_follows start log runners entries id task key trace false x wants is = fetc
 
 -- ---- a commit that failed ----
 
-conflict_in_log : (start : ℕ) (log : List Line) (id : ℕ) (task : Task) (key : List ℕ) (seen modified : ℕ) → running id log ≡ Some task →
+conflict_in_log : (start : Setup) (log : List Line) (id : ℕ) (task : Task) (key : List ℕ) (seen modified : ℕ) → running id log ≡ Some task →
     runner_in_log start (with_line (Step id) (Ok (Conflict id key seen modified)) log) id ≡ Some (record {
       task = task;
       failures = failures id log + 1;
@@ -196,7 +198,7 @@ conflict_in_log start log id task key seen modified runs =
       known = cond b (after_conflict task (store start log).history (told start id task log)) (told start id task log);
     })) (same_number id)
 
-failed_by : (start : ℕ) (log : List Line) (runners : List Slot) (entries : List Entry) (id : ℕ) (task : Task) (seen : Seen) (modified : ℕ) (more : Bool) →
+failed_by : (start : Setup) (log : List Line) (runners : List Slot) (entries : List Entry) (id : ℕ) (task : Task) (seen : Seen) (modified : ℕ) (more : Bool) →
     nat_lt (failures id log + 1) task.limit ≡ more → Runs start log runners entries id task →
     IsConflicted (situation start log id task) seen.key seen.mod_rev modified →
     FollowsStep start log (Step id) (cond more
@@ -228,7 +230,7 @@ begun_by : (b : Bool) (o : Option Task) (task : Task) → cond b None o ≡ Some
 begun_by true o task is = absurd (cc)
 begun_by false o task is = is
 
-taken_follows : (start : ℕ) (log : List Line) (runners : List Slot) (entries : List Entry) (id : ℕ) (task : Task) (run : Run) (done : Done) →
+taken_follows : (start : Setup) (log : List Line) (runners : List Slot) (entries : List Entry) (id : ℕ) (task : Task) (run : Run) (done : Done) →
     CommitIsTheRunNow →
     Runs start log runners entries id task → run_on task.program (told start id task log).reads ≡ EndedRun run → run.end ≡ DoneEnd →
     committed (terms_of (store start log)) task.level (told start id task log).reads run ≡ Ok done →
@@ -278,7 +280,7 @@ taken_follows start log runners entries id task run done law x is_run is_done is
 
 -- ---- the commit ----
 
-conflicted : (start : ℕ) (log : List Line) (runners : List Slot) (entries : List Entry) (id : ℕ) (task : Task) (run : Run) (done : Done)
+conflicted : (start : Setup) (log : List Line) (runners : List Slot) (entries : List Entry) (id : ℕ) (task : Task) (run : Run) (done : Done)
     (failed : FailedCompare) → FailedComparesConflict → Runs start log runners entries id task →
     run_on task.program (told start id task log).reads ≡ EndedRun run → run.end ≡ DoneEnd →
     committed (terms_of (store start log)) task.level (told start id task log).reads run ≡ Ok done →
@@ -309,7 +311,7 @@ pub record CommitLaws : Type 0 where
   pub run_now : CommitIsTheRunNow
   pub conflicts : FailedComparesConflict
 
-decided_follows : (start : ℕ) (log : List Line) (runners : List Slot) (entries : List Entry) (id : ℕ) (task : Task) (run : Run) (done : Done)
+decided_follows : (start : Setup) (log : List Line) (runners : List Slot) (entries : List Entry) (id : ℕ) (task : Task) (run : Run) (done : Done)
     (o : Option FailedCompare) → CommitLaws → Runs start log runners entries id task →
     run_on task.program (told start id task log).reads ≡ EndedRun run → run.end ≡ DoneEnd →
     committed (terms_of (store start log)) task.level (told start id task log).reads run ≡ Ok done →
@@ -324,7 +326,7 @@ decided_follows start log runners entries id task run done (Some failed) laws x 
     (nat_lt (failures id log + 1) task.limit) refl x
     (conflicted start log runners entries id task run done failed laws.conflicts x is_run is_done is found)
 
-commit_follows : (start : ℕ) (log : List Line) (runners : List Slot) (entries : List Entry) (id : ℕ) (task : Task) (run : Run) (o : Result Done StoreRefusal) →
+commit_follows : (start : Setup) (log : List Line) (runners : List Slot) (entries : List Entry) (id : ℕ) (task : Task) (run : Run) (o : Result Done StoreRefusal) →
     CommitLaws → Runs start log runners entries id task →
     run_on task.program (told start id task log).reads ≡ EndedRun run → run.end ≡ DoneEnd →
     committed (terms_of (store start log)) task.level (told start id task log).reads run ≡ o →
@@ -336,7 +338,7 @@ commit_follows start log runners entries id task run (Err cause) laws x is_run i
     ended_follows start log runners entries id task (Ended id cause) x
     (refl, inl (record { run = run; is_run = is_run; is_done = is_done; comes_to = is })) refl refl refl refl refl
 
-done_follows : (start : ℕ) (log : List Line) (runners : List Slot) (entries : List Entry) (id : ℕ) (task : Task) (run : Run) →
+done_follows : (start : Setup) (log : List Line) (runners : List Slot) (entries : List Entry) (id : ℕ) (task : Task) (run : Run) →
     CommitLaws → Runs start log runners entries id task →
     run_on task.program (told start id task log).reads ≡ EndedRun run → run.end ≡ DoneEnd →
     FollowsStep start log (Step id) (commit id (runner_for start log id task) (told start id task log).reads run
@@ -347,7 +349,7 @@ done_follows start log runners entries id task run laws x is_run is_done =
     (committed (terms_of (store start log)) task.level (told start id task log).reads run)
     laws x is_run is_done refl
 
-end_follows : (start : ℕ) (log : List Line) (runners : List Slot) (entries : List Entry) (id : ℕ) (task : Task) (run : Run) (end : End) →
+end_follows : (start : Setup) (log : List Line) (runners : List Slot) (entries : List Entry) (id : ℕ) (task : Task) (run : Run) (end : End) →
     CommitLaws → Runs start log runners entries id task →
     run_on task.program (told start id task log).reads ≡ EndedRun run → run.end ≡ end →
     FollowsStep start log (Step id) (finish id (runner_for start log id task) (told start id task log).reads run end
@@ -358,7 +360,7 @@ end_follows start log runners entries id task run (AbortedEnd text) laws x is_ru
 end_follows start log runners entries id task run (FaultedEnd fault) laws x is_run ended =
     ended_follows start log runners entries id task (Faulted id fault) x (refl, record { run = run; is_run = is_run; ended = ended }) refl refl refl refl refl
 
-answered_follows : (start : ℕ) (log : List Line) (runners : List Slot) (entries : List Entry) (id : ℕ) (task : Task) (answered : Answered) →
+answered_follows : (start : Setup) (log : List Line) (runners : List Slot) (entries : List Entry) (id : ℕ) (task : Task) (answered : Answered) →
     CommitLaws → Runs start log runners entries id task → run_on task.program (told start id task log).reads ≡ answered →
     FollowsStep start log (Step id) (step_on id (runner_for start log id task) (told start id task log).reads answered
     (world_at start log runners entries))
@@ -368,7 +370,7 @@ answered_follows start log runners entries id task (Wants key trace) laws x is =
 answered_follows start log runners entries id task (EndedRun run) laws x is = end_follows start log runners entries id task run run.end laws x is refl
 
 -- a step of a runner that runs
-pub live_follows : (start : ℕ) (log : List Line) (runners : List Slot) (entries : List Entry) (id : ℕ) (task : Task) →
+pub live_follows : (start : Setup) (log : List Line) (runners : List Slot) (entries : List Entry) (id : ℕ) (task : Task) →
     CommitLaws → Runs start log runners entries id task →
     FollowsStep start log (Step id) (step_live id (runner_for start log id task) (world_at start log runners entries))
 unfolding step_live

@@ -17,7 +17,7 @@ use Rattle.stm_outcome.specs.Outcome.{Done}
 use Rattle.stm_outcome.specs.Commits.{revision_read}
 use Rattle.stm_txn.specs.Standing.{Standing, with_history, transacted, granted, kept_alive, revoked, advanced, Advance as StoreAdvance}
 use Rattle.stm_txn.specs.Standing.{watched, polled, cancelled, raised}
-use Rattle.stm_outcome.specs.Terms.{is_below_floor}
+use Rattle.stm_outcome.specs.Terms.{most_operations, is_below_floor}
 use Rattle.stm_outcome.specs.declared.refusal.Refusal.TheVariants.{Compacted as CompactedRefusal}
 use Rattle.stm_txn.specs.Standing.{terms_of}
 use Rattle.stm_watch.specs.declared.watched.Watched.TheVariants.{Key, Range}
@@ -79,6 +79,7 @@ sound_with w runners after more sound e truth =
       legal = subst (λ n. AreLegal entries (opening n)) same legal;
       truth = truth;
       kept = e.kept sound.kept;
+      limit = subst (λ n. n ≤ most_operations) (sym e.limit) sound.limit;
     }
 
 -- an event that is about no runner
@@ -136,6 +137,7 @@ begun_sound w task sound =
       replays = sound.replays;
       legal = sound.legal;
       kept = sound.kept;
+      limit = sound.limit;
       truth = λ other x at. elim (nat_eq id other) as (λ b. nat_eq id other ≡ b → KnowsTruth w.standing.history x.known) [
         | true ↦ λ is. new_truth w.standing.history task x
             (sym (runner_new w.runners slot) ∙ subst (λ n. runner_at n (w.runners ++ slot ∷ []) ≡ Some x) (sym (equal_numbers id other is)) at)
@@ -246,7 +248,7 @@ event_sound (Step id) w law sound = runner_by w id (runner_at id w.runners) law 
 event_sound (Txn txn) w law sound =
     let s : Standing = w.standing in
     let next : Standing = store_after_call s (transacted s txn) in
-    call_sound w next (if_changed s next txn) sound (txn_follows s txn)
+    call_sound w next (if_changed s next txn) sound (txn_follows s txn sound.limit)
 event_sound (Grant lease ttl) w law sound =
     let s : Standing = w.standing in
     let o = granted s lease ttl in

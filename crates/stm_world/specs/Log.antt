@@ -10,6 +10,7 @@ use Rattle.stm_meaning.specs.declared.trace_item.TraceItem.{TraceItem}
 use Rattle.stm_meaning.specs.Meaning.{run_over}
 use Rattle.stm_outcome.specs.declared.advance.Expired.{Expired}
 use Rattle.stm_txn.specs.Standing.{Standing, opening, with_history, transacted, granted, kept_alive, revoked, advanced, watched, polled, cancelled, raised}
+use Rattle.stm_txn.specs.Standing.{Setup}
 use Rattle.stm_watch.specs.declared.watched.Watched.TheVariants.{Key, Range}
 use Rattle.stm_attempt.specs.Known.{Known}
 use Rattle.stm_entries.specs.declared.entry.Entry.{Entry}
@@ -122,8 +123,8 @@ store_after task_of (Poll watcher most) reply s = store_after_poll watcher s (po
 store_after task_of (Cancel watcher) reply s = store_after_call s (cancelled s watcher)
 store_after task_of (Compact revision) reply s = store_after_call s (raised s revision)
 
--- the store, which opened at a revision, after a log
-abbrev pub store : ℕ → List Line → Standing
+-- the store, which opened so, after a log
+abbrev pub store : Setup → List Line → Standing
 store start [] = opening start
 store start (line ∷ older) = store_after (λ id. begun id older) line.event line.reply (store start older)
 
@@ -167,12 +168,12 @@ entries_of task_of before after (Cancel watcher) reply = []
 entries_of task_of before after (Compact revision) reply = []
 
 -- what a line adds to the entries
-abbrev pub line_entries : ℕ → Line → List Line → List Entry
+abbrev pub line_entries : Setup → Line → List Line → List Entry
 line_entries start line older =
     entries_of (λ id. begun id older) (store start older) (store start (line ∷ older)) line.event line.reply
 
 -- the entries of a log, the oldest first
-abbrev pub entries_told : ℕ → List Line → List Entry
+abbrev pub entries_told : Setup → List Line → List Entry
 entries_told start [] = []
 entries_told start (line ∷ older) = entries_told start older ++ line_entries start line older
 
@@ -186,6 +187,6 @@ known_after id task h (Ok (Conflict runner key seen now)) known = if nat_eq runn
 known_after id task h other known = known
 
 -- what a runner with this task was told in its attempt
-abbrev pub told : ℕ → ℕ → Task → List Line → Known
+abbrev pub told : Setup → ℕ → Task → List Line → Known
 told start id task [] = nothing_known
 told start id task (line ∷ older) = known_after id task (store start older).history line.reply (told start id task older)

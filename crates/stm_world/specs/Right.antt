@@ -19,6 +19,7 @@ use Rattle.stm_outcome.specs.declared.refusal.Refusal.TheVariants.{Compacted as 
 use Rattle.stm_outcome.specs.Outcome.{Done}
 use Rattle.stm_outcome.specs.Commits.{revision_read}
 use Rattle.stm_txn.specs.Standing.{Standing, transacted, granted, kept_alive, revoked, advanced, watched, polled, cancelled, raised, terms_of}
+use Rattle.stm_txn.specs.Standing.{Setup}
 use Rattle.stm_outcome.specs.Terms.{is_below_floor}
 use Rattle.stm_watch.specs.declared.watched.Watched.TheVariants.{Key, Range}
 use Rattle.stm_compile.specs.Committed.{committed}
@@ -128,7 +129,7 @@ StepIsRight at (Ok reply) = ReplyIsRight at reply
 StepIsRight at (Err refusal) = ⊥
 
 -- where a runner stands after a log
-abbrev pub situation : ℕ → List Line → ℕ → Task → Situation
+abbrev pub situation : Setup → List Line → ℕ → Task → Situation
 situation start log id task = record {
   id = id;
   task = task;
@@ -138,7 +139,7 @@ situation start log id task = record {
 }
 
 -- a step is refused exactly where the runner was not started or its run is over
-abbrev pub RunnerIsRight : ℕ → List Line → ℕ → Option Task → Result Reply Denied → Type 0
+abbrev pub RunnerIsRight : Setup → List Line → ℕ → Option Task → Result Reply Denied → Type 0
 RunnerIsRight start log id None reply = reply ≡ denied NoRunner
 RunnerIsRight start log id (Some task) reply = StepIsRight (situation start log id task) reply
 
@@ -147,8 +148,8 @@ abbrev pub StartIsRight : ℕ → ℕ → Result Reply Denied → Type 0
 StartIsRight count limit (Ok reply) = (reply ≡ Started (count + 1)) × (limit ≢ 0)
 StartIsRight count limit (Err refusal) = (refusal ≡ record { cause = BadLimit; expired = [] }) × (limit ≡ 0)
 
--- the reply to an event after a log, in a world whose store opened at a revision
-abbrev pub IsRight : ℕ → List Line → WorldEvent → Result Reply Denied → Type 0
+-- the reply to an event after a log, in a world whose store opened so
+abbrev pub IsRight : Setup → List Line → WorldEvent → Result Reply Denied → Type 0
 IsRight start log (Start program level limit) reply = StartIsRight (started log) limit reply
 IsRight start log (Step id) reply = RunnerIsRight start log id (running id log) reply
 IsRight start log (Txn txn) reply = reply ≡ reply_to TxnDone (transacted (store start log) txn)
@@ -164,6 +165,6 @@ IsRight start log (Cancel watcher) reply = reply ≡ reply_to (λ _. Cancelled w
 IsRight start log (Compact revision) reply = reply ≡ reply_to (λ _. Compacted revision) (raised (store start log) revision)
 
 -- each line of a log is right after the lines before it
-abbrev pub AreRight : ℕ → List Line → Type 0
+abbrev pub AreRight : Setup → List Line → Type 0
 AreRight start [] = Unit {0}
 AreRight start (line ∷ older) = IsRight start older line.event line.reply × AreRight start older

@@ -25,6 +25,7 @@ use Rattle.stm_outcome.specs.Outcome.{Done}
 use Rattle.stm_outcome.specs.Commits.{revision_read}
 use Rattle.stm_txn.specs.Standing.{Standing, opening, with_history, transacted, granted, kept_alive, revoked, advanced, watched, polled, cancelled}
 use Rattle.stm_txn.specs.Standing.{terms_of, raised}
+use Rattle.stm_txn.specs.Standing.{Setup}
 use Rattle.stm_outcome.specs.Terms.{is_below_floor}
 use Rattle.stm_watch.specs.declared.watched.Watched.TheVariants.{Key, Range}
 use Rattle.stm_compile.specs.Committed.{committed}
@@ -63,8 +64,8 @@ pub record World : Type 0 where
   pub runners : List Slot
   pub entries : List Entry
 
--- a world whose store opens at a revision
-abbrev pub opened : ℕ → World
+-- a world whose store opens so
+abbrev pub opened : Setup → World
 opened start = record { standing = opening start; runners = []; entries = [] }
 
 pub record Stepped : Type 0 where

@@ -2,7 +2,7 @@
 use Rattle.std.proofs.Common.{◌≡◌, ℕ, ◌≤◌, ◌<◌, Bool, true, false, not, List, [], ◌∷◌, ◌++◌, length, map, String, refl, sym, ap, ◌∙◌, ◌↔◌, IsTrue, arith}
 use Rattle.std.specs.Prelude.{◌&&◌, ◌||◌, nat_lt, bytes_eq, string_bytes}
 use Rattle.std.specs.List.{AllZip, IsDistinct, AllByRecursion, list_any}
-use Rattle.std.proofs.lemmas.Bool.{ltb-false}
+use Rattle.std.proofs.lemmas.Bool.{le-ltb, ltb-false}
 use Rattle.stm_program.specs.declared.limits.TheConstants.{MAX_DEPTH, MAX_NODES, MAX_PREFETCH, MAX_TEXT}
 use Rattle.stm_program.specs.Syntax.{Statement, ProgramTree}
 use Rattle.stm_program.specs.BlockView.{block_of}
@@ -32,8 +32,9 @@ all_parts : (many unnamed repeated : Bool) → many ≡ false → unnamed ≡ fa
 all_parts many unnamed repeated first second third =
     ap (λ b. not b && not unnamed && not repeated) first ∙ ap (λ b. not b && not repeated) second ∙ ap not third
 
-pub list_whole : (keys : List (List ℕ)) → nat_lt MAX_PREFETCH (length keys) ≡ false → list_any is_no_key keys ≡ false → has_repeat keys ≡ false → ListFits keys
-list_whole keys few named once = all_parts (nat_lt MAX_PREFETCH (length keys)) (list_any is_no_key keys) (has_repeat keys) few named once
+pub list_whole : (keys : List (List ℕ)) → ListParts keys → ListFits keys
+list_whole keys parts =
+    all_parts (nat_lt MAX_PREFETCH (length keys)) (list_any is_no_key keys) (has_repeat keys) (le-ltb MAX_PREFETCH (length keys) parts.few) parts.named parts.once
 
 -- the statements of a program fit, whatever its list is
 pub statements_fit : (keys : List (List ℕ)) (rest : Type 0) → fits_with keys rest → rest

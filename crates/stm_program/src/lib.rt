@@ -22,7 +22,7 @@ pub use level::Level;
 pub use limits::{
     MAX_DEPTH, MAX_LEASE, MAX_NODES, MAX_PREFETCH, MAX_TEXT, MAX_TURNS, MAX_VARIABLE, fits,
 };
-pub use list::list_fits;
+pub use list::{is_listed, list_fits};
 pub use operator::Operator;
 pub use program::Program;
 pub use statement::{Block, Stmt, StmtNode};

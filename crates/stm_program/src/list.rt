@@ -22,13 +22,13 @@ fn has_no_key(keys: &[String]) -> bool
     }
 }
 
-/// Whether a key is one of the later ones.
-fn comes_later(key: &str, later: &[String]) -> bool
-    ensures { result ≡ list_any (bytes_eq key.now) (map string_bytes later.now) }
+/// Whether a key is one of these. It takes no memory.
+pub fn is_listed(key: &str, keys: &[String]) -> bool
+    ensures { result ≡ list_any (bytes_eq key.now) (map string_bytes keys.now) }
 {
-    match later {
+    match keys {
         [] => false,
-        [other, rest @ ..] => key == other.as_str() || comes_later(key, rest),
+        [other, rest @ ..] => key == other.as_str() || is_listed(key, rest),
     }
 }
 
@@ -38,7 +38,7 @@ fn repeats(keys: &[String]) -> bool
 {
     match keys {
         [] => false,
-        [first, rest @ ..] => comes_later(first.as_str(), rest) || repeats(rest),
+        [first, rest @ ..] => is_listed(first.as_str(), rest) || repeats(rest),
     }
 }
 

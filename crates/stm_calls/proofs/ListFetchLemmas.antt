@@ -82,7 +82,7 @@ reached terms (key ∷ keys) = (omega arith, refl, reached terms keys)
 
 shown_now : (h : History) (keys : List (List ℕ)) → map (shown h) (reads_now keys) ≡ map (λ a. GetAnswer a) (map (answer_now h) keys)
 shown_now h [] = refl
-shown_now h (key ∷ keys) = ap (λ (as : List OpAnswer). GetAnswer (answer_now h key) ∷ as) (shown_now h keys)
+shown_now h (key ∷ keys) = ap (λ (later : List OpAnswer). GetAnswer (answer_now h key) ∷ later) (shown_now h keys)
 
 step_alone : Standing → List (List ℕ) → Step TxnAnswer
 step_alone s keys = record { answer = (read_out s.history None (reads_now keys)).answer; next = s }

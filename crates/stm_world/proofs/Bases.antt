@@ -32,7 +32,7 @@ abbrev pub HasBase : Known → Type 0
 HasBase known = HaveOneBase known.reads × AllByRecursion (λ (a : ReadAnswer). 1 ≤ a.of_rev) known.prefetched
 
 -- at the serializable levels, in a world whose store did not open at 0
-abbrev pub IsBased : ℕ → Task → Known → Type 0
+abbrev pub IsBased : Setup → Task → Known → Type 0
 IsBased start task known = 1 ≤ start.revision → is_serializable task.level ≡ true → HasBase known
 
 served_base : (task : Task) (known : Known) → HasBase known → HasBase (with_served task known)

@@ -17,7 +17,7 @@ logged (e ∷ es) [] log = log
 logged (e ∷ es) (reply ∷ replies) log = logged es replies (record { event = e; reply = reply } ∷ log)
 
 -- the log of these events in a world whose store opened at a revision
-abbrev pub log_of : ℕ → List WorldEvent → List Line
+abbrev pub log_of : Setup → List WorldEvent → List Line
 log_of start events = logged events (replies_to events (opened start)) []
 
 abbrev event_in : Line → WorldEvent

@@ -114,7 +114,7 @@ replied_follows start log runners entries id task slot reply x right named none 
             keeps = subst (λ (s : Standing). Keeps (store start log).history s.history) (sym same) (keeps_same (store start log).history);
             kept = subst (λ (s : Standing). HasKept (store start log) → HasKept s) (sym same) (λ k. k);
             floor = subst (λ (s : Standing). (store start log).floor ≤ s.floor) (sym same) (floor_stays (store start log));
-            limit = sym (ap (λ (s : Standing). s.limit) same);
+            limit = ap (λ (s : Standing). s.limit) same;
           }));
     }
 

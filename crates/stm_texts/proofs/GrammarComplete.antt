@@ -135,9 +135,9 @@ elements_read ds None (e ∷ es) (d, rest, is, s, others) few =
     let all = events_read 0 0 (item d rest) (e ∷ es) (omega arith) (d, rest, refl, s, others) in
     rw is (rw (none, all) refl)
 elements_read ds (Some opening) es (a, rest, is, begin, others) few =
-    let (parts, begun, read) = opening_read a opening begin in
+    let opened = opening_read a opening begin in
     let all = events_read 1 0 rest es (omega arith) others in
-    rw is (rw (begun, read, all) refl)
+    rw is (rw (opened.1, opened.2, all) refl)
 
 data_read : (d : Data) (s : Scenario) → SpellsData d s → scenario_of d ≡ Ok s
 unfolding scenario_of

@@ -122,9 +122,9 @@ alone_reads ds (Then s b) (a, rest, is, t, u) f =
 behind_reads : (ds : Items) (p : ProgramTree) (a : Data) (rest : Items) → ds ≡ item a rest → SpellsList a p.prefetch → SpellsStatements rest p.statements
     → ListParts p.prefetch → BlockFits MAX_DEPTH MAX_NODES p.statements → program_list (Some ds) ≡ Ok p
 behind_reads ds p a rest is list s parts f =
-    let (named, begun, keys) = list_reads a p.prefetch list parts in
+    let read = list_reads a p.prefetch list parts in
     let all = program_block 1 rest p.statements s f in
-    rw is (rw (begun, keys, all) refl)
+    rw is (rw (read.1, read.2, all) refl)
 
 elements_read : (ds : Items) (p : ProgramTree) → SpellsElements ds p → Fits p → program_list (Some ds) ≡ Ok p
 elements_read ds p (inl (none, s)) f =

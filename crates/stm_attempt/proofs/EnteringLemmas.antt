@@ -52,17 +52,17 @@ due_is_nothing (key ∷ keys) (a ∷ reads) due = absurd (cc)
 
 -- ---- what is taken for a list
 
-first_of : (one : Option ReadAnswer) (rest : Option (List ReadAnswer)) (answers : List ReadAnswer) → with_first one rest ≡ Some answers
+pub taken_first : (one : Option ReadAnswer) (rest : Option (List ReadAnswer)) (answers : List ReadAnswer) → with_first one rest ≡ Some answers
     → (a : ReadAnswer) × (more : List ReadAnswer) × (one ≡ Some a) × (rest ≡ Some more) × (answers ≡ a ∷ more)
-first_of None rest answers is = absurd (cc)
-first_of (Some a) None answers is = absurd (cc)
-first_of (Some a) (Some more) answers is = (a, more, refl, refl, cc)
+taken_first None rest answers is = absurd (cc)
+taken_first (Some a) None answers is = absurd (cc)
+taken_first (Some a) (Some more) answers is = (a, more, refl, refl, cc)
 
 -- the list is not due then
 pub taken_not_due : (keys : List (List ℕ)) (prefetched answers : List ReadAnswer) → answers_of_all keys prefetched ≡ Some answers → is_due keys answers ≡ false
 taken_not_due [] prefetched answers is = refl
 taken_not_due (key ∷ keys) prefetched answers is =
-    let parts = first_of (answer_in key prefetched) (answers_of_all keys prefetched) answers is in
+    let parts = taken_first (answer_in key prefetched) (answers_of_all keys prefetched) answers is in
     ap (is_due (key ∷ keys)) parts.4
 
 -- its answers are of its keys, in their order
@@ -71,7 +71,7 @@ pub taken_keys : (keys : List (List ℕ)) (prefetched answers : List ReadAnswer)
 taken_keys [] prefetched answers is =
     let none : answers ≡ [] = cc in ap (λ (l : List ReadAnswer). map (λ (a : ReadAnswer). a.key) l) none
 taken_keys (key ∷ keys) prefetched answers is =
-    let parts = first_of (answer_in key prefetched) (answers_of_all keys prefetched) answers is in
+    let parts = taken_first (answer_in key prefetched) (answers_of_all keys prefetched) answers is in
     let key_is : parts.0.key ≡ key = (bytes_eq-Decides parts.0.key key).0 (found_key key prefetched parts.0 parts.2) in
     let others : map (λ (a : ReadAnswer). a.key) parts.1 ≡ keys = taken_keys keys prefetched parts.1 parts.3 in
     ap (λ (l : List ReadAnswer). map (λ (a : ReadAnswer). a.key) l) parts.4 ∙ (λ i. key_is i ∷ others i)
@@ -81,7 +81,7 @@ pub taken_are : (P : ReadAnswer → Type 0) (keys : List (List ℕ)) (prefetched
     → answers_of_all keys prefetched ≡ Some answers → AllByRecursion P answers
 taken_are P [] prefetched answers all is = let none : answers ≡ [] = cc in subst (AllByRecursion P) (sym none) tt
 taken_are P (key ∷ keys) prefetched answers all is =
-    let parts = first_of (answer_in key prefetched) (answers_of_all keys prefetched) answers is in
+    let parts = taken_first (answer_in key prefetched) (answers_of_all keys prefetched) answers is in
     subst (AllByRecursion P) (sym parts.4)
     (found_is_one P key prefetched parts.0 all parts.2, taken_are P keys prefetched parts.1 all parts.3)
 
@@ -282,7 +282,7 @@ entered_not_due program prefetched answers entered is same =
 
 -- ---- the reads begin with the list
 
-begins_more : (keys : List (List ℕ)) (before more : List ReadAnswer) → is_due keys before ≡ false → BeginsWithList keys before → BeginsWithList keys (before ++ more)
+pub begins_more : (keys : List (List ℕ)) (before more : List ReadAnswer) → is_due keys before ≡ false → BeginsWithList keys before → BeginsWithList keys (before ++ more)
 begins_more keys [] [] not begins = tt
 begins_more [] [] (a ∷ more) not begins = record { others = map (λ (x : ReadAnswer). x.key) (a ∷ more); first = refl }
 begins_more (key ∷ keys) [] (a ∷ more) not begins = absurd (cc)
@@ -296,7 +296,7 @@ begins_more keys (a ∷ before) more not begins = record {
     map_behind [] ys = refl
     map_behind (x ∷ xs) ys = ap (λ (l : List (List ℕ)). x.key ∷ l) (map_behind xs ys)
 
-list_begins : (keys : List (List ℕ)) (answers : List ReadAnswer) → map (λ (a : ReadAnswer). a.key) answers ≡ keys → BeginsWithList keys answers
+pub list_begins : (keys : List (List ℕ)) (answers : List ReadAnswer) → map (λ (a : ReadAnswer). a.key) answers ≡ keys → BeginsWithList keys answers
 list_begins keys [] is = tt
 list_begins keys (a ∷ answers) is = record { others = []; first = is ∙ sym (nothing_behind keys) }
   where

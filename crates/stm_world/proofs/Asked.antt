@@ -1,8 +1,9 @@
 -- Answers that were added when their keys were wanted are of the keys that the run reads.
-use Rattle.std.proofs.Common.{◌≡◌, ℕ, zero, suc, Bool, true, false, cond, List, [], ◌∷◌, ◌++◌, length, Option, Some, None, refl, sym, ◌∙◌, ap, subst}
+use Rattle.std.proofs.Common.{◌≡◌, ◌⊎◌, inl, inr, ℕ, zero, suc, ◌+◌, ◌≤◌, Bool, true, false, cond, List, [], ◌∷◌, ◌++◌, length, map, take, drop, Option, Some, None, refl, sym, ◌∙◌, ap, subst, arith, length-append}
 use Rattle.std.proofs.Common.{append_assoc, append-nil}
 use Rattle.std.specs.Prelude.{bytes_eq, is_some, option_map, ◌||◌}
 use Rattle.std.specs.List.{list_any}
+use Rattle.std.proofs.lemmas.List.{drop_all, take-append-le, length-map}
 use Rattle.std.proofs.lemmas.Slice.Eq.{bytes_eq-Decides}
 use Rattle.stm_history.specs.declared.key_state.ReadAnswer.{ReadAnswer}
 use Rattle.stm_history.specs.History.{History}
@@ -20,12 +21,16 @@ use Rattle.stm_meaning.specs.declared.run.Run.{Run}
 use Rattle.stm_meaning.specs.declared.run.Answered.TheVariants.{Ended, Wants}
 use Rattle.stm_meaning.specs.Meaning.{get_of, get_key, rev_key, run_of, answered, run_block, run_over}
 use Rattle.stm_meaning.proofs.KeepLemmas.{session_of, StepsKeep, kept_by_run}
-use Rattle.stm_compile.specs.Answers.{answer_in, said, look_up}
-use Rattle.stm_attempt.specs.Known.{HaveDistinctKeys, Known, serving}
-use Rattle.stm_attempt.specs.Settled.{run_on, wanted, answer_for, served, taken, settle}
-use Rattle.stm_attempt.proofs.SettleLemmas.{wanted_is_new}
+use Rattle.stm_compile.specs.Answers.{answer_in, answer_now, said, look_up}
+use Rattle.stm_compile.specs.CommitTxn.{reread_keys}
+use Rattle.stm_attempt.specs.Known.{HaveDistinctKeys, Known, known_of, serving}
+use Rattle.stm_attempt.specs.Settled.{run_on, wanted, answer_for, settled}
+use Rattle.stm_attempt.specs.Entering.{is_due, answers_of_all, gone_on}
+use Rattle.stm_attempt.specs.Laws.{BeginsWithList}
+use Rattle.stm_attempt.proofs.SettleLemmas.{wanted_is_new, settled_keeps}
+use Rattle.stm_attempt.proofs.EnteringLemmas.{taken_keys, where_it_comes, begins_more, list_begins, reads_begin_with_the_list}
 use Rattle.stm_attempt.proofs.Unread.{found_key, same_bytes}
-use Rattle.stm_world.specs.Task.{Task, answer_at, after_fetch, after_conflict}
+use Rattle.stm_world.specs.Task.{Task, answer_at, after_list, after_fetch, after_conflict}
 use Rattle.stm_world.specs.Asked.{AskedBehind, AreAsked, keys_read, AnswersAreTheReads}
 use Rattle.stm_world.proofs.ReadOrder.{reads_of, OneKeyMore, wanted_is_read}
 
@@ -191,35 +196,130 @@ asked_behind program before (x ∷ reads) a asked wants = (
       (subst (λ (l : List ReadAnswer). wanted (run_on program l) ≡ Some a.key) (sym (append_assoc before (x ∷ []) reads)) wants),
 )
 
-one_more_asked : (program : ProgramTree) (reads : List ReadAnswer) (a : ReadAnswer) → AreAsked program reads →
+-- ---- behind the list
+
+rejoined : (n : ℕ) (reads : List ReadAnswer) → take n reads ++ drop n reads ≡ reads
+rejoined zero reads = refl
+rejoined (suc n) [] = refl
+rejoined (suc n) (x ∷ reads) = ap (λ (l : List ReadAnswer). x ∷ l) (rejoined n reads)
+
+dropped_more : (n : ℕ) (reads : List ReadAnswer) (a : ReadAnswer) → n ≤ length reads → drop n (reads ++ a ∷ []) ≡ drop n reads ++ a ∷ []
+dropped_more zero reads a within = refl
+dropped_more (suc n) [] a within = absurd (omega (arith, within))
+dropped_more (suc n) (x ∷ reads) a within = dropped_more n reads a (omega (arith, within))
+
+-- reads that begin with a list which is not due have all of it
+list_within : (keys : List (List ℕ)) (reads : List ReadAnswer) → BeginsWithList keys reads → is_due keys reads ≡ false → length keys ≤ length reads
+list_within [] [] begins not = omega arith
+list_within (key ∷ keys) [] begins not = absurd (cc)
+list_within keys (a ∷ reads) begins not =
+    let all : List (List ℕ) = map (λ (x : ReadAnswer). x.key) (a ∷ reads) in
+    let same : length all ≡ length (keys ++ begins.others) = ap (λ (l : List (List ℕ)). length l) begins.first in
+    let parts : length (keys ++ begins.others) ≡ length keys + length begins.others = length-append keys begins.others in
+    let count : length all ≡ length (a ∷ reads) = length-map (a ∷ reads) (λ (x : ReadAnswer). x.key) in
+    omega (arith, same, parts, count)
+
+none_behind : (program : ProgramTree) (n : ℕ) → AskedBehind program (take n []) (drop n [])
+none_behind program zero = tt
+none_behind program (suc n) = tt
+
+pub none_asked : (program : ProgramTree) → AreAsked program []
+none_asked program = none_behind program (length program.prefetch)
+
+-- the answers to a list alone
+all_listed : (program : ProgramTree) (answers : List ReadAnswer) → map (λ (a : ReadAnswer). a.key) answers ≡ program.prefetch → AreAsked program answers
+all_listed program answers is =
+    let n : ℕ = length program.prefetch in
+    let count : length answers ≡ n =
+    sym (length-map answers (λ (a : ReadAnswer). a.key)) ∙ ap (λ (l : List (List ℕ)). length l) is in
+    subst (λ (l : List ReadAnswer). AskedBehind program (take n answers) l) (sym (drop_all n answers (omega (arith, count)))) tt
+
+one_more_asked : (program : ProgramTree) (reads : List ReadAnswer) (a : ReadAnswer) → length program.prefetch ≤ length reads → AreAsked program reads →
     wanted (run_on program reads) ≡ Some a.key → AreAsked program (reads ++ a ∷ [])
-one_more_asked program reads a asked wants = asked_behind program [] reads a asked wants
+one_more_asked program reads a within asked wants =
+    let n : ℕ = length program.prefetch in
+    let whole : wanted (run_on program (take n reads ++ drop n reads)) ≡ Some a.key =
+    ap (λ (l : List ReadAnswer). wanted (run_on program l)) (rejoined n reads) ∙ wants in
+    subst (λ (l : List ReadAnswer). AskedBehind program (take n (reads ++ a ∷ [])) l) (sym (dropped_more n reads a within))
+    (subst (λ (l : List ReadAnswer). AskedBehind program l (drop n reads ++ a ∷ [])) (sym (take-append-le n reads (a ∷ []) within))
+    (asked_behind program (take n reads) (drop n reads) a asked whole))
 
 is_for : (o : Option (List ℕ)) (answers : List ReadAnswer) (a : ReadAnswer) → answer_for o answers ≡ Some a → o ≡ Some a.key
 is_for None answers a is = absurd (cc)
 is_for (Some key) answers a is = ap (λ (k : List ℕ). Some k) (sym ((bytes_eq-Decides a.key key).0 (found_key key answers a is)))
 
-taken_asked : (program : ProgramTree) (again : List ReadAnswer → List ReadAnswer) (reads : List ReadAnswer) (o : Option ReadAnswer) →
-    ((more : List ReadAnswer) → AreAsked program more → AreAsked program (again more)) →
-    ((a : ReadAnswer) → o ≡ Some a → wanted (run_on program reads) ≡ Some a.key) → AreAsked program reads → AreAsked program (taken again reads o)
-taken_asked program again reads None goes wants asked = asked
-taken_asked program again reads (Some a) goes wants asked = goes (reads ++ a ∷ []) (one_more_asked program reads a asked (wants a refl))
+abbrev IsAskedOn : ProgramTree → List ReadAnswer → Type 0
+IsAskedOn program reads = (length program.prefetch ≤ length reads) × AreAsked program reads
 
-settle_asked : (n : ℕ) (program : ProgramTree) (prefetched reads : List ReadAnswer) → AreAsked program reads →
-    AreAsked program (settle n program prefetched reads)
-unfolding settle
-settle_asked zero program prefetched reads asked = asked
-settle_asked (suc n) program prefetched reads asked =
-    taken_asked program (settle n program prefetched) reads (served program prefetched reads) (λ more. settle_asked n program prefetched more)
-    (λ a. is_for (wanted (run_on program reads)) (serving reads prefetched) a) asked
+longer : (reads : List ReadAnswer) (a : ReadAnswer) (n : ℕ) → n ≤ length reads → n ≤ length (reads ++ a ∷ [])
+longer reads a n within = let count : length (reads ++ a ∷ []) ≡ length reads + 1 = length-append reads (a ∷ []) in omega (arith, within, count)
+
+settled_asked : (program : ProgramTree) (known : Known) → length program.prefetch ≤ length known.reads → AreAsked program known.reads →
+    AreAsked program (settled program known)
+settled_asked program known within asked =
+    (settled_keeps (IsAskedOn program) program known
+    (λ reads a is before. (
+      longer reads a (length program.prefetch) before.0,
+      one_more_asked program reads a before.0 before.1 (is_for (wanted (run_on program reads)) (serving reads known.prefetched) a is),
+    )) (within, asked)).1
+
+start_asked : (program : ProgramTree) (known : Known) (start : List ReadAnswer) → AreAsked program known.reads →
+    (known.reads ≡ start) ⊎ (answers_of_all program.prefetch known.prefetched ≡ Some start) → AreAsked program start
+start_asked program known start asked (inl same) = subst (AreAsked program) same asked
+start_asked program known start asked (inr is) = all_listed program start (taken_keys program.prefetch known.prefetched start is)
+
+start_listed : (program : ProgramTree) (known : Known) (start : List ReadAnswer) → BeginsWithList program.prefetch known.reads →
+    (known.reads ≡ start) ⊎ (answers_of_all program.prefetch known.prefetched ≡ Some start) → BeginsWithList program.prefetch start
+start_listed program known start begins (inl same) = subst (BeginsWithList program.prefetch) same begins
+start_listed program known start begins (inr is) = list_begins program.prefetch start (taken_keys program.prefetch known.prefetched start is)
+
+-- what was asked for, or is the list, goes on so
+gone_asked : (program : ProgramTree) (known : Known) → BeginsWithList program.prefetch known.reads → AreAsked program known.reads →
+    AreAsked program (gone_on program known)
+gone_asked program known begins asked = elim (where_it_comes program known) [
+  | inl d ↦ subst (AreAsked program) (sym d.stays) asked
+  | inr s ↦ subst (AreAsked program) (sym s.settles)
+      (settled_asked program (known_of s.start known.prefetched)
+      (list_within program.prefetch s.start (start_listed program known s.start begins s.is_start) s.not_due)
+      (start_asked program known s.start asked s.is_start))
+]
+
+-- ---- a fetch, a list and a conflict
+
+pub fetch_listed : (task : Task) (h : History) (key : List ℕ) (r : ℕ) (known : Known) → is_due task.program.prefetch known.reads ≡ false →
+    BeginsWithList task.program.prefetch known.reads → BeginsWithList task.program.prefetch (after_fetch task (answer_at h key r) known).reads
+fetch_listed task h key r known not begins =
+    reads_begin_with_the_list task.program (known_of (known.reads ++ answer_at h key r ∷ []) known.prefetched)
+    (begins_more task.program.prefetch known.reads (answer_at h key r ∷ []) not begins)
 
 pub fetch_asked : (task : Task) (h : History) (key : List ℕ) (r : ℕ) (trace : List TraceItem) (known : Known) →
-    run_on task.program known.reads ≡ Wants key trace → AreAsked task.program known.reads →
+    is_due task.program.prefetch known.reads ≡ false → run_on task.program known.reads ≡ Wants key trace →
+    BeginsWithList task.program.prefetch known.reads → AreAsked task.program known.reads →
     AreAsked task.program (after_fetch task (answer_at h key r) known).reads
-fetch_asked task h key r trace known wants asked =
-    settle_asked (length known.prefetched) task.program known.prefetched (known.reads ++ answer_at h key r ∷ [])
-    (one_more_asked task.program known.reads (answer_at h key r) asked (ap wanted wants))
+fetch_asked task h key r trace known not wants begins asked =
+    gone_asked task.program (known_of (known.reads ++ answer_at h key r ∷ []) known.prefetched)
+    (begins_more task.program.prefetch known.reads (answer_at h key r ∷ []) not begins)
+    (one_more_asked task.program known.reads (answer_at h key r) (list_within task.program.prefetch known.reads begins not) asked (ap wanted wants))
+
+keys_now : (h : History) (keys : List (List ℕ)) → map (λ (a : ReadAnswer). a.key) (map (answer_now h) keys) ≡ keys
+keys_now h [] = refl
+keys_now h (key ∷ keys) = ap (λ (l : List (List ℕ)). key ∷ l) (keys_now h keys)
+
+pub list_listed : (task : Task) (h : History) (known : Known) → BeginsWithList task.program.prefetch (after_list task h known).reads
+list_listed task h known =
+    reads_begin_with_the_list task.program (known_of (map (answer_now h) task.program.prefetch) known.prefetched)
+    (list_begins task.program.prefetch (map (answer_now h) task.program.prefetch) (keys_now h task.program.prefetch))
+
+pub list_asked : (task : Task) (h : History) (known : Known) → AreAsked task.program (after_list task h known).reads
+list_asked task h known =
+    gone_asked task.program (known_of (map (answer_now h) task.program.prefetch) known.prefetched)
+    (list_begins task.program.prefetch (map (answer_now h) task.program.prefetch) (keys_now h task.program.prefetch))
+    (all_listed task.program (map (answer_now h) task.program.prefetch) (keys_now h task.program.prefetch))
+
+pub conflict_listed : (task : Task) (h : History) (known : Known) → BeginsWithList task.program.prefetch (after_conflict task h known).reads
+conflict_listed task h known =
+    reads_begin_with_the_list task.program (known_of [] (map (answer_now h) (reread_keys task.level known.reads))) tt
 
 pub conflict_asked : (task : Task) (h : History) (known : Known) → AreAsked task.program (after_conflict task h known).reads
 conflict_asked task h known =
-    settle_asked (length (after_conflict task h known).prefetched) task.program (after_conflict task h known).prefetched [] tt
+    gone_asked task.program (known_of [] (map (answer_now h) (reread_keys task.level known.reads))) tt (none_asked task.program)

@@ -10,6 +10,7 @@ use Rattle.stm_history.specs.History.{History}
 use Rattle.stm_program.specs.Syntax.{ProgramTree}
 use Rattle.stm_program.specs.declared.write.Write.{Write}
 use Rattle.stm_program.specs.Writes.{last_write}
+use Rattle.stm_program.specs.Limits.{has_repeat}
 use Rattle.stm_program.proofs.WriteLemmas.{bytes_eq-flip}
 use Rattle.stm_steps.specs.declared.stop.Stop.TheVariants.{Aborted, Faulted, Wants as WantsStop}
 use Rattle.stm_steps.specs.Answer.{Answer}
@@ -28,7 +29,7 @@ use Rattle.stm_attempt.specs.Settled.{run_on, wanted, answer_for, settled}
 use Rattle.stm_attempt.specs.Entering.{is_due, answers_of_all, gone_on}
 use Rattle.stm_attempt.specs.Laws.{BeginsWithList}
 use Rattle.stm_attempt.proofs.SettleLemmas.{wanted_is_new, settled_keeps}
-use Rattle.stm_attempt.proofs.EnteringLemmas.{taken_keys, where_it_comes, begins_more, list_begins, reads_begin_with_the_list}
+use Rattle.stm_attempt.proofs.EnteringLemmas.{once-have_distinct, taken_keys, where_it_comes, begins_more, list_begins, reads_begin_with_the_list}
 use Rattle.stm_attempt.proofs.Unread.{found_key, same_bytes}
 use Rattle.stm_world.specs.Task.{Task, answer_at, after_list, after_fetch, after_conflict}
 use Rattle.stm_world.specs.Asked.{AskedBehind, AreAsked, keys_read, AnswersAreTheReads}
@@ -181,9 +182,6 @@ distinct_behind program before (a ∷ reads) asked distinct =
     subst HaveDistinctKeys (append_assoc before (a ∷ []) reads)
     (distinct_behind program (before ++ a ∷ []) reads asked.1 (distinct_more before a distinct (wanted_is_new program before a.key asked.0)))
 
-pub asked_are_distinct : (program : ProgramTree) (reads : List ReadAnswer) → AreAsked program reads → HaveDistinctKeys reads
-asked_are_distinct program reads asked = distinct_behind program [] reads asked tt
-
 -- ---- what an attempt has read was asked for ----
 
 asked_behind : (program : ProgramTree) (before reads : List ReadAnswer) (a : ReadAnswer) → AskedBehind program before reads →
@@ -323,3 +321,25 @@ conflict_listed task h known =
 pub conflict_asked : (task : Task) (h : History) (known : Known) → AreAsked task.program (after_conflict task h known).reads
 conflict_asked task h known =
     gone_asked task.program (known_of [] (map (answer_now h) (reread_keys task.level known.reads))) tt (none_asked task.program)
+
+-- ---- no key is read twice
+
+taken_keys_of : (n : ℕ) (reads : List ReadAnswer) → map (λ (a : ReadAnswer). a.key) (take n reads) ≡ take n (map (λ (a : ReadAnswer). a.key) reads)
+taken_keys_of zero reads = refl
+taken_keys_of (suc n) [] = refl
+taken_keys_of (suc n) (x ∷ reads) = ap (λ (l : List (List ℕ)). x.key ∷ l) (taken_keys_of n reads)
+
+front_of : (keys others : List (List ℕ)) → take (length keys) (keys ++ others) ≡ keys
+front_of [] others = refl
+front_of (key ∷ keys) others = ap (λ (l : List (List ℕ)). key ∷ l) (front_of keys others)
+
+pub asked_are_distinct : (program : ProgramTree) (reads : List ReadAnswer) → has_repeat program.prefetch ≡ false → BeginsWithList program.prefetch reads →
+    AreAsked program reads → HaveDistinctKeys reads
+asked_are_distinct program [] once begins asked = tt
+asked_are_distinct program (a ∷ reads) once begins asked =
+    let n : ℕ = length program.prefetch in
+    let all : List ReadAnswer = a ∷ reads in
+    let front : map (λ (x : ReadAnswer). x.key) (take n all) ≡ program.prefetch =
+    taken_keys_of n all ∙ ap (λ (l : List (List ℕ)). take n l) begins.first ∙ front_of program.prefetch begins.others in
+    let distinct : HaveDistinctKeys (take n all) = once-have_distinct (take n all) (ap has_repeat front ∙ once) in
+    subst HaveDistinctKeys (rejoined n all) (distinct_behind program (take n all) (drop n all) asked distinct)

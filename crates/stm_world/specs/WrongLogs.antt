@@ -89,7 +89,8 @@ pub record WrongLogs : Type 0 where
       → IsRight start log (Step id) (Ok (Fetched id key mod_rev of_rev revision)) → ⊥
   -- at one that is not, the store refuses no fetch
   pub refused_fetch : (start : Setup) (log : List Line) (id : ℕ) (task : Task) (key : List ℕ) (trace : List TraceItem) (cause : StoreRefusal)
-      → running id log ≡ Some task → run_on task.program (told start id task log).reads ≡ Wants key trace
+      → running id log ≡ Some task → is_due task.program.prefetch (told start id task log).reads ≡ false
+      → run_on task.program (told start id task log).reads ≡ Wants key trace
       → is_below_floor (store start log).floor (at_of task.level (told start id task log).reads) ≡ false
       → IsRight start log (Step id) (Ok (EndedReply id cause)) → ⊥
   -- a list that is read is not fetched again

@@ -14,13 +14,13 @@ use Rattle.stm_program.specs.Limits.{has_repeat}
 use Rattle.stm_program.proofs.WriteLemmas.{bytes_eq-flip}
 use Rattle.stm_steps.specs.declared.stop.Stop.TheVariants.{Aborted, Faulted, Wants as WantsStop}
 use Rattle.stm_steps.specs.Answer.{Answer}
-use Rattle.stm_steps.specs.Session.{Session, fresh, with_key}
+use Rattle.stm_steps.specs.Session.{Session, fresh}
 use Rattle.stm_steps.specs.Outcome.{Outcome, Gives, Stops}
 use Rattle.stm_meaning.specs.declared.trace_item.TraceItem.{TraceItem}
 use Rattle.stm_meaning.specs.declared.run.End.TheVariants.{Done, Aborted as EndAborted, Faulted as EndFaulted}
 use Rattle.stm_meaning.specs.declared.run.Run.{Run}
 use Rattle.stm_meaning.specs.declared.run.Answered.TheVariants.{Ended, Wants}
-use Rattle.stm_meaning.specs.Meaning.{get_of, get_key, rev_key, run_of, answered, run_block, run_over}
+use Rattle.stm_meaning.specs.Meaning.{get_answered, rev_answered, get_of, get_key, rev_key, run_of, answered, run_block, run_over}
 use Rattle.stm_meaning.proofs.KeepLemmas.{session_of, StepsKeep, kept_by_run}
 use Rattle.stm_compile.specs.Answers.{answer_in, answer_now, said, look_up}
 use Rattle.stm_compile.specs.CommitTxn.{reread_keys}
@@ -32,8 +32,9 @@ use Rattle.stm_attempt.proofs.SettleLemmas.{wanted_is_new, settled_keeps}
 use Rattle.stm_attempt.proofs.EnteringLemmas.{once-have_distinct, taken_keys, where_it_comes, begins_more, list_begins, reads_begin_with_the_list}
 use Rattle.stm_attempt.proofs.Unread.{found_key, same_bytes}
 use Rattle.stm_world.specs.Task.{Task, answer_at, after_list, after_fetch, after_conflict}
-use Rattle.stm_world.specs.Asked.{AskedBehind, AreAsked, keys_read, AnswersAreTheReads}
+use Rattle.stm_world.specs.Asked.{AskedBehind, AreAsked, keys_read, keys_first_read, AnswersAreTheReads}
 use Rattle.stm_world.proofs.ReadOrder.{reads_of, OneKeyMore, wanted_is_read}
+use Rattle.stm_world.proofs.FirstReads.{first_none, first_adds, first_stays}
 
 -- ---- one more answer ----
 
@@ -71,26 +72,32 @@ keys_more : (reads : List ReadAnswer) (a : ReadAnswer) → keys_read reads ++ a.
 keys_more [] a = refl
 keys_more (x ∷ reads) a = ap (λ (keys : List (List ℕ)). x.key ∷ keys) (keys_more reads a)
 
-key_joins : (reads : List ReadAnswer) (a : ReadAnswer) → answer_in a.key reads ≡ None → with_key a.key (keys_read reads) ≡ keys_read (reads ++ a ∷ [])
-key_joins reads a none =
-    ap (λ b. cond b (keys_read reads) (keys_read reads ++ a.key ∷ []))
-    (any_key a.key reads ∙ ap (λ (o : Option ReadAnswer). is_some (option_map said o)) none)
-    ∙ keys_more reads a
+-- the keys that a run has read are, behind those of a list, those of the answers
+abbrev IsFirst : List (List ℕ) → List ReadAnswer → List (List ℕ) → Type 0
+IsFirst keys answers reads = keys_first_read keys reads ≡ keys_read answers
 
-key_is_there : (key : List ℕ) (reads : List ReadAnswer) (s : Answer) → look_up reads key ≡ Some s → with_key key (keys_read reads) ≡ keys_read reads
-key_is_there key reads s is =
-    ap (λ b. cond b (keys_read reads) (keys_read reads ++ key ∷ [])) (any_key key reads ∙ ap (λ (o : Option Answer). is_some o) is)
+unknown_among : (keys : List (List ℕ)) (answers : List ReadAnswer) (reads : List (List ℕ)) (key : List ℕ) → IsFirst keys answers reads →
+    answer_in key answers ≡ None → list_any (bytes_eq key) (keys_first_read keys reads) ≡ false
+unknown_among keys answers reads key is none =
+    ap (λ (l : List (List ℕ)). list_any (bytes_eq key) l) is ∙ any_key key answers
+    ∙ ap (λ (o : Option ReadAnswer). is_some (option_map said o)) none
 
-one_key_more : (reads : List ReadAnswer) (a : ReadAnswer) → answer_in a.key reads ≡ None →
-    OneKeyMore (look_up reads) (look_up (reads ++ a ∷ [])) (keys_read reads) (keys_read (reads ++ a ∷ [])) a.key
-one_key_more reads a none =
+known_among : (keys : List (List ℕ)) (answers : List ReadAnswer) (reads : List (List ℕ)) (key : List ℕ) (a : Answer) → IsFirst keys answers reads →
+    look_up answers key ≡ Some a → list_any (bytes_eq key) (keys_first_read keys reads) ≡ true
+known_among keys answers reads key a is found =
+    ap (λ (l : List (List ℕ)). list_any (bytes_eq key) l) is ∙ any_key key answers ∙ ap (λ (o : Option Answer). is_some o) found
+
+one_key_more : (keys : List (List ℕ)) (reads : List ReadAnswer) (a : ReadAnswer) → answer_in a.key reads ≡ None →
+    OneKeyMore (look_up reads) (look_up (reads ++ a ∷ [])) (IsFirst keys reads) (IsFirst keys (reads ++ a ∷ [])) a.key
+one_key_more keys reads a none =
     let last : (s : Answer) × (look_up (reads ++ a ∷ []) a.key ≡ Some s) = last_known reads a in
     record {
       agrees = λ key. still_known key reads a;
       answer = last.0;
       knows = last.1;
-      adds = key_joins reads a none;
-      is_all = λ key. key_is_there key (reads ++ a ∷ []);
+      adds = λ rs is.
+          first_adds keys rs a.key (unknown_among keys reads rs a.key is none) ∙ ap (λ (l : List (List ℕ)). l ++ a.key ∷ []) is ∙ keys_more reads a;
+      is_all = λ key s rs found is. first_stays keys rs key (known_among keys (reads ++ a ∷ []) rs key s is found) ∙ is;
     }
 
 -- ---- runs ----
@@ -110,51 +117,62 @@ ended_reads (Stops (Aborted t) s) run is = let same : run_of (EndAborted t) s �
 ended_reads (Stops (Faulted fault) s) run is = let same : run_of (EndFaulted fault) s ≡ run = cc in ap (λ (r : Run). r.reads) (sym same)
 ended_reads (Stops (WantsStop key) s) run is = absurd (cc)
 
-one_more_read : (program : ProgramTree) (reads : List ReadAnswer) (a : ReadAnswer) → wanted (run_on program reads) ≡ Some a.key →
-    reads_of (run_with program reads) ≡ keys_read reads → reads_of (run_with program (reads ++ a ∷ [])) ≡ keys_read (reads ++ a ∷ [])
+one_more_read : (keys : List (List ℕ)) (program : ProgramTree) (reads : List ReadAnswer) (a : ReadAnswer) → wanted (run_on program reads) ≡ Some a.key →
+    IsFirst keys reads (reads_of (run_with program reads)) → IsFirst keys (reads ++ a ∷ []) (reads_of (run_with program (reads ++ a ∷ [])))
 unfolding run_over
-one_more_read program reads a wants is =
+one_more_read keys program reads a wants is =
     let stopped : (s : Session) × (run_with program reads ≡ Stops (WantsStop a.key) s) = wanting (run_with program reads) a.key wants in
-    wanted_is_read (look_up reads) (look_up (reads ++ a ∷ [])) (keys_read reads) (keys_read (reads ++ a ∷ [])) a.key
-    (one_key_more reads a (wanted_is_new program reads a.key wants)) program.statements stopped.0 stopped.1
-    (sym (ap (λ (o : Outcome (Unit {0})). reads_of o) stopped.1) ∙ is)
+    wanted_is_read (look_up reads) (look_up (reads ++ a ∷ [])) (IsFirst keys reads) (IsFirst keys (reads ++ a ∷ [])) a.key
+    (one_key_more keys reads a (wanted_is_new program reads a.key wants)) program.statements stopped.0 stopped.1
+    (subst (IsFirst keys reads) (ap (λ (o : Outcome (Unit {0})). reads_of o) stopped.1) is)
 
--- a run that knows no key reads none
-get_of-reads : (key : List ℕ) (w : Option Write) (s : Session) → s.reads ≡ [] → (session_of (get_of (look_up []) key w s)).reads ≡ []
-get_of-reads key (Some w) s is = is
-get_of-reads key None s is = is
+-- a run that knows the keys of a list alone reads no other
+get_answered-listed : (keys : List (List ℕ)) (answers : List ReadAnswer) (key : List ℕ) (a : Option Answer) (s : Session) → look_up answers key ≡ a →
+    IsFirst keys answers s.reads → IsFirst keys answers (session_of (get_answered key a s)).reads
+get_answered-listed keys answers key None s found is = is
+get_answered-listed keys answers key (Some a) s found is =
+    first_stays keys s.reads key (known_among keys answers s.reads key a is found) ∙ is
 
-steps_read_none : StepsKeep (look_up []) (λ s. s.reads ≡ [])
+rev_answered-listed : (keys : List (List ℕ)) (answers : List ReadAnswer) (key : List ℕ) (a : Option Answer) (s : Session) → look_up answers key ≡ a →
+    IsFirst keys answers s.reads → IsFirst keys answers (session_of (rev_answered key a s)).reads
+rev_answered-listed keys answers key None s found is = is
+rev_answered-listed keys answers key (Some a) s found is =
+    first_stays keys s.reads key (known_among keys answers s.reads key a is found) ∙ is
+
+get_of-listed : (keys : List (List ℕ)) (answers : List ReadAnswer) (key : List ℕ) (w : Option Write) (s : Session) → IsFirst keys answers s.reads →
+    IsFirst keys answers (session_of (get_of (look_up answers) key w s)).reads
+get_of-listed keys answers key (Some w) s is = is
+get_of-listed keys answers key None s is = get_answered-listed keys answers key (look_up answers key) s refl is
+
+steps_read_listed : (keys : List (List ℕ)) (answers : List ReadAnswer) → StepsKeep (look_up answers) (λ s. IsFirst keys answers s.reads)
 unfolding get_key rev_key
-steps_read_none = record {
+steps_read_listed keys answers = record {
   set = λ v x s is. is;
   turn = λ s is. is;
   emit = λ x s is. is;
   write = λ w s long is. is;
-  get = λ key s long is. get_of-reads key (last_write key s.writes) s is;
-  rev = λ key s long is. is;
+  get = λ key s long is. get_of-listed keys answers key (last_write key s.writes) s is;
+  rev = λ key s long is. rev_answered-listed keys answers key (look_up answers key) s refl is;
 }
 
 same_reads : (o : Outcome (Unit {0})) → reads_of o ≡ (session_of o).reads
 same_reads (Gives x s) = refl
 same_reads (Stops stop s) = refl
 
-none_read : (program : ProgramTree) → reads_of (run_with program []) ≡ []
+listed_read : (keys : List (List ℕ)) (program : ProgramTree) (answers : List ReadAnswer) → keys_read answers ≡ keys →
+    IsFirst keys answers (reads_of (run_with program answers))
 unfolding fresh
-none_read program = same_reads (run_with program []) ∙ kept_by_run (look_up []) (λ s. s.reads ≡ []) steps_read_none program.statements refl
+listed_read keys program answers are =
+    ap (keys_first_read keys) (same_reads (run_with program answers))
+    ∙ kept_by_run (look_up answers) (λ s. IsFirst keys answers s.reads) (steps_read_listed keys answers) program.statements (first_none keys ∙ sym are)
 
-reads_behind : (program : ProgramTree) (before reads : List ReadAnswer) → AskedBehind program before reads →
-    reads_of (run_with program before) ≡ keys_read before → reads_of (run_with program (before ++ reads)) ≡ keys_read (before ++ reads)
-reads_behind program before [] asked is =
-    subst (λ (l : List ReadAnswer). reads_of (run_with program l) ≡ keys_read l) (sym (append-nil before)) is
-reads_behind program before (a ∷ reads) asked is =
-    subst (λ (l : List ReadAnswer). reads_of (run_with program l) ≡ keys_read l) (append_assoc before (a ∷ []) reads)
-    (reads_behind program (before ++ a ∷ []) reads asked.1 (one_more_read program before a asked.0 is))
-
-pub answers_are_the_reads : AnswersAreTheReads
-unfolding run_over
-answers_are_the_reads program reads run asked is =
-    ended_reads (run_with program reads) run is ∙ reads_behind program [] reads asked (none_read program)
+reads_behind : (keys : List (List ℕ)) (program : ProgramTree) (before reads : List ReadAnswer) → AskedBehind program before reads →
+    IsFirst keys before (reads_of (run_with program before)) → IsFirst keys (before ++ reads) (reads_of (run_with program (before ++ reads)))
+reads_behind keys program before [] asked is =
+    subst (λ (l : List ReadAnswer). IsFirst keys l (reads_of (run_with program l))) (sym (append-nil before)) is
+reads_behind keys program before (a ∷ reads) asked is =
+    subst (λ (l : List ReadAnswer). IsFirst keys l (reads_of (run_with program l))) (append_assoc before (a ∷ []) reads)
+    (reads_behind keys program (before ++ a ∷ []) reads asked.1 (one_more_read keys program before a asked.0 is))
 
 -- ---- no key is asked for twice ----
 
@@ -343,3 +361,23 @@ asked_are_distinct program (a ∷ reads) once begins asked =
     taken_keys_of n all ∙ ap (λ (l : List (List ℕ)). take n l) begins.first ∙ front_of program.prefetch begins.others in
     let distinct : HaveDistinctKeys (take n all) = once-have_distinct (take n all) (ap has_repeat front ∙ once) in
     subst HaveDistinctKeys (rejoined n all) (distinct_behind program (take n all) (drop n all) asked distinct)
+
+-- ---- what was read is what the run reads
+
+front_keys : (keys : List (List ℕ)) (reads : List ReadAnswer) → BeginsWithList keys reads → is_due keys reads ≡ false →
+    map (λ (a : ReadAnswer). a.key) (take (length keys) reads) ≡ keys
+front_keys [] [] begins not = refl
+front_keys (key ∷ keys) [] begins not = absurd (cc)
+front_keys keys (a ∷ reads) begins not =
+    taken_keys_of (length keys) (a ∷ reads) ∙ ap (λ (l : List (List ℕ)). take (length keys) l) begins.first ∙ front_of keys begins.others
+
+pub answers_are_the_reads : AnswersAreTheReads
+unfolding run_over
+answers_are_the_reads program reads run begins listed asked is =
+    let keys : List (List ℕ) = program.prefetch in
+    let n : ℕ = length keys in
+    let whole : IsFirst keys (take n reads ++ drop n reads) (reads_of (run_with program (take n reads ++ drop n reads))) =
+    reads_behind keys program (take n reads) (drop n reads) asked
+    (listed_read keys program (take n reads) (front_keys keys reads begins listed)) in
+    ap (keys_first_read keys) (ended_reads (run_with program reads) run is)
+    ∙ subst (λ (l : List ReadAnswer). IsFirst keys l (reads_of (run_with program l))) (rejoined n reads) whole

@@ -1,6 +1,6 @@
 -- What the transaction that fetches a list comes to.
 use Rattle.std.proofs.Common.{◌≡◌, ◌⊎◌, inl, inr, ℕ, ◌<◌, Bool, true, false, cond, List, [], ◌∷◌, ◌++◌, length, map, Option, Some, None, Ok, Err, refl, sym, ◌∙◌, ap, subst, arith, All}
-use Rattle.std.specs.Prelude.{◌||◌, nat_eq, nat_lt, Result}
+use Rattle.std.specs.Prelude.{◌||◌, nat_eq, nat_lt, IfErr, Result}
 use Rattle.std.specs.List.{list_any}
 use Rattle.std.proofs.lemmas.Bool.{ne_eqb, le-ltb}
 use Rattle.stm_history.specs.declared.key_state.ReadAnswer.{ReadAnswer}
@@ -143,3 +143,14 @@ refused_by s keys txn cause false few is named refused = inl (subst (λ o. IsRef
 pub all_refused : (s : Standing) (keys : List (List ℕ)) (txn : Txn) (cause : Refusal) → txn ≡ fetch_all_of keys → AreNamed keys
     → IsRefusalOf (transacted s txn) cause → IsRefusalOfAll s keys cause
 all_refused s keys txn cause is named refused = refused_by s keys txn cause (nat_lt s.limit (length keys)) refl is named refused
+
+-- what is told of the reads of the answer
+pub all_told : (s after : Standing) (keys : List (List ℕ)) (answers : List OpAnswer) (reads : List ReadAnswer) → AreRead s after keys answers
+    → reads ≡ reads_in answers → fetch_all_told s keys ≡ Ok reads
+all_told s after keys answers reads x same = x.told ∙ ap (λ (l : List ReadAnswer). (let r : Result (List ReadAnswer) Refusal = Ok l in r)) (sym same)
+
+-- the exit of a refusal
+pub refused_with_all : {A : Type 0} (s : Standing) (keys : List (List ℕ)) (result : Result A Refusal) (given cause : Refusal) → result ≡ Err given
+    → given ≡ cause → IsRefusalOfAll s keys cause → IfErr result (IsRefusalOfAll s keys)
+refused_with_all s keys result given cause is same told =
+    subst (λ (r : Result A Refusal). IfErr r (IsRefusalOfAll s keys)) (sym (is ∙ ap (λ (y : Refusal). Err y) same)) told

@@ -1,14 +1,17 @@
 -- The list of a program: when it is due, what is taken for it, and what going on makes of what an attempt knows.
-use Rattle.std.proofs.Common.{◌≡◌, inl, inr, ◌⊎◌, ◌≤◌, ℕ, zero, suc, Bool, true, false, cond, List, [], ◌∷◌, ◌++◌, length, map, refl, sym, ◌∙◌, ap, subst, append_assoc}
-use Rattle.std.specs.Prelude.{bytes_eq, ◌||◌, Option, None, Some, option_map, take, All}
+use Rattle.std.proofs.Common.{◌≡◌, inl, inr, ◌⊎◌, ◌<◌, ◌≤◌, ℕ, zero, suc, Bool, true, false, cond, List, [], ◌∷◌, ◌++◌, length, map, refl, sym, ◌∙◌, ap, subst, arith, append_assoc}
+use Rattle.std.specs.Prelude.{bytes_eq, ◌||◌, nat_eq, nat_lt, Option, None, Some, option_map, take, All}
 use Rattle.std.specs.List.{AllByRecursion, list_any}
 use Rattle.std.proofs.lemmas.List.Elements.{recursion_from_All}
 use Rattle.std.proofs.lemmas.Slice.Eq.{bytes_eq-Decides}
 use Rattle.stm_history.specs.declared.key_state.ReadAnswer.{ReadAnswer}
 use Rattle.stm_program.specs.Syntax.{ProgramTree}
-use Rattle.stm_program.specs.Limits.{has_repeat}
+use Rattle.stm_program.specs.declared.limits.TheConstants.{MAX_DEPTH, MAX_NODES, MAX_TEXT}
+use Rattle.stm_program.specs.Limits.{BlockFits, is_no_key, has_repeat, Fits}
 use Rattle.stm_program.specs.declared.level.Level.{Level}
 use Rattle.stm_program.proofs.WriteLemmas.{bytes_eq-flip}
+use Rattle.stm_program.proofs.ListLemmas.{list_parts, list_of_program}
+use Rattle.stm_outcome.specs.Commits.{AreNamed}
 use Rattle.stm_compile.specs.Answers.{answer_in}
 use Rattle.stm_attempt.specs.declared.next.Next.{Next}
 use Rattle.stm_attempt.specs.declared.next.Next.TheVariants.{FetchAll}
@@ -144,6 +147,22 @@ key_is_new (a ∷ reads) key later once =
     apart : (k : List ℕ) (before : List (List ℕ)) → list_any (bytes_eq k) (before ++ key ∷ later) ≡ false → bytes_eq k key ≡ false
     apart k [] none = (neither (bytes_eq k key) (list_any (bytes_eq k) later) none).0
     apart k (x ∷ before) none = apart k before (neither (bytes_eq k x) (list_any (bytes_eq k) (before ++ key ∷ later)) none).1
+
+-- no key of a program's list is empty
+key_named : (key : List ℕ) → nat_eq (length key) 0 ≡ false → 0 < length key
+key_named [] none = absurd (cc)
+key_named (byte ∷ key) none = omega arith
+
+all_named : (keys : List (List ℕ)) → list_any is_no_key keys ≡ false → AreNamed keys
+all_named [] none = tt
+all_named (key ∷ keys) none =
+    let parts = neither (is_no_key key) (list_any is_no_key keys) none in
+    (key_named key (neither (nat_eq (length key) 0) (nat_lt MAX_TEXT (length key)) parts.0).0, all_named keys parts.1)
+
+pub list_named : (program : ProgramTree) → Fits program → AreNamed program.prefetch
+list_named program fits =
+    all_named program.prefetch
+    (list_parts program.prefetch (list_of_program program.prefetch (BlockFits MAX_DEPTH MAX_NODES program.statements) fits)).named
 
 -- ---- where an attempt comes to
 

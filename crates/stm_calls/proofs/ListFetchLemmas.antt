@@ -14,7 +14,7 @@ use Rattle.stm_outcome.specs.declared.refusal.Refusal.{Refusal}
 use Rattle.stm_outcome.specs.declared.refusal.Refusal.TheVariants.{OutOfMemory, EmptyKey, DuplicateKey, TooManyOps}
 use Rattle.stm_outcome.specs.Operations.{key_of_op, clash}
 use Rattle.stm_outcome.specs.Checks.{has_too_many, has_empty_key, is_empty_key, has_clash, fault_of}
-use Rattle.stm_outcome.specs.Outcome.{unless, branch_outcome}
+use Rattle.stm_outcome.specs.Outcome.{unless, branch_outcome, outcome}
 use Rattle.stm_outcome.specs.Commits.{read_op, read_out, reads_now, shown, AreReached, AreNamed}
 use Rattle.stm_outcome.specs.Terms.{Terms}
 use Rattle.stm_outcome.proofs.Applying.{reads_change_nothing}
@@ -83,6 +83,22 @@ reached terms (key ∷ keys) = (omega arith, refl, reached terms keys)
 shown_now : (h : History) (keys : List (List ℕ)) → map (shown h) (reads_now keys) ≡ map (λ a. GetAnswer a) (map (answer_now h) keys)
 shown_now h [] = refl
 shown_now h (key ∷ keys) = ap (λ (later : List OpAnswer). GetAnswer (answer_now h key) ∷ later) (shown_now h keys)
+
+-- in any store
+pub all_come : (terms : Terms) (keys : List (List ℕ)) → AreNamed keys → nat_lt terms.limit (length keys) ≡ false
+    → outcome terms (fetch_all_of keys) ≡ Ok (read_out terms.history None (reads_now keys))
+all_come terms keys named few =
+    reads_change_nothing terms (fetch_all_of keys) (reads_now keys) refl refl
+    (fault_is terms.limit keys named ∙ ap (λ (b : Bool). (let o : Option Refusal = cond b (Some TooManyOps) None in o)) few) (reached terms keys)
+
+pub too_many_come : (terms : Terms) (keys : List (List ℕ)) → AreNamed keys → nat_lt terms.limit (length keys) ≡ true
+    → outcome terms (fetch_all_of keys) ≡ Err TooManyOps
+too_many_come terms keys named many =
+    ap (λ (fault : Option Refusal). unless fault (branch_outcome terms None (map read_op (reads_now keys))))
+    (fault_is terms.limit keys named ∙ ap (λ (b : Bool). (let o : Option Refusal = cond b (Some TooManyOps) None in o)) many)
+
+pub reads_shown : (h : History) (keys : List (List ℕ)) → reads_in (map (shown h) (reads_now keys)) ≡ map (answer_now h) keys
+reads_shown h keys = ap reads_in (shown_now h keys) ∙ all_reads (map (answer_now h) keys)
 
 step_alone : Standing → List (List ℕ) → Step TxnAnswer
 step_alone s keys = record { answer = (read_out s.history None (reads_now keys)).answer; next = s }

@@ -10,7 +10,7 @@ mod sending;
 mod sent;
 mod state;
 
-pub use answers::take_only_read;
+pub use answers::{take_only_read, take_reads};
 pub use copies::{Copies, copies_of};
 pub use fetching::{fetch, fetch_all, read_all, read_one};
 pub use present::present_keys;

@@ -1,13 +1,10 @@
 -- What a runner knows, and what its attempt relies on, from call to call.
-use Rattle.std.proofs.Common.{◌≡◌, ◌⊎◌, inl, inr, ℕ, ◌<◌, Bool, true, false, List, [], ◌∷◌, ◌++◌, length, map, cond, refl, sym, ◌∙◌, ap, subst, arith}
-use Rattle.std.specs.Prelude.{◌||◌, nat_eq, nat_lt, Option, None, Some, IfSome, Contains, is_some, Result, Ok, Err, OnOk, OnErr}
-use Rattle.std.specs.List.{list_any}
+use Rattle.std.proofs.Common.{◌≡◌, ◌⊎◌, inl, inr, ℕ, ◌<◌, Bool, true, false, List, [], ◌∷◌, ◌++◌, length, map, cond, refl, sym, ◌∙◌, ap, subst}
+use Rattle.std.specs.Prelude.{Option, None, Some, IfSome, Contains, is_some, Result, Ok, Err, OnOk, OnErr}
 use Rattle.std.proofs.lemmas.List.Elements.{All-nil, All-cons, All-push, All-append, All-same, All-weaker, All-contains, All-from_recursion, recursion_from_All}
 use Rattle.stm_history.specs.declared.key_state.ReadAnswer.{ReadAnswer}
-use Rattle.stm_program.specs.declared.limits.TheConstants.{MAX_DEPTH, MAX_NODES, MAX_TEXT}
 use Rattle.stm_program.specs.Syntax.{ProgramTree}
-use Rattle.stm_program.specs.Limits.{BlockFits, is_no_key, Fits}
-use Rattle.stm_program.proofs.ListLemmas.{list_parts, list_of_program}
+use Rattle.stm_program.specs.Limits.{Fits}
 use Rattle.stm_program.specs.declared.level.Level.{Level}
 use Rattle.stm_meaning.specs.declared.run.Answered.{Answered}
 use Rattle.stm_meaning.specs.declared.run.Answered.TheVariants.{Ended, Wants}
@@ -20,7 +17,7 @@ use Rattle.stm_attempt.specs.Entering.{is_due, answers_of_all, behind_list, gone
 use Rattle.stm_attempt.specs.AttemptState.{AttemptState, IsOf, begun, advanced, supplied, supplied_all, awaited, list_awaited, unserved}
 use Rattle.stm_attempt.specs.Laws.{AddsPrefetched}
 use Rattle.stm_attempt.proofs.SettleLemmas.{settle_stays, settling_adds_prefetched}
-use Rattle.stm_attempt.proofs.EnteringLemmas.{taken_are, where_it_comes, gone_settled, gone_on_is_gone_on}
+use Rattle.stm_attempt.proofs.EnteringLemmas.{taken_are, where_it_comes, gone_settled, gone_on_is_gone_on, list_named}
 use Rattle.stm_world.specs.Task.{Task, nothing_known, with_served}
 use Rattle.stm_world.specs.World.{begin}
 use Rattle.stm_retry.specs.RunnerView.{view_of, AreNamed, IsRunner, with_answer, with_answers}
@@ -129,27 +126,7 @@ pub listed : (program : ProgramTree) (attempt : AttemptState) (keys : List (List
     keys ≡ program.prefetch
 listed program attempt keys of is = listed_by program attempt.program attempt.level attempt.known keys of is
 
--- no key of a program's list is empty
-neither : (b c : Bool) → (b || c) ≡ false → (b ≡ false) × (c ≡ false)
-neither true c h = absurd (cc)
-neither false c h = (refl, h)
-
-key_named : (key : List ℕ) → nat_eq (length key) 0 ≡ false → 0 < length key
-key_named [] none = absurd (cc)
-key_named (byte ∷ key) none = omega arith
-
-all_named : (keys : List (List ℕ)) → list_any is_no_key keys ≡ false → KeysAreNamed keys
-all_named [] none = tt
-all_named (key ∷ keys) none =
-    let parts = neither (is_no_key key) (list_any is_no_key keys) none in
-    (key_named key (neither (nat_eq (length key) 0) (nat_lt MAX_TEXT (length key)) parts.0).0, all_named keys parts.1)
-
-pub list_named : (program : ProgramTree) → Fits program → KeysAreNamed program.prefetch
-list_named program fits =
-    all_named program.prefetch
-    (list_parts program.prefetch (list_of_program program.prefetch (BlockFits MAX_DEPTH MAX_NODES program.statements) fits)).named
-
--- nor is that of an answer to it
+-- the key of an answer to it is not empty
 named_of : (answers : List ReadAnswer) (keys : List (List ℕ)) → map (λ (a : ReadAnswer). a.key) answers ≡ keys → KeysAreNamed keys → AreNamed answers
 named_of answers keys is named =
     by answers (subst KeysAreNamed (sym is) named)

@@ -2,7 +2,8 @@ use Rattle.std.proofs.Common.{◌≡◌, ◌∙◌, ap, refl}
 use Rattle.stm_attempt.specs.AttemptState.{AttemptState, advanced}
 use Rattle.stm_world.specs.Task.{Task}
 use Rattle.stm_retry.specs.RunnerView.{RunnerView, view_of, task_of, AreNamed, IsRunner}
-use Rattle.stm_retry.proofs.RunnerLemmas.{kept_by, advanced_runner, advanced_is_runner, named_runner, list_named}
+use Rattle.stm_attempt.proofs.EnteringLemmas.{list_named}
+use Rattle.stm_retry.proofs.RunnerLemmas.{kept_by, advanced_runner, advanced_is_runner, named_runner}
 use Rattle.stm_retry.proofs.runner.Runner.advance.Goals as goal
 
 pub invariant_of-self : goal.invariant_of-self

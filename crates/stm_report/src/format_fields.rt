@@ -48,6 +48,11 @@ fn runner_object(alloc: Global, reply: &Reply, line: Json) -> Result<Json, Alloc
 {
     match reply {
         Reply::Started { .. } => object_of(alloc, line, &["event", "kind", "runner"]),
+        Reply::Prefetched { .. } => object_of(
+            alloc,
+            line,
+            &["event", "kind", "runner", "revision", "reads"],
+        ),
         Reply::Fetched { .. } => object_of(
             alloc,
             line,

@@ -67,10 +67,10 @@ impl<'a, R: RunOfJobs, W: Wait, G: Gate> Executor<'a, R, W, G> {
         ensures answered { IfOk result (λ answers. AreAnswered seen.old keys.now answers.items seen.new) }
         ensures refused { IfErr result (λ stop. (stop ≡ OutOfMemory) ⊎ AreUnanswered seen.old keys.now stop) }
     {
-        let txn = read_all(self.alloc, keys)?;
+        let reading = read_all(self.alloc, keys)?;
         // Under the lock: the keys are looked up, and their values copied.
-        let told = self.locked.lock(self.rt).fetch(*seen, &txn);
-        drop(txn);
+        let told = self.locked.lock(self.rt).fetch(*seen, &reading);
+        drop(reading);
         match told {
             Ok(told) => {
                 let revision = told.revision;

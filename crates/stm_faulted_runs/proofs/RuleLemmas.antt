@@ -1,5 +1,5 @@
 -- The state that a scenario leaves.
-use Rattle.std.proofs.Common.{◌≡◌, ◌∙◌, ℕ, List, ap, subst}
+use Rattle.std.proofs.Common.{◌≡◌, ◌∙◌, List, ap, subst}
 use Rattle.stm_history.specs.History.{History}
 use Rattle.stm_steps.specs.declared.state.StateEntry.{StateEntry}
 use Rattle.stm_calls.specs.StateOf.{IsStateOf}

@@ -1,6 +1,6 @@
 -- Reading a scenario: the value that a text spells, or the first fault. A value is looked at before its elements, and
 -- these from the first to the last.
-use Rattle.std.specs.Prelude.{ℕ, suc, ◌+◌, ◌≤◌, List, [], ◌∷◌, length, Option, Some, None, Ok, if◌then◌else◌, nat_lt, codes}
+use Rattle.std.specs.Prelude.{ℕ, suc, ◌+◌, List, [], ◌∷◌, length, Option, Some, None, Ok, if◌then◌else◌, nat_lt, codes}
 use Rattle.serde_json.specs.Data.{Data, Items, no_items, item}
 use Rattle.serde_json.specs.Find.{as_str, as_array}
 use Rattle.stm_json.specs.Elements.{worded, one_of, two_of, three_of, number_up_to, number_in}

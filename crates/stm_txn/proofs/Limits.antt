@@ -1,7 +1,6 @@
 -- A store that opens with a limit, and what does not look at it.
 use Rattle.std.proofs.Common.{◌≡◌, ◌∙◌, ℕ, ◌≤◌, List, [], ◌∷◌, Option, refl, sym, ap}
 use Rattle.std.specs.Option.{option_or}
-use Rattle.std.specs.Prelude.{Result}
 use Rattle.std.proofs.Math.Nat.{min-eq_left}
 use Rattle.stm_history.specs.History.{History}
 use Rattle.stm_leases.specs.Live.{Live}

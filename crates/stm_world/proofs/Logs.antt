@@ -1,5 +1,5 @@
 -- The log of a run: each event with its reply.
-use Rattle.std.proofs.Common.{◌≡◌, ℕ, List, [], ◌∷◌, ◌++◌, map, reverse, length, refl, sym, ◌∙◌, ap}
+use Rattle.std.proofs.Common.{◌≡◌, List, [], ◌∷◌, ◌++◌, map, reverse, length, refl, sym, ◌∙◌, ap}
 use Rattle.std.proofs.lemmas.List.{append-nil, append_assoc, reverse-append, length-map, length-reverse}
 use Rattle.std.specs.Prelude.{Result}
 use Rattle.stm_world.specs.declared.event.WorldEvent.{WorldEvent}

@@ -1,5 +1,5 @@
 -- There is one right reply to an event after a log, so that being right says what a world replies, and not only something of it.
-use Rattle.std.specs.Prelude.{◌≡◌, ℕ, List, Result}
+use Rattle.std.specs.Prelude.{◌≡◌, List, Result}
 use Rattle.stm_world.specs.declared.event.WorldEvent.{WorldEvent}
 use Rattle.stm_world.specs.declared.reply.Reply.{Reply}
 use Rattle.stm_world.specs.declared.refusal.Denied.{Denied}

@@ -10,9 +10,9 @@ mod sending;
 mod sent;
 mod state;
 
-pub use answers::take_only_read;
+pub use answers::{take_only_read, take_reads};
 pub use copies::{Copies, copies_of};
-pub use fetching::{fetch, read_one};
+pub use fetching::{fetch, fetch_all, read_all, read_one};
 pub use present::present_keys;
 pub use sending::{commit, conflict};
 pub use sent::Sent;

@@ -9,6 +9,7 @@ use stm_reports::{BadInput, ReadError, ReportLine, ToldOp, read_report};
 fn word(line: &ReportLine) -> &'static str {
     match line {
         ReportLine::Started { .. } => "started",
+        ReportLine::Prefetched { .. } => "prefetched",
         ReportLine::Fetched { .. } => "fetched",
         ReportLine::Committed { .. } => "committed",
         ReportLine::Conflict { .. } => "conflict",

@@ -215,6 +215,15 @@ program_list None = bad Shape
 program_list (Some no_items) = Ok (of_statements End)
 program_list (Some (item d ds)) = program_after (list_parts (worded d)) (item d ds) ds
 
+-- The index of the first statement of a program among the elements that spell it: it stands behind a list, also behind one of no keys.
+abbrev pub first_among : Option Items → ℕ
+first_among None = 0
+first_among (Some no_items) = 0
+first_among (Some (item d ds)) = if is_some (list_parts (worded d)) then 1 else 0
+
+abbrev pub first_statement : Data → ℕ
+first_statement d = first_among (as_array d)
+
 -- the program that data spell, or the first fault
 unfoldable pub program_of : Data → Outcome ProgramTree
 program_of d = program_list (as_array d)

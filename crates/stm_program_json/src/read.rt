@@ -1,5 +1,5 @@
 //! Reading programs.
-ghost use Rattle.std.specs.Prelude.{◌≡◌, Ok as OkOf, None, Some, IfOk, MatchResult};
+ghost use Rattle.std.specs.Prelude.{◌≡◌, ◌≤◌, Ok as OkOf, None, Some, IfOk, MatchResult};
 ghost use Rattle.serde_json.specs.Data.{Items};
 ghost use Rattle.serde_json.specs.View.{view, items_view};
 ghost use Rattle.stm_program_json.specs.FirstFault.{first_fault};
@@ -7,7 +7,7 @@ ghost use Rattle.stm_json.specs.Faults.{IsFirstFault};
 ghost use Rattle.stm_program_json.specs.Grammar.{SpellsProgram};
 ghost use Rattle.stm_program.specs.Limits.{Fits};
 ghost use Rattle.stm_json.specs.Tells.{Tells};
-ghost use Rattle.stm_program_json.specs.Reading.{program_after, program_of};
+ghost use Rattle.stm_program_json.specs.Reading.{first_statement, program_after, program_of};
 
 mod conditions;
 mod expressions;
@@ -36,6 +36,24 @@ pub fn read_program(alloc: Global, value: &Value) -> Result<Program, ReadError>
     ensures faults { MatchResult result (λ p. first_fault (view value.now) ≡ None) (IsFirstFault (first_fault (view value.now))) }
 {
     program(alloc, value)
+}
+
+/// The index of the first statement of a program among the elements of the array that spells it: 1 behind a list, also behind one of no keys,
+/// else 0.
+pub fn first_statement(value: &Value) -> usize
+    ensures is { result ≡ first_statement (view value.now) }
+    ensures least { result ≤ 1 }
+{
+    let Some(values) = value.as_array() else {
+        return 0;
+    };
+    let Some((first, _)) = values.split_first() else {
+        return 0;
+    };
+    match list::list_parts(first) {
+        Some(_) => 1,
+        None => 0,
+    }
 }
 
 /// The program of statements behind a list of what stands behind its word.

@@ -1,13 +1,14 @@
 -- The list of a program: its limits, its copies, and when two programs are the same.
-use Rattle.std.proofs.Common.{◌≡◌, ℕ, ◌≤◌, ◌<◌, Bool, true, false, not, List, [], ◌∷◌, ◌++◌, length, map, String, refl, sym, ap, ◌∙◌, ◌↔◌, IsTrue, arith}
+use Rattle.std.proofs.Common.{◌≡◌, ℕ, ◌≤◌, ◌<◌, ◌-◌, Bool, true, false, not, List, [], ◌∷◌, ◌++◌, length, map, take, drop, get_or, String, refl, sym, ap, ◌∙◌, ◌↔◌, IsTrue, arith}
 use Rattle.std.specs.Prelude.{◌&&◌, ◌||◌, nat_lt, bytes_eq, string_bytes}
-use Rattle.std.specs.List.{AllZip, IsDistinct, AllByRecursion, list_any}
+use Rattle.std.specs.List.{AllZip, IsDistinct, AllByRecursion, list_any, each_same}
+use Rattle.std.proofs.lemmas.List.{take_rest}
 use Rattle.std.proofs.lemmas.Bool.{le-ltb, ltb-false}
 use Rattle.stm_program.specs.declared.limits.TheConstants.{MAX_DEPTH, MAX_NODES, MAX_PREFETCH, MAX_TEXT}
 use Rattle.stm_program.specs.Syntax.{Statement, ProgramTree}
 use Rattle.stm_program.specs.BlockView.{block_of}
 use Rattle.stm_program.specs.Limits.{BlockFits, is_no_key, has_repeat, list_fits, ListFits, fits_with, Fits}
-use Rattle.stm_program.proofs.WriteLemmas.{bytes_eq-flip}
+use Rattle.stm_program.proofs.WriteLemmas.{bytes_eq-flip, bytes_eq-same}
 
 -- ---- the limits
 
@@ -106,9 +107,25 @@ keys_copied (e ∷ es) (f ∷ fs) p = λ i. p.0 i ∷ keys_copied es fs p.1 i
 
 -- a copy of a program
 pub program_copied : {A : Type 0} (keys copies : List (String A)) (statements others : List Statement)
-    → AllZip (λ e f. string_bytes f ≡ string_bytes e) keys copies → others ≡ statements → tree_of copies others ≡ tree_of keys statements
+    → AllZip (λ e f. string_bytes f ≡ string_bytes e) keys copies → AllZip (λ s t. t ≡ s) statements others
+    → tree_of copies others ≡ tree_of keys statements
 program_copied keys copies statements others lists same =
-    λ i. record { statements = block_of (same i); prefetch = keys_copied keys copies lists i }
+    λ i. record { statements = block_of (each_same statements others same i); prefetch = keys_copied keys copies lists i }
+
+-- two lists of which the first keys are the same are the same where the others are
+pub same_keys : {A : Type 0} (ls rs : List (String A)) (f g : String A) (first other : List ℕ) (same : Bool) → 1 ≤ length ls → 1 ≤ length rs
+    → f ≡ get_or ls 0 f → g ≡ get_or rs 0 g → first ≡ string_bytes f → other ≡ string_bytes g → bytes_eq first other ≡ true
+    → IsTrue same ↔ (map string_bytes (take (length ls - 1) (drop 1 ls)) ≡ map string_bytes (take (length rs - 1) (drop 1 rs)))
+    → IsTrue same ↔ (map string_bytes ls ≡ map string_bytes rs)
+same_keys [] rs f g first other same some others is is_other bytes other_bytes equal rest = absurd (omega arith)
+same_keys (l ∷ ls) [] f g first other same some others is is_other bytes other_bytes equal rest = absurd (omega arith)
+same_keys (l ∷ ls) (r ∷ rs) f g first other same some others is is_other bytes other_bytes equal rest =
+    let one : string_bytes l ≡ string_bytes r =
+    ap string_bytes (sym is) ∙ sym bytes ∙ bytes_eq-same first other equal ∙ other_bytes ∙ ap string_bytes is_other in
+    let left : map string_bytes (take (length (l ∷ ls) - 1) (drop 1 (l ∷ ls))) ≡ map string_bytes ls = ap (map string_bytes) (take_rest (l ∷ ls) 1) in
+    let right : map string_bytes (take (length (r ∷ rs) - 1) (drop 1 (r ∷ rs))) ≡ map string_bytes rs = ap (map string_bytes) (take_rest (r ∷ rs) 1) in
+    (λ holds. let tails : map string_bytes ls ≡ map string_bytes rs = sym left ∙ rest.0 holds ∙ right in λ i. one i ∷ tails i,
+      λ e. rest.1 (left ∙ ap (drop 1) e ∙ sym right))
 
 -- programs of the same list are the same where their statements are
 pub same_behind : (b : Bool) (p q : ProgramTree) → p.prefetch ≡ q.prefetch → IsTrue b ↔ (p.statements ≡ q.statements) → IsTrue b ↔ (p ≡ q)

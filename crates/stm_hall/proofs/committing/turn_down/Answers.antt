@@ -17,12 +17,12 @@ use Rattle.stm_hall.proofs.TurningDown.{too_many_writes, asked_answered, asked_c
 use Rattle.stm_hall.proofs.committing.turn_down.Goals as goal
 
 -- the attempt writes more than the store takes in a transaction
-pub returns-then-len-gt-most-clause-verdict : goal.returns-then-len-gt-most-clause-verdict
-returns-then-len-gt-most-clause-verdict c = λ entries start.
+pub returns-then-len-most-clause-verdict : goal.returns-then-len-most-clause-verdict
+returns-then-len-most-clause-verdict c = λ entries start.
     let ready : ReadyRun = c.args.ready.now in
     let s : Standing = c.args.store.now.standing in
     let more : s.limit < length (txn_of ready).success =
-    subst (λ (t : Txn). s.limit < length t.success) c.requires.is_its (omega (arith, c.len.ensures, c.limit-most.ensures.limit, c.if-len-gt-most.true)) in
+    subst (λ (t : Txn). s.limit < length t.success) c.requires.is_its (omega (arith, c.len.ensures, c.limit-most.ensures.limit, c.if-len-most.true)) in
     (inr (verdict_at_fault (hall_of s entries start) ready TooManyOps (too_many_writes s.limit (txn_of ready) more)), refl)
 
 -- the store refused what is asked
@@ -36,7 +36,7 @@ returns-in_err-answer-clause-verdict c = λ entries start.
     let after : HallState = hall_of next entries start in
     let exit = err_from_is_err_and c.from_residual.result c.from_residual.ensures.1 in
     let few : length (txn_of ready).success ≤ s.limit =
-    subst (λ (t : Txn). length t.success ≤ s.limit) c.requires.is_its (omega (arith, c.len.ensures, c.limit-most.ensures.limit, c.if-len-gt-most.false)) in
+    subst (λ (t : Txn). length t.success ≤ s.limit) c.requires.is_its (omega (arith, c.len.ensures, c.limit-most.ensures.limit, c.if-len-most.false)) in
     refused_with (verdict_of hall ready) hall after c.from_residual.result (Store c.in_err-answer.field-0.0) (exit.1 ∙ ap (λ e. Err e) exit.2)
     (tells_asked_refused hall after ready c.without_writes-asked.result c.in_err-answer.field-0.0 kept
     (c.without_writes-asked.ensures ∙ ap asking c.requires.is_its) few c.in_err-answer.ensures.step
@@ -65,7 +65,7 @@ returns-in_ok-key-in-None-clause-verdict c = λ entries start.
     let next : Standing = c.txn-sent.new.self.standing in
     let hall : HallState = hall_of s entries start in
     let few : length (txn_of ready).success ≤ s.limit =
-    subst (λ (t : Txn). length t.success ≤ s.limit) c.requires.is_its (omega (arith, c.len.ensures, c.limit-most.ensures.limit, c.if-len-gt-most.false)) in
+    subst (λ (t : Txn). length t.success ≤ s.limit) c.requires.is_its (omega (arith, c.len.ensures, c.limit-most.ensures.limit, c.if-len-most.false)) in
     let a = asked_answered s next ready c.without_writes-asked.result c.in_ok-answer.answer (c.without_writes-asked.ensures ∙ ap asking c.requires.is_its)
     c.in_ok-answer.ensures.step in (
       inr (tells_unvouched hall ready c.args.unvouched.now (asked_compared hall ready next c.in_ok-answer.answer None kept few a c.in-None.is)
@@ -120,7 +120,7 @@ returns-in_ok-verdict-in-Some-clause-verdict c = λ entries start.
     let next : Standing = c.txn-sent.new.self.standing in
     let hall : HallState = hall_of s entries start in
     let few : length (txn_of ready).success ≤ s.limit =
-    subst (λ (t : Txn). length t.success ≤ s.limit) c.requires.is_its (omega (arith, c.len.ensures, c.limit-most.ensures.limit, c.if-len-gt-most.false)) in
+    subst (λ (t : Txn). length t.success ≤ s.limit) c.requires.is_its (omega (arith, c.len.ensures, c.limit-most.ensures.limit, c.if-len-most.false)) in
     let a = asked_answered s next ready c.without_writes-asked.result c.in_ok-answer.answer (c.without_writes-asked.ensures ∙ ap asking c.requires.is_its)
     c.in_ok-answer.ensures.step in
     let down = asked_reread s next ready c.in_ok-answer.answer c.in-Some.compare a c.in-Some.is in

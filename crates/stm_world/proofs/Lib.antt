@@ -37,3 +37,4 @@ pub mod Failures
 pub mod Telling
 pub mod WrongFailures
 pub mod WorkedExamples
+pub mod ListExamples

@@ -1,13 +1,13 @@
 -- The list of a program: its limits, its copies, and when two programs are the same.
-use Rattle.std.proofs.Common.{◌≡◌, ℕ, ◌≤◌, ◌<◌, ◌-◌, Bool, true, false, not, List, [], ◌∷◌, ◌++◌, length, map, take, drop, get_or, String, refl, sym, ap, ◌∙◌, ◌↔◌, IsTrue, arith}
+use Rattle.std.proofs.Common.{◌≡◌, ℕ, ◌≤◌, ◌-◌, Bool, true, false, not, List, [], ◌∷◌, ◌++◌, length, map, take, drop, get_or, String, refl, sym, ap, ◌∙◌, ◌↔◌, IsTrue, arith}
 use Rattle.std.specs.Prelude.{◌&&◌, ◌||◌, nat_lt, bytes_eq, string_bytes}
 use Rattle.std.specs.List.{AllZip, IsDistinct, AllByRecursion, list_any, each_same}
 use Rattle.std.proofs.lemmas.List.{take_rest}
 use Rattle.std.proofs.lemmas.Bool.{le-ltb, ltb-false}
-use Rattle.stm_program.specs.declared.limits.TheConstants.{MAX_DEPTH, MAX_NODES, MAX_PREFETCH, MAX_TEXT}
+use Rattle.stm_program.specs.declared.limits.TheConstants.{MAX_PREFETCH}
 use Rattle.stm_program.specs.Syntax.{Statement, ProgramTree}
 use Rattle.stm_program.specs.BlockView.{block_of}
-use Rattle.stm_program.specs.Limits.{BlockFits, is_no_key, has_repeat, list_fits, ListFits, fits_with, Fits}
+use Rattle.stm_program.specs.Limits.{is_no_key, has_repeat, ListFits, fits_with}
 use Rattle.stm_program.proofs.WriteLemmas.{bytes_eq-flip, bytes_eq-same}
 
 -- ---- the limits

@@ -25,6 +25,16 @@ pub(crate) const WRITE_SKEW_STOPPED: &str = r#"[
     ["step",1],["step",2],["step",1],["step",2],["step",1],["step",2],["step",2],["step",2]
 ]"#;
 
+/// A program has a list of two keys and reads a third. One of the list is put before its commit, so the second attempt takes the list from what the
+/// failed commit read again.
+pub(crate) const LISTED_READS: &str = r#"[
+    ["txn",[],[["put","p","1",0]],[]],
+    ["start","Serializable",2,[["prefetch",["p","q"]],["emit",["get","p"]],["emit",["get","r"]]]],
+    ["step",1],
+    ["txn",[],[["put","q","1",0]],[]],
+    ["step",1],["step",1],["step",1]
+]"#;
+
 /// A key moves from a lease to another, each of which expires, and a range is watched between.
 pub(crate) const EXPIRING_LEASES: &str = r#"[
     ["grant",1,5],

@@ -111,6 +111,7 @@ fn misshaped(alloc: Global, input: Input, found: Found<'_>) -> Result<String, Al
     match found.part {
         Part::Event
         | Part::Beginning
+        | Part::FirstElement
         | Part::Statement
         | Part::Expression
         | Part::Condition
@@ -158,6 +159,14 @@ fn unfit_line(alloc: Global, found: Found<'_>, word: &str) -> Result<String, All
     format!(in alloc; "found {value}, which has not the elements of a line \"{word}\"")
 }
 
+/// What is said of one thing too many in such a place.
+fn too_many(part: Part) -> &'static str {
+    match part {
+        Part::ListedKey => "a program's list has at most 128 keys",
+        _ => "a scenario has at most 100000 events",
+    }
+}
+
 /// What is said of a value at which reading stopped.
 fn words_of(
     alloc: Global,
@@ -170,7 +179,7 @@ fn words_of(
         Cause::TooDeep => String::from_str(alloc, "a program nests at most 32 deep"),
         Cause::TooManyNodes => String::from_str(alloc, "a program has at most 4096 nodes"),
         Cause::TooLong => String::from_str(alloc, "a text of a program has at most 65536 bytes"),
-        Cause::TooMany => String::from_str(alloc, "a scenario has at most 100000 events"),
+        Cause::TooMany => String::from_str(alloc, too_many(found.part)),
         Cause::Range | Cause::NotJson => unfit(alloc, found),
     }
 }

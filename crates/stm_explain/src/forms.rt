@@ -34,8 +34,16 @@ pub enum Part {
     Limit,
     /// How many commits a job may send.
     JobLimit,
-    /// A list of statements.
+    /// The elements of a program: statements, and its list before them.
     Program,
+    /// The first element of a program: a statement, or its list.
+    FirstElement,
+    /// The keys of a list.
+    Keys,
+    /// A key of a list.
+    ListedKey,
+    /// A list of statements.
+    Block,
     /// A statement.
     Statement,
     /// An expression.
@@ -183,24 +191,42 @@ pub const EVENTS: [(&str, Parts); 12] = [
     ("cancel", Parts::One(Part::Number)),
 ];
 
+const SET: (&str, Parts) = ("set", Parts::Two(Part::Variable, Part::Expression));
+
+const PUT: (&str, Parts) = (
+    "put",
+    Parts::Three(Part::Expression, Part::Expression, Part::Number),
+);
+
+const IF: (&str, Parts) = (
+    "if",
+    Parts::Three(Part::Condition, Part::Block, Part::Block),
+);
+
+const FOR: (&str, Parts) = (
+    "for",
+    Parts::Four(Part::Variable, Part::Expression, Part::Turns, Part::Block),
+);
+
+const DEL: (&str, Parts) = ("del", Parts::One(Part::Expression));
+
+const EMIT: (&str, Parts) = ("emit", Parts::One(Part::Expression));
+
+const ABORT: (&str, Parts) = ("abort", Parts::One(Part::Expression));
+
 /// The statements of a program.
-pub const STATEMENTS: [(&str, Parts); 7] = [
-    ("set", Parts::Two(Part::Variable, Part::Expression)),
-    (
-        "put",
-        Parts::Three(Part::Expression, Part::Expression, Part::Number),
-    ),
-    (
-        "if",
-        Parts::Three(Part::Condition, Part::Program, Part::Program),
-    ),
-    (
-        "for",
-        Parts::Four(Part::Variable, Part::Expression, Part::Turns, Part::Program),
-    ),
-    ("del", Parts::One(Part::Expression)),
-    ("emit", Parts::One(Part::Expression)),
-    ("abort", Parts::One(Part::Expression)),
+pub const STATEMENTS: [(&str, Parts); 7] = [SET, PUT, IF, FOR, DEL, EMIT, ABORT];
+
+/// What may be the first element of a program: its list, or a statement.
+pub const FIRST_ELEMENTS: [(&str, Parts); 8] = [
+    ("prefetch", Parts::One(Part::Keys)),
+    SET,
+    PUT,
+    IF,
+    FOR,
+    DEL,
+    EMIT,
+    ABORT,
 ];
 
 /// The expressions that are arrays.
@@ -250,8 +276,9 @@ pub const OPERATIONS: [(&str, Parts); 3] = [
 ];
 
 /// The lines of a report, by their word. What stands behind it is not said here.
-pub const LINES: [(&str, Parts); 22] = [
+pub const LINES: [(&str, Parts); 23] = [
     ("started", Parts::Nothing),
+    ("prefetched", Parts::Nothing),
     ("fetched", Parts::Nothing),
     ("committed", Parts::Nothing),
     ("conflict", Parts::Nothing),

@@ -1,6 +1,7 @@
 -- The explanations of runs that came to a fault: a line for each of them, in order.
 use Rattle.std.specs.Prelude.{◌≡◌, ◌⊎◌, ℕ, suc, ◌-◌, List, [], ◌∷◌, ◌++◌, Bool, Option, None, Some, is_some, if◌then◌else◌, Result, Ok, Err, codes, decimal}
 use Rattle.std.specs.Prelude.{slice_get}
+use Rattle.serde_json.specs.Data.{Data}
 use Rattle.stm_history.specs.declared.key_state.ReadAnswer.{ReadAnswer}
 use Rattle.stm_steps.specs.declared.fault.Fault.{Fault}
 use Rattle.stm_steps.specs.Faults.{fault_name}
@@ -15,12 +16,13 @@ use Rattle.stm_texts.specs.declared.scenario.Scenario.{Scenario}
 use Rattle.stm_texts.specs.Opens.{setup_of}
 use Rattle.stm_explain.specs.Explaining.{IsExplanationOf}
 use Rattle.stm_faulted_runs.specs.Reads.{told_in}
-use Rattle.stm_faulted_runs.specs.Places.{Started, started_in, IsMoreOf}
+use Rattle.stm_faulted_runs.specs.Places.{Started, started_in, json_of, IsMoreOf}
 
--- a text under a name, and the runs that begin in it
+-- a text under a name, its JSON, and the runs that begin in it
 pub record Origin : Type 0 where
   pub name : List ℕ
   pub text : List ℕ
+  pub json : Data
   pub runs : List Started
 
 -- a run that came to a fault: how its line begins, its number, counted from 0, and what it had read, where that is known
@@ -37,7 +39,7 @@ OverReads (Some reads) says = says (told_in reads)
 
 -- what is told of the place of its fault
 abbrev pub IsMoreOfTold : Origin → Told → List ℕ → Type 0
-IsMoreOfTold origin told more = OverReads told.reads (λ look. IsMoreOf (slice_get origin.runs told.number) look told.fault more)
+IsMoreOfTold origin told more = OverReads told.reads (λ look. IsMoreOf origin.json (slice_get origin.runs told.number) look told.fault more)
 
 -- a line of explanation that begins so, and tells the place
 abbrev pub IsLineOf : Origin → Told → List ℕ → Type 0
@@ -86,7 +88,7 @@ abbrev pub first_of : Bool → ℕ
 first_of opens = if opens then 1 else 0
 
 abbrev pub origin_of : List ℕ → List ℕ → Scenario → Origin
-origin_of name text s = record { name = name; text = text; runs = started_in (first_of (is_some s.opening)) s.events }
+origin_of name text s = record { name = name; text = text; json = json_of text; runs = started_in (first_of (is_some s.opening)) s.events }
 
 -- what is said of the run of a scenario; nothing where there is no scenario
 abbrev pub ExplainsRun : List ℕ → List ℕ → Outcome Scenario → List ℕ → Type 0

@@ -22,7 +22,7 @@ use Rattle.stm_reports.specs.declared.line.ReportLine.TheVariants.{Refused}
 use Rattle.stm_world.specs.declared.event.WorldEvent.{WorldEvent}
 use Rattle.stm_world.specs.declared.event.WorldEvent.TheVariants.{Start, Step, Txn, Grant, Keep, Revoke, Advance, WatchKey, WatchRange, Poll, Cancel, Compact}
 use Rattle.stm_world.specs.declared.reply.Reply.{Reply}
-use Rattle.stm_world.specs.declared.reply.Reply.TheVariants.{Started, Fetched, Committed, Conflict, GaveUp, Aborted, Faulted, Ended}
+use Rattle.stm_world.specs.declared.reply.Reply.TheVariants.{Started, Prefetched, Fetched, Committed, Conflict, GaveUp, Aborted, Faulted, Ended}
 use Rattle.stm_world.specs.declared.reply.Reply.TheVariants.{Txn as TxnDone, Granted, Kept, Revoked, Watching, Cancelled, Compacted}
 use Rattle.stm_world.specs.declared.refusal.Denied.{Denied}
 use Rattle.stm_world.specs.declared.refusal.Refusal.TheVariants.{BadLimit, NoRunner}
@@ -238,6 +238,16 @@ live_goes : (start : Setup) (n : ℕ) (log : List Line) (rs : List Runner) (id :
     AreLegal (line_entries start (record { event = Step id; reply = reply }) log) (without_moment (store start log)) →
     StepIsRight (situation start log id task) reply → GoesOn start n log rs (Step id) reply
 live_goes start n log rs id task (Err refusal) told goes legal right = absurd right
+live_goes start n log rs id task (Ok (Prefetched runner revision reads)) told goes legal right =
+    steps_on start n log rs id (Prefetched runner revision reads) (record {
+      can = step_can log rs id runner task right.0 goes;
+      replays = tt;
+      none = λ r. refl;
+      store_stays = refl;
+      count_stays = refl;
+      runs_on = same_runs (record { event = Step id; reply = Ok (Prefetched runner revision reads) }) log rs
+          (record { begins_is = refl; ends_is = refl; fails_is = refl }) told;
+    })
 live_goes start n log rs id task (Ok (Fetched runner key mod_rev of_rev revision)) told goes legal right =
     steps_on start n log rs id (Fetched runner key mod_rev of_rev revision) (record {
       can = step_can log rs id runner task right.0 goes;

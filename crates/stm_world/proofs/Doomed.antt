@@ -37,7 +37,7 @@ use Rattle.stm_meaning.specs.declared.run.Answered.TheVariants.{Ended as EndedRu
 use Rattle.stm_world.proofs.Slots.{other_number}
 use Rattle.stm_world.specs.declared.event.WorldEvent.{WorldEvent}
 use Rattle.stm_world.specs.declared.reply.Reply.{Reply}
-use Rattle.stm_world.specs.declared.reply.Reply.TheVariants.{Started, Fetched, Committed, Conflict, GaveUp, Aborted, Faulted, Ended}
+use Rattle.stm_world.specs.declared.reply.Reply.TheVariants.{Started, Prefetched, Fetched, Committed, Conflict, GaveUp, Aborted, Faulted, Ended}
 use Rattle.stm_world.specs.declared.reply.Reply.TheVariants.{Txn as TxnDone, Granted, Kept, Revoked, Advanced, Watching, Batch, Cancelled, Compacted, Lost}
 use Rattle.stm_world.specs.declared.refusal.Denied.{Denied}
 use Rattle.stm_world.specs.Task.{Task}
@@ -113,6 +113,7 @@ reply_is_real start log id task (Ok (Conflict runner key seen now)) runs right =
 reply_is_real start log id task (Ok (GaveUp runner attempts key seen now)) runs right =
     real_failure start log id runner task key seen now runs right.0 right.3
 reply_is_real start log id task (Ok (Started runner)) runs right = tt
+reply_is_real start log id task (Ok (Prefetched runner revision reads)) runs right = tt
 reply_is_real start log id task (Ok (Fetched runner key mod_rev of_rev revision)) runs right = tt
 reply_is_real start log id task (Ok (Committed runner revision attempts output trace answers)) runs right = tt
 reply_is_real start log id task (Ok (Aborted runner text)) runs right = tt
@@ -198,6 +199,7 @@ reply_is_of_one_state start log id task (Ok (Aborted runner text)) w f some runs
 reply_is_of_one_state start log id task (Ok (Faulted runner fault)) w f some runs right =
     of_one_state start log id runner task (FaultedEnd fault) w f some runs right.0 right.1
 reply_is_of_one_state start log id task (Ok (Started runner)) w f some runs right = tt
+reply_is_of_one_state start log id task (Ok (Prefetched runner revision reads)) w f some runs right = tt
 reply_is_of_one_state start log id task (Ok (Fetched runner key mod_rev of_rev revision)) w f some runs right = tt
 reply_is_of_one_state start log id task (Ok (Committed runner revision attempts output trace answers)) w f some runs right = tt
 reply_is_of_one_state start log id task (Ok (Conflict runner key seen now)) w f some runs right = tt

@@ -15,10 +15,11 @@ use Rattle.stm_entries.proofs.Replaying.{replay_goes_on}
 use Rattle.stm_world.specs.declared.event.WorldEvent.{WorldEvent}
 use Rattle.stm_world.specs.declared.event.WorldEvent.TheVariants.{Start, Step}
 use Rattle.stm_world.specs.declared.reply.Reply.{Reply}
-use Rattle.stm_world.specs.declared.reply.Reply.TheVariants.{Started, Fetched, Committed, Conflict, GaveUp, Aborted, Faulted, Ended}
+use Rattle.stm_world.specs.declared.reply.Reply.TheVariants.{Started, Prefetched, Fetched, Committed, Conflict, GaveUp, Aborted, Faulted, Ended}
 use Rattle.stm_world.specs.declared.reply.Reply.TheVariants.{Txn as TxnDone, Granted, Kept, Revoked, Advanced, Watching, Batch, Cancelled, Compacted, Lost}
 use Rattle.stm_world.specs.declared.refusal.Denied.{Denied}
-use Rattle.stm_world.specs.Task.{Task, answer_at, after_fetch, after_conflict}
+use Rattle.stm_world.specs.declared.reply.KeyRead.{KeyRead}
+use Rattle.stm_world.specs.Task.{Task, answer_at, after_list, after_fetch, after_conflict}
 use Rattle.stm_world.specs.Log.{Line, is_id, is_over, begun, running, started, failures, store, told, runner_started, runner_ended, runner_in_conflict}
 use Rattle.stm_world.specs.Log.{task_in, entries_told, line_entries}
 use Rattle.stm_world.specs.Right.{IsRight, IsFetch, StepIsRight, situation}
@@ -34,7 +35,7 @@ use Rattle.stm_world.proofs.Logs.{logged, of_each_log}
 use Rattle.stm_world.proofs.Lines.{by_event}
 use Rattle.stm_world.proofs.Doomed.{real_failure}
 use Rattle.stm_world.proofs.LowRevisions.{replay_stays_low}
-use Rattle.stm_world.proofs.MovingOn.{KnowsFrom, fetched_from, conflicted_from, conflict_moves_on}
+use Rattle.stm_world.proofs.MovingOn.{prefetched_from, KnowsFrom, fetched_from, conflicted_from, conflict_moves_on}
 use Rattle.stm_txn.specs.Standing.{Setup}
 
 -- the least revision that the store has after so many failures
@@ -93,6 +94,7 @@ failed_by id failed conflicts over (Ok (GaveUp runner attempts key seen now)) on
     let parts = of_both (nat_eq runner id) over none in
     ap (λ b. cond b (failed + 1) failed) parts.0 ∙ on parts.1
 failed_by id failed conflicts over (Ok (Started runner)) on none = on none
+failed_by id failed conflicts over (Ok (Prefetched runner revision reads)) on none = on none
 failed_by id failed conflicts over (Ok (Fetched runner key mod_rev of_rev revision)) on none = on none
 failed_by id failed conflicts over (Ok (Committed runner revision attempts output trace answers)) on none = on (of_both (nat_eq runner id) over none).1
 failed_by id failed conflicts over (Ok (Aborted runner text)) on none = on (of_both (nat_eq runner id) over none).1
@@ -152,6 +154,23 @@ fetched_moves_on start log id task key mod_rev of_rev revision runs fetch grows 
           (subst (KnowsFrom (least start log id))
           (sym (ap (λ b. cond b (after_fetch task (answer_at h key of_rev) (told start id task log)) (told start id task log)) (same_number id)))
           (fetched_from (least start log id) h task key of_rev (told start id task log) before fetch.shows (m.known task runs)));
+    }
+
+prefetched_moves_on : (start : Setup) (log : List Line) (id : ℕ) (task : Task) (revision : ℕ) (reads : List KeyRead) → running id log ≡ Some task →
+    Grows start log (record { event = Step id; reply = Ok (Prefetched id revision reads) }) → HasMovedOn start log id →
+    HasMovedOn start (with_line (Step id) (Ok (Prefetched id revision reads)) log) id
+prefetched_moves_on start log id task revision reads runs grows m =
+    let line : Line = record { event = Step id; reply = Ok (Prefetched id revision reads) } in
+    let h : History = (store start log).history in
+    let before : least start log id ≤ now h = m.counter task (is_begun (is_over id log) (begun id log) task runs) in
+    record {
+      counter = λ other is. before;
+      known = λ other runs_as.
+          let is : task ≡ other = some_is_same task other (sym runs ∙ runs_as) in
+          subst (λ (t : Task). KnowsFrom (least start log id) (told start id t (line ∷ log))) is
+          (subst (KnowsFrom (least start log id))
+          (sym (ap (λ b. cond b (after_list task h (told start id task log)) (told start id task log)) (same_number id)))
+          (prefetched_from (least start log id) h task (told start id task log) before (m.known task runs)));
     }
 
 -- the store is above what the runner has seen
@@ -240,6 +259,11 @@ ends_by start log id task reply runs ended not_started not_failed m grows =
 
 step_moves_on : (start : Setup) (log : List Line) (id : ℕ) (task : Task) (reply : Result Reply Denied) → running id log ≡ Some task →
     StepIsRight (situation start log id task) reply → ((other : ℕ) → HasMovedOn start log other) → MovesOn start log id reply
+step_moves_on start log id task (Ok (Prefetched runner revision reads)) runs right all =
+    subst (λ n. MovesOn start log id (Ok (Prefetched n revision reads))) (sym right.0)
+    (λ grows. all_move_on start log (record { event = Step id; reply = Ok (Prefetched id revision reads) }) id grows all
+    (λ other is. about_others id other (Prefetched id revision reads) is refl)
+    (prefetched_moves_on start log id task revision reads runs grows (all id)))
 step_moves_on start log id task (Ok (Fetched runner key mod_rev of_rev revision)) runs right all =
     subst (λ n. MovesOn start log id (Ok (Fetched n key mod_rev of_rev revision))) (sym right.0)
     (λ grows. all_move_on start log (record { event = Step id; reply = Ok (Fetched id key mod_rev of_rev revision) }) id grows all

@@ -11,6 +11,7 @@ use Rattle.stm_txn.specs.Standing.{watched, polled, cancelled, raised}
 use Rattle.stm_txn.specs.Standing.{Setup}
 use Rattle.stm_watch.specs.declared.watched.Watched.TheVariants.{Key, Range}
 use Rattle.stm_compile.specs.Levels.{is_serializable}
+use Rattle.stm_program.specs.Limits.{has_repeat}
 use Rattle.stm_attempt.specs.Known.{HaveDistinctKeys}
 use Rattle.stm_entries.specs.declared.entry.Entry.{Entry}
 use Rattle.stm_entries.specs.declared.entry.Entry.TheVariants.{Grant as GrantEntry, Renew, Revoke as RevokeEntry}
@@ -342,7 +343,8 @@ one_state laws =
 -- no attempt reads a key twice
 pub read_once : CommitLaws → ReadOnce
 read_once laws =
-    of_each_log (λ (start : Setup) (log : List Line). (id : ℕ) (task : Task) → running id log ≡ Some task →
+    of_each_log (λ (start : Setup) (log : List Line). (id : ℕ) (task : Task) → running id log ≡ Some task → has_repeat task.program.prefetch ≡ false →
     HaveDistinctKeys (told start id task log).reads)
-    (λ start events id task runs.
-    asked_are_distinct task.program (told start id task (log_of start events)).reads (runs_after start events id task laws runs).well_run.asked)
+    (λ start events id task runs once.
+    let well = (runs_after start events id task laws runs).well_run in
+    asked_are_distinct task.program (told start id task (log_of start events)).reads once well.listed well.asked)

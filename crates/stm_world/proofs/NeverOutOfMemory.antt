@@ -206,7 +206,8 @@ commits_for at c =
 
 refused_for : (at : Situation) → IsRefused at OutOfMemory → ⊥
 refused_for at (inl c) = commits_for at c
-refused_for at (inr (same, behind)) = absurd (cc)
+refused_for at (inr (inl (same, behind))) = absurd (cc)
+refused_for at (inr (inr (same, overfull))) = absurd (cc)
 
 end_for : (start : Setup) (log : List Line) (id runner : ℕ) (o : Option Task) → RunnerIsRight start log id o (Ok (Ended runner OutOfMemory)) → ⊥
 end_for start log id runner None right = absurd (cc)

@@ -8,11 +8,11 @@ use Rattle.stm_txn.specs.Standing.{Step as StoreStep}
 use Rattle.stm_txn.specs.Standing.{Setup}
 use Rattle.stm_attempt.specs.Known.{Known}
 use Rattle.stm_world.specs.declared.reply.Reply.{Reply}
-use Rattle.stm_world.specs.declared.reply.Reply.TheVariants.{Started, Fetched, Committed, Conflict, GaveUp, Aborted, Faulted, Ended}
+use Rattle.stm_world.specs.declared.reply.Reply.TheVariants.{Started, Prefetched, Fetched, Committed, Conflict, GaveUp, Aborted, Faulted, Ended}
 use Rattle.stm_world.specs.declared.reply.Reply.TheVariants.{Txn as TxnDone, Granted, Kept, Revoked, Advanced, Watching, Batch, Cancelled, Compacted, Lost}
 use Rattle.stm_world.specs.declared.refusal.Denied.{Denied}
 use Rattle.stm_world.specs.Told.{reply_to, advance_reply}
-use Rattle.stm_world.specs.Task.{Task, nothing_known, answer_at, after_fetch, after_conflict}
+use Rattle.stm_world.specs.Task.{Task, nothing_known, answer_at, after_list, after_fetch, after_conflict}
 use Rattle.stm_world.specs.Log.{Line, begun, is_over, running, failures, is_id, task_in, store, told, known_after}
 use Rattle.stm_world.specs.Log.{runner_started, runner_ended, runner_in_conflict}
 use Rattle.stm_world.specs.World.{Runner}
@@ -87,6 +87,7 @@ by_advance id moment expired (Some cause) = record { not_started = refl; not_end
 -- the runner of whose step, or start, a reply tells
 abbrev pub runner_named : Reply → Option ℕ
 runner_named (Started runner) = Some runner
+runner_named (Prefetched runner revision reads) = Some runner
 runner_named (Fetched runner key mod_rev of_rev revision) = Some runner
 runner_named (Committed runner revision attempts output trace answers) = Some runner
 runner_named (Conflict runner key seen now) = Some runner
@@ -99,6 +100,12 @@ runner_named other = None
 -- a reply that names one runner, or none, is not about another
 pub by_reply : (id : ℕ) (reply : Reply) → is_id id (runner_named reply) ≡ false → Untouched id (Ok reply)
 by_reply id (Started runner) other = record { not_started = other; not_ended = refl; no_conflict = refl; known = λ task h k. refl }
+by_reply id (Prefetched runner revision reads) other = record {
+  not_started = refl;
+  not_ended = refl;
+  no_conflict = refl;
+  known = λ task h k. ap (λ b. cond b (after_list task h k) k) other;
+}
 by_reply id (Fetched runner key mod_rev of_rev revision) other = record {
   not_started = refl;
   not_ended = refl;

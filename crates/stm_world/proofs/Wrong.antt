@@ -11,13 +11,16 @@ use Rattle.stm_meaning.specs.declared.run.Run.{Run}
 use Rattle.stm_meaning.specs.declared.run.Answered.TheVariants.{Ended as EndedRun, Wants}
 use Rattle.stm_meaning.specs.declared.trace_item.TraceItem.{TraceItem}
 use Rattle.stm_attempt.specs.Settled.{run_on}
+use Rattle.stm_attempt.specs.Entering.{is_due}
+use Rattle.std.proofs.lemmas.List.{length-map}
+use Rattle.stm_world.specs.declared.reply.KeyRead.{KeyRead}
 use Rattle.stm_attempt.specs.Fetches.{at_of}
 use Rattle.stm_history.specs.History.{now}
 use Rattle.stm_world.specs.declared.event.WorldEvent.{WorldEvent}
 use Rattle.stm_world.specs.declared.event.WorldEvent.TheVariants.{Start, Step, Txn, Grant, Keep, Revoke, Advance}
 use Rattle.stm_world.specs.declared.event.WorldEvent.TheVariants.{WatchKey, WatchRange, Poll, Cancel, Compact}
 use Rattle.stm_world.specs.declared.reply.Reply.{Reply}
-use Rattle.stm_world.specs.declared.reply.Reply.TheVariants.{Started, Fetched, Committed, Conflict, GaveUp, Aborted, Faulted, Ended}
+use Rattle.stm_world.specs.declared.reply.Reply.TheVariants.{Started, Prefetched, Fetched, Committed, Conflict, GaveUp, Aborted, Faulted, Ended}
 use Rattle.stm_world.specs.declared.reply.Reply.TheVariants.{Txn as TxnDone, Granted, Kept, Revoked, Advanced, Watching as WatchingReply, Batch, Cancelled, Compacted, Lost}
 use Rattle.stm_world.specs.declared.refusal.Denied.{Denied}
 use Rattle.stm_world.specs.declared.refusal.Refusal.TheVariants.{NoRunner}
@@ -35,9 +38,9 @@ use Rattle.stm_watch.specs.Watching.{Watching}
 use Rattle.stm_watch.specs.Pending.{pending, events_told, batch_of, after_poll}
 use Rattle.stm_watch.specs.Calls.{watcher_at, poll_found}
 use Rattle.stm_world.specs.Told.{denied, reply_to, advance_reply, poll_reply}
-use Rattle.stm_world.specs.Task.{Task}
+use Rattle.stm_world.specs.Task.{Task, modified_now}
 use Rattle.stm_world.specs.Log.{Line, begun, running, started, is_start, runner_started, is_id, task_in, store, told}
-use Rattle.stm_world.specs.Right.{IsRight, AreRight, RunnerIsRight, Situation, ReplyIsRight, EndsWith, IsRefused, situation}
+use Rattle.stm_world.specs.Right.{IsRight, AreRight, RunnerIsRight, Situation, HasList, ReplyIsRight, EndsWith, IsRefused, situation}
 use Rattle.stm_world.specs.World.{World}
 use Rattle.stm_world.specs.Headline.{Holds}
 use Rattle.stm_world.specs.WrongLogs.{WrongLogs, runner_told}
@@ -137,6 +140,7 @@ number_given_twice start log id task program level limit right is again =
 
 another : (at : Situation) (reply : Reply) (runner : ℕ) → runner_told reply ≡ Some runner → ReplyIsRight at reply → runner ≡ at.id
 another at (Started r) runner named right = absurd right
+another at (Prefetched r revision reads) runner named right = let same : r ≡ runner = cc in sym same ∙ right.0
 another at (Fetched r key mod_rev of_rev revision) runner named right = let same : r ≡ runner = cc in sym same ∙ right.0
 another at (Committed r revision attempts output trace answers) runner named right = let same : r ≡ runner = cc in sym same ∙ right.0
 another at (Conflict r key seen now) runner named right = let same : r ≡ runner = cc in sym same ∙ right.0
@@ -262,17 +266,21 @@ fetch_below start log id task key mod_rev of_rev revision runs below right =
     let fetch = (subst (λ (o : Option Task). RunnerIsRight start log id o (Ok (Fetched id key mod_rev of_rev revision))) runs right).1 in
     let both : true ≡ false = sym below ∙ fetch.readable in absurd (cc)
 
-not_refused : (at : Situation) (key : List ℕ) (trace : List TraceItem) (cause : StoreRefusal) → run_on at.task.program at.reads ≡ Wants key trace
+not_refused : (at : Situation) (key : List ℕ) (trace : List TraceItem) (cause : StoreRefusal) → HasList at → run_on at.task.program at.reads ≡ Wants key trace
     → is_below_floor at.store.floor (at_of at.task.level at.reads) ≡ false → IsRefused at cause → ⊥
-not_refused at key trace cause wants above (inl c) = let both : Wants key trace ≡ EndedRun c.run = sym wants ∙ c.is_run in absurd (cc)
-not_refused at key trace cause wants above (inr (same, behind)) = let both : true ≡ false = sym behind.compacted ∙ above in absurd (cc)
+not_refused at key trace cause listed wants above (inl c) = let both : Wants key trace ≡ EndedRun c.run = sym wants ∙ c.is_run in absurd (cc)
+not_refused at key trace cause listed wants above (inr (inl (same, behind))) =
+    let both : true ≡ false = sym behind.compacted ∙ above in absurd (cc)
+not_refused at key trace cause listed wants above (inr (inr (same, overfull))) =
+    let both : true ≡ false = sym overfull.due ∙ listed in absurd (cc)
 
 refused_fetch : (start : Setup) (log : List Line) (id : ℕ) (task : Task) (key : List ℕ) (trace : List TraceItem) (cause : StoreRefusal)
-    → running id log ≡ Some task → run_on task.program (told start id task log).reads ≡ Wants key trace
+    → running id log ≡ Some task → is_due task.program.prefetch (told start id task log).reads ≡ false
+    → run_on task.program (told start id task log).reads ≡ Wants key trace
     → is_below_floor (store start log).floor (at_of task.level (told start id task log).reads) ≡ false
     → IsRight start log (Step id) (Ok (Ended id cause)) → ⊥
-refused_fetch start log id task key trace cause runs wants above right =
-    not_refused (situation start log id task) key trace cause wants above
+refused_fetch start log id task key trace cause runs listed wants above right =
+    not_refused (situation start log id task) key trace cause listed wants above
     (subst (λ (o : Option Task). RunnerIsRight start log id o (Ok (Ended id cause))) runs right).1
 
 compacted_again : (start : Setup) (log : List Line) (revision at : ℕ) → revision ≤ (store start log).floor
@@ -284,6 +292,36 @@ compacted_again start log revision at low right =
     right ∙ ap (λ b. reply_to (λ _. Compacted revision) (floor_step (cond b (Some CompactedRefusal) future) (with_floor s revision)))
     (le-leb revision s.floor low) in
     absurd (cc)
+
+-- ---- lists ----
+
+is_listed : (start : Setup) (log : List Line) (id : ℕ) (task : Task) (reply : Reply) → running id log ≡ Some task → IsRight start log (Step id) (Ok reply) →
+    ReplyIsRight (situation start log id task) reply
+is_listed start log id task reply runs right = subst (λ (o : Option Task). RunnerIsRight start log id o (Ok reply)) runs right
+
+list_again : (start : Setup) (log : List Line) (id : ℕ) (task : Task) (revision : ℕ) (reads : List KeyRead) → running id log ≡ Some task
+    → is_due task.program.prefetch (told start id task log).reads ≡ false → IsRight start log (Step id) (Ok (Prefetched id revision reads)) → ⊥
+list_again start log id task revision reads runs listed right =
+    let list = (is_listed start log id task (Prefetched id revision reads) runs right).1 in
+    let both : true ≡ false = sym list.due ∙ listed in absurd (cc)
+
+part_of_list : (start : Setup) (log : List Line) (id : ℕ) (task : Task) (revision : ℕ) (reads : List KeyRead) → running id log ≡ Some task
+    → length reads ≢ length task.program.prefetch → IsRight start log (Step id) (Ok (Prefetched id revision reads)) → ⊥
+part_of_list start log id task revision reads runs other right =
+    let list = (is_listed start log id task (Prefetched id revision reads) runs right).1 in
+    other (ap (λ (l : List KeyRead). length l) list.shows ∙ length-map task.program.prefetch (modified_now (store start log).history))
+
+read_before_list : (start : Setup) (log : List Line) (id : ℕ) (task : Task) (key : List ℕ) (mod_rev of_rev revision : ℕ) → running id log ≡ Some task
+    → is_due task.program.prefetch (told start id task log).reads ≡ true → IsRight start log (Step id) (Ok (Fetched id key mod_rev of_rev revision)) → ⊥
+read_before_list start log id task key mod_rev of_rev revision runs due right =
+    let fetch = (is_listed start log id task (Fetched id key mod_rev of_rev revision) runs right).1 in
+    let both : true ≡ false = sym due ∙ fetch.has_list in absurd (cc)
+
+abort_before_list : (start : Setup) (log : List Line) (id : ℕ) (task : Task) (text : List ℕ) → running id log ≡ Some task
+    → is_due task.program.prefetch (told start id task log).reads ≡ true → IsRight start log (Step id) (Ok (Aborted id text)) → ⊥
+abort_before_list start log id task text runs due right =
+    let ends = (is_listed start log id task (Aborted id text) runs right).1 in
+    let both : true ≡ false = sym due ∙ ends.has_list in absurd (cc)
 
 -- ---- events without a reply ----
 
@@ -310,5 +348,9 @@ wrong_logs = record {
   not_lost = not_lost;
   fetch_below = fetch_below;
   refused_fetch = refused_fetch;
+  list_again = list_again;
+  part_of_list = part_of_list;
+  read_before_list = read_before_list;
+  abort_before_list = abort_before_list;
   compacted_again = compacted_again;
 }

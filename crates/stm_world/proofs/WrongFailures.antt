@@ -42,10 +42,10 @@ use Rattle.stm_entries.specs.declared.entry.Entry.{Entry}
 use Rattle.stm_entries.specs.Replayed.{without_moment}
 use Rattle.stm_entries.specs.Replay.{replay}
 use Rattle.stm_world.specs.declared.reply.Reply.{Reply}
-use Rattle.stm_world.specs.declared.reply.Reply.TheVariants.{Started, Fetched, Committed, Conflict, GaveUp, Aborted, Faulted, Ended}
+use Rattle.stm_world.specs.declared.reply.Reply.TheVariants.{Started, Prefetched, Fetched, Committed, Conflict, GaveUp, Aborted, Faulted, Ended}
 use Rattle.stm_world.specs.declared.reply.Reply.TheVariants.{Txn as TxnDone, Granted, Kept, Revoked, Advanced, Watching, Batch, Cancelled, Compacted, Lost}
 use Rattle.stm_world.specs.declared.refusal.Denied.{Denied}
-use Rattle.stm_world.specs.Task.{Task, answer_at, after_fetch, after_conflict}
+use Rattle.stm_world.specs.Task.{Task, answer_at, after_list, after_fetch, after_conflict}
 use Rattle.stm_world.specs.Log.{Line, begun, running, store, known_after, told}
 use Rattle.stm_world.specs.Doomed.{FailedCommit, NamesAConflict, IsRealFailure, Stopped, IsEndOnOneState, IsRealStop, since, failed_commits}
 use Rattle.stm_world.specs.Doomed.{FailuresMoveOn}
@@ -99,6 +99,10 @@ small_by false next known all was = was
 
 known_small : (number id : ℕ) (task : Task) (h : History) (reply : Result Reply Denied) (known : Known) → h.opening ≡ opening_at number →
     KnowsAll IsSmall known → KnowsAll IsSmall (known_after id task h reply known)
+known_small number id task h (Ok (Prefetched runner revision reads)) known opens all =
+    let keys : List (List ℕ) = task.program.prefetch in
+    small_by (nat_eq runner id) (after_list task h known) known
+    (served_all IsSmall task (record { reads = map (answer_now h) keys; prefetched = known.prefetched }) (rereads_small h keys, all.1)) all
 known_small number id task h (Ok (Fetched runner key mod_rev of_rev revision)) known opens all =
     let a : ReadAnswer = answer_at h key of_rev in
     small_by (nat_eq runner id) (after_fetch task a known) known

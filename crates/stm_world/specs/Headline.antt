@@ -1,11 +1,12 @@
 -- The headline: over every list of events, in any interleaving of any number of runners.
-use Rattle.std.specs.Prelude.{◌≡◌, ℕ, ◌≤◌, true, List, ◌++◌, length, Option, option_map, Some, Result}
+use Rattle.std.specs.Prelude.{◌≡◌, ℕ, ◌≤◌, true, false, List, ◌++◌, length, Option, option_map, Some, Result}
 use Rattle.stm_history.specs.declared.key_state.ReadAnswer.{ReadAnswer}
 use Rattle.stm_history.specs.History.{History}
 use Rattle.stm_meaning.specs.Laws.{IsContinuedBy}
 use Rattle.stm_meaning.specs.Meaning.{run_over}
 use Rattle.stm_compile.specs.Levels.{is_serializable}
 use Rattle.stm_compile.specs.Answers.{AreTrue, state_as_of}
+use Rattle.stm_program.specs.Limits.{has_repeat}
 use Rattle.stm_attempt.specs.Known.{HaveDistinctKeys}
 use Rattle.stm_attempt.specs.Settled.{run_on}
 use Rattle.stm_attempt.specs.Fetches.{base_of, HaveOneBase}
@@ -73,4 +74,5 @@ OneState =
 -- No attempt reads a key twice.
 abbrev pub ReadOnce : Type 0
 ReadOnce =
-    OfEachLog (λ (start : Setup) (log : List Line). (id : ℕ) (task : Task) → running id log ≡ Some task → HaveDistinctKeys (told start id task log).reads)
+    OfEachLog (λ (start : Setup) (log : List Line). (id : ℕ) (task : Task) → running id log ≡ Some task → has_repeat task.program.prefetch ≡ false
+    → HaveDistinctKeys (told start id task log).reads)

@@ -21,10 +21,10 @@ use Rattle.stm_world.specs.declared.event.WorldEvent.{WorldEvent}
 use Rattle.stm_world.specs.declared.event.WorldEvent.TheVariants.{Start, Step, Txn, Grant, Keep, Revoke, Advance}
 use Rattle.stm_world.specs.declared.event.WorldEvent.TheVariants.{WatchKey, WatchRange, Poll, Cancel, Compact}
 use Rattle.stm_world.specs.declared.reply.Reply.{Reply}
-use Rattle.stm_world.specs.declared.reply.Reply.TheVariants.{Started, Fetched, Committed, Conflict, GaveUp, Aborted, Faulted, Ended, Advanced}
+use Rattle.stm_world.specs.declared.reply.Reply.TheVariants.{Started, Prefetched, Fetched, Committed, Conflict, GaveUp, Aborted, Faulted, Ended, Advanced}
 use Rattle.stm_world.specs.declared.refusal.Denied.{Denied}
 use Rattle.stm_world.specs.Told.{store_after_call, store_after_poll}
-use Rattle.stm_world.specs.Task.{Task, nothing_known, answer_at, after_fetch, after_conflict}
+use Rattle.stm_world.specs.Task.{Task, nothing_known, answer_at, after_list, after_fetch, after_conflict}
 
 -- an event and the reply to it
 pub record Line : Type 0 where
@@ -179,8 +179,10 @@ entries_told start (line ∷ older) = entries_told start older ++ line_entries s
 
 -- ---- what a runner knows ----
 
--- a fetched line adds the key as it was at the revision that is told; a conflict begins a new attempt
+-- a prefetched line adds the keys of the list as they are; a fetched line the key as it was at the revision that is told; a conflict begins a new
+-- attempt
 abbrev pub known_after : ℕ → Task → History → Result Reply Denied → Known → Known
+known_after id task h (Ok (Prefetched runner revision reads)) known = if nat_eq runner id then after_list task h known else known
 known_after id task h (Ok (Fetched runner key mod_rev of_rev revision)) known =
     if nat_eq runner id then after_fetch task (answer_at h key of_rev) known else known
 known_after id task h (Ok (Conflict runner key seen now)) known = if nat_eq runner id then after_conflict task h known else known

@@ -13,11 +13,13 @@ use Rattle.stm_watch.specs.Watching.{Watching}
 use Rattle.stm_watch.specs.Pending.{pending}
 use Rattle.stm_watch.specs.Calls.{watcher_at}
 use Rattle.stm_attempt.specs.Settled.{run_on}
+use Rattle.stm_attempt.specs.Entering.{is_due}
 use Rattle.stm_attempt.specs.Fetches.{at_of}
 use Rattle.stm_world.specs.declared.event.WorldEvent.{WorldEvent}
 use Rattle.stm_world.specs.declared.event.WorldEvent.TheVariants.{Start, Step, Poll, Compact}
 use Rattle.stm_world.specs.declared.reply.Reply.{Reply}
-use Rattle.stm_world.specs.declared.reply.Reply.TheVariants.{Started, Fetched, Committed, Conflict, GaveUp, Aborted, Faulted, Ended as EndedReply, Batch, Compacted, Lost}
+use Rattle.stm_world.specs.declared.reply.Reply.TheVariants.{Started, Prefetched, Fetched, Committed, Conflict, GaveUp, Aborted, Faulted, Ended as EndedReply, Batch, Compacted, Lost}
+use Rattle.stm_world.specs.declared.reply.KeyRead.{KeyRead}
 use Rattle.stm_world.specs.declared.refusal.Denied.{Denied}
 use Rattle.stm_world.specs.Task.{Task}
 use Rattle.stm_world.specs.Log.{Line, begun, running, store, told}
@@ -28,6 +30,7 @@ use Rattle.stm_txn.specs.Standing.{Setup}
 
 -- the runner of whose step a reply tells
 abbrev pub runner_told : Reply → Option ℕ
+runner_told (Prefetched runner revision reads) = Some runner
 runner_told (Fetched runner key mod_rev of_rev revision) = Some runner
 runner_told (Committed runner revision attempts output trace answers) = Some runner
 runner_told (Conflict runner key seen now) = Some runner
@@ -86,9 +89,23 @@ pub record WrongLogs : Type 0 where
       → IsRight start log (Step id) (Ok (Fetched id key mod_rev of_rev revision)) → ⊥
   -- at one that is not, the store refuses no fetch
   pub refused_fetch : (start : Setup) (log : List Line) (id : ℕ) (task : Task) (key : List ℕ) (trace : List TraceItem) (cause : StoreRefusal)
-      → running id log ≡ Some task → run_on task.program (told start id task log).reads ≡ Wants key trace
+      → running id log ≡ Some task → is_due task.program.prefetch (told start id task log).reads ≡ false
+      → run_on task.program (told start id task log).reads ≡ Wants key trace
       → is_below_floor (store start log).floor (at_of task.level (told start id task log).reads) ≡ false
       → IsRight start log (Step id) (Ok (EndedReply id cause)) → ⊥
+  -- a list that is read is not fetched again
+  pub list_again : (start : Setup) (log : List Line) (id : ℕ) (task : Task) (revision : ℕ) (reads : List KeyRead) → running id log ≡ Some task
+      → is_due task.program.prefetch (told start id task log).reads ≡ false → IsRight start log (Step id) (Ok (Prefetched id revision reads)) → ⊥
+  -- nor is a part of it told as the list
+  pub part_of_list : (start : Setup) (log : List Line) (id : ℕ) (task : Task) (revision : ℕ) (reads : List KeyRead) → running id log ≡ Some task
+      → length reads ≢ length task.program.prefetch → IsRight start log (Step id) (Ok (Prefetched id revision reads)) → ⊥
+  -- before its list is read, a program has no other read
+  pub read_before_list : (start : Setup) (log : List Line) (id : ℕ) (task : Task) (key : List ℕ) (mod_rev of_rev revision : ℕ) → running id log ≡ Some task
+      → is_due task.program.prefetch (told start id task log).reads ≡ true
+      → IsRight start log (Step id) (Ok (Fetched id key mod_rev of_rev revision)) → ⊥
+  -- and it does not abort
+  pub abort_before_list : (start : Setup) (log : List Line) (id : ℕ) (task : Task) (text : List ℕ) → running id log ≡ Some task
+      → is_due task.program.prefetch (told start id task log).reads ≡ true → IsRight start log (Step id) (Ok (Aborted id text)) → ⊥
   -- no compaction goes back
   pub compacted_again : (start : Setup) (log : List Line) (revision at : ℕ) → revision ≤ (store start log).floor
       → IsRight start log (Compact revision) (Ok (Compacted at)) → ⊥

@@ -434,6 +434,38 @@ def conflicts_of_128_reads(part):
     return scenario.text()
 
 
+@case(command="check")
+def conflicts_of_a_list(part):
+    """A program with a list of 127 keys, one of which is put before each of its 49,000 commits."""
+    program = [["prefetch", [str(number) for number in range(127)]], put("w")]
+    scenario = Scenario()
+    scenario.add(["start", "Serializable", HIGHEST_LIMIT, program], ["step", 1])
+    for _ in range(int(49000 * part)):
+        scenario.add(txn(put("126")), ["step", 1])
+    return scenario.text()
+
+
+@case()
+def long_keys_of_a_list(part):
+    """Two programs with lists of 128 keys of 60,000 bytes that differ at the last ones, and their fetches."""
+    front = "x" * int(60000 * part)
+    program = [["prefetch", [f"{front}{number:03}" for number in range(128)]]]
+    scenario = Scenario()
+    for number in range(2):
+        scenario.add(["start", "Serializable", 1, program], ["step", number + 1], ["step", number + 1])
+    return scenario.text()
+
+
+@case()
+def short_keys_of_lists(part):
+    """20,000 programs with lists of 128 keys, and their fetches."""
+    program = [["prefetch", [f"{number:x}" for number in range(128)]]]
+    scenario = Scenario()
+    for number in range(int(20000 * part)):
+        scenario.add(["start", "ReadCommitted", 1, program], ["step", number + 1], ["step", number + 1])
+    return scenario.text()
+
+
 @case()
 def conflicts_beside_a_long_value(part):
     """A program that reads the revision of a key of 7 megabytes, and conflicts 20,000 times."""

@@ -12,6 +12,8 @@ MOST_NESTING = 127
 MOST_NODES = 4096
 MOST_DEPTH = 32
 MOST_TEXT = 65536
+MOST_LISTED = 128
+MOST_OPERATIONS = 128
 LEAST_SIGNED = -(2**63)
 MOST_SIGNED = 2**63 - 1
 MOST_UNSIGNED = 2**64 - 1
@@ -314,12 +316,12 @@ class Program:
     def __init__(self):
         self.nodes = 0
 
-    def statements(self, value, path, depth):
-        """Looks at a list of statements of a depth."""
+    def statements(self, value, path, depth, front=0):
+        """Looks at a list of statements of a depth, behind so many other elements."""
         if not isinstance(value, list):
             raise Fault(path, "Shape")
-        for index, element in enumerate(value):
-            self.node(element, path + (index,), depth, "statement")
+        for index in range(front, len(value)):
+            self.node(value[index], path + (index,), depth, "statement")
 
     def node(self, value, path, depth, kind):
         if depth > MOST_DEPTH:
@@ -351,8 +353,33 @@ class Program:
             self.node(value, path, depth, part)
 
 
+def keys(value, path):
+    """Looks at the keys of a program's list."""
+    if not isinstance(value, list):
+        raise Fault(path, "Shape")
+    for index, key in enumerate(value):
+        if index == MOST_LISTED:
+            raise Fault(path + (index,), "TooMany")
+        if not isinstance(key, str) or not key or key in value[:index]:
+            raise Fault(path + (index,), "Shape")
+        if len(key.encode("utf-8")) > MOST_TEXT:
+            raise Fault(path + (index,), "TooLong")
+
+
+LIST = {"prefetch": (keys,)}
+
+
+def begins_with(value, forms):
+    """Whether the first element of an array is one that begins with a word of the forms."""
+    word = value[0][0] if isinstance(value, list) and value and isinstance(value[0], list) and value[0] else None
+    return isinstance(word, str) and word in forms
+
+
 def program(value, path):
-    Program().statements(value, path, 1)
+    front = 1 if begins_with(value, LIST) else 0
+    if front:
+        array(value[0], path + (0,), LIST)
+    Program().statements(value, path, 1, front)
 
 
 # events
@@ -391,20 +418,16 @@ EVENTS = {
 }
 
 BEGIN = {"begin": (ranged(1, MOST_SIGNED - 1),)}
-
-
-def begins(value):
-    """Whether the first element of a scenario is that of the opening revision."""
-    return bool(value) and isinstance(value[0], list) and value[0][:1] == ["begin"]
+BEGIN_WITH_LIMIT = {"begin": (ranged(1, MOST_SIGNED - 1), ranged(1, MOST_OPERATIONS))}
 
 
 def events_of(value):
     """Looks at a scenario, and answers how many events it has."""
     if not isinstance(value, list):
         raise Fault((), "Shape")
-    front = 1 if begins(value) else 0
+    front = 1 if begins_with(value, BEGIN) else 0
     if front:
-        array(value[0], (0,), BEGIN)
+        array(value[0], (0,), BEGIN_WITH_LIMIT if len(value[0]) == 3 else BEGIN)
     for index in range(front, len(value)):
         if index - front == MOST_EVENTS:
             raise Fault((index,), "TooMany")

@@ -68,6 +68,13 @@ fn tell_values(told: &mut String, values: &[Value]) -> Result<(), AllocError> {
 
 fn tell_next(told: &mut String, next: &Next) -> Result<(), AllocError> {
     match next {
+        Next::FetchAll { keys, at } => {
+            told.push_str("FetchAll")?;
+            for key in keys.as_slice() {
+                write!(told, " {key}")?;
+            }
+            write!(told, " at {at}")
+        }
         Next::Fetch { key, at } => write!(told, "Fetch {key} at {at}"),
         Next::Ready(ready) => {
             told.push_str("Ready")?;

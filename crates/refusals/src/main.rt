@@ -40,6 +40,7 @@ fn named(name: &str) -> Option<Run> {
         "expiring_leases" => Some(Run::World(scenarios::EXPIRING_LEASES)),
         "last_revision" => Some(Run::World(scenarios::LAST_REVISION)),
         "leases" => Some(Run::Leases),
+        "listed_reads" => Some(Run::World(scenarios::LISTED_READS)),
         "one_revision" => Some(Run::World(scenarios::ONE_REVISION)),
         "transactions" => Some(Run::Transactions),
         "workers" => Some(Run::Workers),

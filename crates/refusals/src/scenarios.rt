@@ -1,6 +1,6 @@
 //! The scenarios of the runs.
 ghost use Rattle.std.specs.Prelude.{IfOk};
-ghost use Rattle.stm_texts.specs.Reading.{IsOpening};
+ghost use Rattle.stm_texts.specs.Opens.{IsOpening};
 
 use anyhow::Result;
 use std::alloc::Global;
@@ -23,6 +23,16 @@ pub(crate) const WRITE_SKEW_STOPPED: &str = r#"[
     ["start","Serializable",3,[["if",["less",1,["add",["num_of",["get","x"]],["num_of",["get","y"]]]],[["put","x","0",0]],[]]]],
     ["start","Serializable",3,[["if",["less",1,["add",["num_of",["get","x"]],["num_of",["get","y"]]]],[["put","y","0",0]],[]]]],
     ["step",1],["step",2],["step",1],["step",2],["step",1],["step",2],["step",2],["step",2]
+]"#;
+
+/// A program has a list of two keys and reads a third. One of the list is put before its commit, so the second attempt takes the list from what the
+/// failed commit read again.
+pub(crate) const LISTED_READS: &str = r#"[
+    ["txn",[],[["put","p","1",0]],[]],
+    ["start","Serializable",2,[["prefetch",["p","q"]],["emit",["get","p"]],["emit",["get","r"]]]],
+    ["step",1],
+    ["txn",[],[["put","q","1",0]],[]],
+    ["step",1],["step",1],["step",1]
 ]"#;
 
 /// A key moves from a lease to another, each of which expires, and a range is watched between.

@@ -7,6 +7,7 @@ use std::sync::Wait;
 use std::thread::Threads;
 use stm_jobs::{JobScenario, accept, open_store};
 use stm_meaning::State;
+use stm_texts::opens_with;
 use stm_txn::Store;
 use stm_workers::{FaultCause, Gathered, Hall, Job, NoGate, RunFault, run_workers};
 use stm_world::WorldEvent;
@@ -34,9 +35,9 @@ fn transfers_again(alloc: Global) -> Result<JobScenario> {
 
 /// The store with the accounts, by a second call where the first was refused.
 fn store_again(alloc: Global, calls: &[WorldEvent]) -> Result<Store, AllocError> {
-    match open_store(alloc, 1, calls) {
+    match open_store(alloc, opens_with(None), calls) {
         Ok(store) => Ok(store),
-        Err(_) => open_store(alloc, 1, calls),
+        Err(_) => open_store(alloc, opens_with(None), calls),
     }
 }
 

@@ -2,9 +2,8 @@
 //!
 //! The replies to the events before the stop went with it. They are taken from a new world, so that all replies can be told;
 //! those behind the stop, the keys, the leases and the entries are of the world that was stopped.
-ghost use Rattle.std.specs.Prelude.{◌≤◌};
-ghost use Rattle.stm_history.specs.declared.revisions.TheConstants.{HIGHEST_REVISION};
-ghost use Rattle.stm_texts.specs.Reading.{IsOpening};
+ghost use Rattle.std.specs.Prelude.{Some};
+ghost use Rattle.stm_texts.specs.Opens.{IsOpening};
 
 use crate::scenarios::scenario_of;
 use anyhow::{Result, bail};
@@ -12,17 +11,18 @@ use std::alloc::{AllocError, Global};
 use stm_history::Sequence;
 use stm_report::{Denied, Reply, Scenario, World, WorldEvent, report};
 use stm_retry::{Expired, RunStop};
+use stm_texts::{Opening, opens_with};
 
 /// Replies, one for each event.
 type Replies = Vec<Result<Reply, Denied>>;
 
 /// A new world, by a second call where the first was refused.
-fn world_again(alloc: Global, opening: u64) -> Result<World, AllocError>
-    requires { (1 ≤ opening) × (opening ≤ HIGHEST_REVISION) }
+fn world_again(alloc: Global, opening: Opening) -> Result<World, AllocError>
+    requires { IsOpening (Some opening) }
 {
-    match World::with_revision(alloc, opening) {
+    match World::with_limits(alloc, opening.revision, opening.operations) {
         Ok(world) => Ok(world),
-        Err(_) => World::with_revision(alloc, opening),
+        Err(_) => World::with_limits(alloc, opening.revision, opening.operations),
     }
 }
 
@@ -35,10 +35,10 @@ fn run_whole(world: &mut World, events: &[WorldEvent]) -> Result<Replies> {
 }
 
 /// The replies of a new world to these events.
-fn replies_anew(alloc: Global, opening: u64, events: &[WorldEvent]) -> Result<Replies>
-    requires { (1 ≤ opening) × (opening ≤ HIGHEST_REVISION) }
+fn replies_anew(alloc: Global, opening: Opening, events: &[WorldEvent]) -> Result<Replies>
+    requires { IsOpening (Some opening) }
 {
-    let mut world = World::with_revision(alloc, opening)?;
+    let mut world = World::with_limits(alloc, opening.revision, opening.operations)?;
     let replies = run_whole(&mut world, events);
     drop(world);
     replies
@@ -102,12 +102,12 @@ fn tell_stop(rt: &impl Eprint, stop: &RunStop) -> Result<()> {
 fn go_on(
     rt: &impl Eprint,
     alloc: Global,
-    opening: u64,
+    opening: Opening,
     world: &mut World,
     events: &[WorldEvent],
     stop: RunStop,
 ) -> Result<Replies>
-    requires { (1 ≤ opening) × (opening ≤ HIGHEST_REVISION) }
+    requires { IsOpening (Some opening) }
 {
     if stop.done > events.len() {
         bail!("more events were taken than there are");
@@ -124,11 +124,11 @@ fn go_on(
 fn replies_to(
     rt: &impl Eprint,
     alloc: Global,
-    opening: u64,
+    opening: Opening,
     world: &mut World,
     events: &[WorldEvent],
 ) -> Result<Replies>
-    requires { (1 ≤ opening) × (opening ≤ HIGHEST_REVISION) }
+    requires { IsOpening (Some opening) }
 {
     match world.run(events) {
         Ok(replies) => Ok(replies),
@@ -152,11 +152,11 @@ fn report_again(
 fn report_from(
     rt: &impl Eprint,
     alloc: Global,
-    opening: u64,
+    opening: Opening,
     world: &mut World,
     events: &[WorldEvent],
 ) -> Result<String>
-    requires { (1 ≤ opening) × (opening ≤ HIGHEST_REVISION) }
+    requires { IsOpening (Some opening) }
 {
     let replies = replies_to(rt, alloc, opening, world, events)?;
     let text = report_again(alloc, world, replies.as_slice());
@@ -168,7 +168,7 @@ fn report_from(
 fn report_of(rt: &impl Eprint, alloc: Global, scenario: &Scenario) -> Result<String>
     requires { IsOpening scenario.now.opening }
 {
-    let opening = scenario.opening.unwrap_or(1);
+    let opening = opens_with(scenario.opening);
     let mut world = world_again(alloc, opening)?;
     let text = report_from(rt, alloc, opening, &mut world, scenario.events.as_slice());
     drop(world);

@@ -154,7 +154,7 @@ In a report the line refused says why an event was refused, and the line ended w
 
   BadLimit            the limit is 0
   NoRunner            there is no such runner, or its run is over
-  TooManyOps          a list of the transaction, or of the commit, has more than 128 elements
+  TooManyOps          a list of the transaction, or of the commit, has more elements than the store takes
   EmptyKey            a key is empty
   DuplicateKey        a list of the transaction puts a key twice, or puts and deletes it
   FutureRevision      a read is of a revision that the store has not reached

@@ -1,5 +1,5 @@
 -- What the calls of an attempt leave, by what the code has at hand: the reads, how many of them are told, and how far the program has come.
-use Rattle.std.proofs.Common.{◌≡◌, refl, sym, ◌∙◌, ap, subst, ℕ, zero, suc, true, false, List, [], ◌∷◌, ◌++◌, length, take}
+use Rattle.std.proofs.Common.{◌≡◌, refl, sym, ◌∙◌, ap, subst, ℕ, zero, suc, Bool, true, false, cond, List, [], ◌∷◌, ◌++◌, length, take}
 use Rattle.std.specs.Prelude.{Option, None, Some, is_none, IfSome, Result, Ok, Err, IfOk, OnOk}
 use Rattle.std.specs.declared.alloc.AllocError.{AllocError}
 use Rattle.std.proofs.Math.Seq.{take-length}
@@ -11,11 +11,12 @@ use Rattle.stm_attempt.specs.declared.next.Next.{Next}
 use Rattle.stm_attempt.specs.declared.progress.Progress.{Progress}
 use Rattle.stm_attempt.specs.declared.progress.Progress.TheVariants.{Fresh, Started, Ended}
 use Rattle.stm_attempt.specs.Known.{known_of, serving}
-use Rattle.stm_attempt.specs.Settled.{run_on, wanted, settled}
-use Rattle.stm_attempt.specs.AttemptState.{AttemptState, advanced, supplied, awaited}
-use Rattle.stm_attempt.specs.Next.{next_after, next_of, key_asked}
+use Rattle.stm_attempt.specs.Settled.{run_on, wanted}
+use Rattle.stm_attempt.specs.Entering.{is_due, gone_on}
+use Rattle.stm_attempt.specs.AttemptState.{AttemptState, advanced, supplied, supplied_all, awaited, list_awaited}
+use Rattle.stm_attempt.specs.Next.{next_on, next_of, key_asked, list_asked}
 use Rattle.stm_attempt.specs.Progress.{HasNotBegun, IsUnderWay, IsAttempt, Extends}
-use Rattle.stm_attempt.proofs.NextLemmas.{seen_as, wanted_by, asked_is_awaited, awaited_is_new}
+use Rattle.stm_attempt.proofs.NextLemmas.{seen_as, wanted_by, asked_is_awaited, list_is_awaited, awaits_unserved, awaited_is_new}
 use Rattle.stm_attempt.proofs.ProgressLemmas.{nothing_ahead, front_stays, under_way, come_with_more}
 
 -- ---- whether there is a program
@@ -78,15 +79,15 @@ all_told told reads whole = ap (λ (n : ℕ). take n reads) whole ∙ take-lengt
 
 pub next_from : (program : ProgramTree) (old : AttemptState) (before : Option ProgramTree) (level : Level) (reads front prefetched : List ReadAnswer)
     (next : Next) →
-    seen_as before level front prefetched ≡ old → settled program (known_of reads prefetched) ≡ settled program (known_of front prefetched) →
+    seen_as before level front prefetched ≡ old → gone_on program (known_of reads prefetched) ≡ gone_on program (known_of front prefetched) →
     next ≡ next_of program level (known_of reads prefetched) → next ≡ next_of program old.level old.known
 next_from program old before level reads front prefetched next view ahead told =
-    told ∙ ap (λ (l : List ReadAnswer). next_after program level l (run_on program l)) ahead ∙ ap (λ (v : AttemptState). next_of program v.level v.known) view
+    told ∙ ap (next_on program level) ahead ∙ ap (λ (v : AttemptState). next_of program v.level v.known) view
 
 pub left_from : (program : ProgramTree) (old : AttemptState) (before after_program : Option ProgramTree) (level : Level)
     (reads front prefetched after : List ReadAnswer) (told : ℕ) →
-    seen_as before level front prefetched ≡ old → settled program (known_of reads prefetched) ≡ settled program (known_of front prefetched) →
-    after_program ≡ Some program → told ≡ length after → after ≡ settled program (known_of reads prefetched) →
+    seen_as before level front prefetched ≡ old → gone_on program (known_of reads prefetched) ≡ gone_on program (known_of front prefetched) →
+    after_program ≡ Some program → told ≡ length after → after ≡ gone_on program (known_of reads prefetched) →
     seen_as after_program level (take told after) prefetched ≡ advanced program old
 left_from program old before after_program level reads front prefetched after told view ahead kept whole settles =
     ap (λ (o : Option ProgramTree). seen_as o level (take told after) prefetched) kept
@@ -110,6 +111,15 @@ pub asked_told : (program : ProgramTree) (old new : AttemptState) (told : Result
 asked_told program old new (Ok next) left is = asked_from program old new next left is
 asked_told program old new (Err error) left is = tt
 
+list_from : (program : ProgramTree) (old new : AttemptState) (next : Next) → new ≡ advanced program old →
+    next ≡ next_of program old.level old.known → list_awaited new ≡ list_asked next
+list_from program old new next left told = ap list_awaited left ∙ list_is_awaited program old ∙ ap list_asked (sym told)
+
+pub list_told : (program : ProgramTree) (old new : AttemptState) (told : Result Next AllocError) → OnOk told (new ≡ advanced program old) →
+    IfOk told (λ next. next ≡ next_of program old.level old.known) → IfOk told (λ next. list_awaited new ≡ list_asked next)
+list_told program old new (Ok next) left is = list_from program old new next left is
+list_told program old new (Err error) left is = tt
+
 -- ---- an attempt that waits for a key
 
 pub record Waits (before : Option ProgramTree) (reads prefetched : List ReadAnswer) (told : ℕ) (progress : Progress) (key : List ℕ) : Type 0 where
@@ -126,7 +136,8 @@ waits_at None level reads prefetched told progress key asked is = absurd (cc)
 waits_at (Some program) level reads prefetched told progress key asked way =
     let whole : told ≡ length reads = nothing_ahead program reads prefetched told key way.within way.ahead asked in
     let front : wanted (run_on program (take told reads)) ≡ Some key =
-    wanted_by (serving (take told reads) prefetched) (wanted (run_on program (take told reads))) key asked in
+    wanted_by (serving (take told reads) prefetched) (wanted (run_on program (take told reads))) key
+    (awaits_unserved program (known_of (take told reads) prefetched) key asked) in
     record {
       program = program;
       is = refl;
@@ -169,3 +180,31 @@ supplied_attempt old before level reads prefetched more told count progress a vi
     attempt_of w.program before more prefetched count progress w.is
     (under_way w.program more prefetched count progress whole
     (come_with_more w.program reads more a a.key progress pushed w.wants w.way.come))
+
+-- ---- an attempt that waits for its list
+
+due_only : (b : Bool) (keys others : List (List ℕ)) → cond b (Some keys) None ≡ Some others → keys ≡ others
+due_only true keys others is = cc
+due_only false keys others is = absurd (cc)
+
+list_at : (before : Option ProgramTree) (level : Level) (reads prefetched : List ReadAnswer) (keys : List (List ℕ)) →
+    list_awaited (seen_as before level reads prefetched) ≡ Some keys → (program : ProgramTree) × (before ≡ Some program) × (program.prefetch ≡ keys)
+list_at None level reads prefetched keys asked = absurd (cc)
+list_at (Some program) level reads prefetched keys asked = (program, refl, due_only (is_due program.prefetch reads) program.prefetch keys asked)
+
+pub awaits_list : (old : AttemptState) (before : Option ProgramTree) (level : Level) (reads prefetched : List ReadAnswer) (keys : List (List ℕ)) →
+    seen_as before level reads prefetched ≡ old → list_awaited old ≡ Some keys → (program : ProgramTree) × (before ≡ Some program) × (program.prefetch ≡ keys)
+awaits_list old before level reads prefetched keys view asked = list_at before level reads prefetched keys (ap list_awaited view ∙ asked)
+
+pub all_supplied_is : (old : AttemptState) (before : Option ProgramTree) (level : Level) (reads prefetched more answers : List ReadAnswer) (count : ℕ) →
+    seen_as before level reads prefetched ≡ old → more ≡ answers → count ≡ length more →
+    seen_as before level (take count more) prefetched ≡ supplied_all answers old
+all_supplied_is old before level reads prefetched more answers count view same whole =
+    ap (λ (l : List ReadAnswer). seen_as before level l prefetched) (all_told count more whole ∙ same) ∙ ap (supplied_all answers) view
+
+pub all_supplied_attempt : (old : AttemptState) (before : Option ProgramTree) (level : Level) (reads prefetched more : List ReadAnswer) (count : ℕ)
+    (keys : List (List ℕ)) → seen_as before level reads prefetched ≡ old → list_awaited old ≡ Some keys → count ≡ length more →
+    IsAttempt before more prefetched count Fresh
+all_supplied_attempt old before level reads prefetched more count keys view asked whole =
+    let w = awaits_list old before level reads prefetched keys view asked in
+    attempt_of w.0 before more prefetched count Fresh w.1 (under_way w.0 more prefetched count Fresh whole tt)

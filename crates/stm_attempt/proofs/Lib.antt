@@ -2,6 +2,7 @@ pub mod Unread
 pub mod SettleLemmas
 pub mod BaseLemmas
 pub mod DistinctLemmas
+pub mod EnteringLemmas
 pub mod NextLemmas
 pub mod ProgressLemmas
 pub mod AttemptLemmas

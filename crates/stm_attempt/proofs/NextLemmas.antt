@@ -1,5 +1,5 @@
 -- What an attempt answers, and what its calls may rely on.
-use Rattle.std.proofs.Common.{◌≡◌, ℕ, Bool, true, false, cond, List, refl, sym, ◌∙◌, ap, subst}
+use Rattle.std.proofs.Common.{◌≡◌, inl, inr, ℕ, Bool, true, false, cond, List, refl, sym, ◌∙◌, ap, subst}
 use Rattle.std.specs.Prelude.{Option, None, Some, is_some}
 use Rattle.stm_history.specs.declared.key_state.ReadAnswer.{ReadAnswer}
 use Rattle.stm_program.specs.Syntax.{ProgramTree}
@@ -11,14 +11,16 @@ use Rattle.stm_meaning.specs.declared.run.Answered.{Answered}
 use Rattle.stm_meaning.specs.declared.run.Answered.TheVariants.{Ended, Wants}
 use Rattle.stm_compile.specs.Answers.{answer_in}
 use Rattle.stm_attempt.specs.declared.next.Next.{Next}
-use Rattle.stm_attempt.specs.declared.next.Next.TheVariants.{Ready}
+use Rattle.stm_attempt.specs.declared.next.Next.TheVariants.{FetchAll, Ready}
 use Rattle.stm_attempt.specs.Known.{Known, known_of, serving}
-use Rattle.stm_attempt.specs.Settled.{run_on, wanted, answer_for, settled}
+use Rattle.stm_attempt.specs.Settled.{run_on, wanted, answer_for, served}
+use Rattle.stm_attempt.specs.Entering.{is_due, gone_on}
 use Rattle.stm_attempt.specs.ReadyRun.{ReadyRun, IsRunOnItsAnswers, ready_run}
-use Rattle.stm_attempt.specs.AttemptState.{AttemptState, advanced, awaited, unserved}
-use Rattle.stm_attempt.specs.Next.{next_at_end, next_after, next_of, key_asked}
+use Rattle.stm_attempt.specs.AttemptState.{AttemptState, advanced, awaited, awaited_by, list_awaited, unserved}
+use Rattle.stm_attempt.specs.Next.{next_at_end, next_after, next_on, next_of, key_asked, list_asked}
 use Rattle.stm_attempt.specs.Laws.{ReadyIsTheRun, RepeatingAnswersTheSame}
-use Rattle.stm_attempt.proofs.SettleLemmas.{nothing_serves_the_settled, settled_is_settled, wanted_is_new}
+use Rattle.stm_attempt.proofs.SettleLemmas.{wanted_is_new}
+use Rattle.stm_attempt.proofs.EnteringLemmas.{where_it_comes, settles_not_due, settles_none_served, gone_on_is_gone_on}
 
 -- ---- a ready run
 
@@ -39,14 +41,18 @@ after : (program : ProgramTree) (level : Level) (reads : List ReadAnswer) (x : A
 after program level reads (Wants key trace) ready is told = absurd (cc)
 after program level reads (Ended run) ready is told = at_end program level reads run run.end ready is refl told
 
+on_reads : (program : ProgramTree) (level : Level) (reads : List ReadAnswer) (ready : ReadyRun) (due : Bool) →
+    cond due (FetchAll program.prefetch 0) (next_after program level reads (run_on program reads)) ≡ Ready ready → IsRunOnItsAnswers ready
+on_reads program level reads ready true told = absurd (cc)
+on_reads program level reads ready false told = after program level reads (run_on program reads) ready refl told
+
 pub ready_is_the_run : ReadyIsTheRun
-ready_is_the_run program level known ready told = after program level (settled program known) (run_on program (settled program known)) ready refl told
+ready_is_the_run program level known ready told = on_reads program level (gone_on program known) ready (is_due program.prefetch (gone_on program known)) told
 
 -- ---- a call more
 
 pub repeating_answers_the_same : RepeatingAnswersTheSame
-repeating_answers_the_same program level known =
-    ap (λ (reads : List ReadAnswer). next_after program level reads (run_on program reads)) (settled_is_settled program known)
+repeating_answers_the_same program level known = ap (next_on program level) (gone_on_is_gone_on program known)
 
 -- ---- the key that is awaited
 
@@ -64,13 +70,51 @@ unserved_is : (answers : List ReadAnswer) (o : Option (List ℕ)) → answer_for
 unserved_is answers None none = refl
 unserved_is answers (Some key) none = ap (λ (found : Option ReadAnswer). cond (is_some found) None (Some key)) none
 
+due_asked : (program : ProgramTree) (level : Level) (reads prefetched : List ReadAnswer) → is_due program.prefetch reads ≡ true →
+    awaited_by program (known_of reads prefetched) ≡ key_asked (next_on program level reads)
+due_asked program level reads prefetched due =
+    ap (λ (b : Bool). cond b None (unserved (serving reads prefetched) (wanted (run_on program reads)))) due
+    ∙ sym (ap (λ (b : Bool). key_asked (cond b (FetchAll program.prefetch 0) (next_after program level reads (run_on program reads)))) due)
+
+settled_asked : (program : ProgramTree) (level : Level) (reads prefetched : List ReadAnswer) → is_due program.prefetch reads ≡ false →
+    served program prefetched reads ≡ None → awaited_by program (known_of reads prefetched) ≡ key_asked (next_on program level reads)
+settled_asked program level reads prefetched not none =
+    ap (λ (b : Bool). cond b None (unserved (serving reads prefetched) (wanted (run_on program reads)))) not
+    ∙ unserved_is (serving reads prefetched) (wanted (run_on program reads)) none
+    ∙ sym (asked_after program level reads (run_on program reads))
+    ∙ sym (ap (λ (b : Bool). key_asked (cond b (FetchAll program.prefetch 0) (next_after program level reads (run_on program reads)))) not)
+
+no_list-at_end : (program : ProgramTree) (level : Level) (reads : List ReadAnswer) (run : Run) (end : End) →
+    list_asked (next_at_end program level reads run end) ≡ None
+no_list-at_end program level reads run Done = refl
+no_list-at_end program level reads run (AbortedEnd text) = refl
+no_list-at_end program level reads run (FaultedEnd fault) = refl
+
+no_list-after : (program : ProgramTree) (level : Level) (reads : List ReadAnswer) (x : Answered) → list_asked (next_after program level reads x) ≡ None
+no_list-after program level reads (Wants key trace) = refl
+no_list-after program level reads (Ended run) = no_list-at_end program level reads run run.end
+
 -- what was asked for is awaited
 pub asked_is_awaited : (program : ProgramTree) (attempt : AttemptState) →
     awaited (advanced program attempt) ≡ key_asked (next_of program attempt.level attempt.known)
 asked_is_awaited program attempt =
-    let reads : List ReadAnswer = settled program attempt.known in
-    unserved_is (serving reads attempt.known.prefetched) (wanted (run_on program reads)) (nothing_serves_the_settled program attempt.known)
-    ∙ sym (asked_after program attempt.level reads (run_on program reads))
+    let reads : List ReadAnswer = gone_on program attempt.known in
+    elim (where_it_comes program attempt.known) [
+      | inl d ↦ due_asked program attempt.level reads attempt.known.prefetched (ap (is_due program.prefetch) d.stays ∙ d.due)
+      | inr s ↦ settled_asked program attempt.level reads attempt.known.prefetched (settles_not_due program attempt.known s)
+          (settles_none_served program attempt.known s)
+    ]
+
+-- and so is a list that was asked for
+list_by : (program : ProgramTree) (level : Level) (reads : List ReadAnswer) (due : Bool) →
+    cond due (Some program.prefetch) None ≡ list_asked (cond due (FetchAll program.prefetch 0) (next_after program level reads (run_on program reads)))
+list_by program level reads true = refl
+list_by program level reads false = sym (no_list-after program level reads (run_on program reads))
+
+pub list_is_awaited : (program : ProgramTree) (attempt : AttemptState) →
+    list_awaited (advanced program attempt) ≡ list_asked (next_of program attempt.level attempt.known)
+list_is_awaited program attempt =
+    list_by program attempt.level (gone_on program attempt.known) (is_due program.prefetch (gone_on program attempt.known))
 
 chosen : (b : Bool) (k key : List ℕ) → cond b None (Some k) ≡ Some key → Some k ≡ Some key
 chosen true k key is = absurd (cc)
@@ -80,11 +124,26 @@ pub wanted_by : (answers : List ReadAnswer) (o : Option (List ℕ)) (key : List 
 wanted_by answers None key is = absurd (cc)
 wanted_by answers (Some k) key is = chosen (is_some (answer_in k answers)) k key is
 
+unless_due : (due : Bool) (o : Option (List ℕ)) (key : List ℕ) → cond due None o ≡ Some key → (due ≡ false) × (o ≡ Some key)
+unless_due true o key is = absurd (cc)
+unless_due false o key is = (refl, is)
+
+-- a program that waits for a key waits for no list
+pub awaits_not_due : (program : ProgramTree) (known : Known) (key : List ℕ) → awaited_by program known ≡ Some key → is_due program.prefetch known.reads ≡ false
+awaits_not_due program known key is =
+    (unless_due (is_due program.prefetch known.reads) (unserved (serving known.reads known.prefetched) (wanted (run_on program known.reads))) key is).0
+
+pub awaits_unserved : (program : ProgramTree) (known : Known) (key : List ℕ) → awaited_by program known ≡ Some key →
+    unserved (serving known.reads known.prefetched) (wanted (run_on program known.reads)) ≡ Some key
+awaits_unserved program known key is =
+    (unless_due (is_due program.prefetch known.reads) (unserved (serving known.reads known.prefetched) (wanted (run_on program known.reads))) key is).1
+
 awaited_by_new : (program : Option ProgramTree) (level : Level) (known : Known) (key : List ℕ) →
     awaited (record { program = program; level = level; known = known }) ≡ Some key → answer_in key known.reads ≡ None
 awaited_by_new None level known key is = absurd (cc)
 awaited_by_new (Some program) level known key is =
-    wanted_is_new program known.reads key (wanted_by (serving known.reads known.prefetched) (wanted (run_on program known.reads)) key is)
+    wanted_is_new program known.reads key (wanted_by (serving known.reads known.prefetched) (wanted (run_on program known.reads)) key
+    (awaits_unserved program known key is))
 
 -- an awaited key has no answer yet
 pub awaited_is_new : (attempt : AttemptState) (key : List ℕ) → awaited attempt ≡ Some key → answer_in key attempt.known.reads ≡ None
@@ -100,7 +159,7 @@ pub next_is : (program : ProgramTree) (old : AttemptState) (before : Option Prog
 next_is program old before level reads prefetched next is told = told ∙ ap (λ (v : AttemptState). next_of program v.level v.known) is
 
 pub advanced_is : (program kept : ProgramTree) (old : AttemptState) (before : Option ProgramTree) (level : Level) (reads prefetched after : List ReadAnswer) →
-    seen_as before level reads prefetched ≡ old → kept ≡ program → after ≡ settled program (known_of reads prefetched) →
+    seen_as before level reads prefetched ≡ old → kept ≡ program → after ≡ gone_on program (known_of reads prefetched) →
     seen_as (Some kept) level after prefetched ≡ advanced program old
 advanced_is program kept old before level reads prefetched after is copied settles =
     ap (λ (p : ProgramTree). seen_as (Some p) level after prefetched) copied
@@ -109,7 +168,7 @@ advanced_is program kept old before level reads prefetched after is copied settl
 
 pub awaited_is : (program kept : ProgramTree) (old : AttemptState) (before : Option ProgramTree) (level : Level)
     (reads prefetched after : List ReadAnswer) (next : Next) →
-    seen_as before level reads prefetched ≡ old → kept ≡ program → after ≡ settled program (known_of reads prefetched) →
+    seen_as before level reads prefetched ≡ old → kept ≡ program → after ≡ gone_on program (known_of reads prefetched) →
     next ≡ next_of program level (known_of reads prefetched) → awaited (seen_as (Some kept) level after prefetched) ≡ key_asked next
 awaited_is program kept old before level reads prefetched after next is copied settles told =
     ap awaited (advanced_is program kept old before level reads prefetched after is copied settles) ∙ asked_is_awaited program old

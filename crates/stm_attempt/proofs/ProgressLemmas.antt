@@ -28,10 +28,13 @@ use Rattle.stm_attempt.specs.declared.next.Next.TheVariants.{Fetch}
 use Rattle.stm_attempt.specs.declared.progress.Progress.{Progress}
 use Rattle.stm_attempt.specs.declared.progress.Progress.TheVariants.{Fresh, Started, Ended as EndedProgress}
 use Rattle.stm_attempt.specs.Fetches.{at_of}
-use Rattle.stm_attempt.specs.Next.{next_at_end, next_after, next_of}
+use Rattle.stm_attempt.specs.Next.{next_at_end, next_after, next_settled}
+use Rattle.stm_attempt.specs.Entering.{is_due, gone_on}
 use Rattle.stm_attempt.specs.Progress.{FinishesAs, HasCome, HasEnded, Extends, IsUnderWay, has_ended}
 use Rattle.stm_attempt.proofs.Unread.{unread, fewer, found_key}
 use Rattle.stm_attempt.proofs.SettleLemmas.{no_answer, for_new, settle_stays, what_serves_is_taken, settling_adds_prefetched}
+use Rattle.stm_attempt.proofs.EnteringLemmas.{gone_settled, not_due_whole}
+use Rattle.stm_attempt.proofs.NextLemmas.{awaits_not_due, awaits_unserved}
 
 -- ---- what was read stays known with one answer more
 
@@ -142,16 +145,19 @@ unserved_none answers (Some k) key is = unserved_by k key (answer_in k answers) 
 
 -- an attempt that waits for a key has read nothing that it has not told
 pub nothing_ahead : (program : ProgramTree) (reads prefetched : List ReadAnswer) (told : ℕ) (key : List ℕ) → told ≤ length reads →
-    settled program (known_of reads prefetched) ≡ settled program (known_of (take told reads) prefetched) →
+    gone_on program (known_of reads prefetched) ≡ gone_on program (known_of (take told reads) prefetched) →
     awaited_by program (known_of (take told reads) prefetched) ≡ Some key → told ≡ length reads
 nothing_ahead program reads prefetched told key within ahead asked =
     let front : List ReadAnswer = take told reads in
+    let not : is_due program.prefetch front ≡ false = awaits_not_due program (known_of front prefetched) key asked in
     let none : served program prefetched front ≡ None =
-    unserved_none (serving front prefetched) (wanted (run_on program front)) key asked in
+    unserved_none (serving front prefetched) (wanted (run_on program front)) key (awaits_unserved program (known_of front prefetched) key asked) in
     let stays : settled program (known_of front prefetched) ≡ front = settle_stays (length prefetched) program prefetched front none in
     let more : AddsPrefetched (known_of reads prefetched) (settled program (known_of reads prefetched)) =
     settling_adds_prefetched program (known_of reads prefetched) in
-    let same : front ≡ reads ++ more.added = sym stays ∙ sym ahead ∙ more.follow in
+    let same : front ≡ reads ++ more.added =
+    sym stays ∙ sym (gone_settled program (known_of front prefetched) not) ∙ sym ahead
+    ∙ gone_settled program (known_of reads prefetched) (not_due_whole program.prefetch told reads not) ∙ more.follow in
     let count : length front ≡ length reads + length more.added = ap (λ (l : List ReadAnswer). length l) same ∙ length-append reads more.added in
     let cut : length front ≡ told = length-take-le told reads within in
     omega (arith, within, count, cut)
@@ -207,7 +213,7 @@ end_is program level reads (EndedProgress run) next ended come told = told run r
 
 pub next_of_settled : (program : ProgramTree) (level : Level) (before prefetched reads : List ReadAnswer) (next : Next) →
     reads ≡ settled program (known_of before prefetched) → next ≡ next_after program level reads (run_on program reads) →
-    next ≡ next_of program level (known_of before prefetched)
+    next ≡ next_settled program level (known_of before prefetched)
 next_of_settled program level before prefetched reads next settles told =
     told ∙ ap (λ (l : List ReadAnswer). next_after program level l (run_on program l)) settles
 
@@ -216,13 +222,13 @@ next_of_settled program level before prefetched reads next settles told =
 -- after a call that was refused
 pub still_under_way : (program : ProgramTree) (before after prefetched : List ReadAnswer) (told : ℕ) (old new : Progress) →
     IsUnderWay program before prefetched told old → Extends before after → HasCome program after new →
-    settled program (known_of after prefetched) ≡ settled program (known_of before prefetched) → IsUnderWay program after prefetched told new
+    gone_on program (known_of after prefetched) ≡ gone_on program (known_of before prefetched) → IsUnderWay program after prefetched told new
 still_under_way program before after prefetched told old new way more come settles =
     let count : length after ≡ length before + length more.added = ap (λ (l : List ReadAnswer). length l) more.follow ∙ length-append before more.added in
     let front : take told after ≡ take told before = front_stays told before after way.within more in
     record {
       within = omega (arith, way.within, count);
-      ahead = settles ∙ way.ahead ∙ ap (λ (l : List ReadAnswer). settled program (known_of l prefetched)) (sym front);
+      ahead = settles ∙ way.ahead ∙ ap (λ (l : List ReadAnswer). gone_on program (known_of l prefetched)) (sym front);
       come = come;
     }
 
@@ -233,7 +239,7 @@ under_way program reads prefetched told progress whole come =
     let all : take told reads ≡ reads = ap (λ (n : ℕ). take n reads) whole ∙ take-length reads in
     record {
       within = omega (arith, whole);
-      ahead = ap (λ (l : List ReadAnswer). settled program (known_of l prefetched)) (sym all);
+      ahead = ap (λ (l : List ReadAnswer). gone_on program (known_of l prefetched)) (sym all);
       come = come;
     }
 

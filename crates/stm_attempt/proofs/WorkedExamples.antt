@@ -1,5 +1,5 @@
 -- Worked examples of attempts, computed by the definitions.
-use Rattle.std.proofs.Common.{◌≡◌, refl, ℕ, List, [], ◌∷◌}
+use Rattle.std.proofs.Common.{◌≡◌, refl, ℕ, List, [], ◌∷◌, map}
 use Rattle.std.specs.Prelude.{codes, Some, None}
 use Rattle.stm_history.specs.declared.key_state.ReadAnswer.{ReadAnswer}
 use Rattle.stm_program.specs.Syntax.{ProgramTree, of_statements, Text, Get, Emit, End, Then}
@@ -12,7 +12,7 @@ use Rattle.stm_steps.specs.Session.{fresh}
 use Rattle.stm_steps.specs.Steps.{get_key}
 use Rattle.stm_meaning.specs.Meaning.{evaluate, run_block, run_over}
 use Rattle.stm_attempt.specs.declared.next.Next.{Next}
-use Rattle.stm_attempt.specs.declared.next.Next.TheVariants.{Fetch, Ready, Aborted, Faulted}
+use Rattle.stm_attempt.specs.declared.next.Next.TheVariants.{FetchAll, Fetch, Ready, Aborted, Faulted}
 use Rattle.stm_attempt.specs.Known.{Known}
 use Rattle.stm_attempt.specs.Settled.{settle}
 use Rattle.stm_attempt.specs.Next.{next_of}
@@ -48,6 +48,7 @@ unfolding a_at_5 b_at b_then_a knows settle run_over run_block evaluate key_in g
 newer_base = refl
 
 output_of : Next → List Value
+output_of (FetchAll keys at) = []
 output_of (Fetch key at) = []
 output_of (Ready run) = run.output
 output_of (Aborted run) = run.output
@@ -57,3 +58,26 @@ output_of (Faulted run) = run.output
 same_base : output_of (next_of b_then_a Serializable (knows (b_at 5 ∷ []))) ≡ TextValue [] ∷ TextValue (codes "1") ∷ []
 unfolding a_at_5 b_at b_then_a knows settle run_over run_block evaluate key_in get_key last_write fresh output_of
 same_base = refl
+
+-- ---- a list
+
+-- the same program behind a list of both keys
+listing_both : ProgramTree
+listing_both = record { statements = Then (Emit (Get (Text (codes "b")))) End; prefetch = codes "a" ∷ codes "b" ∷ [] }
+
+-- One of the two was prefetched: both are fetched, as they are now.
+list_is_fetched : next_of listing_both Serializable (knows []) ≡ FetchAll (codes "a" ∷ codes "b" ∷ []) 0
+unfolding a_at_5 listing_both knows
+list_is_fetched = refl
+
+keys_of : Next → List (List ℕ)
+keys_of (FetchAll keys at) = []
+keys_of (Fetch key at) = []
+keys_of (Ready run) = map (λ (a : ReadAnswer). a.key) run.answers
+keys_of (Aborted run) = []
+keys_of (Faulted run) = []
+
+-- Both were prefetched: they are taken, in the list's order, also the one that the program does not read.
+list_is_taken : keys_of (next_of listing_both Serializable (record { reads = []; prefetched = b_at 5 ∷ a_at_5 ∷ [] })) ≡ codes "a" ∷ codes "b" ∷ []
+unfolding a_at_5 b_at listing_both settle run_over run_block evaluate key_in get_key last_write fresh keys_of
+list_is_taken = refl

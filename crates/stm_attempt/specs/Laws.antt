@@ -1,5 +1,5 @@
 -- The laws of attempts, each carried by a function of `src/laws.rt`.
-use Rattle.std.specs.Prelude.{◌≡◌, ◌≤◌, true, List, [], ◌∷◌, ◌++◌, None, Some, All, Contains}
+use Rattle.std.specs.Prelude.{◌≡◌, ◌≤◌, ℕ, true, List, [], ◌∷◌, ◌++◌, None, Some, map, All, Contains}
 use Rattle.stm_history.specs.declared.key_state.ReadAnswer.{ReadAnswer}
 use Rattle.stm_history.specs.History.{History, now}
 use Rattle.stm_program.specs.Syntax.{ProgramTree}
@@ -9,7 +9,8 @@ use Rattle.stm_outcome.specs.Commits.{revision_read}
 use Rattle.stm_attempt.specs.declared.next.Next.TheVariants.{Ready}
 use Rattle.stm_attempt.specs.Known.{Known}
 use Rattle.stm_attempt.specs.Settled.{served, settled}
-use Rattle.stm_attempt.specs.Fetches.{at_of, HaveOneBase}
+use Rattle.stm_attempt.specs.Entering.{gone_on}
+use Rattle.stm_attempt.specs.Fetches.{at_of, ShowOneRevision, HaveOneBase}
 use Rattle.stm_attempt.specs.ReadyRun.{ReadyRun, IsRunOnItsAnswers}
 use Rattle.stm_attempt.specs.AttemptState.{with_reads}
 use Rattle.stm_attempt.specs.Next.{next_of}
@@ -28,7 +29,30 @@ SettledIsSettled =
 abbrev pub RepeatingAnswersTheSame : Type 0
 RepeatingAnswersTheSame =
     (program : ProgramTree) (level : Level) (known : Known) →
-    next_of program level (with_reads (settled program known) known) ≡ next_of program level known
+    next_of program level (with_reads (gone_on program known) known) ≡ next_of program level known
+
+-- Gone on is gone on.
+abbrev pub GoneOnIsGoneOn : Type 0
+GoneOnIsGoneOn = (program : ProgramTree) (known : Known) → gone_on program (with_reads (gone_on program known) known) ≡ gone_on program known
+
+-- An attempt has read nothing, or its program's list first, in the list's order.
+pub record BeginsWith (keys : List (List ℕ)) (reads : List ReadAnswer) : Type 0 where
+  pub others : List (List ℕ)
+  pub first : map (λ a. a.key) reads ≡ keys ++ others
+
+abbrev pub BeginsWithList : List (List ℕ) → List ReadAnswer → Type 0
+BeginsWithList keys [] = Unit {0}
+BeginsWithList keys (a ∷ reads) = BeginsWith keys (a ∷ reads)
+
+abbrev pub ReadsBeginWithTheList : Type 0
+ReadsBeginWithTheList =
+    (program : ProgramTree) (known : Known) → BeginsWithList program.prefetch known.reads → BeginsWithList program.prefetch (gone_on program known)
+
+-- Going on keeps the base, where the prefetched answers have one.
+abbrev pub GoingOnKeepsTheBase : Type 0
+GoingOnKeepsTheBase =
+    (program : ProgramTree) (known : Known) → All (λ a. 1 ≤ a.of_rev) known.prefetched → ShowOneRevision known.prefetched → HaveOneBase known.reads
+    → HaveOneBase (gone_on program known)
 
 -- What serves is taken, and the attempt goes on from there.
 abbrev pub WhatServesIsTaken : Type 0

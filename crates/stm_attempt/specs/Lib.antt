@@ -1,5 +1,6 @@
 pub mod Known
 pub mod Settled
+pub mod Entering
 pub mod Fetches
 pub mod ReadyRun
 pub mod AttemptState

@@ -13,7 +13,8 @@ use Rattle.stm_compile.specs.Answers.{look_up}
 use Rattle.stm_attempt.specs.declared.progress.Progress.{Progress}
 use Rattle.stm_attempt.specs.declared.progress.Progress.TheVariants.{Fresh, Started, Ended}
 use Rattle.stm_attempt.specs.Known.{known_of}
-use Rattle.stm_attempt.specs.Settled.{run_on, settled}
+use Rattle.stm_attempt.specs.Settled.{run_on}
+use Rattle.stm_attempt.specs.Entering.{gone_on}
 
 -- Finishing the machine is the program's run, over each look-up that knows what was read.
 abbrev pub FinishesAs : ProgramTree → List ReadAnswer → MachineState → Type 0
@@ -57,10 +58,10 @@ HasNotBegun reads (Started m) = ⊥
 HasNotBegun reads (Ended run) = ⊥
 
 -- The first `told` of the reads are those that the attempt is seen to have. Those behind them were prefetched, and taken by a call that was refused
--- then: settling takes them again.
+-- then: going on takes them again.
 pub record IsUnderWay (program : ProgramTree) (reads prefetched : List ReadAnswer) (told : ℕ) (progress : Progress) : Type 0 where
   pub within : told ≤ length reads
-  pub ahead : settled program (known_of reads prefetched) ≡ settled program (known_of (take told reads) prefetched)
+  pub ahead : gone_on program (known_of reads prefetched) ≡ gone_on program (known_of (take told reads) prefetched)
   pub come : HasCome program reads progress
 
 abbrev pub IsAttempt : Option ProgramTree → List ReadAnswer → List ReadAnswer → ℕ → Progress → Type 0

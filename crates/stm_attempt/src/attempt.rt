@@ -1,5 +1,6 @@
 //! Attempts.
-ghost use Rattle.std.specs.Prelude.{◌≡◌, true, None, Some, [], All, take, IfOk, OnOk, OnErr};
+ghost use Rattle.std.specs.Prelude.{◌≡◌, true, None, Some, [], All, take, map, IfOk, OnOk, OnErr};
+ghost use Rattle.stm_history.specs.declared.key_state.ReadAnswer.{ReadAnswer as Answer};
 ghost use Rattle.stm_outcome.specs.Numbers.{ReadFits};
 ghost use Rattle.stm_compile.specs.Levels.{is_serializable};
 ghost use Rattle.stm_attempt.specs.Known.{HaveDistinctKeys};
@@ -72,6 +73,19 @@ fn first_of(answers: ReadSet, count: usize) -> Sequence<ReadAnswer>
     Sequence::of(first)
 }
 
+/// These answers, of keys that differ. The one refusal is want of memory.
+fn set_of(alloc: Global, answers: Sequence<ReadAnswer>) -> Result<ReadSet, AllocError>
+    requires distinct { HaveDistinctKeys answers }
+    requires in_range { All ReadFits answers }
+    ensures { IfOk result (λ set. set ≡ answers) }
+{
+    let mut set = ReadSet::new(alloc);
+    for answer in answers.into_vec() {
+        set.add(answer)?;
+    }
+    Ok(set)
+}
+
 /// A copy of the program that an attempt has, if it has one.
 fn copy_program(program: &Option<Program>) -> Result<Option<Program>, AllocError>
     ensures { IfOk result (λ copy. copy ≡ program.now) }
@@ -83,8 +97,8 @@ fn copy_program(program: &Option<Program>) -> Result<Option<Program>, AllocError
 }
 
 impl Attempt {
-    ghost use Rattle.stm_attempt.specs.AttemptState.{begun, IsOf, advanced, supplied, awaited};
-    ghost use Rattle.stm_attempt.specs.Next.{next_of, key_asked};
+    ghost use Rattle.stm_attempt.specs.AttemptState.{begun, IsOf, advanced, supplied, supplied_all, awaited, list_awaited};
+    ghost use Rattle.stm_attempt.specs.Next.{next_of, key_asked, list_asked};
 
     /// An attempt that has read nothing.
     fn begin(alloc: Global, level: Level, prefetched: ReadSet) -> Attempt
@@ -124,10 +138,7 @@ impl Attempt {
         requires one_revision { ShowOneRevision answers }
         ensures { IfOk result (λ attempt. attempt ≡ begun level answers) }
     {
-        let mut prefetched = ReadSet::new(alloc);
-        for answer in answers.into_vec() {
-            prefetched.add(answer)?;
-        }
+        let prefetched = set_of(alloc, answers)?;
         Ok(Attempt::begin(alloc, level, prefetched))
     }
 
@@ -186,8 +197,9 @@ impl Attempt {
         Ok(next)
     }
 
-    /// Goes on with the program as far as the answers take it: to the first key that it wants and that neither an
-    /// answer nor a prefetched one of its base revision has, or to its end.
+    /// Goes on with the program as far as the answers take it: to its list, where the attempt has read nothing and not all of the list was
+    /// prefetched, else to the first key that it wants and that neither an answer nor a prefetched one of its base revision has, or to its
+    /// end.
     ///
     /// It is the same program at each call; the attempt keeps a copy from the first call that is not refused.
     /// Repeated with nothing supplied, the call answers the same. Want of memory is the only refusal, and leaves
@@ -197,6 +209,7 @@ impl Attempt {
         ensures next { IfOk result (λ next. next ≡ next_of program.now self.old.level self.old.known) }
         ensures ok { OnOk result (self.new ≡ advanced program.now self.old) }
         ensures asked { IfOk result (λ next. awaited self.new ≡ key_asked next) }
+        ensures list { IfOk result (λ next. list_awaited self.new ≡ list_asked next) }
         ensures err { OnErr result (self.new ≡ self.old) }
     {
         if self.program.is_none() {
@@ -217,6 +230,28 @@ impl Attempt {
     {
         self.reads.add(answer)?;
         self.told = self.reads.len();
+        Ok(())
+    }
+
+    /// Takes the answers for the keys of the list that `advance` just asked for, in the list's order. All show one revision, and their numbers
+    /// are at most `HIGHEST_NUMBER`.
+    ///
+    /// Want of memory is the only refusal, and leaves the attempt as it was; the answers are dropped.
+    pub fn supply_all(&mut self, answers: Vec<ReadAnswer>) -> Result<(), AllocError>
+        requires asked { list_awaited self.old ≡ Some (map (λ (a : Answer). a.key) answers.items) }
+        requires in_range { All ReadFits answers.items }
+        requires one_revision { ShowOneRevision answers.items }
+        ensures ok { OnOk result (self.new ≡ supplied_all answers.items self.old) }
+        ensures err { OnErr result (self.new ≡ self.old) }
+    {
+        // No key of a list stands twice.
+        if let Some(program) = &self.program {
+            program.prefetch();
+        }
+        let reads = set_of(self.alloc, Sequence::of(answers))?;
+        self.told = reads.len();
+        drop(mem::replace(&mut self.reads, reads));
+        put(&mut self.progress, Progress::Fresh);
         Ok(())
     }
 

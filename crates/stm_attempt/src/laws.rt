@@ -1,5 +1,5 @@
 //! The laws of attempts. Each function does nothing: its contract is the law.
-ghost use Rattle.stm_attempt.specs.Laws.{NothingServesTheSettled, SettledIsSettled, RepeatingAnswersTheSame, WhatServesIsTaken, SettlingAddsPrefetched};
+ghost use Rattle.stm_attempt.specs.Laws.{NothingServesTheSettled, SettledIsSettled, RepeatingAnswersTheSame, WhatServesIsTaken, SettlingAddsPrefetched, GoneOnIsGoneOn, ReadsBeginWithTheList, GoingOnKeepsTheBase};
 ghost use Rattle.stm_attempt.specs.Laws.{SettlingKeepsTheBase, FetchingKeepsTheBase, ReadyIsTheRun};
 
 /// A key that an attempt wants after settling is served by no prefetched answer.
@@ -30,6 +30,21 @@ pub fn settling_adds_prefetched()
 /// Answers that show one revision still do after settling.
 pub fn settling_keeps_the_base()
     ensures { SettlingKeepsTheBase }
+{}
+
+/// Gone on is gone on.
+pub fn gone_on_is_gone_on()
+    ensures { GoneOnIsGoneOn }
+{}
+
+/// What an attempt has read begins with its program's list, in the list's order.
+pub fn reads_begin_with_the_list()
+    ensures { ReadsBeginWithTheList }
+{}
+
+/// Answers that show one revision still do after going on.
+pub fn going_on_keeps_the_base()
+    ensures { GoingOnKeepsTheBase }
 {}
 
 /// At a serializable level the answer to the next fetch shows the revision that the others show.

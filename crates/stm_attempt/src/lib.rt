@@ -5,6 +5,7 @@
 #![tactic(auto)]
 
 mod attempt;
+mod entering;
 pub mod laws;
 mod next;
 mod progress;

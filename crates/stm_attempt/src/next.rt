@@ -1,11 +1,18 @@
 //! What an attempt answers.
 use crate::ready::Ready;
-use stm_history::Text;
+use stm_history::{Sequence, Text};
 use stm_meaning::Run;
 
 /// Where an attempt stands once its program has gone as far as its answers take it.
 #[derive(Debug, Drop)]
 pub enum Next {
+    /// The keys of the program's list have no answers yet: all are to be fetched in one transaction, and their answers supplied.
+    FetchAll {
+        /// The keys, in the list's order. There is at least one, none is empty, and none stands twice.
+        keys: Sequence<Text>,
+        /// The revision to read them at: 0, for the current one.
+        at: u64,
+    },
     /// The program wants a key that has no answer: it is to be fetched, and its answer supplied.
     Fetch {
         /// The key. It is not empty.

@@ -12,9 +12,11 @@ ghost use Rattle.stm_compile.specs.Answers.{look_up};
 ghost use Rattle.stm_attempt.specs.Known.{known_of, serving, HaveDistinctKeys};
 ghost use Rattle.stm_attempt.specs.Settled.{run_on, wanted, answer_for, settled};
 ghost use Rattle.stm_attempt.specs.ReadyRun.{ready_run};
-ghost use Rattle.stm_attempt.specs.Next.{next_at_end, next_of};
+ghost use Rattle.stm_attempt.specs.Next.{next_at_end, next_settled, next_of};
+ghost use Rattle.stm_attempt.specs.Entering.{gone_on};
 ghost use Rattle.stm_attempt.specs.Progress.{FinishesAs, HasCome, HasEnded, Extends, has_begun, has_ended, run_of_progress};
 
+use crate::entering::{enter, list_of};
 use crate::next::Next;
 use crate::ready::Ready;
 use crate::settle::{fetch_revision, take_serving};
@@ -260,7 +262,41 @@ fn come_to_fetch(
     Ok(None)
 }
 
-/// Goes on with a program from where it stands.
+/// Goes on with a program from where it stands, behind its list.
+///
+/// Where a growth is refused, the program stands where it came to, from where the call can be repeated: it answers then
+/// what it would have answered.
+fn go_behind(
+    alloc: Global,
+    program: &Program,
+    level: Level,
+    prefetched: &ReadSet,
+    reads: &mut ReadSet,
+    progress: &mut Progress,
+) -> Result<Next, AllocError>
+    requires distinct { HaveDistinctKeys prefetched.now }
+    requires come { HasCome program.now reads.old progress.old }
+    ensures come { HasCome program.now reads.new progress.new }
+    ensures settles { settled program.now (known_of reads.new prefetched.now) ≡ settled program.now (known_of reads.old prefetched.now) }
+    ensures extends { Extends reads.old reads.new }
+    ensures reads { OnOk result (reads.new ≡ settled program.now (known_of reads.old prefetched.now)) }
+    ensures next { IfOk result (λ next. next ≡ next_settled program.now level (known_of reads.old prefetched.now)) }
+{
+    begin(alloc, program, progress)?;
+    let wanted = come_to_fetch(prefetched, reads, progress)?;
+    match wanted {
+        Some(key) => {
+            let at = fetch_revision(level, reads);
+            Ok(Next::Fetch { key, at })
+        }
+        None => {
+            let next = tell_end(alloc, program, level, reads, progress)?;
+            Ok(next)
+        }
+    }
+}
+
+/// Goes on with a program from where it stands: with its list first, where that is due.
 ///
 /// Where a growth is refused, the program stands where it came to, from where the call can be repeated: it answers then
 /// what it would have answered.
@@ -275,21 +311,15 @@ pub(crate) fn go_on(
     requires distinct { HaveDistinctKeys prefetched.now }
     requires come { HasCome program.now reads.old progress.old }
     ensures come { HasCome program.now reads.new progress.new }
-    ensures settles { settled program.now (known_of reads.new prefetched.now) ≡ settled program.now (known_of reads.old prefetched.now) }
+    ensures settles { gone_on program.now (known_of reads.new prefetched.now) ≡ gone_on program.now (known_of reads.old prefetched.now) }
     ensures extends { Extends reads.old reads.new }
-    ensures reads { OnOk result (reads.new ≡ settled program.now (known_of reads.old prefetched.now)) }
+    ensures reads { OnOk result (reads.new ≡ gone_on program.now (known_of reads.old prefetched.now)) }
     ensures next { IfOk result (λ next. next ≡ next_of program.now level (known_of reads.old prefetched.now)) }
 {
-    begin(alloc, program, progress)?;
-    let wanted = come_to_fetch(prefetched, reads, progress)?;
-    match wanted {
-        Some(key) => {
-            let at = fetch_revision(level, reads);
-            Ok(Next::Fetch { key, at })
-        }
-        None => {
-            let next = tell_end(alloc, program, level, reads, progress)?;
-            Ok(next)
-        }
+    let due = enter(alloc, program, prefetched, reads, progress)?;
+    if due {
+        let keys = list_of(alloc, program)?;
+        return Ok(Next::FetchAll { keys, at: 0 });
     }
+    go_behind(alloc, program, level, prefetched, reads, progress)
 }

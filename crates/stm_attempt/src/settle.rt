@@ -53,7 +53,7 @@ fn find_serving<'a>(prefetched: &'a ReadSet, reads: &ReadSet, key: &Text) -> Opt
 }
 
 /// A copy of an answer.
-fn copy_of(answer: &ReadAnswer) -> Result<ReadAnswer, AllocError>
+pub(crate) fn copy_of(answer: &ReadAnswer) -> Result<ReadAnswer, AllocError>
     ensures { IfOk result (λ copy. copy ≡ answer.now) }
 {
     answer.clone()

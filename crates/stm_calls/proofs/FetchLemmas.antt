@@ -15,7 +15,7 @@ use Rattle.stm_keys.specs.declared.refusal.ReadRefusal.TheVariants.{FutureRevisi
 use Rattle.stm_outcome.specs.declared.refusal.Refusal.{Refusal}
 use Rattle.stm_outcome.specs.declared.refusal.Refusal.TheVariants.{OutOfMemory, EmptyKey, TooManyOps, FutureRevision, Compacted}
 use Rattle.stm_outcome.specs.declared.txn.Op.{Op}
-use Rattle.stm_outcome.specs.Terms.{most_operations, is_below_floor}
+use Rattle.stm_outcome.specs.Terms.{is_below_floor}
 use Rattle.stm_outcome.specs.Checks.{has_too_many, has_empty_key, fault_of}
 use Rattle.stm_outcome.specs.Branches.{begun, changes_of_branch, answers_after, branch_refusal}
 use Rattle.stm_outcome.specs.Outcome.{Done, unless, finished, branch_outcome, outcome}
@@ -61,30 +61,30 @@ abbrev pub done_of : Standing → Result ReadAnswer Refusal → Result Done Refu
 done_of s (Ok read) = Ok record { answer = one_read read; history = s.history }
 done_of s (Err cause) = Err cause
 
-comes_by : (s : Standing) (key : List ℕ) (at : ℕ) (empty above below : Bool) → nat_eq (length key) 0 ≡ empty → nat_lt (now s.history) at ≡ above →
-    is_below_floor s.floor at ≡ below → outcome (terms_of s) (fetch_of key at)
+comes_by : (s : Standing) (key : List ℕ) (at : ℕ) (empty above below : Bool) → 0 < s.limit → nat_eq (length key) 0 ≡ empty →
+    nat_lt (now s.history) at ≡ above → is_below_floor s.floor at ≡ below → outcome (terms_of s) (fetch_of key at)
     ≡ done_of s (cond empty (Err EmptyKey) (cond above (Err FutureRevision) (cond below (Err Compacted) (Ok (fetched s.history key at)))))
-comes_by s key at true above below is over under =
+comes_by s key at true above below some is over under =
     ap (λ (fault : Option Refusal). unless fault (branch_outcome (terms_of s) None (read_op (read_at key at) ∷ [])))
-    (fault_by most_operations key at true (omega arith) is)
-comes_by s key at false true below is over under =
+    (fault_by s.limit key at true some is)
+comes_by s key at false true below some is over under =
     let ops : List Op = read_op (read_at key at) ∷ [] in
-    ap (λ (fault : Option Refusal). unless fault (branch_outcome (terms_of s) None ops)) (fault_by most_operations key at false (omega arith) is)
+    ap (λ (fault : Option Refusal). unless fault (branch_outcome (terms_of s) None ops)) (fault_by s.limit key at false some is)
     ∙ ap (λ (refusal : Option Refusal). unless refusal (finished s.history None (changes_of_branch s.history ops) (answers_after s.history (begun s.history) ops)))
     (refusal_by s key at true below over under)
-comes_by s key at false false true is over under =
+comes_by s key at false false true some is over under =
     let ops : List Op = read_op (read_at key at) ∷ [] in
-    ap (λ (fault : Option Refusal). unless fault (branch_outcome (terms_of s) None ops)) (fault_by most_operations key at false (omega arith) is)
+    ap (λ (fault : Option Refusal). unless fault (branch_outcome (terms_of s) None ops)) (fault_by s.limit key at false some is)
     ∙ ap (λ (refusal : Option Refusal). unless refusal (finished s.history None (changes_of_branch s.history ops) (answers_after s.history (begun s.history) ops)))
     (refusal_by s key at false true over under)
-comes_by s key at false false false is over under =
-    reads_change_nothing (terms_of s) (fetch_of key at) (read_at key at ∷ []) refl refl (fault_by most_operations key at false (omega arith) is)
+comes_by s key at false false false some is over under =
+    reads_change_nothing (terms_of s) (fetch_of key at) (read_at key at ∷ []) refl refl (fault_by s.limit key at false some is)
     (ltb-false (now s.history) at over, under, tt)
 
--- the transaction that reads a key comes to what the read does
-pub read_comes_to : (s : Standing) (key : List ℕ) (at : ℕ) → outcome (terms_of s) (fetch_of key at) ≡ done_of s (read_told s key at)
-read_comes_to s key at =
-    comes_by s key at (nat_eq (length key) 0) (nat_lt (now s.history) at) (is_below_floor s.floor at) refl refl refl
+-- the transaction that reads a key comes to what the read does, in a store that takes one operation
+pub read_comes_to : (s : Standing) (key : List ℕ) (at : ℕ) → 0 < s.limit → outcome (terms_of s) (fetch_of key at) ≡ done_of s (read_told s key at)
+read_comes_to s key at some =
+    comes_by s key at (nat_eq (length key) 0) (nat_lt (now s.history) at) (is_below_floor s.floor at) some refl refl refl
 
 -- ---- what a read is told
 

@@ -1,5 +1,6 @@
 pub mod ReadLemmas
 pub mod FetchLemmas
+pub mod ListFetchLemmas
 pub mod SeenLemmas
 pub mod CommitLemmas
 pub mod PrefetchLemmas

@@ -1,8 +1,8 @@
--- The fetch of a key.
+-- The fetch of a key, and of a list of keys.
 --
 -- etcd's API reference, "Range": a read that names a revision shows the key as it was there, 0 names the current one, and a
 -- compacted revision can't be read.
-use Rattle.std.specs.Prelude.{◌≡◌, ◌⊎◌, ℕ, true, nat_eq, nat_lt, if◌then◌else◌, List, [], ◌∷◌, length, Option, None, Result, Ok, Err, IsOk}
+use Rattle.std.specs.Prelude.{◌≡◌, ◌⊎◌, ℕ, true, nat_eq, nat_lt, if◌then◌else◌, List, [], ◌∷◌, length, map, Option, None, Result, Ok, Err, IsOk}
 use Rattle.stm_history.specs.declared.key_state.KeyState.{KeyState}
 use Rattle.stm_history.specs.declared.key_state.ReadAnswer.{ReadAnswer}
 use Rattle.stm_history.specs.History.{History, now, key_at}
@@ -10,9 +10,10 @@ use Rattle.stm_outcome.specs.declared.txn.Txn.{Txn}
 use Rattle.stm_outcome.specs.declared.refusal.Refusal.{Refusal}
 use Rattle.stm_outcome.specs.declared.answer.OpAnswer.TheVariants.{Get}
 use Rattle.stm_outcome.specs.declared.answer.TxnAnswer.{TxnAnswer}
-use Rattle.stm_outcome.specs.declared.refusal.Refusal.TheVariants.{OutOfMemory, EmptyKey, FutureRevision, Compacted}
+use Rattle.stm_outcome.specs.declared.refusal.Refusal.TheVariants.{OutOfMemory, EmptyKey, TooManyOps, FutureRevision, Compacted}
 use Rattle.stm_outcome.specs.Terms.{is_below_floor}
-use Rattle.stm_outcome.specs.Commits.{Read, read_op, revision_read}
+use Rattle.stm_outcome.specs.Commits.{Read, read_op, reads_now, revision_read}
+use Rattle.stm_compile.specs.Answers.{answer_now}
 use Rattle.stm_txn.specs.Standing.{Standing}
 
 -- the key at the revision that the fetch names; the answer carries the store's revision
@@ -55,3 +56,17 @@ IsFetch defined (Err cause) = (cause ≡ OutOfMemory) ⊎ (defined ≡ Err cause
 abbrev pub ReadTells : Result ReadAnswer Refusal → Result ReadAnswer Refusal → Type 0
 ReadTells defined (Ok answer) = defined ≡ Ok answer
 ReadTells defined (Err cause) = (defined ≡ Err cause) ⊎ ((cause ≡ OutOfMemory) × IsOk defined)
+
+-- ---- a list
+
+-- the transaction that reads keys as they are now, and nothing else
+abbrev pub fetch_all_of : List (List ℕ) → Txn
+fetch_all_of keys = record { compares = []; success = map read_op (reads_now keys); failure = [] }
+
+-- What it comes to. It is refused where there are more keys than the store takes operations; it names no revision, so no compaction refuses it.
+abbrev pub fetch_all_told : Standing → List (List ℕ) → Result (List ReadAnswer) Refusal
+fetch_all_told s keys = if nat_lt s.limit (length keys) then Err TooManyOps else Ok (map (answer_now s.history) keys)
+
+-- The refusal of the fetch of a list is its own, or memory ran out.
+abbrev pub IsRefusalOfAll : Standing → List (List ℕ) → Refusal → Type 0
+IsRefusalOfAll s keys cause = (cause ≡ OutOfMemory) ⊎ (fetch_all_told s keys ≡ Err cause)

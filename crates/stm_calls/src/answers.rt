@@ -21,7 +21,7 @@ fn push_read(reads: &mut Vec<ReadAnswer>, answer: OpAnswer) -> Result<(), AllocE
 }
 
 /// The answers of the reads among these, in order.
-pub(crate) fn take_reads(
+pub fn take_reads(
     alloc: Global,
     answers: ShortList<OpAnswer>,
 ) -> Result<Vec<ReadAnswer>, AllocError>

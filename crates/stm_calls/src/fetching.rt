@@ -1,16 +1,17 @@
-//! The fetch of a key.
-ghost use Rattle.std.specs.Prelude.{◌≡◌, ◌<◌, ◌≤◌, length, option_copied, IfOk, IfErr, OnOk};
+//! The fetch of a key, and of a list of keys.
+ghost use Rattle.std.specs.Prelude.{◌≡◌, ◌<◌, ◌≤◌, length, option_copied, All, Ok as OkOf, IfOk, IfErr, OnOk};
 ghost use Rattle.stm_history.specs.declared.revisions.TheConstants.{HIGHEST_REVISION};
 ghost use Rattle.stm_history.specs.History.{now};
-ghost use Rattle.stm_outcome.specs.Commits.{revision_read};
+ghost use Rattle.stm_outcome.specs.Commits.{AreNamed, read_now, revision_read};
 ghost use Rattle.stm_outcome.specs.Numbers.{ReadFits};
-ghost use Rattle.stm_calls.specs.Fetched.{fetch_told, read_told, answer_with, IsFetch, ReadTells};
+ghost use Rattle.stm_calls.specs.Fetched.{fetch_told, read_told, answer_with, IsFetch, ReadTells, fetch_all_of, fetch_all_told, IsRefusalOfAll};
 ghost use Rattle.stm_calls.specs.ReadRefusals.{cause_read};
 
+use crate::answers::take_reads;
 use std::alloc::{AllocError, Global};
 use stm_history::{KeyState, ReadAnswer, Text};
 use stm_keys::{Keys, ReadRefusal};
-use stm_txn::{Refusal, Store};
+use stm_txn::{Op, Refusal, ShortList, Store, Txn};
 
 /// Why the store refuses a read.
 fn cause_of(refusal: ReadRefusal) -> Refusal
@@ -116,4 +117,52 @@ pub fn fetch(alloc: Global, store: &mut Store, key: &str, at: u64) -> Result<Rea
     ensures store { store.new.standing ≡ store.old.standing }
 {
     read(alloc, store, key, at)
+}
+
+/// A read of a key as it is now.
+fn read_now(key: &Text) -> Result<Op, AllocError>
+    ensures { IfOk result (λ op. op ≡ read_now key.now) }
+{
+    let key = key.clone()?;
+    Ok(Op::Get { key, rev: 0 })
+}
+
+/// The transaction that reads these keys as they are now, in their order, and does nothing else. Want of memory is the only
+/// refusal.
+pub fn read_all(alloc: Global, keys: &[Text]) -> Result<Txn, AllocError>
+    ensures { IfOk result (λ txn. txn ≡ fetch_all_of keys.now) }
+{
+    let mut success = ShortList::new(alloc);
+    for key in keys {
+        success.push(read_now(key)?)?;
+    }
+    Ok(Txn {
+        compares: ShortList::new(alloc),
+        success,
+        failure: ShortList::new(alloc),
+    })
+}
+
+/// Fetches keys, none of which is empty, as they are now. It is one transaction, which reads and nothing else: all answers are of one
+/// revision.
+///
+/// `TooManyOps`: there are more keys than the store takes operations. `OutOfMemory` may come before it. The store is as it was, refused or
+/// not. (etcd's API reference, "Transaction".)
+pub fn fetch_all(
+    alloc: Global,
+    store: &mut Store,
+    keys: &[Text],
+) -> Result<Vec<ReadAnswer>, Refusal>
+    requires { AreNamed keys.now }
+    ensures told { IfOk result (λ reads. fetch_all_told store.old.standing keys.now ≡ OkOf reads.items) }
+    ensures refused { IfErr result (IsRefusalOfAll store.old.standing keys.now) }
+    ensures in_range { IfOk result (λ reads. All ReadFits reads.items) }
+    ensures store { store.new.standing ≡ store.old.standing }
+{
+    let txn = read_all(alloc, keys)?;
+    let told = store.txn(&txn);
+    drop(txn);
+    let answer = told?;
+    let reads = take_reads(alloc, answer.answers)?;
+    Ok(reads)
 }

@@ -10,8 +10,9 @@ mod sending;
 mod sent;
 mod state;
 
+pub use answers::take_reads;
 pub use copies::{Copies, copies_of};
-pub use fetching::{fetch, read};
+pub use fetching::{fetch, fetch_all, read, read_all};
 pub use present::present_keys;
 pub use sending::{commit, conflict};
 pub use sent::Sent;

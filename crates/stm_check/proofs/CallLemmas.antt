@@ -1,5 +1,5 @@
 -- The line that a call comes to, and the store that its line leads to.
-use Rattle.std.proofs.Common.{◌≡◌, ◌≢◌, ◌↔◌, inl, inr, ℕ, zero, suc, List, [], ◌∷◌, Option, Some, None, Bool, true, false, cond}
+use Rattle.std.proofs.Common.{◌≡◌, ◌≢◌, ◌↔◌, inl, inr, ℕ, ◌≤◌, zero, suc, List, [], ◌∷◌, Option, Some, None, Bool, true, false, cond}
 use Rattle.std.proofs.Common.{Ok, Err, refl, sym, ◌∙◌, ap, subst}
 use Rattle.std.specs.Prelude.{Result, IsTrue, IfOk, OnOk, nat_lt}
 use Rattle.std.specs.declared.alloc.AllocError.{AllocError}
@@ -26,6 +26,7 @@ use Rattle.stm_outcome.specs.Outcome.{Done, outcome, chosen, unless, finished, i
 use Rattle.stm_txn.specs.Standing.{Standing, Step, Advance, IsRefusalOf, IsCutShort, step_of, transacted, granted, kept_alive, ended, revoked}
 use Rattle.stm_txn.specs.Standing.{with_lease, without_lease, with_revision, after, expired_in, expire_up_to, expire_all, at_moment, advanced}
 use Rattle.stm_outcome.specs.Terms.{Terms}
+use Rattle.stm_outcome.specs.Terms.{most_operations}
 use Rattle.stm_txn.specs.Standing.{terms_of, compaction_refusal, with_floor, floor_step, raised}
 use Rattle.stm_reports.specs.declared.line.ReportLine.{ReportLine}
 use Rattle.stm_reports.specs.declared.line.ReportLine.TheVariants.{Refused, Compacted}
@@ -112,6 +113,7 @@ led s next entries follow rest =
       moment = rest.moment k;
       watchers = rest.watchers k;
       floor = rest.floor k;
+      limit = follow.limit k;
     }
 
 -- the store behind a call that was taken, whose one entry is this
@@ -219,12 +221,12 @@ is_transacted s txn =
     transacted_by s (outcome (terms_of s) txn) (counter_told (terms_of s) txn (first_failed (key_now s.history) 0 txn.compares))
 
 -- the store that a transaction's line leads to
-pub txn_led : (n : ℕ) (s next : Standing) (txn : Txn) (answer : TxnAnswer) → transacted s txn ≡ Ok record { answer = answer; next = next } →
-    next ≡ led_by (txn_entries (now s.history) txn (txn_line n answer)) s s.moment
-txn_led n s next txn answer is =
+pub txn_led : (n : ℕ) (s next : Standing) (txn : Txn) (answer : TxnAnswer) → s.limit ≤ most_operations →
+    transacted s txn ≡ Ok record { answer = answer; next = next } → next ≡ led_by (txn_entries (now s.history) txn (txn_line n answer)) s s.moment
+txn_led n s next txn answer few is =
     let came : IsTransacted s answer next = subst (λ (x : Result (Step TxnAnswer) Refusal). StepIsTransacted s x) is (is_transacted s txn) in
     let follow : EntriesFollow s next (if_changed s next txn) =
-    subst (λ (x : Result (Step TxnAnswer) Refusal). EntriesFollow s (store_after_call s x) (if_changed s (store_after_call s x) txn)) is (txn_follows s txn) in
+    subst (λ (x : Result (Step TxnAnswer) Refusal). EntriesFollow s (store_after_call s x) (if_changed s (store_after_call s x) txn)) is (txn_follows s txn few) in
     led s next (cond (nat_lt (now s.history) answer.revision) (Foreign txn ∷ []) [])
     (subst (λ (revision : ℕ). EntriesFollow s next (cond (nat_lt (now s.history) revision) (Foreign txn ∷ []) [])) (sym came.counter) follow) came.rest
 
@@ -301,6 +303,7 @@ advance_led s next moment expired cause is =
       moment = came.moment_is k;
       watchers = came.watchers k;
       floor = came.floor k;
+      limit = follow.limit k;
     }
 
 -- the line of an advance

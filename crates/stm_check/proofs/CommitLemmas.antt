@@ -1,5 +1,5 @@
 -- The run that the line of a commit stands for, and the store that it leads to.
-use Rattle.std.proofs.Common.{◌≡◌, ◌≢◌, ◌↔◌, ℕ, ◌+◌, ◌<◌, ◌≤◌, length, drop, get_or, Bool, true, false, List, [], ◌∷◌, map, Option, Some, None, Ok, Err}
+use Rattle.std.proofs.Common.{◌≡◌, ◌≢◌, ◌↔◌, ℕ, ◌+◌, ◌<◌, ◌≤◌, length, drop, get_or, Bool, true, false, cond, List, [], ◌∷◌, ◌++◌, filter, map, Option, Some, None, Ok, Err}
 use Rattle.std.proofs.Common.{refl, sym, ◌∙◌, ap, subst}
 use Rattle.std.proofs.lemmas.List.{drop_all}
 use Rattle.std.proofs.lemmas.Option.{same_Some}
@@ -36,6 +36,7 @@ use Rattle.stm_entries.specs.declared.entry.Entry.TheVariants.{Program}
 use Rattle.stm_entries.specs.Replayed.{without_moment, with_history}
 use Rattle.stm_entries.specs.Alone.{seen_at, applied_run, history_left, left_by, left_by_run}
 use Rattle.stm_entries.specs.Legal.{AnswersAreTrue}
+use Rattle.stm_world.specs.Asked.{is_other, keys_first_read}
 use Rattle.stm_reports.specs.declared.line.ReportLine.{ReportLine}
 use Rattle.stm_reports.specs.declared.line.ReportLine.TheVariants.{Committed}
 use Rattle.stm_reports.specs.declared.line.ToldAnswer.{ToldAnswer}
@@ -80,7 +81,7 @@ not_true ReadCommitted h program answers level untrue = λ run told. untrue told
 not_true _ h program answers level untrue = absurd (cc)
 
 pub found_on : (level : Level) (h : History) (program : ProgramTree) (answers : List ToldAnswer) (run : Run) → is_comparing level ≡ false →
-    AreTrulyTold h answers → run_over (look_up (reads_in h answers)) program.statements ≡ Ended run → keys_told answers ≡ run.reads →
+    AreTrulyTold h answers → run_over (look_up (reads_in h answers)) program.statements ≡ Ended run → keys_told answers ≡ keys_first_read program.prefetch run.reads →
     IsFound level h program answers (Some run)
 found_on ReadCommitted h program answers run level truth is keys = record { is_run = is; answers_fit = (keys, truth) }
 found_on _ h program answers run level truth is keys = absurd (cc)
@@ -93,12 +94,12 @@ wants_more _ h program answers key trace level is = absurd (cc)
 -- the run that came to its end, where its keys were compared
 pub on_keys : (look : Lookup) (program : ProgramTree) (answers : List ToldAnswer) (answered : Answered) (run : Run) (o : Option Run) →
     run_over look program.statements ≡ answered → run_in answered ≡ Some run →
-    MatchOption o (keys_told answers ≡ run.reads → ⊥) (λ same. (same ≡ run) × (keys_told answers ≡ run.reads)) → IsRunOn look program answers o
+    MatchOption o (keys_told answers ≡ keys_first_read program.prefetch run.reads → ⊥) (λ same. (same ≡ run) × (keys_told answers ≡ keys_first_read program.prefetch run.reads)) → IsRunOn look program answers o
 on_keys look program answers answered run None is ended differ = λ other told keys.
     let one : run ≡ other = same_Some run other (sym ended ∙ ap run_in (sym is ∙ told)) in
-    differ (keys ∙ ap (λ (r : Run). r.reads) (sym one))
+    differ (keys ∙ ap (λ (r : Run). keys_first_read program.prefetch r.reads) (sym one))
 on_keys look program answers answered run (Some same) is ended found =
-    (is ∙ ended_is answered same (ended ∙ ap Some (sym found.0)), found.1 ∙ ap (λ (r : Run). r.reads) (sym found.0))
+    (is ∙ ended_is answered same (ended ∙ ap Some (sym found.0)), found.1 ∙ ap (λ (r : Run). keys_first_read program.prefetch r.reads) (sym found.0))
 
 none_on : (level : Level) (h : History) (program : ProgramTree) (answers : List ToldAnswer) → is_comparing level ≡ false →
     IsRunOn (look_up (reads_in h answers)) program answers None → IsFound level h program answers None
@@ -148,7 +149,7 @@ right_commit s r run revision attempts output trace answers told taken =
         is_done = taken.is_done;
         emits = taken.emits;
         sees = taken.sees;
-        reads_truth = answers_true r.level s.history run.reads answers told.answers_fit;
+        reads_truth = answers_true r.level s.history (keys_first_read r.program.prefetch run.reads) answers told.answers_fit;
         done = came.0;
         applies = came.1;
         reached = came.2;
@@ -297,6 +298,30 @@ pub refused_store : (r : Result (Option ℕ) AllocError) (s next : Standing) (ru
 refused_store (Ok revision) s next run changes cause are is same other =
     same ∙ (reached_as s run changes (Err cause) are (refused_for (written s changes) cause is other)).1
 refused_store (Err e) s next run changes cause are is same other = tt
+
+-- ---- the keys that are read first
+
+-- with no list, they are those that the run looked up
+all_others : (keys : List (List ℕ)) → filter (is_other []) keys ≡ keys
+all_others [] = refl
+all_others (key ∷ keys) = ap (λ (l : List (List ℕ)). key ∷ l) (all_others keys)
+
+pub first_read : (listed reads : List (List ℕ)) → listed ++ filter (is_other listed) reads ≡ keys_first_read listed reads
+first_read [] reads = all_others reads
+first_read (key ∷ listed) reads = refl
+
+-- one key more that the run looked up
+filter_more : (P : List ℕ → Bool) (keys : List (List ℕ)) (key : List ℕ) →
+    filter P (keys ++ key ∷ []) ≡ filter P keys ++ cond (P key) (key ∷ []) []
+filter_more P [] key = by (P key)
+  where
+    by : (b : Bool) → cond b (key ∷ []) [] ≡ cond b (key ∷ []) []
+    by b = refl
+filter_more P (k ∷ keys) key = by (P k)
+  where
+    by : (b : Bool) → cond b (k ∷ filter P (keys ++ key ∷ [])) (filter P (keys ++ key ∷ [])) ≡ cond b (k ∷ filter P keys) (filter P keys) ++ cond (P key) (key ∷ []) []
+    by true = ap (λ (l : List (List ℕ)). k ∷ l) (filter_more P keys key)
+    by false = filter_more P keys key
 
 -- ---- the keys of answers, one after another
 

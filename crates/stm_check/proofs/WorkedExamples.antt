@@ -18,7 +18,7 @@ use Rattle.stm_reports.specs.declared.line.ToldOp.TheVariants as told
 use Rattle.stm_check.specs.declared.cause.WrongCause.TheVariants.{Count, Final}
 use Rattle.stm_check.specs.Point.{Point, beginning, after}
 use Rattle.stm_check.specs.Fits.{fits}
-use Rattle.stm_txn.specs.Standing.{Standing, transacted, granted, raised}
+use Rattle.stm_txn.specs.Standing.{Standing, at_revision, transacted, granted, raised}
 use Rattle.stm_world.specs.declared.reply.Reply.TheVariants.{Txn as TxnDone, Granted, Compacted}
 use Rattle.stm_world.specs.Told.{reply_to}
 use Rattle.stm_lines.specs.Lines.{line_told}
@@ -69,11 +69,11 @@ last_lines =
 
 -- behind the four first lines
 abbrev started : Point
-started = point_after (beginning 1) skew first_lines
+started = point_after (beginning (at_revision 1)) skew first_lines
 
 -- behind all lines of events
 abbrev ended : Point
-ended = point_after (beginning 1) skew skew_lines
+ended = point_after (beginning (at_revision 1)) skew skew_lines
 
 -- ---- what a line can stand in
 
@@ -130,11 +130,11 @@ key_line_is_of_no_event = refl
 -- ---- the replay
 
 first_txn : line_told 1 (reply_to TxnDone
-    (transacted (beginning 1).standing (record { compares = []; success = Put (codes "x") (codes "1") 0 ∷ []; failure = [] })))
+    (transacted (beginning (at_revision 1)).standing (record { compares = []; success = Put (codes "x") (codes "1") 0 ∷ []; failure = [] })))
     ≡ line.Txn 1 true 2 (told.Put ∷ [])
 first_txn = refl
 
-bad_grant : line_told 1 (reply_to (λ _. Granted 0) (granted (beginning 1).standing 0 5)) ≡ line.Refused 1 LeaseIdOutOfRange []
+bad_grant : line_told 1 (reply_to (λ _. Granted 0) (granted (beginning (at_revision 1)).standing 0 5)) ≡ line.Refused 1 LeaseIdOutOfRange []
 bad_grant = refl
 
 -- ---- a compaction behind the four first lines, where the counter is 3
@@ -173,7 +173,7 @@ missing : IsOff 12 last_lines (line.Key (codes "x") (record { value = codes "0";
 missing = inr (refl, inr (refl, (refl, refl)))
 
 -- an empty report lacks its first line
-nothing_there : IsFirstWrong 1 (beginning 1) skew [] 1 Count
+nothing_there : IsFirstWrong 1 (beginning (at_revision 1)) skew [] 1 Count
 nothing_there = (refl, refl)
 
 -- the line of an event behind those of the events

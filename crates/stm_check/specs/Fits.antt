@@ -12,6 +12,7 @@ use Rattle.stm_check.specs.Runners.{next_runner, running}
 -- the number of the event that a line is of; the lines of the end are of none
 abbrev pub number_of : ReportLine → Option ℕ
 number_of (line.Started n runner) = Some n
+number_of (line.Prefetched n runner revision reads) = Some n
 number_of (line.Fetched n runner key mod_rev of_rev revision) = Some n
 number_of (line.Committed n runner revision attempts output trace answers) = Some n
 number_of (line.Conflict n runner key seen now) = Some n
@@ -36,6 +37,7 @@ number_of (line.End revision entries) = None
 
 -- the runner that the line of a step names
 abbrev pub runner_of : ReportLine → Option ℕ
+runner_of (line.Prefetched n runner revision reads) = Some runner
 runner_of (line.Fetched n runner key mod_rev of_rev revision) = Some runner
 runner_of (line.Committed n runner revision attempts output trace answers) = Some runner
 runner_of (line.Conflict n runner key seen now) = Some runner

@@ -2,7 +2,8 @@
 use Rattle.std.specs.Prelude.{◌≡◌, ◌⊎◌, ℕ, List, take, Bool, true, false, Option, Result, Ok, Err, IfSome}
 use Rattle.stm_devices.specs.declared.transfer.TheConstants.{MOST_READ}
 use Rattle.stm_texts.specs.declared.scenario.Scenario.{Scenario}
-use Rattle.stm_texts.specs.Reading.{scenario_in, IsOpening}
+use Rattle.stm_texts.specs.Reading.{scenario_in}
+use Rattle.stm_texts.specs.Opens.{IsOpening}
 use Rattle.stm_reports.specs.declared.report.Report.{Report}
 use Rattle.stm_reports.specs.Reading.{report_in}
 use Rattle.stm_check.specs.declared.checking.Checked.{Checked}

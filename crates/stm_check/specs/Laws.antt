@@ -1,11 +1,12 @@
 -- The laws of checks, each carried by a function of `src/laws.rt`.
-use Rattle.std.specs.Prelude.{◌≡◌, ◌+◌, List, length, drop, unwrap_or}
+use Rattle.std.specs.Prelude.{◌≡◌, ◌+◌, List, length, drop}
 use Rattle.stm_entries.specs.declared.entry.Entry.{Entry}
 use Rattle.stm_entries.specs.Replayed.{without_moment, opening}
 use Rattle.stm_entries.specs.Replay.{replay}
 use Rattle.stm_entries.specs.Legal.{AreLegal}
 use Rattle.stm_world.specs.declared.event.WorldEvent.{WorldEvent}
 use Rattle.stm_texts.specs.declared.scenario.Scenario.{Scenario}
+use Rattle.stm_texts.specs.Opens.{setup_of}
 use Rattle.stm_reports.specs.declared.line.ReportLine.{ReportLine}
 use Rattle.stm_reports.specs.declared.report.Report.{Report}
 use Rattle.stm_check.specs.declared.checking.Checked.{Checked}
@@ -33,8 +34,8 @@ pub record TellsTheReplay (s : Scenario) (r : Report) : Type 0 where
   pub last : Point
   pub entries : List Entry
   pub are_told : entries ≡ entries_along (opens_at s) s.events r.lines
-  pub are_legal : AreLegal entries (opening (unwrap_or s.opening 1))
-  pub store : without_moment last.standing ≡ replay entries (opening (unwrap_or s.opening 1))
+  pub are_legal : AreLegal entries (opening (setup_of s.opening).revision)
+  pub store : without_moment last.standing ≡ replay entries (opening (setup_of s.opening).revision)
   pub count : last.entries ≡ length entries
   pub events_are_right : AreRightEvents 1 (opens_at s) s.events r.lines
   pub ends : drop (length s.events) r.lines ≡ final_lines last

@@ -9,7 +9,7 @@ use Rattle.stm_history.specs.declared.key_state.ReadAnswer.{ReadAnswer}
 use Rattle.stm_history.specs.History.{History, now, key_at}
 use Rattle.stm_outcome.specs.declared.advance.Expired.{Expired}
 use Rattle.stm_outcome.specs.declared.txn.Txn.{Txn as StoreTxn}
-use Rattle.stm_txn.specs.Standing.{Standing, opening, raised}
+use Rattle.stm_txn.specs.Standing.{Standing, Setup, opening, raised}
 use Rattle.stm_entries.specs.declared.entry.Entry.{Entry}
 use Rattle.stm_entries.specs.declared.entry.Entry.TheVariants.{Program, Foreign, Grant as GrantEntry, Renew, Revoke as RevokeEntry, Expire}
 use Rattle.stm_entries.specs.Replayed.{Replayed, without_moment}
@@ -29,8 +29,8 @@ pub record Point : Type 0 where
   pub entries : ℕ
   pub runners : List Runner
 
--- before the first line
-abbrev pub beginning : ℕ → Point
+-- before the first line, of a store that opens so
+abbrev pub beginning : Setup → Point
 beginning start = record { standing = opening start; entries = 0; runners = [] }
 
 -- ---- what a right line adds

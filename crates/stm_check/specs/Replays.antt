@@ -15,6 +15,7 @@ use Rattle.stm_world.specs.declared.event.WorldEvent.{WorldEvent}
 use Rattle.stm_world.specs.declared.event.WorldEvent.TheVariants.{Start, Step, Txn, Grant, Keep, Revoke, Advance, Compact}
 use Rattle.stm_world.specs.declared.reply.Reply.TheVariants.{Txn as TxnDone, Granted, Kept, Revoked, Compacted}
 use Rattle.stm_world.specs.Told.{reply_to, advance_reply}
+use Rattle.stm_world.specs.Asked.{keys_first_read}
 use Rattle.stm_lines.specs.Lines.{line_told}
 use Rattle.stm_reports.specs.declared.causes.RefusalName.TheVariants.{BadLimit, NoRunner}
 use Rattle.stm_reports.specs.declared.line.ReportLine.{ReportLine}
@@ -39,8 +40,8 @@ AreTrulyTold h (a ∷ answers) = IsTrulyTold h a × AreTrulyTold h answers
 abbrev pub keys_told : List ToldAnswer → List (List ℕ)
 keys_told answers = map (λ (a : ToldAnswer). a.key) answers
 
--- At ReadCommitted the answers are of the keys that the run looked up, in the order of the first look-ups, and each is true; at the
--- other levels there are none.
+-- At ReadCommitted the answers are of the keys of the program's list and of the others that the run looked up, in the order of the first reads, and
+-- each is true; at the other levels there are none.
 abbrev pub AnswersFit : Level → History → List (List ℕ) → List ToldAnswer → Type 0
 AnswersFit level h reads answers =
     MatchBool (is_comparing level) (answers ≡ []) ((keys_told answers ≡ reads) × AreTrulyTold h answers)
@@ -50,7 +51,7 @@ AnswersFit level h reads answers =
 pub record IsRightCommit (s : Standing) (r : Runner) (revision attempts : ℕ) (output : List Value) (trace : List TraceItem)
     (answers : List ToldAnswer) : Type 0 where
   pub commit : IsCommit r.program r.level (reads_in s.history answers) output trace revision (without_moment s)
-  pub answers_fit : AnswersFit r.level s.history commit.run.reads answers
+  pub answers_fit : AnswersFit r.level s.history (keys_first_read r.program.prefetch commit.run.reads) answers
   pub attempt : attempts ≡ r.conflicts + 1
   pub may_be_sent : attempts ≤ r.limit
 

@@ -1,8 +1,9 @@
 -- Which line of a report is the first wrong one, and why. Lines are counted from 1; events' lines stand first.
-use Rattle.std.specs.Prelude.{◌≡◌, ◌⊎◌, ℕ, suc, true, false, List, [], ◌∷◌, ◌++◌, unwrap_or}
+use Rattle.std.specs.Prelude.{◌≡◌, ◌⊎◌, ℕ, suc, true, false, List, [], ◌∷◌, ◌++◌}
 use Rattle.stm_entries.specs.declared.entry.Entry.{Entry}
 use Rattle.stm_world.specs.declared.event.WorldEvent.{WorldEvent}
 use Rattle.stm_texts.specs.declared.scenario.Scenario.{Scenario}
+use Rattle.stm_texts.specs.Opens.{setup_of}
 use Rattle.stm_reports.specs.declared.line.ReportLine.{ReportLine}
 use Rattle.stm_reports.specs.declared.report.Report.{Report}
 use Rattle.stm_check.specs.declared.cause.WrongCause.{WrongCause}
@@ -49,10 +50,10 @@ IsFirstWrong n p (event ∷ events) (l ∷ lines) wrong cause =
     ((wrong ≡ n) × IsWrong n p event l cause)
     ⊎ (IsRight n p event l × IsFirstWrong (suc n) (after p event l) events lines wrong cause)
 
--- ---- a report beside a scenario: without a revision to open at the store opens at 1
+-- ---- a report beside a scenario, which says what the store opens with
 
 abbrev pub opens_at : Scenario → Point
-opens_at s = beginning (unwrap_or s.opening 1)
+opens_at s = beginning (setup_of s.opening)
 
 -- no line of the report is wrong
 abbrev pub IsReportOf : Scenario → Report → Type 0

@@ -44,6 +44,7 @@ pub(crate) fn replay_txn(
     ensures right { IfOk result (λ b. IsTrue b ↔ line_told number (reply_to TxnDone (transacted store.old.standing txn.now)) ≡ line.now) }
     ensures next { IfOk result (λ b. IsTrue b → store.new.standing ≡ led_by (txn_entries (now store.old.standing.history) txn.now line.now) store.old.standing store.old.standing.moment) }
 {
+    let _few = store.limit();
     match store.txn(txn) {
         Ok(answer) => Ok(is_txn(line, number, &answer)),
         Err(cause) => tells_refusal(line, number, cause, &[]),

@@ -1,6 +1,6 @@
 //! Checking a report beside its scenario.
 ghost use Rattle.std.specs.Prelude.{◌≡◌, ◌+◌, ◌≤◌, length, drop, IfOk, IfSome, None};
-ghost use Rattle.stm_texts.specs.Reading.{IsOpening};
+ghost use Rattle.stm_texts.specs.Opens.{IsOpening};
 ghost use Rattle.stm_check.specs.Judged.{IsJudged, IsJudgedFrom, IsJudgedEnd, IsWrongEvent, AreRightEvents};
 ghost use Rattle.stm_entries.specs.LiveLeases.{HasLeases};
 ghost use Rattle.stm_check.specs.StoreLines.{final_lines as lines_of_end};
@@ -13,7 +13,7 @@ use crate::finals::{final_lines, first_off};
 use crate::walk::Walk;
 use std::alloc::{AllocError, Global};
 use stm_reports::{Report, ReportLine};
-use stm_texts::Scenario;
+use stm_texts::{Scenario, opens_with};
 use stm_world::WorldEvent;
 
 /// What a check comes to.
@@ -115,7 +115,7 @@ pub fn check(alloc: Global, scenario: &Scenario, report: &Report) -> Result<Chec
     requires { IsOpening scenario.now.opening }
     ensures { IfOk result (IsJudged scenario.now report.now) }
 {
-    let mut walk = Walk::begin(alloc, scenario.opening.unwrap_or(1))?;
+    let mut walk = Walk::begin(alloc, opens_with(scenario.opening))?;
     let checked = judge(
         &mut walk,
         scenario.events.as_slice(),

@@ -9,6 +9,7 @@ ghost use Rattle.stm_compile.specs.Levels.{is_comparing};
 ghost use Rattle.stm_entries.specs.Alone.{applied_run};
 ghost use Rattle.stm_entries.specs.Replayed.{without_moment};
 ghost use Rattle.stm_entries.specs.declared.entry.Entry.TheVariants.{Program as ProgramEntry};
+ghost use Rattle.stm_world.specs.Asked.{keys_first_read};
 ghost use Rattle.stm_check.specs.Point.{reads_in, led_by};
 ghost use Rattle.stm_check.specs.Replays.{keys_told, IsRightCommit};
 ghost use Rattle.stm_check.specs.Runs.{run_in, IsRunOn, IsFound, revision_reached, with_writes};
@@ -17,10 +18,10 @@ use crate::lookups::{KeysNow, are_truly_told, reads_told};
 use crate::runner::Runner;
 use std::alloc::{AllocError, Global};
 use stm_compile::{ReadSet, WriteBuffer};
-use stm_history::Text;
+use stm_history::{Sequence, Text};
 use stm_keys::Keys;
 use stm_meaning::{Answered, End, Run, TraceItem, Value, run_answered};
-use stm_program::{Level, Program, Write};
+use stm_program::{Level, Program, Write, is_listed};
 use stm_reports::{ToldAnswer, are_same_traces, are_same_values};
 use stm_txn::{Change, Refusal, Store};
 
@@ -102,19 +103,47 @@ fn run_now(
     Ok(ended_run(answered))
 }
 
-/// The run, where the keys that it looked up are those of these answers.
-fn run_of_keys(run: Run, answers: &[ToldAnswer]) -> Option<Run>
-    ensures { MatchOption result (keys_told answers.now ≡ run.reads → ⊥) (λ same. (same ≡ run) × (keys_told answers.now ≡ run.reads)) }
+/// The keys in the order in which an attempt of a program first reads them: those of its list, and then the others that its run looked up.
+fn first_reads(alloc: Global, program: &Program, run: &Run) -> Result<Sequence<Text>, AllocError>
+    ensures { IfOk result (λ keys. keys ≡ keys_first_read program.now.prefetch run.now.reads) }
 {
-    if are_of_keys(answers, run.reads.as_slice()) {
-        Some(run)
+    let mut keys = Sequence::new(alloc);
+    for key in program.prefetch() {
+        keys.push(Text::copy_of(alloc, key.as_str())?)?;
+    }
+    for read in run.reads.as_slice() {
+        if !is_listed(read.as_str(), program.prefetch()) {
+            keys.push(read.clone()?)?;
+        }
+    }
+    Ok(keys)
+}
+
+/// The run, where these answers are of the keys that are read first.
+fn run_of_keys(
+    alloc: Global,
+    program: &Program,
+    run: Run,
+    answers: &[ToldAnswer],
+) -> Result<Option<Run>, AllocError>
+    ensures { IfOk result (λ found. MatchOption found (keys_told answers.now ≡ keys_first_read program.now.prefetch run.reads → ⊥)
+        (λ same. (same ≡ run) × (keys_told answers.now ≡ keys_first_read program.now.prefetch run.reads))) }
+{
+    let Ok(keys) = first_reads(alloc, program, &run) else {
+        drop(run);
+        return Err(AllocError);
+    };
+    let are_these = are_of_keys(answers, keys.as_slice());
+    drop(keys);
+    if are_these {
+        Ok(Some(run))
     } else {
         drop(run);
-        None
+        Ok(None)
     }
 }
 
-/// The run on these reads, where it looked up the keys of these answers.
+/// The run on these reads, where these answers are of the keys that are read first.
 fn run_on_reads(
     alloc: Global,
     program: &Program,
@@ -125,7 +154,7 @@ fn run_on_reads(
 {
     match ended_run(run_answered(alloc, program, reads)?) {
         None => Ok(None),
-        Some(run) => Ok(run_of_keys(run, answers)),
+        Some(run) => run_of_keys(alloc, program, run, answers),
     }
 }
 

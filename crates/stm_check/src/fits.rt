@@ -13,6 +13,7 @@ fn number_of(line: &ReportLine) -> Option<u64>
 {
     match line {
         ReportLine::Started { number, .. } => Some(*number),
+        ReportLine::Prefetched { number, .. } => Some(*number),
         ReportLine::Fetched { number, .. } => Some(*number),
         ReportLine::Committed { number, .. } => Some(*number),
         ReportLine::Conflict { number, .. } => Some(*number),
@@ -42,6 +43,7 @@ fn runner_of(line: &ReportLine) -> Option<u64>
     ensures { result ≡ runner_of line.now }
 {
     match line {
+        ReportLine::Prefetched { runner, .. } => Some(*runner),
         ReportLine::Fetched { runner, .. } => Some(*runner),
         ReportLine::Committed { runner, .. } => Some(*runner),
         ReportLine::Conflict { runner, .. } => Some(*runner),

@@ -1,11 +1,11 @@
 //! What a check knows at a point of a report, and what the line of an event makes of it.
-ghost use Rattle.std.specs.Prelude.{◌≡◌, ◌≤◌, ◌↔◌, IsTrue, IfOk, IfSome, None, option_copied};
-ghost use Rattle.stm_history.specs.declared.revisions.TheConstants.{HIGHEST_REVISION};
+ghost use Rattle.std.specs.Prelude.{◌≡◌, ◌↔◌, IsTrue, IfOk, IfSome, Some, None, option_copied};
 ghost use Rattle.stm_check.specs.Point.{commit_entries, led_by, standing_after, beginning, after};
 ghost use Rattle.stm_check.specs.Replays.{StartReplays, StepReplays, Replays};
 ghost use Rattle.stm_check.specs.Wrong.{IsRight, IsWrong};
 ghost use Rattle.stm_entries.specs.LiveLeases.{HasLeases};
 ghost use Rattle.stm_check.specs.Walks.{point_of};
+ghost use Rattle.stm_texts.specs.Opens.{IsOpening, as_setup};
 
 use crate::calls::{
     replay_advance, replay_compact, replay_grant, replay_keep, replay_revoke, replay_txn,
@@ -20,6 +20,7 @@ use std::alloc::{AllocError, Global};
 use std::collections::BTreeMap;
 use stm_entries::{LiveLease, no_leases};
 use stm_reports::{RefusalName, ReportLine};
+use stm_texts::Opening;
 use stm_txn::Store;
 use stm_world::WorldEvent;
 
@@ -112,13 +113,13 @@ fn replays(
 }
 
 impl Walk {
-    /// Before the first line, of a store that opens at a revision.
-    pub(crate) fn begin(alloc: Global, start: u64) -> Result<Walk, AllocError>
-        requires { (1 ≤ start) × (start ≤ HIGHEST_REVISION) }
-        ensures point { IfOk result (λ walk. point_of walk ≡ beginning start) }
+    /// Before the first line, of a store that opens with this.
+    pub(crate) fn begin(alloc: Global, opening: Opening) -> Result<Walk, AllocError>
+        requires { IsOpening (Some opening) }
+        ensures point { IfOk result (λ walk. point_of walk ≡ beginning (as_setup opening)) }
         ensures leases { IfOk result (λ walk. HasLeases walk.leases walk.store.standing.live) }
     {
-        let store = Store::with_revision(alloc, start)?;
+        let store = Store::with_limits(alloc, opening.revision, opening.operations)?;
         Ok(Walk {
             alloc,
             store,

@@ -28,7 +28,7 @@ use Rattle.stm_outcome.specs.Branches.{changes_of_branch, read_refusal, op_refus
 use Rattle.stm_outcome.specs.Effect.{changes_something}
 use Rattle.stm_outcome.specs.Commits.{is_on_dead_lease, write_answer, effective, applied}
 use Rattle.stm_outcome.specs.Outcome.{Done, chosen, with_changes, is_used_up, finished, unless, branch_outcome, outcome}
-use Rattle.stm_outcome.proofs.Lowering.{both_none}
+use Rattle.stm_outcome.proofs.Widening.{both_none}
 use Rattle.stm_compaction.specs.Kept.{kept_done, kept_terms}
 use Rattle.stm_compaction.proofs.Alike.{IsAlike, cut_is_alike}
 

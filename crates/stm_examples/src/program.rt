@@ -6,7 +6,7 @@ use stm_meaning::Fault;
 use stm_program::{Level, Variable};
 
 /// Programs at their limits, and just above them: in depth, in nodes, and in the bytes of a text.
-const LIMITS: [(Example, &str); 7] = [
+const LIMITS: [(Example, &str); 9] = [
     (
         Example::Parts(&[
             ("[[\"emit\",", 1),
@@ -51,13 +51,29 @@ const LIMITS: [(Example, &str); 7] = [
         Example::Parts(&[("[[\"put\",\"", 1), ("x", 65536), ("y\",1,0]]", 1)]),
         "at /0/1: TooLong",
     ),
+    (
+        Example::Parts(&[("[[\"prefetch\",[\"", 1), ("x", 65536), ("\"]]]", 1)]),
+        "kept",
+    ),
+    (
+        Example::Parts(&[
+            ("[[\"prefetch\",[\"x\",\"", 1),
+            ("x", 65537),
+            ("\",\"x\"]]]", 1),
+        ]),
+        "at /0/1/1: TooLong",
+    ),
 ];
 
-/// A program is its copy, a put on another lease makes another program, and the program of no statements is the empty list. Of writes of
+/// A program is its copy, a put on another lease or a list in another order makes another program, and the program of no statements is the empty array. Of writes of
 /// a key the last one counts; it equals its copy, and differs from a deletion.
-const SMALL: [(Example, &str); 3] = [
+const SMALL: [(Example, &str); 4] = [
     (
         Example::Others(r#"[["put","k","v",0]]"#, r#"[["put","k","v",1]]"#),
+        "true true true",
+    ),
+    (
+        Example::Others(r#"[["prefetch",["k","l"]]]"#, r#"[["prefetch",["l","k"]]]"#),
         "true true true",
     ),
     (Example::NoStatements, "kept"),

@@ -9,6 +9,7 @@ use stm_reports::{BadInput, ReadError, ReportLine, ToldOp, read_report};
 fn word(line: &ReportLine) -> &'static str {
     match line {
         ReportLine::Started { .. } => "started",
+        ReportLine::Prefetched { .. } => "prefetched",
         ReportLine::Fetched { .. } => "fetched",
         ReportLine::Committed { .. } => "committed",
         ReportLine::Conflict { .. } => "conflict",
@@ -34,8 +35,9 @@ fn word(line: &ReportLine) -> &'static str {
 }
 
 /// Lines of each kind, with what is told of them.
-const LINES: [(&str, &str); 28] = [
+const LINES: [(&str, &str); 29] = [
     (r#"[1,"started",1]"#, "started"),
+    (r#"[3,"prefetched",1,2,[["p",2],["q",0]]]"#, "prefetched"),
     (r#"[5,"fetched",1,"x",2,3,3]"#, "fetched"),
     (
         r#"[9,"committed",1,4,1,[],[["get","x","1"],["get","y","1"]],[]]"#,

@@ -1,5 +1,5 @@
 -- The tables of words have the words that the readers know.
-use Rattle.std.proofs.Common.{◌≡◌, ◌||◌, ℕ, List, [], Bool, true, false, cond, Option, Some, None, Result, Ok, Err, is_some, is_ok, refl, true≢false, codes}
+use Rattle.std.proofs.Common.{◌≡◌, ◌||◌, ℕ, List, [], Bool, true, false, cond, Option, Some, None, Result, Ok, Err, is_some, is_ok, refl, ap, true≢false, codes}
 use Rattle.serde_json.specs.Data.{Data, Items}
 use Rattle.stm_json.specs.Outcome.{Outcome, bad}
 use Rattle.stm_json.specs.declared.cause.Cause.TheVariants.{Shape}
@@ -8,7 +8,7 @@ use Rattle.stm_json.specs.Parts.{same}
 use Rattle.stm_txn_json.specs.Words.{order_named, target_named}
 use Rattle.stm_txn_json.specs.Reading.{operation_worded}
 use Rattle.stm_texts.specs.Reading.{level_named, event_worded, watcher_event}
-use Rattle.stm_explain.specs.Words.{TablesAreTheReaders, OthersAreRefused, is_among, level_words, order_words, event_words, statement_words}
+use Rattle.stm_explain.specs.Words.{TablesAreTheReaders, OthersAreRefused, is_among, level_words, order_words, event_words, statement_words, first_words}
 use Rattle.stm_explain.specs.Words.{expression_words, condition_words, compare_words, operation_words}
 
 -- a choice by one word more
@@ -34,6 +34,9 @@ statements word =
     (some (same word (codes "del")) _ _ _
     (some (same word (codes "emit")) _ _ _
     (some (same word (codes "abort")) _ None false refl))))))
+
+firsts : (word : List ℕ) → (same word (codes "prefetch") || is_some (statement_word word)) ≡ is_among word first_words
+firsts word = ap (λ (b : Bool). same word (codes "prefetch") || b) (statements word)
 
 expressions : (word : List ℕ) → is_some (expression_word word) ≡ is_among word expression_words
 unfolding expression_word
@@ -85,7 +88,7 @@ compares word =
     (ok (same word (codes "value")) _ (bad Shape) false refl))))
 
 pub tables : TablesAreTheReaders
-tables = (statements, expressions, conditions, levels, orders, compares)
+tables = (statements, expressions, conditions, firsts, levels, orders, compares)
 
 events : (d : Data) (word : List ℕ) (ds : Items) → is_among word event_words ≡ false → event_worded d (Some (word, ds)) ≡ bad Shape
 unfolding watcher_event

@@ -1,8 +1,8 @@
 //! What is allowed in a place.
 
 use crate::forms::{
-    BEGINNINGS, COMPARES, CONDITIONS, EVENTS, EXPRESSIONS, LEVELS, LINES, OPERATIONS, ORDERS, Part,
-    Parts, STATEMENTS,
+    BEGINNINGS, COMPARES, CONDITIONS, EVENTS, EXPRESSIONS, FIRST_ELEMENTS, LEVELS, LINES,
+    OPERATIONS, ORDERS, Part, Parts, STATEMENTS,
 };
 use std::alloc::{AllocError, Global};
 use strsim::levenshtein;
@@ -26,6 +26,7 @@ pub(crate) fn parts_behind(part: Part, word: &str) -> Option<Parts> {
         Part::Event => behind(&EVENTS, word),
         Part::Beginning => behind(&BEGINNINGS, word),
         Part::Level => behind(&LEVELS, word),
+        Part::FirstElement => behind(&FIRST_ELEMENTS, word),
         Part::Statement => behind(&STATEMENTS, word),
         Part::Expression => behind(&EXPRESSIONS, word),
         Part::Condition => behind(&CONDITIONS, word),
@@ -94,6 +95,7 @@ pub(crate) fn words_allowed(alloc: Global, part: Part, word: &str) -> Result<Str
         Part::Event => listed(alloc, &EVENTS, word),
         Part::Beginning => listed(alloc, &BEGINNINGS, word),
         Part::Level => listed(alloc, &LEVELS, word),
+        Part::FirstElement => listed(alloc, &FIRST_ELEMENTS, word),
         Part::Statement => listed(alloc, &STATEMENTS, word),
         Part::Expression => listed(alloc, &EXPRESSIONS, word),
         Part::Condition => listed(alloc, &CONDITIONS, word),
@@ -110,7 +112,7 @@ pub(crate) fn noun(part: Part) -> &'static str {
     match part {
         Part::Event | Part::Beginning => "event",
         Part::Level => "level",
-        Part::Statement => "statement",
+        Part::FirstElement | Part::Statement => "statement",
         Part::Condition => "condition",
         Part::Compare => "compare",
         Part::Operation => "operation",
@@ -127,11 +129,15 @@ pub(crate) fn described(part: Part) -> &'static str {
         Part::Event => "an event, which is an array that begins with a word,",
         Part::Beginning => "[\"begin\",REVISION]",
         Part::Opening => "a whole number from 1 to 9223372036854775806",
+        Part::MostOperations => "a whole number from 1 to 128",
         Part::Level => "a level",
         Part::Limit => "a whole number from 0 to 4294967295",
         Part::JobLimit => "a whole number from 1 to 4294967295",
-        Part::Program => "an array of statements",
-        Part::Statement => "a statement, which is an array that begins with a word,",
+        Part::Program | Part::Block => "an array of statements",
+        Part::Keys => "an array of keys",
+        Part::ListedKey => "a text of 1 to 65536 bytes that stands in the list once",
+        Part::FirstElement | Part::Statement =>
+            "a statement, which is an array that begins with a word,",
         Part::Expression =>
             "an expression, which is a text, a whole number of 64 bits or an array that begins with a word,",
         Part::Condition => "a condition, which is an array that begins with a word,",

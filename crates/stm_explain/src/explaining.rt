@@ -3,7 +3,7 @@ ghost use Rattle.std.specs.Prelude.{◌≡◌, ◌≤◌, length, IfOk, string_b
 ghost use Rattle.stm_explain.specs.Explaining.{IsExplanation, IsExplanationOf, explanation};
 
 use crate::allowed::{described, noun, parts_behind, words_allowed};
-use crate::forms::{Input, Part};
+use crate::forms::{Input, Part, Parts};
 use crate::offsets::{line_length, line_start, offset_of};
 use crate::position::position_of;
 use crate::syntax::told_of_text;
@@ -78,14 +78,15 @@ fn miscounted(
     alloc: Global,
     input: Input,
     word: &str,
-    wants: usize,
+    wants: Parts,
     has: usize,
 ) -> Result<String, AllocError> {
-    if wants == has {
+    if wants.are_so_many(has) {
         let nowhere = nowhere(input);
         return format!(in alloc; "\"{word}\" has no place {nowhere}");
     }
-    format!(in alloc; "elements behind \"{word}\": {has} found, {wants} wanted")
+    let number = wants.number();
+    format!(in alloc; "elements behind \"{word}\": {has} found, {number} wanted")
 }
 
 /// What is said of an array that begins with a word.
@@ -97,7 +98,7 @@ fn misworded(
     elements: &[Value],
 ) -> Result<String, AllocError> {
     match parts_behind(found.part, word) {
-        Some(parts) => miscounted(alloc, input, word, parts.count(), elements.len()),
+        Some(parts) => miscounted(alloc, input, word, parts, elements.len()),
         None => match found.value.get(0) {
             Some(first) => unknown(alloc, found.part, word, first),
             None => unfit(alloc, found),
@@ -110,6 +111,7 @@ fn misshaped(alloc: Global, input: Input, found: Found<'_>) -> Result<String, Al
     match found.part {
         Part::Event
         | Part::Beginning
+        | Part::FirstElement
         | Part::Statement
         | Part::Expression
         | Part::Condition
@@ -157,6 +159,14 @@ fn unfit_line(alloc: Global, found: Found<'_>, word: &str) -> Result<String, All
     format!(in alloc; "found {value}, which has not the elements of a line \"{word}\"")
 }
 
+/// What is said of one thing too many in such a place.
+fn too_many(part: Part) -> &'static str {
+    match part {
+        Part::ListedKey => "a program's list has at most 128 keys",
+        _ => "a scenario has at most 100000 events",
+    }
+}
+
 /// What is said of a value at which reading stopped.
 fn words_of(
     alloc: Global,
@@ -169,7 +179,7 @@ fn words_of(
         Cause::TooDeep => String::from_str(alloc, "a program nests at most 32 deep"),
         Cause::TooManyNodes => String::from_str(alloc, "a program has at most 4096 nodes"),
         Cause::TooLong => String::from_str(alloc, "a text of a program has at most 65536 bytes"),
-        Cause::TooMany => String::from_str(alloc, "a scenario has at most 100000 events"),
+        Cause::TooMany => String::from_str(alloc, too_many(found.part)),
         Cause::Range | Cause::NotJson => unfit(alloc, found),
     }
 }

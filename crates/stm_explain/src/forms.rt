@@ -22,18 +22,28 @@ pub enum Part {
     Scenario,
     /// An event.
     Event,
-    /// The first element of a scenario with an opening revision.
+    /// The first element of a scenario that says what its store opens with.
     Beginning,
     /// An opening revision.
     Opening,
+    /// How many operations a store takes.
+    MostOperations,
     /// A level.
     Level,
     /// How many commits a run may send.
     Limit,
     /// How many commits a job may send.
     JobLimit,
-    /// A list of statements.
+    /// The elements of a program: statements, and its list before them.
     Program,
+    /// The first element of a program: a statement, or its list.
+    FirstElement,
+    /// The keys of a list.
+    Keys,
+    /// A key of a list.
+    ListedKey,
+    /// A list of statements.
+    Block,
     /// A statement.
     Statement,
     /// An expression.
@@ -71,6 +81,8 @@ pub enum Parts {
     Nothing,
     /// One element.
     One(Part),
+    /// One element, and a second one or not.
+    OneOrTwo(Part, Part),
     /// Two elements.
     Two(Part, Part),
     /// Three elements.
@@ -80,14 +92,27 @@ pub enum Parts {
 }
 
 impl Parts {
-    /// How many elements stand behind the word.
-    pub(crate) fn count(self) -> usize {
+    /// Whether so many elements may stand behind the word.
+    pub(crate) fn are_so_many(self, count: usize) -> bool {
         match self {
-            Parts::Nothing => 0,
-            Parts::One(_) => 1,
-            Parts::Two(..) => 2,
-            Parts::Three(..) => 3,
-            Parts::Four(..) => 4,
+            Parts::Nothing => count == 0,
+            Parts::One(_) => count == 1,
+            Parts::OneOrTwo(..) => count == 1 || count == 2,
+            Parts::Two(..) => count == 2,
+            Parts::Three(..) => count == 3,
+            Parts::Four(..) => count == 4,
+        }
+    }
+
+    /// How many elements stand behind the word, in words.
+    pub(crate) fn number(self) -> &'static str {
+        match self {
+            Parts::Nothing => "0",
+            Parts::One(_) => "1",
+            Parts::OneOrTwo(..) => "1 or 2",
+            Parts::Two(..) => "2",
+            Parts::Three(..) => "3",
+            Parts::Four(..) => "4",
         }
     }
 
@@ -96,6 +121,7 @@ impl Parts {
         match self {
             Parts::Nothing => None,
             Parts::One(part)
+            | Parts::OneOrTwo(part, _)
             | Parts::Two(part, _)
             | Parts::Three(part, _, _)
             | Parts::Four(part, _, _, _) => Some(part),
@@ -106,7 +132,7 @@ impl Parts {
     fn rest(self) -> Parts {
         match self {
             Parts::Nothing | Parts::One(_) => Parts::Nothing,
-            Parts::Two(_, second) => Parts::One(second),
+            Parts::OneOrTwo(_, second) | Parts::Two(_, second) => Parts::One(second),
             Parts::Three(_, second, third) => Parts::Two(second, third),
             Parts::Four(_, second, third, fourth) => Parts::Three(second, third, fourth),
         }
@@ -165,24 +191,42 @@ pub const EVENTS: [(&str, Parts); 12] = [
     ("cancel", Parts::One(Part::Number)),
 ];
 
+const SET: (&str, Parts) = ("set", Parts::Two(Part::Variable, Part::Expression));
+
+const PUT: (&str, Parts) = (
+    "put",
+    Parts::Three(Part::Expression, Part::Expression, Part::Number),
+);
+
+const IF: (&str, Parts) = (
+    "if",
+    Parts::Three(Part::Condition, Part::Block, Part::Block),
+);
+
+const FOR: (&str, Parts) = (
+    "for",
+    Parts::Four(Part::Variable, Part::Expression, Part::Turns, Part::Block),
+);
+
+const DEL: (&str, Parts) = ("del", Parts::One(Part::Expression));
+
+const EMIT: (&str, Parts) = ("emit", Parts::One(Part::Expression));
+
+const ABORT: (&str, Parts) = ("abort", Parts::One(Part::Expression));
+
 /// The statements of a program.
-pub const STATEMENTS: [(&str, Parts); 7] = [
-    ("set", Parts::Two(Part::Variable, Part::Expression)),
-    (
-        "put",
-        Parts::Three(Part::Expression, Part::Expression, Part::Number),
-    ),
-    (
-        "if",
-        Parts::Three(Part::Condition, Part::Program, Part::Program),
-    ),
-    (
-        "for",
-        Parts::Four(Part::Variable, Part::Expression, Part::Turns, Part::Program),
-    ),
-    ("del", Parts::One(Part::Expression)),
-    ("emit", Parts::One(Part::Expression)),
-    ("abort", Parts::One(Part::Expression)),
+pub const STATEMENTS: [(&str, Parts); 7] = [SET, PUT, IF, FOR, DEL, EMIT, ABORT];
+
+/// What may be the first element of a program: its list, or a statement.
+pub const FIRST_ELEMENTS: [(&str, Parts); 8] = [
+    ("prefetch", Parts::One(Part::Keys)),
+    SET,
+    PUT,
+    IF,
+    FOR,
+    DEL,
+    EMIT,
+    ABORT,
 ];
 
 /// The expressions that are arrays.
@@ -232,8 +276,9 @@ pub const OPERATIONS: [(&str, Parts); 3] = [
 ];
 
 /// The lines of a report, by their word. What stands behind it is not said here.
-pub const LINES: [(&str, Parts); 22] = [
+pub const LINES: [(&str, Parts); 23] = [
     ("started", Parts::Nothing),
+    ("prefetched", Parts::Nothing),
     ("fetched", Parts::Nothing),
     ("committed", Parts::Nothing),
     ("conflict", Parts::Nothing),
@@ -258,4 +303,7 @@ pub const LINES: [(&str, Parts); 22] = [
 ];
 
 /// What may begin a scenario, in the place of an event.
-pub const BEGINNINGS: [(&str, Parts); 1] = [("begin", Parts::One(Part::Opening))];
+pub const BEGINNINGS: [(&str, Parts); 1] = [(
+    "begin",
+    Parts::OneOrTwo(Part::Opening, Part::MostOperations),
+)];

@@ -17,8 +17,8 @@ mod walking;
 
 pub use explaining::{explain, explained_at};
 pub use forms::{
-    COMPARES, CONDITIONS, EVENTS, EXPRESSIONS, Input, LEVELS, LINES, OPERATIONS, ORDERS, Part,
-    STATEMENTS,
+    COMPARES, CONDITIONS, EVENTS, EXPRESSIONS, FIRST_ELEMENTS, Input, LEVELS, LINES, OPERATIONS,
+    ORDERS, Part, STATEMENTS,
 };
 pub use kept::Kept;
 pub use laws::words_are_those_of_readers;

@@ -49,11 +49,22 @@ fn event_part(index: usize, element: &Value) -> Part {
     }
 }
 
+/// What is wanted at an index of a program.
+fn element_part(index: usize) -> Part {
+    if index == 0 {
+        Part::FirstElement
+    } else {
+        Part::Statement
+    }
+}
+
 /// What is wanted at an index of an array, whose element there is this.
 fn part_within(part: Part, array: &Value, index: usize, element: &Value) -> Option<Part> {
     match part {
         Part::Scenario => Some(event_part(index, element)),
-        Part::Program => Some(Part::Statement),
+        Part::Program => Some(element_part(index)),
+        Part::Block => Some(Part::Statement),
+        Part::Keys => Some(Part::ListedKey),
         Part::Compares => Some(Part::Compare),
         Part::Operations => Some(Part::Operation),
         Part::Line | Part::OfLine => Some(Part::OfLine),

@@ -1,8 +1,9 @@
 -- What is printed of a schedule spells the scenario with the schedule's events.
-use Rattle.std.proofs.Common.{◌≡◌, ℕ, ◌≤◌, List, [], ◌∷◌, ◌++◌, map, Bool, true, false, cond, Option, Some, None, Ok, Err, refl, subst, arith}
+use Rattle.std.proofs.Common.{◌≡◌, ℕ, ◌≤◌, List, [], ◌∷◌, ◌++◌, map, Bool, true, false, cond, Option, Some, None, Ok, Err, inl, inr, refl, sym, subst, arith}
 use Rattle.serde_json.specs.Data.{Data, string, unsigned, Items}
 use Rattle.stm_history.specs.declared.revisions.TheConstants.{HIGHEST_NUMBER}
 use Rattle.stm_json.specs.Outcome.{Outcome, ◌>>=◌}
+use Rattle.stm_outcome.specs.Terms.{most_operations}
 use Rattle.stm_program.specs.declared.level.Level.{Level}
 use Rattle.stm_program_json.specs.Writing.{written_number}
 use Rattle.stm_texts.specs.Laws.{AreSpelled}
@@ -11,10 +12,12 @@ use Rattle.stm_schedules.specs.declared.moves.Move.{Move}
 use Rattle.stm_schedules.specs.declared.moves.Move.TheVariants.{Step, Other}
 use Rattle.stm_schedules.specs.Scenarios.{has_start, up_to_last_start, behind_last_start, at_level, with_schedule}
 use Rattle.stm_schedules.specs.Schedules.{events_along}
-use Rattle.stm_texts.specs.Grammar.{level_text, SpellsEvent, SpellsElements, SpellsScenario}
-use Rattle.stm_texts.specs.Reading.{IsOpening, scenario_in}
+use Rattle.stm_texts.specs.Grammar.{level_text, SpellsEvent, SpellsOpening, SpellsElements, SpellsScenario}
+use Rattle.stm_texts.specs.Reading.{scenario_in}
+use Rattle.stm_texts.specs.Opens.{IsOpening}
 use Rattle.stm_texts.specs.declared.scenario.Scenario.{Scenario}
 use Rattle.stm_texts.proofs.GrammarSound.{scenario_sound}
+use Rattle.stm_texts.specs.declared.scenario.Opening.{Opening}
 use Rattle.stm_json.specs.Parts.{SpellsEach}
 use Rattle.stm_world.specs.declared.event.WorldEvent.{WorldEvent}
 use Rattle.stm_world.specs.declared.event.WorldEvent.TheVariants as event
@@ -27,9 +30,16 @@ each_spelled : (ds : Items) (es : List WorldEvent) → SpellsEach SpellsEvent ds
 each_spelled ds [] is = tt
 each_spelled ds (e ∷ es) (a, rest, is, s, others) = ((a, s), each_spelled rest es others)
 
-elements_spelled : (ds : Items) (o : Option ℕ) (es : List WorldEvent) → SpellsElements ds o es → IsOpening o × AreSpelled es
+opening_spelled : (d : Data) (o : Opening) → SpellsOpening d o → IsOpening (Some o)
+opening_spelled d o (inl (a, is, (number, low, high), most)) =
+    let some : 1 ≤ most_operations = omega arith in
+    let few : most_operations ≤ most_operations = omega arith in
+    ((low, high), (subst (λ n. 1 ≤ n) (sym most) some, subst (λ n. n ≤ most_operations) (sym most) few))
+opening_spelled d o (inr (a, b, is, (number, low, high), (count, some, few))) = ((low, high), (some, few))
+
+elements_spelled : (ds : Items) (o : Option Opening) (es : List WorldEvent) → SpellsElements ds o es → IsOpening o × AreSpelled es
 elements_spelled ds None es spelled = (tt, each_spelled ds es spelled)
-elements_spelled ds (Some r) es (a, rest, is, (number, low, high), spelled) = ((low, high), each_spelled rest es spelled)
+elements_spelled ds (Some o) es (a, rest, is, opens, spelled) = (opening_spelled a o opens, each_spelled rest es spelled)
 
 read_spelled : (bytes : List ℕ) (s : Scenario) → SpellsScenario bytes s → IsOpening s.opening × AreSpelled s.events
 read_spelled bytes s (short, d, is, (ds, are, spelled, few)) = elements_spelled ds s.opening s.events spelled

@@ -1,5 +1,5 @@
 -- What a search is asked: a scenario without steps, with a level for its starts.
-use Rattle.std.specs.Prelude.{ℕ, suc, ◌+◌, Bool, true, false, if◌then◌else◌, List, [], ◌∷◌, map, Option, None, Some, Ok, option_map, unwrap_or}
+use Rattle.std.specs.Prelude.{ℕ, suc, ◌+◌, Bool, true, false, if◌then◌else◌, List, [], ◌∷◌, map, Option, None, Some, Ok, option_map}
 use Rattle.stm_json.specs.declared.cause.Cause.TheVariants.{Shape}
 use Rattle.stm_json.specs.Outcome.{Outcome, bad, within}
 use Rattle.stm_program.specs.declared.level.Level.{Level}
@@ -8,8 +8,11 @@ use Rattle.stm_schedules.specs.Outcomes.{Ends, ends_begun}
 use Rattle.stm_schedules.specs.Places.{Place}
 use Rattle.stm_schedules.specs.Scenarios.{at_level, begun, with_schedule}
 use Rattle.stm_texts.specs.declared.scenario.Scenario.{Scenario}
+use Rattle.stm_texts.specs.declared.scenario.Opening.{Opening}
+use Rattle.stm_texts.specs.Opens.{setup_of}
 use Rattle.stm_world.specs.declared.event.WorldEvent.{WorldEvent}
 use Rattle.stm_world.specs.declared.event.WorldEvent.TheVariants.{Step}
+use Rattle.stm_txn.specs.Standing.{Setup}
 
 -- ---- which scenario is asked about
 
@@ -31,7 +34,7 @@ abbrev pub scenario_at : Option Level → Scenario → Scenario
 scenario_at level s = record { opening = s.opening; events = events_at level s.events }
 
 -- the index of the first event in a scenario's array: the opening stands before it
-abbrev pub first_index : Option ℕ → ℕ
+abbrev pub first_index : Option Opening → ℕ
 first_index None = 0
 first_index (Some opening) = 1
 
@@ -46,8 +49,8 @@ asked level s = without_step (first_step s.events) (scenario_at level s)
 
 -- ---- where its schedules begin, and what they make of it
 
-abbrev pub opening_of : Scenario → ℕ
-opening_of s = unwrap_or s.opening 1
+abbrev pub opening_of : Scenario → Setup
+opening_of s = setup_of s.opening
 
 abbrev pub place_of : Scenario → Place
 place_of s = begun (opening_of s) s.events

@@ -11,7 +11,8 @@ use Rattle.stm_program.specs.declared.level.Level.{Level}
 use Rattle.stm_program_json.specs.Reading.{program_of}
 use Rattle.stm_schedules.specs.Places.{Place}
 use Rattle.stm_texts.specs.declared.scenario.Scenario.{Scenario}
-use Rattle.stm_texts.specs.Reading.{scenario_in, IsOpening}
+use Rattle.stm_texts.specs.Reading.{scenario_in}
+use Rattle.stm_texts.specs.Opens.{IsOpening}
 use Rattle.stm_explore.specs.Explored.{IsExplored, MergesAreKept, AreOutcomes}
 use Rattle.stm_explore.specs.declared.finding.Outcomes.{Outcomes}
 use Rattle.stm_explore.specs.declared.finding.Outcomes.TheVariants.{Found, Open as OpenAt}

@@ -10,7 +10,7 @@ use std::alloc::Global;
 use stm_history::Sequence;
 use stm_json::{Cause, ReadError, fault, within};
 use stm_program::Level;
-use stm_texts::{Scenario, WorldEvent};
+use stm_texts::{Opening, Scenario, WorldEvent};
 
 /// Whether an event is a step.
 fn is_step(event: &WorldEvent) -> bool
@@ -73,7 +73,7 @@ fn scenario_at(level: Option<Level>, scenario: Scenario) -> Scenario
 }
 
 /// The index of the first event in a scenario's array.
-fn first_index(opening: Option<u64>) -> usize
+fn first_index(opening: Option<Opening>) -> usize
     ensures index { result ≡ first_index opening }
     ensures at_most { result ≤ 1 }
 {

@@ -3,7 +3,7 @@ ghost use Rattle.std.specs.Prelude.{◌≡◌, ◌≤◌, ◌+◌, [], false, If
 ghost use Rattle.stm_devices.specs.declared.transfer.TheConstants.{MOST_READ};
 ghost use Rattle.stm_explore.specs.Explored.{AreOutcomes};
 ghost use Rattle.stm_schedules.specs.Outcomes.{after_replies};
-ghost use Rattle.stm_texts.specs.Reading.{IsOpening};
+ghost use Rattle.stm_texts.specs.Opens.{IsOpening};
 ghost use Rattle.stm_world.specs.World.{world_after, replies_to};
 ghost use Rattle.stm_exploring.specs.Asking.{place_of, ends_of};
 ghost use Rattle.stm_exploring.specs.Exploring.{gathered_text, verdict_of_outcomes, printed_outcomes, ArePrinted, Gathers};
@@ -19,7 +19,7 @@ use stm_explore::{Budget, Observer, Outcomes, find_outcomes};
 use stm_history::Text;
 use stm_program::Level;
 use stm_retry::World;
-use stm_texts::{Scenario, WorldEvent};
+use stm_texts::{Scenario, WorldEvent, opens_with};
 
 /// What is printed of what whole schedules come to.
 fn gathered_text(alloc: Global, gathered: &Outcomes) -> Result<String, AllocError>
@@ -77,7 +77,8 @@ fn gather_scenario<O: Observer>(
     ensures { IfOk result (AreOutcomes (place_of scenario.now) (ends_of scenario.now)) }
 {
     let (setup, others) = setup_and_others(scenario.events.as_slice());
-    let mut world = World::with_revision(alloc, scenario.opening.unwrap_or(1))?;
+    let opening = opens_with(scenario.opening);
+    let mut world = World::with_limits(alloc, opening.revision, opening.operations)?;
     let gathered = gather_from(alloc, &mut world, setup, others, budget);
     drop(world);
     gathered

@@ -2,7 +2,7 @@
 ghost use Rattle.std.specs.Prelude.{◌≡◌, ◌≤◌, ◌+◌, false, IfOk};
 ghost use Rattle.stm_devices.specs.declared.transfer.TheConstants.{MOST_READ};
 ghost use Rattle.stm_json.specs.Tells.{Tells};
-ghost use Rattle.stm_texts.specs.Reading.{IsOpening};
+ghost use Rattle.stm_texts.specs.Opens.{IsOpening};
 ghost use Rattle.stm_exploring.specs.Exploring.{asked_in, program_in, HasRead, ReadsScenario, ReadsProgram};
 
 use crate::asking::ask;

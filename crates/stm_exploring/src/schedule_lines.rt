@@ -12,7 +12,7 @@ use serde_json::Value as Json;
 use std::alloc::{AllocError, Global};
 use stm_reports::push_line;
 use stm_schedules::Move;
-use stm_texts::{Scenario, WorldEvent, event_json, opening_json};
+use stm_texts::{Opening, Scenario, WorldEvent, event_json, opening_json};
 
 /// Writes an event behind the elements so far.
 fn push_event(alloc: Global, elements: &mut Vec<Json>, event: &WorldEvent) -> Result<(), AllocError>
@@ -86,12 +86,12 @@ fn push_moves(
 }
 
 /// The elements of a scenario before its events.
-fn opening_values(alloc: Global, opening: Option<u64>) -> Result<Vec<Json>, AllocError>
+fn opening_values(alloc: Global, opening: Option<Opening>) -> Result<Vec<Json>, AllocError>
     ensures { IfOk result (λ elements. map view elements.items ≡ opening_elements opening) }
 {
     let mut elements = Vec::new(alloc);
-    if let Some(revision) = opening {
-        let value = opening_json(alloc, revision)?;
+    if let Some(opening) = opening {
+        let value = opening_json(alloc, opening)?;
         elements.push(value)?;
     }
     Ok(elements)

@@ -2,7 +2,7 @@
 ghost use Rattle.std.specs.Prelude.{◌≡◌, [], ◌∷◌, length, IfOk, string_bytes};
 ghost use Rattle.stm_reports.specs.Text.{lines_text};
 ghost use Rattle.stm_texts.specs.Writing.{written_scenario};
-ghost use Rattle.stm_texts.specs.Reading.{IsOpening};
+ghost use Rattle.stm_texts.specs.Opens.{IsOpening};
 ghost use Rattle.stm_world.specs.World.{world_after};
 ghost use Rattle.stm_exploring.specs.Asking.{place_of, scheduled};
 ghost use Rattle.stm_exploring.specs.Exploring.{verdict_of, printed, IsAnswer, IsPrinted};
@@ -19,7 +19,7 @@ use stm_meaning::End;
 use stm_program::Program;
 use stm_retry::World;
 use stm_schedules::Move;
-use stm_texts::{Scenario, WorldEvent};
+use stm_texts::{Scenario, WorldEvent, opens_with};
 
 /// The lines of a rule that is not kept after this schedule.
 fn broken_text(
@@ -101,7 +101,8 @@ fn explore_scenario<O: Observer>(
     ensures { IfOk result (IsAnswer keeps.now (place_of scenario.now)) }
 {
     let (setup, others) = setup_and_others(scenario.events.as_slice());
-    let mut world = World::with_revision(alloc, scenario.opening.unwrap_or(1))?;
+    let opening = opens_with(scenario.opening);
+    let mut world = World::with_limits(alloc, opening.revision, opening.operations)?;
     let explored = explore_from(alloc, &mut world, setup, others, keeps, budget);
     drop(world);
     explored

@@ -17,6 +17,7 @@ use Rattle.stm_world.specs.Right.{Situation, IsRight, AreRight, StepIsRight}
 use Rattle.stm_world.proofs.Lines.{by_event}
 use Rattle.stm_faulted_runs.specs.Places.{Started, started_by, started_in}
 use Rattle.stm_faulted_runs.specs.Laws.{events_of, IsBegun, RunsAreBegun}
+use Rattle.stm_txn.specs.Standing.{Setup}
 
 -- ---- replies that name no new runner
 
@@ -27,6 +28,7 @@ none_named (Some n) none = absurd (true≢false (sym (eq-eqb n n refl) ∙ none 
 step_silent : (at : Situation) (told : Result Reply Denied) → StepIsRight at told → runner_started told ≡ None
 step_silent at (Err refusal) right = refl
 step_silent at (Ok (variant.Started id)) right = absurd right
+step_silent at (Ok (variant.Prefetched id revision reads)) right = refl
 step_silent at (Ok (variant.Fetched id key mod_rev of_rev revision)) right = refl
 step_silent at (Ok (variant.Committed id revision attempts output trace answers)) right = refl
 step_silent at (Ok (variant.Conflict id key seen now)) right = refl
@@ -49,7 +51,7 @@ abbrev starts : WorldEvent → Bool
 starts (Start program level limit) = true
 starts other = false
 
-silent : (start : ℕ) (log : List Line) (event : WorldEvent) (told : Result Reply Denied) → IsRight start log event told → starts event ≡ false → runner_started told ≡ None
+silent : (start : Setup) (log : List Line) (event : WorldEvent) (told : Result Reply Denied) → IsRight start log event told → starts event ≡ false → runner_started told ≡ None
 silent start log event told right other =
     by_event start log (λ (e : WorldEvent) (r : Result Reply Denied). starts e ≡ false → runner_started r ≡ None)
     (λ e r nothing not. none_named (runner_started r) (λ id. (nothing.untouched id).not_started)) (λ task not. absurd (true≢false not))
@@ -127,7 +129,7 @@ begins task older runs element c =
       are = λ number it at. by_number task older runs element c number it at (nat_eq (started older + 1) (number + 1)) refl;
     }
 
-by_line : (start element : ℕ) (older : List Line) (runs : List Started) (event : WorldEvent) (told : Result Reply Denied) → IsRight start older event told →
+by_line : (start : Setup) (element : ℕ) (older : List Line) (runs : List Started) (event : WorldEvent) (told : Result Reply Denied) → IsRight start older event told →
     Counts older runs → Counts (record { event = event; reply = told } ∷ older) (runs ++ started_by element event)
 by_line start element older runs (Start program level limit) (Ok named) right c =
     let task : Task = record { program = program; level = level; limit = limit } in
@@ -172,7 +174,7 @@ one_more element (first ∷ events) e =
     ∙ sym (append_assoc (started_by element first) (started_in (suc element) events) (started_by (suc element + length events) e))
     ∙ ap (λ (n : ℕ). (started_by element first ++ started_in (suc element) events) ++ started_by n e) next
 
-counts : (start first : ℕ) (log : List Line) → AreRight start log → Counts log (started_in first (events_of log))
+counts : (start : Setup) (first : ℕ) (log : List Line) → AreRight start log → Counts log (started_in first (events_of log))
 counts start first [] right = record { count = refl; are = λ number run at. absurd (cc) }
 counts start first (line ∷ older) right =
     let events : List WorldEvent = events_of older in

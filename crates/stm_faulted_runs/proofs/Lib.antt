@@ -1,4 +1,5 @@
 pub mod RunLemmas
+pub mod PlaceLemmas
 pub mod BegunLemmas
 pub mod RuleLemmas
 pub mod LineLemmas

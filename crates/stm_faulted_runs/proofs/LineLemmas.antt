@@ -5,6 +5,7 @@ use Rattle.stm_world.specs.declared.event.WorldEvent.{WorldEvent}
 use Rattle.stm_world.specs.World.{World, step, opened, replies_to}
 use Rattle.stm_faulted_runs.specs.Lines.{Origin, Told, IsLineOf, ExplainsEach, Adds, told_by, faults_told, faults_from}
 use Rattle.stm_faulted_runs.specs.declared.jobs.FaultedJob.{FaultedJob}
+use Rattle.stm_txn.specs.Standing.{Setup}
 use Rattle.stm_faulted_runs.specs.Jobs.{told_job, told_of_job}
 
 -- one line is one
@@ -90,7 +91,7 @@ moved origin other is told same tells said each =
     subst (λ (o : Origin). ExplainsEach o same said) is (subst (λ (ts : List Told). ExplainsEach origin ts said) tells each)
 
 -- the same run
-pub same_run : (start first : ℕ) (events same : List WorldEvent) → start ≡ first → events ≡ same →
+pub same_run : (start first : Setup) (events same : List WorldEvent) → start ≡ first → events ≡ same →
     faults_from (opened start) events ≡ faults_from (opened first) same
 same_run start first events same starts is =
-    ap (λ (n : ℕ). faults_from (opened n) events) starts ∙ ap (λ (es : List WorldEvent). faults_from (opened first) es) is
+    ap (λ (n : Setup). faults_from (opened n) events) starts ∙ ap (λ (es : List WorldEvent). faults_from (opened first) es) is

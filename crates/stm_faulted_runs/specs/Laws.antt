@@ -1,5 +1,6 @@
 -- What runs are: runners are the runs that events begin, in their order.
 use Rattle.std.specs.Prelude.{◌≡◌, ℕ, ◌+◌, List, map, reverse, Some, slice_get}
+use Rattle.stm_txn.specs.Standing.{Setup}
 use Rattle.stm_world.specs.declared.event.WorldEvent.{WorldEvent}
 use Rattle.stm_world.specs.Task.{Task}
 use Rattle.stm_world.specs.Log.{Line, begun}
@@ -18,5 +19,5 @@ pub record IsBegun (id : ℕ) (log : List Line) (run : Started) : Type 0 where
 
 -- In a log of right lines the run with a number, counted from 0, is that of the runner with the next number.
 abbrev pub RunsAreBegun : Type 0
-RunsAreBegun = (start first : ℕ) (log : List Line) → AreRight start log → (number : ℕ) (run : Started)
+RunsAreBegun = (start : Setup) (first : ℕ) (log : List Line) → AreRight start log → (number : ℕ) (run : Started)
     → slice_get (started_in first (events_of log)) number ≡ Some run → IsBegun (number + 1) log run

@@ -1,6 +1,7 @@
 -- The explanations of runs that came to a fault: a line for each of them, in order.
 use Rattle.std.specs.Prelude.{◌≡◌, ◌⊎◌, ℕ, suc, ◌-◌, List, [], ◌∷◌, ◌++◌, Bool, Option, None, Some, is_some, if◌then◌else◌, Result, Ok, Err, codes, decimal}
-use Rattle.std.specs.Prelude.{unwrap_or, slice_get}
+use Rattle.std.specs.Prelude.{slice_get}
+use Rattle.serde_json.specs.Data.{Data}
 use Rattle.stm_history.specs.declared.key_state.ReadAnswer.{ReadAnswer}
 use Rattle.stm_steps.specs.declared.fault.Fault.{Fault}
 use Rattle.stm_steps.specs.Faults.{fault_name}
@@ -12,14 +13,16 @@ use Rattle.stm_world.specs.declared.event.WorldEvent.{WorldEvent}
 use Rattle.stm_world.specs.World.{World, opened, replies_to}
 use Rattle.stm_json.specs.Outcome.{Outcome}
 use Rattle.stm_texts.specs.declared.scenario.Scenario.{Scenario}
+use Rattle.stm_texts.specs.Opens.{setup_of}
 use Rattle.stm_explain.specs.Explaining.{IsExplanationOf}
 use Rattle.stm_faulted_runs.specs.Reads.{told_in}
-use Rattle.stm_faulted_runs.specs.Places.{Started, started_in, IsMoreOf}
+use Rattle.stm_faulted_runs.specs.Places.{Started, started_in, json_of, IsMoreOf}
 
--- a text under a name, and the runs that begin in it
+-- a text under a name, its JSON, and the runs that begin in it
 pub record Origin : Type 0 where
   pub name : List ℕ
   pub text : List ℕ
+  pub json : Data
   pub runs : List Started
 
 -- a run that came to a fault: how its line begins, its number, counted from 0, and what it had read, where that is known
@@ -36,7 +39,7 @@ OverReads (Some reads) says = says (told_in reads)
 
 -- what is told of the place of its fault
 abbrev pub IsMoreOfTold : Origin → Told → List ℕ → Type 0
-IsMoreOfTold origin told more = OverReads told.reads (λ look. IsMoreOf (slice_get origin.runs told.number) look told.fault more)
+IsMoreOfTold origin told more = OverReads told.reads (λ look. IsMoreOf origin.json (slice_get origin.runs told.number) look told.fault more)
 
 -- a line of explanation that begins so, and tells the place
 abbrev pub IsLineOf : Origin → Told → List ℕ → Type 0
@@ -85,9 +88,9 @@ abbrev pub first_of : Bool → ℕ
 first_of opens = if opens then 1 else 0
 
 abbrev pub origin_of : List ℕ → List ℕ → Scenario → Origin
-origin_of name text s = record { name = name; text = text; runs = started_in (first_of (is_some s.opening)) s.events }
+origin_of name text s = record { name = name; text = text; json = json_of text; runs = started_in (first_of (is_some s.opening)) s.events }
 
 -- what is said of the run of a scenario; nothing where there is no scenario
 abbrev pub ExplainsRun : List ℕ → List ℕ → Outcome Scenario → List ℕ → Type 0
-ExplainsRun name text (Ok s) said = ExplainsEach (origin_of name text s) (faults_from (opened (unwrap_or s.opening 1)) s.events) said
+ExplainsRun name text (Ok s) said = ExplainsEach (origin_of name text s) (faults_from (opened (setup_of s.opening)) s.events) said
 ExplainsRun name text (Err bad) said = said ≡ []

@@ -1,7 +1,11 @@
 -- What is told of the place of a fault.
-use Rattle.std.specs.Prelude.{◌≡◌, ◌≢◌, ◌⊎◌, ℕ, suc, nat_eq, if◌then◌else◌, List, [], ◌∷◌, ◌++◌, Option, None, Some, codes}
+use Rattle.std.specs.Prelude.{◌≡◌, ◌≢◌, ◌⊎◌, ◌<◌, ◌+◌, ⊤, ℕ, suc, nat_eq, if◌then◌else◌, List, [], ◌∷◌, ◌++◌, Option, None, Some, option_and_then, unwrap_or, codes}
+use Rattle.serde_json.specs.Data.{Data, null}
+use Rattle.serde_json.specs.Find.{at}
+use Rattle.serde_json.specs.Read.{read as read_text}
 use Rattle.stm_json.specs.Outcome.{step}
 use Rattle.stm_program.specs.Syntax.{ProgramTree}
+use Rattle.stm_program_json.specs.Reading.{first_statement}
 use Rattle.stm_steps.specs.declared.fault.Fault.{Fault}
 use Rattle.stm_steps.specs.Answer.{Lookup}
 use Rattle.stm_world.specs.declared.event.WorldEvent.{WorldEvent}
@@ -14,16 +18,39 @@ abbrev pub pointer : List ℕ → List ℕ
 pointer [] = []
 pointer (index ∷ indices) = step index ++ pointer indices
 
+-- the JSON that a text spells, null where it spells none
+abbrev pub json_of : List ℕ → Data
+json_of text = unwrap_or (read_text text) null
+
+-- the index of the first statement of a program that may be there
+abbrev pub first_of_program : Option Data → ℕ
+first_of_program None = 0
+first_of_program (Some d) = first_statement d
+
+-- the same, of the program of the start that is an element of a scenario's JSON
+abbrev pub first_in : Data → ℕ → ℕ
+first_in scenario element = first_of_program (option_and_then (at 3) (at element scenario))
+
+-- a place in the statements of a program, of which the first is the element with this index
+abbrev pub behind : ℕ → List ℕ → List ℕ
+behind first [] = []
+behind first (index ∷ inner) = (first + index) ∷ inner
+
+-- a place begins below a number
+abbrev pub BeginsBelow : ℕ → List ℕ → Type 0
+BeginsBelow most [] = ⊤
+BeginsBelow most (index ∷ inner) = index < most
+
 -- a place and a reason are told
 abbrev pub TellsPlace : List ℕ → List ℕ → Type 0
 TellsPlace place more = (reason : List ℕ) × (more ≡ codes " at " ++ pointer place ++ codes ": " ++ reason)
 
--- what is told of a fault that was found in the program of the start that is an element: its place, where it is the fault that is to be told, and else
--- nothing
-abbrev pub IsMore : ℕ → Fault → Option FoundFault → List ℕ → Type 0
-IsMore element fault None more = more ≡ []
-IsMore element fault (Some found) more =
-    ((found.fault ≡ fault) × TellsPlace (element ∷ 3 ∷ found.site.place) more) ⊎ ((found.fault ≢ fault) × (more ≡ []))
+-- what is told of a fault that was found in the program of the start that is an element of a scenario's JSON: its place, where it is the fault that is to
+-- be told, and else nothing
+abbrev pub IsMore : Data → ℕ → Fault → Option FoundFault → List ℕ → Type 0
+IsMore scenario element fault None more = more ≡ []
+IsMore scenario element fault (Some found) more =
+    ((found.fault ≡ fault) × TellsPlace (element ∷ 3 ∷ behind (first_in scenario element) found.site.place) more) ⊎ ((found.fault ≢ fault) × (more ≡ []))
 
 -- ---- the runs that events begin
 
@@ -42,7 +69,7 @@ abbrev pub started_in : ℕ → List WorldEvent → List Started
 started_in element [] = []
 started_in element (e ∷ es) = started_by element e ++ started_in (suc element) es
 
--- what is told of a fault that a run comes to over a look-up; nothing where there is no such run
-abbrev pub IsMoreOf : Option Started → Lookup → Fault → List ℕ → Type 0
-IsMoreOf None look fault more = more ≡ []
-IsMoreOf (Some run) look fault more = IsMore run.element fault (fault_of look run.program.statements) more
+-- what is told of a fault that a run in a scenario with this JSON comes to over a look-up; nothing where there is no such run
+abbrev pub IsMoreOf : Data → Option Started → Lookup → Fault → List ℕ → Type 0
+IsMoreOf scenario None look fault more = more ≡ []
+IsMoreOf scenario (Some run) look fault more = IsMore scenario run.element fault (fault_of look run.program.statements) more

@@ -1,10 +1,10 @@
 -- The explanation of a rule that comes to a fault on the state that a scenario leaves.
-use Rattle.std.specs.Prelude.{◌≡◌, ℕ, List, [], ◌++◌, Option, None, Some, Ok, Err, codes, unwrap_or}
+use Rattle.std.specs.Prelude.{◌≡◌, ℕ, List, [], ◌++◌, Option, None, Some, Ok, Err, codes}
 use Rattle.serde_json.specs.Data.{Data}
 use Rattle.serde_json.specs.Read.{read as read_text}
 use Rattle.stm_history.specs.History.{History}
 use Rattle.stm_program.specs.Syntax.{ProgramTree}
-use Rattle.stm_program_json.specs.Reading.{program_of}
+use Rattle.stm_program_json.specs.Reading.{first_statement, program_of}
 use Rattle.stm_steps.specs.declared.fault.Fault.{Fault}
 use Rattle.stm_steps.specs.declared.state.StateEntry.{StateEntry}
 use Rattle.stm_steps.specs.Answer.{Lookup}
@@ -14,33 +14,34 @@ use Rattle.stm_calls.specs.StateOf.{IsStateOf}
 use Rattle.stm_world.specs.World.{opened, world_after}
 use Rattle.stm_json.specs.Outcome.{Outcome}
 use Rattle.stm_texts.specs.declared.scenario.Scenario.{Scenario}
+use Rattle.stm_texts.specs.Opens.{setup_of}
 use Rattle.stm_explain.specs.Explaining.{IsExplanationOf}
 use Rattle.stm_sites.specs.declared.finding.FoundFault.{FoundFault}
 use Rattle.stm_sites.specs.Found.{fault_of}
-use Rattle.stm_faulted_runs.specs.Places.{TellsPlace}
+use Rattle.stm_faulted_runs.specs.Places.{behind, TellsPlace}
 
 abbrev pub rule_head : Fault → List ℕ
 rule_head fault = fault_name fault ++ codes " of the rule"
 
--- a line of explanation of a fault, with its place in the rule's text
-abbrev pub IsRuleLine : List ℕ → List ℕ → FoundFault → List ℕ → Type 0
-IsRuleLine name text found line =
-    (more : List ℕ) × TellsPlace found.site.place more × IsExplanationOf name text (rule_head found.fault ++ more) line
+-- a line of explanation of a fault, with its place in the rule's text, in which the first statement is the element with this index
+abbrev pub IsRuleLine : List ℕ → List ℕ → ℕ → FoundFault → List ℕ → Type 0
+IsRuleLine name text first found line =
+    (more : List ℕ) × TellsPlace (behind first found.site.place) more × IsExplanationOf name text (rule_head found.fault ++ more) line
 
 -- the line of the fault that was found, and nothing where none was
-abbrev pub IsRuleSaid : List ℕ → List ℕ → Option FoundFault → List ℕ → Type 0
-IsRuleSaid name text None said = said ≡ []
-IsRuleSaid name text (Some found) said = IsRuleLine name text found said
+abbrev pub IsRuleSaid : List ℕ → List ℕ → ℕ → Option FoundFault → List ℕ → Type 0
+IsRuleSaid name text first None said = said ≡ []
+IsRuleSaid name text first (Some found) said = IsRuleLine name text first found said
 
 -- what is said of a rule over a look-up, by the program that its JSON spells: nothing where it spells none
-abbrev pub ExplainsProgram : List ℕ → List ℕ → Lookup → Outcome ProgramTree → List ℕ → Type 0
-ExplainsProgram name text look (Ok program) said = IsRuleSaid name text (fault_of look program.statements) said
-ExplainsProgram name text look (Err bad) said = said ≡ []
+abbrev pub ExplainsProgram : List ℕ → List ℕ → ℕ → Lookup → Outcome ProgramTree → List ℕ → Type 0
+ExplainsProgram name text first look (Ok program) said = IsRuleSaid name text first (fault_of look program.statements) said
+ExplainsProgram name text first look (Err bad) said = said ≡ []
 
 -- by its JSON: nothing where it has none
 abbrev pub ExplainsData : List ℕ → List ℕ → Lookup → Option Data → List ℕ → Type 0
 ExplainsData name text look None said = said ≡ []
-ExplainsData name text look (Some d) said = ExplainsProgram name text look (program_of d) said
+ExplainsData name text look (Some d) said = ExplainsProgram name text (first_statement d) look (program_of d) said
 
 -- by its text
 abbrev pub ExplainsOver : List ℕ → List ℕ → Lookup → List ℕ → Type 0
@@ -48,7 +49,7 @@ ExplainsOver name text look said = ExplainsData name text look (read_text text) 
 
 -- the history that a scenario's run leaves
 abbrev pub left_by : Scenario → History
-left_by s = (world_after s.events (opened (unwrap_or s.opening 1))).standing.history
+left_by s = (world_after s.events (opened (setup_of s.opening))).standing.history
 
 -- what is said of a rule on the state that a scenario leaves; nothing where there is no scenario
 abbrev pub ExplainsRule : List ℕ → List ℕ → Outcome Scenario → List ℕ → Type 0

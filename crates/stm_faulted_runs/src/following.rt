@@ -109,6 +109,16 @@ pub(crate) fn note(
     reply: &Reply,
 ) -> Result<(), AllocError> {
     match reply {
+        Reply::Prefetched {
+            runner,
+            revision,
+            reads,
+        } => {
+            for read in reads.as_slice() {
+                note_fetch(alloc, runners, store, *runner, &read.key, *revision)?;
+            }
+            Ok(())
+        }
         Reply::Fetched {
             runner,
             key,

@@ -1,13 +1,17 @@
 //! Where a fault stands in a text of JSON, and what is said of it.
-ghost use Rattle.std.specs.Prelude.{◌≡◌, ◌++◌, [], ◌∷◌, Some as SomeOf, codes, slice_get, IfOk, OnOk, string_bytes};
+ghost use Rattle.std.specs.Prelude.{◌≡◌, ◌≤◌, ◌++◌, [], ◌∷◌, Some as SomeOf, codes, slice_get, IfOk, OnOk, string_bytes};
+ghost use Rattle.serde_json.specs.View.{view};
 ghost use Rattle.stm_json.specs.Outcome.{step};
+ghost use Rattle.stm_program.specs.declared.limits.TheConstants.{MAX_NODES};
 ghost use Rattle.stm_sites.specs.Found.{fault_of};
-ghost use Rattle.stm_faulted_runs.specs.Places.{pointer, TellsPlace, IsMore, IsMoreOf};
+ghost use Rattle.stm_faulted_runs.specs.Places.{pointer, behind, first_in, BeginsBelow, TellsPlace, IsMore, IsMoreOf};
 ghost use Rattle.stm_faulted_runs.specs.Origins.{origin_in};
 
 use crate::reasons::reason;
 use crate::runs::{Explained, StartedRun, run_at};
+use serde_json::Value as Json;
 use std::alloc::{AllocError, Global};
+use stm_program_json::first_statement;
 use stm_sites::{FoundFault, find_fault};
 use stm_steps::{Fault, Lookup};
 
@@ -66,16 +70,35 @@ fn more_of(alloc: Global, steps: &[usize], found: &FoundFault) -> Result<String,
     more
 }
 
-/// The place of a fault that was found in the program to which these indices lead.
+/// Adds the indices of a place in the statements of a program, of which the first is the element with this index.
+fn push_place(steps: &mut Vec<usize>, first: usize, place: &[usize]) -> Result<(), AllocError>
+    requires first { first ≤ 1 }
+    requires few { BeginsBelow MAX_NODES place.now }
+    ensures { OnOk result (steps.new.items ≡ steps.old.items ++ behind first place.now) }
+{
+    match place {
+        [] => Ok(()),
+        [index, inner @ ..] => {
+            steps.push(first + *index)?;
+            steps.extend_from_slice(inner)
+        }
+    }
+}
+
+/// The place of a fault that was found in the program to which these indices lead, and of whose elements the first statement is the one with this
+/// index.
 pub(crate) fn place_of_fault(
     alloc: Global,
     steps: Vec<usize>,
+    first: usize,
     found: &FoundFault,
 ) -> Result<Place, AllocError>
-    ensures { IfOk result (λ place. TellsPlace (steps.items ++ found.now.site.place) (string_bytes place.more)) }
+    requires first { first ≤ 1 }
+    requires few { BeginsBelow MAX_NODES found.now.site.place }
+    ensures { IfOk result (λ place. TellsPlace (steps.items ++ behind first found.now.site.place) (string_bytes place.more)) }
 {
     let mut steps = steps;
-    steps.extend_from_slice(found.site.place.as_slice())?;
+    push_place(&mut steps, first, found.site.place.as_slice())?;
     let more = more_of(alloc, steps.as_slice(), found)?;
     Ok(Place { steps, more })
 }
@@ -97,27 +120,50 @@ fn place_of_element(alloc: Global, element: usize) -> Result<Place, AllocError>
     Ok(bare_place(alloc, steps))
 }
 
-/// The place of a fault that was found in the program of the start that is an element.
-fn place_in_element(alloc: Global, element: usize, found: &FoundFault) -> Result<Place, AllocError>
-    ensures { IfOk result (λ place. TellsPlace (element ∷ 3 ∷ found.now.site.place) (string_bytes place.more)) }
+/// The index of the first statement in the program of the start that is an element of a scenario with this JSON.
+fn first_in(scenario: &Json, element: usize) -> usize
+    ensures is { result ≡ first_in (view scenario.now) element }
+    ensures least { result ≤ 1 }
 {
+    let Some(start) = scenario.get(element) else {
+        return 0;
+    };
+    match start.get(3usize) {
+        Some(program) => first_statement(program),
+        None => 0,
+    }
+}
+
+/// The place of a fault that was found in the program of the start that is an element of a scenario with this JSON.
+fn place_in_element(
+    alloc: Global,
+    scenario: &Json,
+    element: usize,
+    found: &FoundFault,
+) -> Result<Place, AllocError>
+    requires { BeginsBelow MAX_NODES found.now.site.place }
+    ensures { IfOk result (λ place. TellsPlace (element ∷ 3 ∷ behind (first_in (view scenario.now) element) found.now.site.place) (string_bytes place.more)) }
+{
+    let first = first_in(scenario, element);
     let mut steps = Vec::new(alloc);
     steps.push(element)?;
     steps.push(3)?;
-    place_of_fault(alloc, steps, found)
+    place_of_fault(alloc, steps, first, found)
 }
 
 /// The place of a fault that was found so, where it is this one; else that of its start.
 fn place_where_same(
     alloc: Global,
+    scenario: &Json,
     element: usize,
     fault: Fault,
     found: &FoundFault,
 ) -> Result<Place, AllocError>
-    ensures { IfOk result (λ place. IsMore element fault (SomeOf found.now) (string_bytes place.more)) }
+    requires { BeginsBelow MAX_NODES found.now.site.place }
+    ensures { IfOk result (λ place. IsMore (view scenario.now) element fault (SomeOf found.now) (string_bytes place.more)) }
 {
     if found.fault == fault {
-        place_in_element(alloc, element, found)
+        place_in_element(alloc, scenario, element, found)
     } else {
         place_of_element(alloc, element)
     }
@@ -126,15 +172,16 @@ fn place_where_same(
 /// Where a run comes to this fault over a look-up: the node, or its start, where it comes to no such fault.
 fn place_in_run<L: Lookup>(
     alloc: Global,
+    scenario: &Json,
     run: &StartedRun<'_>,
     lookup: &L,
     fault: Fault,
 ) -> Result<Place, AllocError>
-    ensures { IfOk result (λ place. IsMore run.now.element fault (fault_of (L.answers lookup.now) run.now.program.now.statements) (string_bytes place.more)) }
+    ensures { IfOk result (λ place. IsMore (view scenario.now) run.now.element fault (fault_of (L.answers lookup.now) run.now.program.now.statements) (string_bytes place.more)) }
 {
     let found = find_fault(alloc, run.program, lookup)?;
     let place = match &found {
-        Some(found) => place_where_same(alloc, run.element, fault, found),
+        Some(found) => place_where_same(alloc, scenario, run.element, fault, found),
         None => place_of_element(alloc, run.element),
     };
     drop(found);
@@ -149,10 +196,10 @@ pub(crate) fn place_of_run<L: Lookup>(
     lookup: &L,
     fault: Fault,
 ) -> Result<Place, AllocError>
-    ensures { IfOk result (λ place. IsMoreOf (slice_get (origin_in explained.now).runs number) (L.answers lookup.now) fault (string_bytes place.more)) }
+    ensures { IfOk result (λ place. IsMoreOf (view explained.now.json) (slice_get (origin_in explained.now).runs number) (L.answers lookup.now) fault (string_bytes place.more)) }
 {
     match run_at(explained.runs.as_slice(), number) {
-        Some(run) => place_in_run(alloc, &run, lookup, fault),
+        Some(run) => place_in_run(alloc, &explained.json, &run, lookup, fault),
         None => Ok(bare_place(alloc, Vec::new(alloc))),
     }
 }

@@ -1,11 +1,14 @@
 //! The explanation of a rule that comes to a fault.
-ghost use Rattle.std.specs.Prelude.{◌≡◌, Ok as OkOf, IfOk, OnOk, string_bytes};
+ghost use Rattle.std.specs.Prelude.{◌≡◌, ◌≤◌, Ok as OkOf, IfOk, OnOk, string_bytes};
 ghost use Rattle.serde_json.specs.View.{view};
 ghost use Rattle.stm_calls.specs.StateOf.{IsStateOf};
-ghost use Rattle.stm_program_json.specs.Reading.{program_of};
+ghost use Rattle.stm_program.specs.declared.limits.TheConstants.{MAX_NODES};
+ghost use Rattle.stm_program_json.specs.Reading.{first_statement, program_of};
 ghost use Rattle.stm_steps.specs.States.{state_answers};
-ghost use Rattle.stm_texts.specs.Reading.{IsOpening, scenario_in};
+ghost use Rattle.stm_texts.specs.Reading.{scenario_in};
+ghost use Rattle.stm_texts.specs.Opens.{IsOpening};
 ghost use Rattle.stm_world.specs.World.{world_after};
+ghost use Rattle.stm_faulted_runs.specs.Places.{BeginsBelow};
 ghost use Rattle.stm_faulted_runs.specs.Rules.{IsRuleLine, ExplainsProgram, ExplainsOver, ExplainsRule, rule_head, left_by};
 
 use crate::lines::words_of;
@@ -16,11 +19,11 @@ use std::alloc::{AllocError, Global};
 use stm_explain::explained_at;
 use stm_json::ReadError;
 use stm_program::Program;
-use stm_program_json::read_program;
+use stm_program_json::{first_statement, read_program};
 use stm_retry::{State, World, WorldEvent};
 use stm_sites::{FoundFault, find_fault};
 use stm_steps::Fault;
-use stm_texts::{Scenario, read_scenario};
+use stm_texts::{Scenario, opens_with, read_scenario};
 
 /// The head of a rule's line.
 fn head_of_rule(alloc: Global, fault: Fault) -> Result<String, AllocError>
@@ -29,11 +32,18 @@ fn head_of_rule(alloc: Global, fault: Fault) -> Result<String, AllocError>
     format!(in alloc; "{fault} of the rule")
 }
 
-/// The line of a rule that comes to a fault.
-fn fault_line(alloc: Global, rule: &Named<'_>, found: &FoundFault) -> Result<String, AllocError>
-    ensures { IfOk result (λ line. IsRuleLine rule.now.name.now rule.now.text.now found.now (string_bytes line)) }
+/// The line of a rule that comes to a fault, and of whose elements the first statement is the one with this index.
+fn fault_line(
+    alloc: Global,
+    rule: &Named<'_>,
+    first: usize,
+    found: &FoundFault,
+) -> Result<String, AllocError>
+    requires first { first ≤ 1 }
+    requires few { BeginsBelow MAX_NODES found.now.site.place }
+    ensures { IfOk result (λ line. IsRuleLine rule.now.name.now rule.now.text.now first found.now (string_bytes line)) }
 {
-    let place = place_of_fault(alloc, Vec::new(alloc), found)?;
+    let place = place_of_fault(alloc, Vec::new(alloc), first, found)?;
     let head = head_of_rule(alloc, found.fault)?;
     let words = words_of(alloc, head.as_str(), place.more.as_str())?;
     let steps = place.steps.as_slice();
@@ -44,14 +54,16 @@ fn fault_line(alloc: Global, rule: &Named<'_>, found: &FoundFault) -> Result<Str
 fn explained_with(
     alloc: Global,
     rule: &Named<'_>,
+    first: usize,
     program: &Program,
     state: &State,
 ) -> Result<String, AllocError>
-    ensures { IfOk result (λ line. ExplainsProgram rule.now.name.now rule.now.text.now (state_answers state.now) (OkOf program.now) (string_bytes line)) }
+    requires { first ≤ 1 }
+    ensures { IfOk result (λ line. ExplainsProgram rule.now.name.now rule.now.text.now first (state_answers state.now) (OkOf program.now) (string_bytes line)) }
 {
     let found = find_fault(alloc, program, state)?;
     let line = match &found {
-        Some(found) => fault_line(alloc, rule, found),
+        Some(found) => fault_line(alloc, rule, first, found),
         None => Ok(String::new(alloc)),
     };
     drop(found);
@@ -65,10 +77,14 @@ fn explained_on(
     json: &Json,
     state: &State,
 ) -> Result<String, AllocError>
-    ensures { IfOk result (λ line. ExplainsProgram rule.now.name.now rule.now.text.now (state_answers state.now) (program_of (view json.now)) (string_bytes line)) }
+    ensures { IfOk result (λ line. ExplainsProgram rule.now.name.now rule.now.text.now (first_statement (view json.now)) (state_answers state.now)
+        (program_of (view json.now)) (string_bytes line)) }
 {
     match read_program(alloc, json) {
-        Ok(program) => explained_with(alloc, rule, &program, state),
+        Ok(program) => {
+            let first = first_statement(json);
+            explained_with(alloc, rule, first, &program, state)
+        }
         Err(ReadError::Bad(_)) => Ok(String::new(alloc)),
         Err(ReadError::OutOfMemory) => Err(AllocError),
     }
@@ -108,8 +124,8 @@ fn state_after(alloc: Global, scenario: &Scenario) -> Result<State, AllocError>
     requires { IsOpening scenario.now.opening }
     ensures { IfOk result (IsStateOf (left_by scenario.now)) }
 {
-    let start = scenario.opening.unwrap_or(1);
-    let mut world = World::with_revision(alloc, start)?;
+    let opening = opens_with(scenario.opening);
+    let mut world = World::with_limits(alloc, opening.revision, opening.operations)?;
     let outcome = run_all(&mut world, scenario.events.as_slice());
     let left = world.state();
     drop(world);

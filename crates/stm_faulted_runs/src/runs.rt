@@ -1,9 +1,11 @@
 //! The runs that a scenario begins, and its text.
 ghost use Rattle.std.specs.Prelude.{◌≡◌, ◌≤◌, ◌++◌, [], ◌∷◌, nat_eq, if◌then◌else◌, is_some, map, slice_get, option_map, IfOk, OnOk};
-ghost use Rattle.stm_faulted_runs.specs.Places.{started_by, started_in};
+ghost use Rattle.serde_json.specs.View.{view};
+ghost use Rattle.stm_faulted_runs.specs.Places.{started_by, started_in, json_of};
 ghost use Rattle.stm_faulted_runs.specs.Lines.{first_of, origin_of};
 ghost use Rattle.stm_faulted_runs.specs.Origins.{started_as, origin_in};
 
+use serde_json::Value as Json;
 use std::alloc::{AllocError, Global};
 use stm_explain::Marked;
 use stm_program::Program;
@@ -24,6 +26,8 @@ pub(crate) struct StartedRun<'a> {
 pub(crate) struct Explained<'a> {
     /// The text.
     pub(crate) marked: Marked<'a>,
+    /// Its JSON.
+    pub(crate) json: Json,
     /// The runs, in order.
     pub(crate) runs: Vec<StartedRun<'a>>,
 }
@@ -92,6 +96,22 @@ fn first_of(scenario: &Scenario) -> usize
     if scenario.opening.is_some() { 1 } else { 0 }
 }
 
+/// The JSON that a text spells, null where it spells none.
+fn json_of(alloc: Global, text: &str) -> Result<Json, AllocError>
+    ensures { IfOk result (λ json. view json ≡ json_of text.now) }
+{
+    match Json::from_str(alloc, text) {
+        Ok(json) => Ok(json),
+        Err(error) => {
+            if error.is_memory() {
+                Err(AllocError)
+            } else {
+                Ok(Json::Null)
+            }
+        }
+    }
+}
+
 /// A scenario that was read from the text under this name.
 pub(crate) fn to_explain<'a>(
     alloc: Global,
@@ -105,5 +125,6 @@ pub(crate) fn to_explain<'a>(
     let first = first_of(scenario);
     let runs = runs_of(alloc, first, events)?;
     let marked = Marked::new(alloc, name, text, first + events.len())?;
-    Ok(Explained { marked, runs })
+    let json = json_of(alloc, text)?;
+    Ok(Explained { marked, json, runs })
 }

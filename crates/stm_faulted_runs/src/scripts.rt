@@ -1,8 +1,8 @@
 //! The explanations of the runs of a scenario.
-ghost use Rattle.std.specs.Prelude.{◌≡◌, ◌≤◌, Ok as OkOf, IfOk, string_bytes};
-ghost use Rattle.stm_texts.specs.Reading.{IsOpening, scenario_in};
+ghost use Rattle.std.specs.Prelude.{◌≡◌, Ok as OkOf, Some, IfOk, string_bytes};
+ghost use Rattle.stm_texts.specs.Reading.{scenario_in};
+ghost use Rattle.stm_texts.specs.Opens.{IsOpening, as_setup};
 ghost use Rattle.stm_faulted_runs.specs.Lines.{ExplainsEach, ExplainsRun, faults_from};
-ghost use Rattle.stm_history.specs.declared.revisions.TheConstants.{HIGHEST_REVISION};
 ghost use Rattle.stm_world.specs.World.{opened};
 ghost use Rattle.stm_faulted_runs.specs.Origins.{origin_in};
 
@@ -11,7 +11,7 @@ use crate::runs::{Explained, to_explain};
 use std::alloc::{AllocError, Global};
 use stm_json::ReadError;
 use stm_retry::{World, WorldEvent};
-use stm_texts::{Scenario, read_scenario};
+use stm_texts::{Opening, Scenario, opens_with, read_scenario};
 
 /// A text, and the name of its file, as people know it.
 #[derive(Clone, Copy)]
@@ -43,17 +43,17 @@ fn lines_in(
     }
 }
 
-/// The lines of the runs that events begin, over an empty store that opens at this revision.
+/// The lines of the runs that events begin, over an empty store that opens with this.
 fn lines_from(
     alloc: Global,
     explained: &Explained<'_>,
-    start: u64,
+    opening: Opening,
     events: &[WorldEvent],
 ) -> Result<String, AllocError>
-    requires { (1 ≤ start) × (start ≤ HIGHEST_REVISION) }
-    ensures { IfOk result (λ said. ExplainsEach (origin_in explained.now) (faults_from (opened start) events.now) (string_bytes said)) }
+    requires { IsOpening (Some opening) }
+    ensures { IfOk result (λ said. ExplainsEach (origin_in explained.now) (faults_from (opened (as_setup opening)) events.now) (string_bytes said)) }
 {
-    let world = World::with_revision(alloc, start)?;
+    let world = World::with_limits(alloc, opening.revision, opening.operations)?;
     lines_in(alloc, explained, world, events)
 }
 
@@ -62,9 +62,9 @@ fn lines_of(alloc: Global, source: &Named<'_>, scenario: &Scenario) -> Result<St
     requires { IsOpening scenario.now.opening }
     ensures { IfOk result (λ said. ExplainsRun source.now.name.now source.now.text.now (OkOf scenario.now) (string_bytes said)) }
 {
-    let start = scenario.opening.unwrap_or(1);
+    let opening = opens_with(scenario.opening);
     let explained = to_explain(alloc, source.name, source.text, scenario)?;
-    lines_from(alloc, &explained, start, scenario.events.as_slice())
+    lines_from(alloc, &explained, opening, scenario.events.as_slice())
 }
 
 /// The same, of a scenario that is let go then.

@@ -16,10 +16,11 @@ use Rattle.stm_outcome.specs.declared.refusal.Refusal.{Refusal}
 use Rattle.stm_outcome.specs.declared.refusal.Refusal.TheVariants.{OutOfMemory, RevisionsUsedUp, TimeGoesBack}
 use Rattle.stm_outcome.specs.Outcome.{Done, outcome, with_changes, is_used_up}
 use Rattle.stm_txn.specs.LeaseKeys.{deletions_of}
+use Rattle.stm_outcome.specs.Terms.{most_operations}
 use Rattle.stm_txn.specs.Standing.{Standing, Step, Advance, IsRefusalOf, refusal_of, with_history, transacted, without_lease, ended}
 use Rattle.stm_txn.specs.Standing.{at_moment, after, expired_in, expire_up_to, expire_all, advanced, HasCome, IsCutShort as StoreCutShort}
 use Rattle.stm_txn.specs.Standing.{terms_of}
-use Rattle.stm_outcome.proofs.Lowering.{floor_only_refuses}
+use Rattle.stm_outcome.proofs.Widening.{wider_terms_take}
 use Rattle.stm_outcome.proofs.Applying.{history_grows}
 use Rattle.stm_txn.proofs.Ending.{ended_is, due_lives}
 use Rattle.stm_entries.specs.declared.entry.Entry.{Entry}
@@ -41,15 +42,15 @@ same_history h after (c ∷ cs) is still =
     let higher : now after ≡ now (with_changes h (c ∷ cs)) = ap now is in
     absurd (omega arith)
 
-changed_follows : (s : Standing) (txn : Txn) (done : Done) (b : Bool) → outcome (terms_of s) txn ≡ Ok done →
+changed_follows : (s : Standing) (txn : Txn) (done : Done) (b : Bool) → s.limit ≤ most_operations → outcome (terms_of s) txn ≡ Ok done →
     nat_lt (now s.history) (now done.history) ≡ b → Follows s (with_history s done.history) (cond b (Foreign txn ∷ []) [])
-changed_follows s txn done true is changed =
-    let anywhere : outcome (replay_terms (without_moment s)) txn ≡ Ok done = floor_only_refuses (terms_of s) txn done is in
+changed_follows s txn done true few is changed =
+    let anywhere : outcome (replay_terms (without_moment s)) txn ≡ Ok done = wider_terms_take (terms_of s) most_operations txn done few is in
     record {
       replays = ap (λ o. replayed_with (without_moment s) (history_left s.history o)) anywhere;
       there = (record { done = done; taken = anywhere; changed = ltb-true (now s.history) (now done.history) changed }, tt);
     }
-changed_follows s txn done false is changed =
+changed_follows s txn done false few is changed =
     let grown : (changes : List Change) × HasDistinctKeys changes × (done.history ≡ with_changes s.history changes) =
     history_grows (terms_of s) txn done is in
     record {
@@ -58,9 +59,9 @@ changed_follows s txn done false is changed =
     }
 
 -- a transaction that the store takes
-pub txn_follows : (s : Standing) (txn : Txn) (done : Done) → outcome (terms_of s) txn ≡ Ok done →
+pub txn_follows : (s : Standing) (txn : Txn) (done : Done) → s.limit ≤ most_operations → outcome (terms_of s) txn ≡ Ok done →
     Follows s (with_history s done.history) (if_changed s (with_history s done.history) txn)
-txn_follows s txn done is = changed_follows s txn done (nat_lt (now s.history) (now done.history)) is refl
+txn_follows s txn done few is = changed_follows s txn done (nat_lt (now s.history) (now done.history)) few is refl
 
 -- ---- what is told of a transaction
 

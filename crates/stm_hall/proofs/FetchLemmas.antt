@@ -91,14 +91,14 @@ tells_refused s seen txn cause reached refused =
 
 -- ---- the fetch of one key
 
-alone : (s : Standing) (seen : ℕ) (key : List ℕ) (at : ℕ) → seen ≤ now s.history →
+alone : (s : Standing) (seen : ℕ) (key : List ℕ) (at : ℕ) → 0 < s.limit → seen ≤ now s.history →
     fetched s seen (fetch_of key at) ≡ answered (done_of s (read_told s key at))
-alone s seen key at reached = not_behind s seen (fetch_of key at) reached ∙ ap answered (read_comes_to s key at)
+alone s seen key at some reached = not_behind s seen (fetch_of key at) reached ∙ ap answered (read_comes_to s key at some)
 
-pub tells_read : (s : Standing) (seen : ℕ) (key : List ℕ) (at : ℕ) (read : ReadAnswer) → seen ≤ now s.history → read_told s key at ≡ Ok read →
-    fetched s seen (fetch_of key at) ≡ Ok (one_read read)
-tells_read s seen key at read reached told =
-    alone s seen key at reached ∙ ap (λ (r : Result ReadAnswer Refusal). answered (done_of s r)) told
+pub tells_read : (s : Standing) (seen : ℕ) (key : List ℕ) (at : ℕ) (read : ReadAnswer) → 0 < s.limit → seen ≤ now s.history →
+    read_told s key at ≡ Ok read → fetched s seen (fetch_of key at) ≡ Ok (one_read read)
+tells_read s seen key at read some reached told =
+    alone s seen key at some reached ∙ ap (λ (r : Result ReadAnswer Refusal). answered (done_of s r)) told
 
 read_refused : (s : Standing) (told : Result ReadAnswer Refusal) (cause : Refusal) → ReadTells told (Err cause) →
     FetchTells (answered (done_of s told)) (Err (Store cause))
@@ -107,8 +107,8 @@ read_refused s (Ok read) cause (inr want) = inr (ap (λ (c : Refusal). Store c) 
 read_refused s (Err first) cause (inl is) = inl (ap (λ (r : Result ReadAnswer Refusal). answered (done_of s r)) is)
 read_refused s (Err first) cause (inr want) = absurd (false≢true want.1)
 
-pub tells_read_refused : (s : Standing) (seen : ℕ) (key : List ℕ) (at : ℕ) (cause : Refusal) → seen ≤ now s.history →
+pub tells_read_refused : (s : Standing) (seen : ℕ) (key : List ℕ) (at : ℕ) (cause : Refusal) → 0 < s.limit → seen ≤ now s.history →
     ReadTells (read_told s key at) (Err cause) → FetchTells (fetched s seen (fetch_of key at)) (Err (Store cause))
-tells_read_refused s seen key at cause reached refused =
-    subst (λ (o : Result TxnAnswer FetchRefusal). FetchTells o (Err (Store cause))) (sym (alone s seen key at reached))
+tells_read_refused s seen key at cause some reached refused =
+    subst (λ (o : Result TxnAnswer FetchRefusal). FetchTells o (Err (Store cause))) (sym (alone s seen key at some reached))
     (read_refused s (read_told s key at) cause refused)

@@ -19,7 +19,6 @@ use Rattle.stm_outcome.specs.Checks.{fault_of}
 use Rattle.stm_outcome.specs.Compares.{first_failed}
 use Rattle.stm_outcome.specs.Effect.{op_of}
 use Rattle.stm_outcome.specs.Outcome.{Done, outcome, branch_outcome}
-use Rattle.stm_outcome.specs.Terms.{most_operations}
 use Rattle.stm_outcome.specs.Numbers.{StateFits, StatesFit, ReadFits, OpsFit}
 use Rattle.stm_outcome.proofs.Applying.{branch_applies, writes_apply, failed_has_its_place}
 use Rattle.stm_txn.specs.Standing.{Standing, Step, IsRefusalOf, terms_of, with_history, write_step, written}
@@ -43,10 +42,10 @@ use Rattle.stm_hall.proofs.Sending.{IsCompared, verdict_compared, verdict_at_fau
 
 -- ---- what a cause says
 
-pub record IsClearOf (h : History) (ready : ReadyRun) : Type 0 where
-  pub right : fault_of most_operations (txn_of ready) ≡ None
-  pub compared : first_failed (key_now h) 0 (txn_of ready).compares ≡ None
-  pub vouched : first_unvouched h ready.level ready.answers ≡ None
+pub record IsClearOf (s : Standing) (ready : ReadyRun) : Type 0 where
+  pub right : fault_of s.limit (txn_of ready) ≡ None
+  pub compared : first_failed (key_now s.history) 0 (txn_of ready).compares ≡ None
+  pub vouched : first_unvouched s.history ready.level ready.answers ≡ None
 
 clear_by : (fault : Option Refusal) (failed : Option FailedCompare) (unvouched : Option ReadAnswer) →
     cause_wrong fault (cause_failed failed (cause_unvouched unvouched)) ≡ None → (fault ≡ None) × (failed ≡ None) × (unvouched ≡ None)
@@ -55,10 +54,10 @@ clear_by None (Some f) unvouched is = absurd (cc)
 clear_by None None (Some a) is = absurd (cc)
 clear_by None None None is = (refl, refl, refl)
 
-pub without_cause : (h : History) (ready : ReadyRun) → cause_of h ready ≡ None → IsClearOf h ready
-without_cause h ready is =
-    let c = clear_by (fault_of most_operations (txn_of ready)) (first_failed (key_now h) 0 (txn_of ready).compares)
-    (first_unvouched h ready.level ready.answers) is in
+pub without_cause : (s : Standing) (ready : ReadyRun) → cause_of s ready ≡ None → IsClearOf s ready
+without_cause s ready is =
+    let c = clear_by (fault_of s.limit (txn_of ready)) (first_failed (key_now s.history) 0 (txn_of ready).compares)
+    (first_unvouched s.history ready.level ready.answers) is in
     record { right = c.0; compared = c.1; vouched = c.2 }
 
 wrong_by : (fault : Option Refusal) (failed : Option FailedCompare) (unvouched : Option ReadAnswer) (cause : Refusal) →
@@ -68,10 +67,10 @@ wrong_by None (Some f) unvouched cause is = absurd (cc)
 wrong_by None None (Some a) cause is = absurd (cc)
 wrong_by None None None cause is = absurd (cc)
 
-pub caused_by_fault : (h : History) (ready : ReadyRun) (cause : Refusal) → cause_of h ready ≡ Some (Wrong cause) →
-    fault_of most_operations (txn_of ready) ≡ Some cause
-caused_by_fault h ready cause is =
-    wrong_by (fault_of most_operations (txn_of ready)) (first_failed (key_now h) 0 (txn_of ready).compares) (first_unvouched h ready.level ready.answers) cause is
+pub caused_by_fault : (s : Standing) (ready : ReadyRun) (cause : Refusal) → cause_of s ready ≡ Some (Wrong cause) →
+    fault_of s.limit (txn_of ready) ≡ Some cause
+caused_by_fault s ready cause is =
+    wrong_by (fault_of s.limit (txn_of ready)) (first_failed (key_now s.history) 0 (txn_of ready).compares) (first_unvouched s.history ready.level ready.answers) cause is
 
 fails_by : (fault : Option Refusal) (failed : Option FailedCompare) (unvouched : Option ReadAnswer) (f : FailedCompare) →
     cause_wrong fault (cause_failed failed (cause_unvouched unvouched)) ≡ Some (Fails f) → (fault ≡ None) × (failed ≡ Some f)
@@ -80,10 +79,10 @@ fails_by None (Some g) unvouched f is = (refl, cc)
 fails_by None None (Some a) f is = absurd (cc)
 fails_by None None None f is = absurd (cc)
 
-pub caused_by_compare : (h : History) (ready : ReadyRun) (f : FailedCompare) → cause_of h ready ≡ Some (Fails f) →
-    (fault_of most_operations (txn_of ready) ≡ None) × (first_failed (key_now h) 0 (txn_of ready).compares ≡ Some f)
-caused_by_compare h ready f is =
-    fails_by (fault_of most_operations (txn_of ready)) (first_failed (key_now h) 0 (txn_of ready).compares) (first_unvouched h ready.level ready.answers) f is
+pub caused_by_compare : (s : Standing) (ready : ReadyRun) (f : FailedCompare) → cause_of s ready ≡ Some (Fails f) →
+    (fault_of s.limit (txn_of ready) ≡ None) × (first_failed (key_now s.history) 0 (txn_of ready).compares ≡ Some f)
+caused_by_compare s ready f is =
+    fails_by (fault_of s.limit (txn_of ready)) (first_failed (key_now s.history) 0 (txn_of ready).compares) (first_unvouched s.history ready.level ready.answers) f is
 
 -- nothing else is wrong, and this is the first value that is not the store's
 pub record IsUnvouchedBy (fault : Option Refusal) (failed : Option FailedCompare) (unvouched : Option ReadAnswer) : Type 0 where
@@ -99,13 +98,13 @@ unvouched_by None (Some f) unvouched is = absurd (cc)
 unvouched_by None None (Some a) is = record { right = refl; compared = refl; answer = a; is_first = refl }
 unvouched_by None None None is = absurd (cc)
 
-abbrev pub IsUnvouchedOf : History → ReadyRun → Type 0
-IsUnvouchedOf h ready =
-    IsUnvouchedBy (fault_of most_operations (txn_of ready)) (first_failed (key_now h) 0 (txn_of ready).compares) (first_unvouched h ready.level ready.answers)
+abbrev pub IsUnvouchedOf : Standing → ReadyRun → Type 0
+IsUnvouchedOf s ready =
+    IsUnvouchedBy (fault_of s.limit (txn_of ready)) (first_failed (key_now s.history) 0 (txn_of ready).compares) (first_unvouched s.history ready.level ready.answers)
 
-pub caused_by_value : (h : History) (ready : ReadyRun) → cause_of h ready ≡ Some Unvouched → IsUnvouchedOf h ready
-caused_by_value h ready is =
-    unvouched_by (fault_of most_operations (txn_of ready)) (first_failed (key_now h) 0 (txn_of ready).compares) (first_unvouched h ready.level ready.answers) is
+pub caused_by_value : (s : Standing) (ready : ReadyRun) → cause_of s ready ≡ Some Unvouched → IsUnvouchedOf s ready
+caused_by_value s ready is =
+    unvouched_by (fault_of s.limit (txn_of ready)) (first_failed (key_now s.history) 0 (txn_of ready).compares) (first_unvouched s.history ready.level ready.answers) is
 
 -- ---- the changes of a commit
 
@@ -115,7 +114,7 @@ changes_of_ready ready kept =
     (changes_are_distinct (latest_writes kept.run.writes) (latest_writes-distinct kept.run.writes))
 
 -- what a commit comes to that nothing turns down is what its changes come to
-clear_is_written : (s : Standing) (ready : ReadyRun) (changes : List Change) → IsClearOf s.history ready → IsRunOnItsAnswers ready →
+clear_is_written : (s : Standing) (ready : ReadyRun) (changes : List Change) → IsClearOf s ready → IsRunOnItsAnswers ready →
     changes ≡ map as_change ready.writes → outcome (terms_of s) (txn_of ready) ≡ branch_outcome (terms_of s) None (map op_of changes)
 clear_is_written s ready changes c kept is =
     writes_apply (terms_of s) (txn_of ready) (map as_change ready.writes) (ops_of_writes ready.writes) (changes_of_ready ready kept) c.right c.compared
@@ -140,13 +139,13 @@ committed_to place revision next = Ok record { answer = Committed place revision
 
 -- the commit is made: its changes are in the store, and its entry behind the others
 pub tells_made : (hall after : HallState) (ready : ReadyRun) (changes : List Change) (next : Standing) (index revision : ℕ) →
-    cause_of hall.standing.history ready ≡ None → IsRunOnItsAnswers ready → changes ≡ map as_change ready.writes →
+    cause_of hall.standing ready ≡ None → IsRunOnItsAnswers ready → changes ≡ map as_change ready.writes →
     written hall.standing changes ≡ Ok record { answer = revision; next = next } → index ≡ length hall.entries →
     after ≡ gone_on hall next (entry_of ready revision ∷ []) → verdict_of hall ready ≡ Ok record { answer = Committed index revision; next = after }
 unfolding committed_to write_to
 tells_made hall after ready changes next index revision clear kept is step place left =
     let s : Standing = hall.standing in
-    let c : IsClearOf s.history ready = without_cause s.history ready clear in
+    let c : IsClearOf s ready = without_cause s ready clear in
     let w = written_by s next revision (branch_outcome (terms_of s) None (map op_of changes)) step in
     verdict_taken hall ready (Ok w.0) (record { right = c.right; compared = c.compared }) c.vouched
     (clear_is_written s ready changes c kept is ∙ w.1)
@@ -162,19 +161,19 @@ refusal_by s (Err first) cause is = inr (ap (λ (c : Refusal). Err c) (sym is))
 same_refusal : (cause : Refusal) (o p : Result Done Refusal) → o ≡ p → (cause ≡ OutOfMemory) ⊎ (o ≡ Err cause) → (cause ≡ OutOfMemory) ⊎ (p ≡ Err cause)
 same_refusal cause o p same told = subst (λ (x : Result Done Refusal). (cause ≡ OutOfMemory) ⊎ (x ≡ Err cause)) same told
 
-as_told : (hall : HallState) (ready : ReadyRun) (cause : Refusal) → IsClearOf hall.standing.history ready →
+as_told : (hall : HallState) (ready : ReadyRun) (cause : Refusal) → IsClearOf hall.standing ready →
     (cause ≡ OutOfMemory) ⊎ (outcome (terms_of hall.standing) (txn_of ready) ≡ Err cause) →
     (Store cause ≡ Store OutOfMemory) ⊎ (verdict_of hall ready ≡ Err (Store cause))
 as_told hall ready cause c (inl want) = inl (ap (λ (x : Refusal). Store x) want)
 as_told hall ready cause c (inr is) = inr (verdict_taken hall ready (Err cause) (record { right = c.right; compared = c.compared }) c.vouched is)
 
 -- the store refuses its changes
-pub tells_not_made : (hall after : HallState) (ready : ReadyRun) (changes : List Change) (cause : Refusal) → cause_of hall.standing.history ready ≡ None →
+pub tells_not_made : (hall after : HallState) (ready : ReadyRun) (changes : List Change) (cause : Refusal) → cause_of hall.standing ready ≡ None →
     IsRunOnItsAnswers ready → changes ≡ map as_change ready.writes → IsRefusalOf (written hall.standing changes) cause → after ≡ hall →
     CommitTells (verdict_of hall ready) hall (Err (Store cause)) after
 tells_not_made hall after ready changes cause clear kept is refused same =
     let s : Standing = hall.standing in
-    let c : IsClearOf s.history ready = without_cause s.history ready clear in (
+    let c : IsClearOf s ready = without_cause s ready clear in (
       as_told hall ready cause c
           (same_refusal cause (branch_outcome (terms_of s) None (map op_of changes)) (outcome (terms_of s) (txn_of ready))
           (sym (clear_is_written s ready changes c kept is))
@@ -184,54 +183,55 @@ tells_not_made hall after ready changes cause clear kept is refused same =
 
 -- ---- a commit that is turned down
 
-pub turned_wrong : (h : History) (ready : ReadyRun) (cause : Refusal) → cause_of h ready ≡ Some (Wrong cause) → TurnsDown h ready (Err (Store cause))
-turned_wrong h ready cause is = λ hall same. (inr (verdict_at_fault hall ready cause (caused_by_fault h ready cause is)), refl)
+pub turned_wrong : (s : Standing) (ready : ReadyRun) (cause : Refusal) → cause_of s ready ≡ Some (Wrong cause) → TurnsDown s ready (Err (Store cause))
+turned_wrong s ready cause is = λ hall same.
+    (inr (verdict_at_fault hall ready cause (ap (λ (x : Standing). fault_of x.limit (txn_of ready)) same ∙ caused_by_fault s ready cause is)), refl)
 
 failed_to : Verdict → HallState → Result (HallStep Verdict) CommitRefusal
 failed_to verdict next = Ok record { answer = verdict; next = next }
 
-pub turned_failed : (h : History) (ready : ReadyRun) (f : FailedCompare) (verdict : Verdict) → cause_of h ready ≡ Some (Fails f) →
-    verdict ≡ failed_with ready f (map (answer_now h) (reread_keys ready.level ready.answers)) → TurnsDown h ready (Ok verdict)
+pub turned_failed : (s : Standing) (ready : ReadyRun) (f : FailedCompare) (verdict : Verdict) → cause_of s ready ≡ Some (Fails f) →
+    verdict ≡ failed_with ready f (map (answer_now s.history) (reread_keys ready.level ready.answers)) → TurnsDown s ready (Ok verdict)
 unfolding failed_to
-turned_failed h ready f verdict is told = λ hall same.
-    let by = caused_by_compare h ready f is in
+turned_failed s ready f verdict is told = λ hall same.
+    let by = caused_by_compare s ready f is in
     let c : IsCompared hall ready (Some f) = record {
-      right = by.0;
-      compared = ap (λ (x : History). first_failed (key_now x) 0 (txn_of ready).compares) same ∙ by.1;
+      right = ap (λ (x : Standing). fault_of x.limit (txn_of ready)) same ∙ by.0;
+      compared = ap (λ (x : Standing). first_failed (key_now x.history) 0 (txn_of ready).compares) same ∙ by.1;
     } in
     verdict_compared hall ready (Some f) c
-    ∙ ap (λ (x : History). failed_to (failed_with ready f (map (answer_now x) (reread_keys ready.level ready.answers))) hall) same
+    ∙ ap (λ (x : Standing). failed_to (failed_with ready f (map (answer_now x.history) (reread_keys ready.level ready.answers))) hall) same
     ∙ ap (λ (v : Verdict). failed_to v hall) (sym told)
 
-pub turned_out : (h : History) (ready : ReadyRun) (result : Result Verdict CommitRefusal) → result ≡ Err (Store OutOfMemory) → TurnsDown h ready result
-turned_out h ready result is = λ hall same.
+pub turned_out : (s : Standing) (ready : ReadyRun) (result : Result Verdict CommitRefusal) → result ≡ Err (Store OutOfMemory) → TurnsDown s ready result
+turned_out s ready result is = λ hall same.
     subst (λ (r : Result Verdict CommitRefusal). CommitTells (verdict_of hall ready) hall r hall) (sym is) (inl refl, refl)
 
-pub turned_unvouched : (h : History) (ready : ReadyRun) (a : ReadAnswer) (key : List ℕ) → cause_of h ready ≡ Some Unvouched →
-    first_unvouched h ready.level ready.answers ≡ Some a → key ≡ a.key → TurnsDown h ready (Err (UnvouchedRefusal key))
-turned_unvouched h ready a key is first told = λ hall same.
-    let by : IsUnvouchedOf h ready = caused_by_value h ready is in
+pub turned_unvouched : (s : Standing) (ready : ReadyRun) (a : ReadAnswer) (key : List ℕ) → cause_of s ready ≡ Some Unvouched →
+    first_unvouched s.history ready.level ready.answers ≡ Some a → key ≡ a.key → TurnsDown s ready (Err (UnvouchedRefusal key))
+turned_unvouched s ready a key is first told = λ hall same.
+    let by : IsUnvouchedOf s ready = caused_by_value s ready is in
     let c : IsCompared hall ready None = record {
-      right = by.right;
-      compared = ap (λ (x : History). first_failed (key_now x) 0 (txn_of ready).compares) same ∙ by.compared;
+      right = ap (λ (x : Standing). fault_of x.limit (txn_of ready)) same ∙ by.right;
+      compared = ap (λ (x : Standing). first_failed (key_now x.history) 0 (txn_of ready).compares) same ∙ by.compared;
     } in (
       inr (verdict_compared hall ready None c
           ∙ ap (λ (o : Option ReadAnswer). unless_unvouched o (taken hall ready (outcome (terms_of hall.standing) (txn_of ready))))
-          (ap (λ (x : History). first_unvouched x ready.level ready.answers) same ∙ first)
+          (ap (λ (x : Standing). first_unvouched x.history ready.level ready.answers) same ∙ first)
           ∙ ap (λ (k : List ℕ). Err (UnvouchedRefusal k)) (sym told)),
       refl,
     )
 
 -- there is such a value
-pub not_vouched : (h : History) (ready : ReadyRun) (o : Option ReadAnswer) → cause_of h ready ≡ Some Unvouched →
-    o ≡ first_unvouched h ready.level ready.answers → o ≡ None → ⊥
-not_vouched h ready o is first none =
-    let by : IsUnvouchedOf h ready = caused_by_value h ready is in
+pub not_vouched : (s : Standing) (ready : ReadyRun) (o : Option ReadAnswer) → cause_of s ready ≡ Some Unvouched →
+    o ≡ first_unvouched s.history ready.level ready.answers → o ≡ None → ⊥
+not_vouched s ready o is first none =
+    let by : IsUnvouchedOf s ready = caused_by_value s ready is in
     let both : Some by.answer ≡ None = sym by.is_first ∙ sym first ∙ none in
     absurd (cc (both))
 
 -- turned down by a hall's store, its entries are as they were
-pub turned_there : (s : Standing) (es : List Entry) (ready attempt : ReadyRun) (result : Result Verdict CommitRefusal) → TurnsDown s.history attempt result →
+pub turned_there : (s : Standing) (es : List Entry) (ready attempt : ReadyRun) (result : Result Verdict CommitRefusal) → TurnsDown s attempt result →
     attempt ≡ ready → CommitsAs ready result s es s es
 turned_there s es ready attempt result down same = λ start.
     subst (λ (r : ReadyRun). CommitTells (verdict_of (hall_of s es start) r) (hall_of s es start) result (hall_of s es start)) same

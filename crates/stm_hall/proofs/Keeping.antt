@@ -1,5 +1,5 @@
 -- A hall is locked after each call, and goes on from what it was.
-use Rattle.std.proofs.Common.{◌≡◌, ◌⊎◌, inl, inr, ℕ, List, [], ◌∷◌, Option, Some, None, Result, Ok, Err, IfOk, IfErr, refl, sym, subst}
+use Rattle.std.proofs.Common.{◌≡◌, ◌⊎◌, inl, inr, ℕ, ◌≤◌, List, [], ◌∷◌, Option, Some, None, Result, Ok, Err, IfOk, IfErr, refl, sym, subst}
 use Rattle.stm_history.specs.declared.key_state.ReadAnswer.{ReadAnswer}
 use Rattle.stm_history.specs.History.{now, key_now}
 use Rattle.stm_outcome.specs.declared.txn.Txn.{Txn}
@@ -11,6 +11,7 @@ use Rattle.stm_outcome.specs.declared.refusal.Refusal.{Refusal}
 use Rattle.stm_outcome.specs.Checks.{fault_of}
 use Rattle.stm_outcome.specs.Compares.{first_failed}
 use Rattle.stm_outcome.specs.Outcome.{Done, outcome}
+use Rattle.stm_outcome.specs.Terms.{most_operations}
 use Rattle.stm_txn.specs.Standing.{Standing, with_history, step_of, terms_of}
 use Rattle.stm_attempt.specs.ReadyRun.{ReadyRun, IsRunOnItsAnswers}
 use Rattle.stm_entries.specs.declared.entry.Entry.{Entry}
@@ -99,19 +100,19 @@ commit_alone before after ready (Err cause) locked kept told = tt
 
 -- ---- a foreign transaction
 
-by_done : (hall : HallState) (txn : Txn) (o : Result Done Refusal) → IsLocked hall → outcome (terms_of hall.standing) txn ≡ o →
+by_done : (hall : HallState) (txn : Txn) (o : Result Done Refusal) → IsLocked hall → hall.standing.limit ≤ most_operations → outcome (terms_of hall.standing) txn ≡ o →
     KeptBy hall (entered hall txn (step_of hall.standing o))
-by_done hall txn (Ok done) locked is =
+by_done hall txn (Ok done) locked few is =
     keeps_more hall (with_history hall.standing done.history) (if_changed hall.standing (with_history hall.standing done.history) txn) locked
-    (txn_follows hall.standing txn done is)
-by_done hall txn (Err cause) locked is = tt
+    (txn_follows hall.standing txn done few is)
+by_done hall txn (Err cause) locked few is = tt
 
-pub made_keeps : (before after : HallState) (txn : Txn) (result : Result TxnAnswer Refusal) → IsLocked before → TxnTells (made before txn) before result after →
-    Keeps before after
-made_keeps before after txn (Ok answer) locked told =
+pub made_keeps : (before after : HallState) (txn : Txn) (result : Result TxnAnswer Refusal) → IsLocked before →
+    before.standing.limit ≤ most_operations → TxnTells (made before txn) before result after → Keeps before after
+made_keeps before after txn (Ok answer) locked few told =
     subst (λ (o : Result (HallStep TxnAnswer) Refusal). KeptBy before o) told
-    (by_done before txn (outcome (terms_of before.standing) txn) locked refl)
-made_keeps before after txn (Err cause) locked told = keeps_same before after locked told.1
+    (by_done before txn (outcome (terms_of before.standing) txn) locked few refl)
+made_keeps before after txn (Err cause) locked few told = keeps_same before after locked told.1
 
 -- ---- an advance
 

@@ -205,22 +205,22 @@ committed_count limit reads writes w written few =
     sym (three_numbers limit (commit_of ReadCommitted reads writes) 0 w 0 refl (writes_count writes w written) refl
     ∙ none_true (nat_lt limit 0) (nat_lt limit w) (nat_lt limit 0) (le-ltb limit 0 (omega arith)) (le-ltb limit w few) (le-ltb limit 0 (omega arith)))
 
--- where it is not too many, those of a commit at SerializableSnapshot are this many
+-- where nothing is wrong, the compares are within the limit; at SerializableSnapshot they are those of what was read and of what is written
 not_too_many : (b : Bool) (rest : Option Refusal) → cond b (Some TooManyOps) rest ≡ None → b ≡ false
 not_too_many true rest is = absurd (cc)
 not_too_many false rest is = refl
 
-pub few_compares : (limit : ℕ) (reads : List ReadAnswer) (writes : List Write) → fault_of limit (commit_of SerializableSnapshot reads writes) ≡ None →
-    length reads + length writes ≤ limit
-few_compares limit reads writes is =
-    let txn : Txn = commit_of SerializableSnapshot reads writes in
+pub compares_within : (limit : ℕ) (txn : Txn) → fault_of limit txn ≡ None → length txn.compares ≤ limit
+compares_within limit txn is =
     let few : has_too_many limit txn ≡ false =
     not_too_many (has_too_many limit txn)
     (cond (has_empty_key txn) (Some EmptyKey) (cond (has_clash txn.success || has_clash txn.failure) (Some DuplicateKey) None)) is in
-    let below : length txn.compares ≤ limit =
     ltb-false limit (length txn.compares)
-    (first_is_not (nat_lt limit (length txn.compares)) (nat_lt limit (length txn.success)) (nat_lt limit (length txn.failure)) few) in
-    omega (arith, below, snapshot_compares reads writes (length reads) (length writes) refl refl)
+    (first_is_not (nat_lt limit (length txn.compares)) (nat_lt limit (length txn.success)) (nat_lt limit (length txn.failure)) few)
+
+pub few_compares : (limit : ℕ) (reads : List ReadAnswer) (writes : List Write) → length (compares_of SerializableSnapshot reads writes) ≤ limit →
+    length reads + length writes ≤ limit
+few_compares limit reads writes below = omega (arith, below, snapshot_compares reads writes (length reads) (length writes) refl refl)
 
 -- ---- an empty key
 
@@ -290,15 +290,14 @@ named_of_ready ready kept =
     (recursion_from_All (λ w. 0 < length (key_of w)) (latest_writes kept.run.writes)
     (keys_are_not_empty (look_up ready.answers) ready.program.statements kept.run kept.is_run).2)
 
-pub ready_empty : (limit : ℕ) (ready : ReadyRun) → IsRunOnItsAnswers ready → has_too_many limit (txn_of ready) ≡ false →
-    (is_comparing ready.level && reads_nothing ready.answers) ≡ true → fault_of limit (txn_of ready) ≡ Some EmptyKey
-ready_empty limit ready kept few empty =
-    fault_empty limit (txn_of ready) few (empty_by ready.level ready.answers ready.writes (named_of_ready ready kept) ∙ empty)
+-- its keys are named but where one that was read is not
+pub ready_names : (ready : ReadyRun) → IsRunOnItsAnswers ready → has_empty_key (txn_of ready) ≡ (is_comparing ready.level && reads_nothing ready.answers)
+ready_names ready kept = empty_by ready.level ready.answers ready.writes (named_of_ready ready kept)
 
 pub ready_right : (limit : ℕ) (ready : ReadyRun) → IsRunOnItsAnswers ready → has_too_many limit (txn_of ready) ≡ false →
-    (is_comparing ready.level && reads_nothing ready.answers) ≡ false → fault_of limit (txn_of ready) ≡ None
+    has_empty_key (txn_of ready) ≡ false → fault_of limit (txn_of ready) ≡ None
 ready_right limit ready kept few named =
     let txn : Txn = txn_of ready in
-    fault_none limit txn few (empty_by ready.level ready.answers ready.writes (named_of_ready ready kept) ∙ named)
+    fault_none limit txn few named
     (ap (λ (b : Bool). b || has_clash txn.failure) (writes_stand_apart ready kept)
     ∙ reads_apart (reread_keys ready.level ready.answers))

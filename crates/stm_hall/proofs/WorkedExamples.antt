@@ -28,6 +28,7 @@ abbrev store : Standing
 store = record {
   history = record { opening = opening_at 1; revisions = (PutChange (codes "a") (codes "1") 0 ∷ []) ∷ [] };
   floor = 0;
+  limit = 128;
   live = finmap.empty;
   moment = 0;
   watchers = [];

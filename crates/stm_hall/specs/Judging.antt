@@ -11,7 +11,7 @@ use Rattle.stm_outcome.specs.declared.answer.OpAnswer.TheVariants.{Get as GetAns
 use Rattle.stm_outcome.specs.declared.refusal.Refusal.{Refusal}
 use Rattle.stm_outcome.specs.Checks.{fault_of}
 use Rattle.stm_outcome.specs.Compares.{first_failed}
-use Rattle.stm_outcome.specs.Terms.{most_operations}
+use Rattle.stm_txn.specs.Standing.{Standing}
 use Rattle.stm_compile.specs.Answers.{answer_now}
 use Rattle.stm_attempt.specs.ReadyRun.{ReadyRun}
 use Rattle.stm_hall.specs.declared.causes.Cause.{Cause}
@@ -38,13 +38,13 @@ abbrev pub cause_compared : History → ReadyRun → Option Cause
 cause_compared h ready =
     cause_failed (first_failed (key_now h) 0 (txn_of ready).compares) (cause_unvouched (first_unvouched h ready.level ready.answers))
 
--- of a commit: what is wrong with its transaction as a whole, else that
-abbrev pub cause_of : History → ReadyRun → Option Cause
-cause_of h ready = cause_wrong (fault_of most_operations (txn_of ready)) (cause_compared h ready)
+-- of a commit to a store: what is wrong with its transaction as a whole at the store's limit of operations, else that
+abbrev pub cause_of : Standing → ReadyRun → Option Cause
+cause_of s ready = cause_wrong (fault_of s.limit (txn_of ready)) (cause_compared s.history ready)
 
--- It is turned down so in every hall whose store has this history, and that hall stays as it was.
-abbrev pub TurnsDown : History → ReadyRun → Result Verdict CommitRefusal → Type 0
-TurnsDown h ready result = (hall : HallState) → hall.standing.history ≡ h → CommitTells (verdict_of hall ready) hall result hall
+-- It is turned down so in every hall that has this store, and that hall stays as it was.
+abbrev pub TurnsDown : Standing → ReadyRun → Result Verdict CommitRefusal → Type 0
+TurnsDown s ready result = (hall : HallState) → hall.standing ≡ s → CommitTells (verdict_of hall ready) hall result hall
 
 -- a key as it is now, as a transaction answers the read of it
 abbrev pub read_of_now : History → List ℕ → OpAnswer

@@ -47,6 +47,7 @@ pub(crate) fn fetch_one(
     ensures seen { IfOk result (λ answer. seen ≤ answer.revision) }
     ensures numbers { IfOk result ReadFits }
 {
+    let _takes_one = store.limit();
     let counter = store.keys().revision();
     if counter < seen {
         return Err(FetchRefusal::Behind { seen, now: counter });

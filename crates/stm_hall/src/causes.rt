@@ -1,16 +1,17 @@
 //! Why the commit of an attempt is turned down before anything is written.
-ghost use Rattle.std.specs.Prelude.{◌≡◌, None, Some};
+ghost use Rattle.std.specs.Prelude.{◌≡◌, ◌≤◌, length, None, Some};
 ghost use Rattle.stm_history.specs.History.{key_now};
-ghost use Rattle.stm_outcome.specs.Checks.{fault_of};
+ghost use Rattle.stm_outcome.specs.Checks.{has_empty_key};
 ghost use Rattle.stm_outcome.specs.Terms.{most_operations};
 ghost use Rattle.stm_hall.specs.Judging.{cause_of, cause_compared, cause_unvouched};
 ghost use Rattle.stm_hall.specs.Verdicts.{txn_of, first_unvouched};
 
 use crate::conflicts::find_conflict;
+use crate::faults::find_fault;
 use crate::vouching::find_unvouched;
 use stm_attempt::Ready;
 use stm_keys::Keys;
-use stm_txn::{FailedCompare, Refusal};
+use stm_txn::{FailedCompare, Refusal, Store};
 
 /// Why a commit is turned down before anything is written.
 #[derive(Drop)]
@@ -33,9 +34,9 @@ fn find_false_value(keys: &Keys, ready: &Ready) -> Option<Cause>
     }
 }
 
-/// Why a commit is turned down with which nothing is wrong as a whole.
+/// Why a commit is turned down with which nothing is wrong as a whole. Its compares are no more than any store takes.
 fn find_failure(keys: &Keys, ready: &Ready) -> Option<Cause>
-    requires { fault_of most_operations (txn_of ready.now) ≡ None }
+    requires { length (txn_of ready.now).compares ≤ most_operations }
     ensures { result ≡ cause_compared keys.now.history ready.now }
 {
     match find_conflict(keys, ready) {
@@ -44,13 +45,14 @@ fn find_failure(keys: &Keys, ready: &Ready) -> Option<Cause>
     }
 }
 
-/// Why the commit of an attempt is turned down, by what the store's keys are now, where this is what is wrong with it as a whole. It takes no memory.
-pub(crate) fn find_cause(keys: &Keys, fault: Option<Refusal>, ready: &Ready) -> Option<Cause>
-    requires { fault ≡ fault_of most_operations (txn_of ready.now) }
-    ensures { result ≡ cause_of keys.now.history ready.now }
+/// Why a store turns down the commit of an attempt as it is now, where this is whether that names an empty key. It takes no memory.
+pub(crate) fn find_cause(store: &Store, has_empty: bool, ready: &Ready) -> Option<Cause>
+    requires { has_empty ≡ has_empty_key (txn_of ready.now) }
+    ensures { result ≡ cause_of store.now.standing ready.now }
 {
-    match fault {
-        None => find_failure(keys, ready),
+    let most = store.limit();
+    match find_fault(most, has_empty, ready) {
+        None => find_failure(store.keys(), ready),
         Some(fault) => Some(Cause::Wrong(fault)),
     }
 }

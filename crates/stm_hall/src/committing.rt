@@ -27,7 +27,6 @@ use stm_attempt::Ready;
 use stm_calls::{Sent, conflict};
 use stm_entries::Entry;
 use stm_history::{Change, Text};
-use stm_keys::Keys;
 use stm_txn::{FailedCompare, OpAnswer, Refusal, ShortList, Store};
 
 /// The verdict on an attempt of which a compare failed, and whose keys were read again with these answers.
@@ -79,11 +78,11 @@ fn fail(
 }
 
 /// The key of the first value that an attempt says it read, and that is not the store's.
-fn find_false_key(keys: &Keys, ready: &Ready) -> Result<Text, AllocError>
-    requires { cause_of keys.now.history ready.now ≡ Some IsUnvouched }
-    ensures { IfOk result (λ key. TurnsDown keys.now.history ready.now (Err (RefusesValue key))) }
+fn find_false_key(store: &Store, ready: &Ready) -> Result<Text, AllocError>
+    requires { cause_of store.now.standing ready.now ≡ Some IsUnvouched }
+    ensures { IfOk result (λ key. TurnsDown store.now.standing ready.now (Err (RefusesValue key))) }
 {
-    match find_unvouched(keys, ready) {
+    match find_unvouched(store.keys(), ready) {
         None => unreachable!(),
         Some(unvouched) => {
             let key = unvouched.key.clone()?;
@@ -99,8 +98,8 @@ fn turn_down(
     ready: &Ready,
     cause: Cause,
 ) -> Result<Verdict, CommitRefusal>
-    requires { cause_of store.now.standing.history ready.now ≡ Some cause }
-    ensures verdict { TurnsDown store.now.standing.history ready.now result }
+    requires { cause_of store.now.standing ready.now ≡ Some cause }
+    ensures verdict { TurnsDown store.now.standing ready.now result }
     ensures answers { IfOk result CanGoOn }
 {
     match cause {
@@ -110,7 +109,7 @@ fn turn_down(
             Ok(verdict)
         }
         Cause::Unvouched => {
-            let key = find_false_key(store.keys(), ready)?;
+            let key = find_false_key(store, ready)?;
             Err(CommitRefusal::Unvouched { key })
         }
     }
@@ -126,7 +125,7 @@ fn make(
     ready: Ready,
     changes: Vec<Change>,
 ) -> Result<Verdict, CommitRefusal>
-    requires clear { cause_of store.old.standing.history ready ≡ None }
+    requires clear { cause_of store.old.standing ready ≡ None }
     requires run { IsRunOnItsAnswers ready }
     requires changes { changes.items ≡ map as_change ready.writes }
     ensures verdict { CommitsAs ready result store.old.standing entries.old.items store.new.standing entries.new.items }
@@ -161,7 +160,7 @@ pub(crate) fn commit(
     ensures answers { IfOk result CanGoOn }
     ensures run { IsRunOnItsAnswers prepared }
 {
-    match prepared.find_cause(store.keys()) {
+    match prepared.find_cause(store) {
         None => {
             let (ready, changes) = prepared.into_parts();
             make(alloc, store, entries, ready, changes)

@@ -3,7 +3,6 @@ ghost use Rattle.std.specs.Prelude.{◌≡◌, ◌↔◌, ◌+◌, ◌≤◌, No
 ghost use Rattle.stm_history.specs.History.{key_now, mod_of};
 ghost use Rattle.stm_program.specs.Writes.{key_of};
 ghost use Rattle.stm_program.specs.declared.level.Level.TheVariants.{SerializableSnapshot};
-ghost use Rattle.stm_outcome.specs.Checks.{fault_of};
 ghost use Rattle.stm_outcome.specs.Compares.{first_failed};
 ghost use Rattle.stm_outcome.specs.Terms.{most_operations};
 ghost use Rattle.stm_compile.specs.CommitTxn.{is_as_read as as_read, is_unmodified as unmodified, compares_of};
@@ -66,7 +65,7 @@ fn find_changed(keys: &Keys, answers: &ReadSet) -> Option<FailedCompare>
 }
 
 /// The first of these writes whose key is modified above a revision. Its place is counted from behind so many compares: with them they are no more than
-/// a transaction may have.
+/// any store takes.
 fn find_modified(
     keys: &Keys,
     first: u64,
@@ -100,9 +99,9 @@ fn find_either(keys: &Keys, answers: &ReadSet, writes: &WriteBuffer) -> Option<F
 }
 
 /// The first compare of an attempt's commit that fails now: that of a key that was read, or, at SerializableSnapshot, behind those that of a key that is
-/// written.
+/// written. They are no more than any store takes.
 pub(crate) fn find_conflict(keys: &Keys, ready: &Ready) -> Option<FailedCompare>
-    requires { fault_of most_operations (txn_of ready.now) ≡ None }
+    requires { length (txn_of ready.now).compares ≤ most_operations }
     ensures { result ≡ first_failed (key_now keys.now.history) 0 (txn_of ready.now).compares }
 {
     match ready.level {

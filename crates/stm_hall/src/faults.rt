@@ -2,8 +2,7 @@
 ghost use Rattle.std.specs.Prelude.{◌≡◌, ◌&&◌};
 ghost use Rattle.std.specs.List.{list_any};
 ghost use Rattle.stm_history.specs.declared.key_state.ReadAnswer.{ReadAnswer as Answer};
-ghost use Rattle.stm_outcome.specs.Checks.{fault_of, has_too_many, is_empty_key};
-ghost use Rattle.stm_outcome.specs.Terms.{most_operations};
+ghost use Rattle.stm_outcome.specs.Checks.{fault_of, has_too_many, has_empty_key, is_empty_key};
 ghost use Rattle.stm_compile.specs.CommitTxn.{commit_of};
 ghost use Rattle.stm_compile.specs.Levels.{is_comparing as compares};
 ghost use Rattle.stm_hall.specs.Verdicts.{txn_of};
@@ -12,21 +11,21 @@ use crate::vouching::is_comparing;
 use stm_attempt::{ReadSet, Ready, WriteBuffer};
 use stm_history::ReadAnswer;
 use stm_program::Level;
-use stm_txn::{MOST_OPERATIONS, Refusal};
+use stm_txn::Refusal;
 
-/// Whether the commit of an attempt has more compares, writes or rereads than a transaction may have of each.
-fn are_too_many(level: Level, answers: &ReadSet, writes: &WriteBuffer) -> bool
-    ensures { result ≡ has_too_many most_operations (commit_of level answers.now writes.now) }
+/// Whether the commit of an attempt has more compares, writes or rereads than a store takes of each.
+fn are_too_many(limit: usize, level: Level, answers: &ReadSet, writes: &WriteBuffer) -> bool
+    ensures { result ≡ has_too_many limit (commit_of level answers.now writes.now) }
 {
     let read = answers.len();
     let written = writes.len();
-    if written > MOST_OPERATIONS {
+    if written > limit {
         return true;
     }
     match level {
-        Level::SerializableSnapshot => read > MOST_OPERATIONS - written,
-        Level::Serializable => read > MOST_OPERATIONS,
-        Level::RepeatableReads => read > MOST_OPERATIONS,
+        Level::SerializableSnapshot => read > limit - written,
+        Level::Serializable => read > limit,
+        Level::RepeatableReads => read > limit,
         Level::ReadCommitted => false,
     }
 }
@@ -48,15 +47,23 @@ fn compares_empty_key(level: Level, answers: &ReadSet) -> bool
     is_one_of_empty_key(answers.as_slice())
 }
 
-/// Why the transaction of an attempt would be refused as a whole: for its number of operations, or else for an empty key that was read. The keys that a
-/// program writes are not empty, and no two of its writes are of one key.
-pub(crate) fn find_fault(ready: &Ready) -> Option<Refusal>
-    ensures { result ≡ fault_of most_operations (txn_of ready.now) }
+/// Whether the commit of an attempt names an empty key: one that was read, at a level that compares. The keys that a program writes are not empty.
+pub(crate) fn names_empty_key(ready: &Ready) -> bool
+    ensures { result ≡ has_empty_key (txn_of ready.now) }
 {
-    if are_too_many(ready.level, &ready.answers, &ready.writes) {
+    compares_empty_key(ready.level, &ready.answers)
+}
+
+/// Why the transaction of an attempt would be refused as a whole, by a store that takes so many operations, where this is whether it names an empty key:
+/// for its number of operations, or else for that key. No two of its writes are of one key.
+pub(crate) fn find_fault(limit: usize, has_empty: bool, ready: &Ready) -> Option<Refusal>
+    requires { has_empty ≡ has_empty_key (txn_of ready.now) }
+    ensures { result ≡ fault_of limit (txn_of ready.now) }
+{
+    if are_too_many(limit, ready.level, &ready.answers, &ready.writes) {
         return Some(Refusal::TooManyOps);
     }
-    if compares_empty_key(ready.level, &ready.answers) {
+    if has_empty {
         return Some(Refusal::EmptyKey);
     }
     None

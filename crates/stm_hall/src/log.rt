@@ -1,6 +1,7 @@
 //! A store with what changed it.
 ghost use Rattle.std.specs.Prelude.{◌≡◌, ◌≤◌, None, IfOk, IfErr};
 ghost use Rattle.stm_outcome.specs.Numbers.{AnswerFits};
+ghost use Rattle.stm_outcome.specs.Terms.{most_operations};
 ghost use Rattle.stm_attempt.specs.ReadyRun.{IsRunOnItsAnswers};
 ghost use Rattle.stm_hall.specs.Fetching.{OnlyReads, fetched, FetchTells};
 ghost use Rattle.stm_hall.specs.Verdicts.{verdict_of, CommitTells, CanGoOn};
@@ -75,8 +76,10 @@ impl Log {
 
     /// Makes another client's transaction.
     pub(crate) fn make_txn(&mut self, txn: &Txn) -> Result<TxnAnswer, Refusal>
-        ensures { TxnTells (made self.old txn.now) self.old result self.new }
+        ensures made { TxnTells (made self.old txn.now) self.old result self.new }
+        ensures few { self.old.standing.limit ≤ most_operations }
     {
+        let _few = self.store.limit();
         make_txn(&mut self.store, &mut self.entries, txn)
     }
 

@@ -6,22 +6,21 @@ ghost use Rattle.stm_hall.specs.Judging.{cause_of};
 
 use crate::causes::{Cause, find_cause};
 use crate::copying::copy_of;
-use crate::faults::find_fault;
+use crate::faults::names_empty_key;
 use std::alloc::{AllocError, Global};
 use std::marker::Model;
 use stm_attempt::{Ready, WriteBuffer};
 use stm_history::Change;
-use stm_keys::Keys;
 use stm_program::Write;
-use stm_txn::Refusal;
+use stm_txn::Store;
 
-/// An attempt that is ready, with what its commit needs beside it: what is wrong with the commit as a whole, and the changes that its writes make.
+/// An attempt that is ready, with what its commit needs beside it: whether the commit names an empty key, and the changes that its writes make.
 /// Contracts see the attempt.
 ///
 /// It is made without the hall, so that a hall that is locked has nothing to copy: the changes are moved into its store, and the attempt into its entry.
 pub struct Prepared {
     ready: Ready,
-    fault: Option<Refusal>,
+    has_empty: bool,
     changes: Vec<Change>,
 }
 
@@ -29,7 +28,7 @@ impl Drop for Prepared {
     fn drop(self) {
         let Prepared {
             ready: _,
-            fault: _,
+            has_empty: _,
             changes: _,
         } = self;
     }
@@ -47,18 +46,18 @@ impl Model for Prepared {
 
     ghost view = { λ p. p.ready };
 
-    ghost invariant = { λ p. IsPrepared p.ready p.fault p.changes.items };
+    ghost invariant = { λ p. IsPrepared p.ready p.has_empty p.changes.items };
 }
 
 impl Prepared {
-    /// Why its commit is turned down before anything is written, by what the store's keys are now. It takes no memory.
+    /// Why a store turns its commit down before anything is written, as it is now. It takes no memory.
     ///
     /// The attempt's type tells that it is a run on its answers.
-    pub(crate) fn find_cause(&self, keys: &Keys) -> Option<Cause>
-        ensures cause { result ≡ cause_of keys.now.history self.now }
+    pub(crate) fn find_cause(&self, store: &Store) -> Option<Cause>
+        ensures cause { result ≡ cause_of store.now.standing self.now }
         ensures run { IsRunOnItsAnswers self.now }
     {
-        find_cause(keys, self.fault, &self.ready)
+        find_cause(store, self.has_empty, &self.ready)
     }
 
     /// The attempt.
@@ -75,7 +74,7 @@ impl Prepared {
     {
         let Prepared {
             ready,
-            fault: _,
+            has_empty: _,
             changes,
         } = self;
         (ready, changes)
@@ -122,10 +121,10 @@ pub fn prepare(alloc: Global, ready: Ready) -> Result<Prepared, AllocError>
         drop(ready);
         return Err(AllocError);
     };
-    let fault = find_fault(&ready);
+    let has_empty = names_empty_key(&ready);
     Ok(Prepared {
         ready,
-        fault,
+        has_empty,
         changes,
     })
 }

@@ -1,7 +1,7 @@
 -- Which scenario is one of jobs: each start is a job, and each call of the store is made before them; another event has no place.
 --
 -- Our own, but for what the events are (docs/FORMATS.md, "Scenarios").
-use Rattle.std.specs.Prelude.{ℕ, suc, ◌+◌, nat_eq, if◌then◌else◌, List, [], ◌∷◌, ◌++◌, map, Option, None, Some, Ok, unwrap_or}
+use Rattle.std.specs.Prelude.{ℕ, suc, ◌+◌, nat_eq, if◌then◌else◌, List, [], ◌∷◌, ◌++◌, map, Option, None, Some, Ok}
 use Rattle.stm_json.specs.declared.cause.Cause.TheVariants.{Shape}
 use Rattle.stm_json.specs.Outcome.{Outcome, bad, ◌>>=◌, within}
 use Rattle.stm_world.specs.declared.event.WorldEvent.{WorldEvent}
@@ -9,8 +9,11 @@ use Rattle.stm_world.specs.declared.event.WorldEvent.TheVariants.{Start, Step, T
 use Rattle.stm_world.specs.declared.event.WorldEvent.TheVariants.{WatchKey, WatchRange, Poll, Cancel, Compact}
 use Rattle.stm_world.specs.Task.{Task}
 use Rattle.stm_texts.specs.declared.scenario.Scenario.{Scenario}
+use Rattle.stm_texts.specs.declared.scenario.Opening.{Opening}
+use Rattle.stm_texts.specs.Opens.{setup_of}
 use Rattle.stm_job.specs.declared.job.Job.{Job}
 use Rattle.stm_jobs.specs.declared.accepting.JobScenario.{JobScenario}
+use Rattle.stm_txn.specs.Standing.{Setup}
 
 -- what a job is, but for the fact that it may send a commit
 abbrev pub task_of : Job → Task
@@ -55,12 +58,12 @@ add_events first before [] s = Ok s
 add_events first before (e ∷ es) s = within (first + before) (add_event s e) >>= λ next. add_events first (suc before) es next
 
 -- the place of the first event: an opening stands before it
-abbrev pub shift_of : Option ℕ → ℕ
+abbrev pub shift_of : Option Opening → ℕ
 shift_of None = 0
 shift_of (Some start) = 1
 
 abbrev pub accepted : Scenario → Outcome Sorted
 accepted s = add_events (shift_of s.opening) 0 s.events nothing_sorted
 
-abbrev pub opening_of : Scenario → ℕ
-opening_of s = unwrap_or s.opening 1
+abbrev pub opening_of : Scenario → Setup
+opening_of s = setup_of s.opening

@@ -2,12 +2,12 @@
 --
 -- etcd's API reference, "Compaction": a store that was compacted keeps what stands from its floor on. That the calls of a scenario are made before its jobs is
 -- our own.
-use Rattle.std.specs.Prelude.{ℕ, List}
-use Rattle.stm_txn.specs.Standing.{Standing, kept}
+use Rattle.std.specs.Prelude.{List}
+use Rattle.stm_txn.specs.Standing.{Standing, Setup, kept}
 use Rattle.stm_world.specs.declared.event.WorldEvent.{WorldEvent}
 use Rattle.stm_world.specs.World.{opened, world_after}
 
--- The store that opens at a revision and has taken these calls: what it has kept of its history, which is all of it where it was never
+-- The store that opens so and has taken these calls: what it has kept of its history, which is all of it where it was never
 -- compacted.
-abbrev pub store_after : ℕ → List WorldEvent → Standing
+abbrev pub store_after : Setup → List WorldEvent → Standing
 store_after start calls = kept (world_after calls (opened start)).standing

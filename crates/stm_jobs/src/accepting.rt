@@ -8,7 +8,7 @@ use stm_history::Sequence;
 use stm_job::Job;
 use stm_json::{Cause, ReadError, fault, within};
 use stm_program::{Level, Program};
-use stm_texts::Scenario;
+use stm_texts::{Opening, Scenario};
 use stm_world::WorldEvent;
 
 /// The events of a scenario of jobs, in their orders.
@@ -74,7 +74,7 @@ fn add(alloc: Global, sorted: &mut JobScenario, event: WorldEvent) -> Result<(),
 }
 
 /// The place of the first event in a scenario's array, whose first element may name the opening.
-fn first_place(opening: Option<u64>) -> usize
+fn first_place(opening: Option<Opening>) -> usize
     ensures place { result ≡ shift_of opening }
     ensures at_most { result ≤ 1 }
 {

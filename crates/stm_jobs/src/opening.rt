@@ -1,11 +1,12 @@
 //! The store that the jobs are run on.
-ghost use Rattle.std.specs.Prelude.{◌≡◌, ◌≤◌, IfOk, OnOk};
-ghost use Rattle.stm_history.specs.declared.revisions.TheConstants.{HIGHEST_REVISION};
+ghost use Rattle.std.specs.Prelude.{◌≡◌, Some, IfOk, OnOk};
+ghost use Rattle.stm_texts.specs.Opens.{IsOpening, as_setup};
 ghost use Rattle.stm_world.specs.World.{world_after};
 ghost use Rattle.stm_jobs.specs.StoreAfter.{store_after};
 
 use std::alloc::{AllocError, Global};
 use stm_retry::World;
+use stm_texts::Opening;
 use stm_txn::Store;
 use stm_world::WorldEvent;
 
@@ -22,13 +23,17 @@ fn run_calls(world: &mut World, calls: &[WorldEvent]) -> Result<(), AllocError>
     }
 }
 
-/// An empty store at this revision, once these calls of it were made, in their order. One that is refused changes nothing, but for an
+/// An empty store that opens with this, once these calls of it were made, in their order. One that is refused changes nothing, but for an
 /// advance that stopped on its way. Want of memory is the only refusal.
-pub fn open_store(alloc: Global, start: u64, calls: &[WorldEvent]) -> Result<Store, AllocError>
-    requires { (1 ≤ start) × (start ≤ HIGHEST_REVISION) }
-    ensures { IfOk result (λ store. store.standing ≡ store_after start calls.now) }
+pub fn open_store(
+    alloc: Global,
+    opening: Opening,
+    calls: &[WorldEvent],
+) -> Result<Store, AllocError>
+    requires { IsOpening (Some opening) }
+    ensures { IfOk result (λ store. store.standing ≡ store_after (as_setup opening) calls.now) }
 {
-    let mut world = World::with_revision(alloc, start)?;
+    let mut world = World::with_limits(alloc, opening.revision, opening.operations)?;
     let outcome = run_calls(&mut world, calls);
     let store = world.into_store();
     match outcome {

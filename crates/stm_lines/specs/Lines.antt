@@ -18,11 +18,13 @@ use Rattle.stm_reports.specs.declared.line.ReportLine.TheVariants as line
 use Rattle.stm_reports.specs.declared.line.ToldAnswer.{ToldAnswer}
 use Rattle.stm_reports.specs.declared.line.ToldEvent.{ToldEvent}
 use Rattle.stm_reports.specs.declared.line.ToldEvent.TheVariants as told
-use Rattle.stm_reports.specs.LineData.{text_or_null, answer_data, op_data, event_data, line_data}
+use Rattle.stm_reports.specs.declared.line.ToldRead.{ToldRead}
+use Rattle.stm_reports.specs.LineData.{text_or_null, answer_data, op_data, read_data as told_read_data, event_data, line_data}
 use Rattle.stm_reports.specs.Told.{cause_told, op_told, txn_line}
 use Rattle.stm_outcome.specs.declared.answer.OpAnswer.{OpAnswer}
+use Rattle.stm_world.specs.declared.reply.KeyRead.{KeyRead}
 use Rattle.stm_world.specs.declared.reply.Reply.{Reply}
-use Rattle.stm_world.specs.declared.reply.Reply.TheVariants.{Started, Fetched, Committed, Conflict, GaveUp, Aborted, Faulted, Ended}
+use Rattle.stm_world.specs.declared.reply.Reply.TheVariants.{Started, Prefetched, Fetched, Committed, Conflict, GaveUp, Aborted, Faulted, Ended}
 use Rattle.stm_world.specs.declared.reply.Reply.TheVariants.{Txn, Granted, Kept, Revoked, Advanced, Compacted, Watching, Batch, Lost, Cancelled}
 use Rattle.stm_world.specs.declared.refusal.Denied.{Denied}
 use Rattle.stm_world.specs.declared.refusal.Refusal.{Refusal}
@@ -35,6 +37,10 @@ abbrev pub answer_told : ReadAnswer → ToldAnswer
 answer_told a =
     record { key = a.key; value = option_map (λ (s : KeyState). s.value) a.kv; mod_rev = mod_of a.kv; of_rev = a.of_rev }
 
+-- a key of a list that was read
+abbrev pub key_read_told : KeyRead → ToldRead
+key_read_told r = record { key = r.key; mod_rev = r.mod_rev }
+
 abbrev pub event_told : Event → ToldEvent
 event_told (shown.Put key state) = told.Put key state
 event_told (shown.Delete key revision) = told.Delete key revision
@@ -46,6 +52,7 @@ refusal_told refusal.NoRunner = cause.NoRunner
 
 abbrev pub reply_told : ℕ → Reply → ReportLine
 reply_told n (Started runner) = line.Started n runner
+reply_told n (Prefetched runner revision reads) = line.Prefetched n runner revision (map key_read_told reads)
 reply_told n (Fetched runner key mod_rev of_rev revision) = line.Fetched n runner key mod_rev of_rev revision
 reply_told n (Committed runner revision attempts output trace answers) =
     line.Committed n runner revision attempts output trace (map answer_told answers)
@@ -79,6 +86,9 @@ value_or_null kv = text_or_null (option_map (λ (s : KeyState). s.value) kv)
 abbrev pub read_data : ReadAnswer → Data
 read_data a = answer_data (answer_told a)
 
+abbrev pub key_read_data : KeyRead → Data
+key_read_data r = told_read_data (key_read_told r)
+
 abbrev pub op_answer_data : OpAnswer → Data
 op_answer_data a = op_data (op_told a)
 
@@ -109,6 +119,7 @@ end_line revision entries = line_data (line.End revision entries)
 -- the reply tells of a runner
 abbrev pub IsOfRunner : Reply → Type 0
 IsOfRunner (Started runner) = Unit {0}
+IsOfRunner (Prefetched runner revision reads) = Unit {0}
 IsOfRunner (Fetched runner key mod_rev of_rev revision) = Unit {0}
 IsOfRunner (Committed runner revision attempts output trace answers) = Unit {0}
 IsOfRunner (Conflict runner key seen now) = Unit {0}

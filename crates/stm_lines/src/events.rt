@@ -9,7 +9,9 @@ ghost use Rattle.stm_lines.specs.Lines.{refusal_told, reply_line, event_line, Is
 
 use crate::operations::with_ops;
 use crate::parts::Parts;
-use crate::runners::{Commit, committed_json, conflict_json, fetched_json, gave_up_json};
+use crate::runners::{
+    Commit, committed_json, conflict_json, fetched_json, gave_up_json, prefetched_json,
+};
 use crate::spelled::{with_events, with_list};
 use serde_json::Value as Json;
 use std::alloc::{AllocError, Global};
@@ -140,6 +142,11 @@ fn runner_json(alloc: Global, number: u64, reply: &Reply) -> Result<Json, AllocE
 {
     match reply {
         Reply::Started { runner } => named_json(alloc, number, "started", *runner),
+        Reply::Prefetched {
+            runner,
+            revision,
+            reads,
+        } => prefetched_json(alloc, number, *runner, *revision, reads.as_slice()),
         Reply::Fetched {
             runner,
             key,

@@ -1,15 +1,31 @@
 //! The lines of a runner's steps.
 ghost use Rattle.std.specs.Prelude.{◌≡◌, IfOk};
 ghost use Rattle.serde_json.specs.View.{view};
-ghost use Rattle.stm_world.specs.declared.reply.Reply.TheVariants.{Fetched, Committed, Conflict, GaveUp};
+ghost use Rattle.stm_world.specs.declared.reply.Reply.TheVariants.{Prefetched, Fetched, Committed, Conflict, GaveUp};
 ghost use Rattle.stm_lines.specs.Lines.{reply_line};
 
 use crate::parts::Parts;
-use crate::spelled::{with_answers, with_list};
+use crate::spelled::{with_answers, with_list, with_reads};
 use serde_json::Value as Json;
 use std::alloc::{AllocError, Global};
 use stm_history::ReadAnswer;
 use stm_meaning::{TraceItem, Value};
+use stm_world::KeyRead;
+
+/// The line of a list that was fetched.
+pub(crate) fn prefetched_json(
+    alloc: Global,
+    number: u64,
+    runner: u64,
+    revision: u64,
+    reads: &[KeyRead],
+) -> Result<Json, AllocError>
+    ensures { IfOk result (λ v. view v ≡ reply_line number (Prefetched runner revision reads.now)) }
+{
+    let parts = Parts::numbered(alloc, number, "prefetched")?;
+    let parts = parts.whole(runner)?.whole(revision)?;
+    Ok(with_reads(alloc, parts, reads)?.array())
+}
 
 /// The line of a fetch.
 pub(crate) fn fetched_json(

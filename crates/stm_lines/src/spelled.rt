@@ -5,8 +5,8 @@ ghost use Rattle.serde_json.specs.View.{view};
 ghost use Rattle.stm_history.specs.History.{mod_of};
 ghost use Rattle.stm_meaning.specs.declared.trace_item.TraceItem.TheVariants.{Get, Rev};
 ghost use Rattle.stm_keys.specs.declared.event.Event.TheVariants.{Put as PutEvent, Delete as DeleteEvent};
-ghost use Rattle.stm_reports.specs.LineData.{list, value_data, trace_data, answer_data, expired_data, event_data};
-ghost use Rattle.stm_lines.specs.Lines.{answer_told, event_told, read_data, shown_data};
+ghost use Rattle.stm_reports.specs.LineData.{list, value_data, trace_data, answer_data, read_data as told_read_data, expired_data, event_data};
+ghost use Rattle.stm_lines.specs.Lines.{answer_told, key_read_told, event_told, read_data, key_read_data, shown_data};
 
 use crate::parts::Parts;
 use serde_json::Value as Json;
@@ -15,6 +15,7 @@ use stm_history::{KeyState, ReadAnswer};
 use stm_keys::Event;
 use stm_meaning::{TraceItem, Value};
 use stm_outcome::Expired;
+use stm_world::KeyRead;
 
 /// A value that a line spells.
 pub(crate) trait Spelled {
@@ -127,6 +128,30 @@ pub(crate) fn with_answers(
         ≡ map view parts.values.items ++ list (map answer_data (map answer_told answers.now)) ∷ []) }
 {
     with_list(alloc, parts, answers)
+}
+
+impl Spelled for KeyRead {
+    ghost spelled = { key_read_data };
+
+    fn to_json(&self, alloc: Global) -> Result<Json, AllocError> {
+        Ok(
+            Parts::worded(alloc, self.key.as_str())?
+                .whole(self.mod_rev)?
+                .array(),
+        )
+    }
+}
+
+/// The keys of a list, as one part more.
+pub(crate) fn with_reads(
+    alloc: Global,
+    parts: Parts,
+    reads: &[KeyRead],
+) -> Result<Parts, AllocError>
+    ensures { IfOk result (λ longer. map view longer.values.items
+        ≡ map view parts.values.items ++ list (map told_read_data (map key_read_told reads.now)) ∷ []) }
+{
+    with_list(alloc, parts, reads)
 }
 
 impl Spelled for Expired {

@@ -1,4 +1,4 @@
 pub mod Branching
 pub mod Folding
-pub mod Lowering
+pub mod Widening
 pub mod Applying

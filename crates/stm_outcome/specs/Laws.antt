@@ -1,5 +1,5 @@
 -- The laws of transactions, each carried by a function of `src/laws.rt`.
-use Rattle.std.specs.Prelude.{◌≡◌, ◌↔◌, ℕ, ◌+◌, ◌<◌, true, false, if◌then◌else◌, List, [], length, map, Option, Some, None, Ok, slice_get}
+use Rattle.std.specs.Prelude.{◌≡◌, ◌↔◌, ℕ, ◌+◌, ◌<◌, ◌≤◌, true, false, if◌then◌else◌, List, [], length, map, Option, Some, None, Ok, slice_get}
 use Rattle.std.specs.List.{list_all}
 use Rattle.stm_history.specs.declared.change.Change.{Change}
 use Rattle.stm_history.specs.declared.key_state.KeyState.{KeyState}
@@ -77,9 +77,11 @@ HistoryGrows =
     (terms : Terms) (txn : Txn) (done : Done) → outcome terms txn ≡ Ok done
     → (changes : List Change) × HasDistinctKeys changes × (done.history ≡ with_changes terms.history changes)
 
--- A transaction that is taken at a floor is taken where there is none, and comes to the same.
-abbrev pub FloorOnlyRefuses : Type 0
-FloorOnlyRefuses = (terms : Terms) (txn : Txn) (done : Done) → outcome terms txn ≡ Ok done → outcome (record terms { floor = 0 }) txn ≡ Ok done
+-- A transaction that is taken at a floor and a limit is taken where there is no floor and a limit that is as high, and comes to the same.
+abbrev pub WiderTermsTake : Type 0
+WiderTermsTake =
+    (terms : Terms) (limit : ℕ) (txn : Txn) (done : Done) → terms.limit ≤ limit → outcome terms txn ≡ Ok done
+    → outcome (record terms { floor = 0; limit = limit }) txn ≡ Ok done
 
 -- Where no two operations of a branch clash, what a key is by now is what its change in the list makes of it.
 abbrev pub LookUpIsTheState : Type 0

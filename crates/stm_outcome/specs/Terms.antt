@@ -20,9 +20,13 @@ pub record Terms : Type 0 where
 abbrev pub most_operations : ℕ
 most_operations = MOST_OPERATIONS
 
--- the terms of a store with a floor, whose limit is the highest
+-- the terms of a store with a limit and a floor
+abbrev pub terms_at : ℕ → ℕ → History → Live → Terms
+terms_at limit floor h live = record { history = h; is_live = is_live_in live; floor = floor; limit = limit }
+
+-- the terms of one whose limit is the highest
 abbrev pub terms_above : ℕ → History → Live → Terms
-terms_above floor h live = record { history = h; is_live = is_live_in live; floor = floor; limit = most_operations }
+terms_above floor h live = terms_at most_operations floor h live
 
 -- the terms on which most is taken: every revision can be read, and the limit is the highest
 abbrev pub widest_terms : History → Live → Terms

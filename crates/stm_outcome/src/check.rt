@@ -2,21 +2,18 @@
 ghost use Rattle.std.specs.Prelude.{◌≡◌, length, nat_lt};
 ghost use Rattle.std.specs.List.{list_any};
 ghost use Rattle.stm_outcome.specs.Operations.{key_of_op, clash};
-ghost use Rattle.stm_outcome.specs.Terms.{most_operations};
 ghost use Rattle.stm_outcome.specs.Checks.{has_too_many, has_empty_key, is_empty_key, has_clash, fault_of};
 
 use crate::refusal::Refusal;
 use crate::txn::{Compare, Op, Txn};
 
-/// The most elements of each of a transaction's three lists.
+/// The most elements of each of a transaction's three lists that any store takes.
 pub const MOST_OPERATIONS: usize = 128;
 
-fn are_too_many(txn: &Txn) -> bool
-    ensures { result ≡ has_too_many most_operations txn.now }
+fn are_too_many(txn: &Txn, limit: usize) -> bool
+    ensures { result ≡ has_too_many limit txn.now }
 {
-    txn.compares.len() > MOST_OPERATIONS
-        || txn.success.len() > MOST_OPERATIONS
-        || txn.failure.len() > MOST_OPERATIONS
+    txn.compares.len() > limit || txn.success.len() > limit || txn.failure.len() > limit
 }
 
 fn names_empty_key(ops: &[Op]) -> bool
@@ -78,11 +75,12 @@ fn branch_clashes(ops: &[Op]) -> bool
     false
 }
 
-/// Why a transaction is refused as a whole, whichever branch would run, if it is: `TooManyOps`, else `EmptyKey`, else `DuplicateKey`.
-pub fn find_fault(txn: &Txn) -> Option<Refusal>
-    ensures { result ≡ fault_of most_operations txn.now }
+/// Why a transaction is refused as a whole at a limit of operations, whichever branch would run, if it is: `TooManyOps`, where one of its
+/// three lists has more elements than the limit, else `EmptyKey`, else `DuplicateKey`.
+pub fn find_fault(txn: &Txn, limit: usize) -> Option<Refusal>
+    ensures { result ≡ fault_of limit txn.now }
 {
-    if are_too_many(txn) {
+    if are_too_many(txn, limit) {
         Some(Refusal::TooManyOps)
     } else if any_key_is_empty(txn) {
         Some(Refusal::EmptyKey)

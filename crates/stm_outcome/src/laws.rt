@@ -1,7 +1,7 @@
 //! The laws of what transactions come to. Each function does nothing: its contract is the law.
 ghost use Rattle.stm_outcome.specs.Effect.{BranchIsEffect};
 ghost use Rattle.stm_outcome.specs.Laws.{WritesApply, BranchApplies, FailedCompareReads, ReadsChangeNothing};
-ghost use Rattle.stm_outcome.specs.Laws.{NumberAloneIsWrong, ModCompares, NoneFailed, FailedHasItsPlace, HistoryGrows, FloorOnlyRefuses, LookUpIsTheState};
+ghost use Rattle.stm_outcome.specs.Laws.{NumberAloneIsWrong, ModCompares, NoneFailed, FailedHasItsPlace, HistoryGrows, WiderTermsTake, LookUpIsTheState};
 
 /// What a branch of puts and deletes of distinct keys changes is the effect of these writes.
 pub fn branch_is_effect()
@@ -56,9 +56,10 @@ pub fn history_grows()
     ensures { HistoryGrows }
 {}
 
-/// A transaction that is taken at a floor is taken where there is none, with the same answer and history.
-pub fn floor_only_refuses()
-    ensures { FloorOnlyRefuses }
+/// A transaction that is taken at a floor and a limit is taken where there is no floor and a limit that is as high, with the same answer
+/// and history.
+pub fn wider_terms_take()
+    ensures { WiderTermsTake }
 {}
 
 /// Where no two operations of a branch clash, what a key is by now is what a look-up through the changes so

@@ -33,7 +33,7 @@ pub enum Refusal {
     LeaseNotFound,
     /// There is no such watcher, or it was cancelled.
     NoWatcher,
-    /// One of a transaction's three lists has more than 128 elements.
+    /// One of a transaction's three lists has more elements than the store takes, which are 128 or fewer.
     TooManyOps,
     /// A branch puts a key twice, or puts and deletes it.
     DuplicateKey,

@@ -13,11 +13,11 @@ use stm_history::Text;
 /// (etcd's API reference, "Transaction".) A clone of it, or of a part, is the same: its texts and lists are copies.
 #[derive(Debug, Drop)]
 pub struct Txn {
-    /// What has to hold of the keys as they are now, each of it, for the success list to run. At most 128.
+    /// What has to hold of the keys as they are now, each of it, for the success list to run. At most 128, or as many as the store takes.
     pub compares: ShortList<Compare>,
-    /// The operations that run where all compares hold. At most 128.
+    /// The operations that run where all compares hold. At most 128, or as many as the store takes.
     pub success: ShortList<Op>,
-    /// The operations that run where a compare fails. At most 128.
+    /// The operations that run where a compare fails. At most 128, or as many as the store takes.
     pub failure: ShortList<Op>,
 }
 

@@ -3,4 +3,5 @@ pub mod WeightLemmas
 pub mod WriteLemmas
 pub mod LatestLemmas
 pub mod TableLemmas
+pub mod ListLemmas
 pub mod SameLemmas

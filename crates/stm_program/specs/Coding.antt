@@ -41,6 +41,20 @@ pub decode_text-encode : (s : List ℕ) → decode_text (encode_text s) ≡ s
 decode_text-encode [] = refl
 decode_text-encode (x ∷ xs) = ap (λ ys. x ∷ ys) (decode_text-encode xs)
 
+-- the keys of a list
+abbrev pub encode_keys : List (List ℕ) → Gv
+encode_keys [] = gnil
+encode_keys (key ∷ keys) = gcons (encode_text key) (encode_keys keys)
+
+abbrev pub decode_keys : Gv → List (List ℕ)
+decode_keys gnil = []
+decode_keys (gnum n) = []
+decode_keys (gcons a b) = decode_text a ∷ decode_keys b
+
+pub decode_keys-encode : (keys : List (List ℕ)) → decode_keys (encode_keys keys) ≡ keys
+decode_keys-encode [] = refl
+decode_keys-encode (key ∷ keys) = λ i. decode_text-encode key i ∷ decode_keys-encode keys i
+
 -- ---- expressions
 
 abbrev pub operator_number : Operator → ℕ
@@ -172,13 +186,14 @@ coded_block = code_by Gv coded_tree encode_block decode_block decode_block-encod
 -- ---- programs
 
 abbrev pub encode_program : ProgramTree → Gv
-encode_program p = encode_block p.statements
+encode_program p = gcons (encode_keys p.prefetch) (encode_block p.statements)
 
 abbrev pub decode_program : Gv → ProgramTree
-decode_program g = of_statements (decode_block g)
+decode_program (gcons a b) = record { statements = decode_block b; prefetch = decode_keys a }
+decode_program _ = of_statements End
 
 pub decode_program-encode : (p : ProgramTree) → decode_program (encode_program p) ≡ p
-decode_program-encode p = ap of_statements (decode_block-encode p.statements)
+decode_program-encode p = λ i. record { statements = decode_block-encode p.statements i; prefetch = decode_keys-encode p.prefetch i }
 
 abbrev pub coded_program : Coded ProgramTree
 coded_program = code_by Gv coded_tree encode_program decode_program decode_program-encode

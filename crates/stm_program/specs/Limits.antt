@@ -1,9 +1,10 @@
 -- The limits of a program: how many nodes it has, how deep they stand in one another, and what its numbers and texts may be.
-use Rattle.std.specs.Prelude.{ℕ, ◌+◌, ◌≤◌, max, length, FitsSigned}
+use Rattle.std.specs.Prelude.{ℕ, ◌+◌, ◌≤◌, max, Bool, false, ◌||◌, ◌&&◌, not, nat_eq, nat_lt, bytes_eq, List, [], ◌∷◌, length, IsTrue, FitsSigned}
+use Rattle.std.specs.List.{list_any}
 use Rattle.std.specs.Int.{w64}
 use Rattle.stm_program.specs.Syntax.{Expression, Text, Number, Variable, Get, Rev, Arithmetic, Cat, TextOf, NumOf, Condition, Equal, Less, Not, And, Or}
 use Rattle.stm_program.specs.Syntax.{Statement, Set, Put, Del, If, For, Emit, Abort, Block, End, Then, ProgramTree}
-use Rattle.stm_program.specs.declared.limits.TheConstants.{MAX_DEPTH, MAX_NODES, MAX_TEXT, MAX_TURNS, MAX_VARIABLE, MAX_LEASE}
+use Rattle.stm_program.specs.declared.limits.TheConstants.{MAX_DEPTH, MAX_NODES, MAX_PREFETCH, MAX_TEXT, MAX_TURNS, MAX_VARIABLE, MAX_LEASE}
 use Rattle.stm_program.specs.Size.{expression_nodes, condition_nodes, statement_nodes, block_nodes}
 
 -- ---- depth: a node stands one deeper than the node that it is a part of
@@ -97,6 +98,28 @@ pub record BlockFits (levels room : ℕ) (b : Block) : Type 0 where
   pub nodes : block_nodes b ≤ room
   pub ranges : BlockInRange b
 
--- a program has at most so many nodes, at most so deep
+-- ---- the list of keys that a program may begin with: it is no node
+
+-- a text that is no key of a list: the empty one, and one with too many bytes
+abbrev pub is_no_key : List ℕ → Bool
+is_no_key key = nat_eq (length key) 0 || nat_lt MAX_TEXT (length key)
+
+-- a key stands in it twice
+abbrev pub has_repeat : List (List ℕ) → Bool
+has_repeat [] = false
+has_repeat (key ∷ later) = list_any (bytes_eq key) later || has_repeat later
+
+abbrev pub list_fits : List (List ℕ) → Bool
+list_fits keys = not (nat_lt MAX_PREFETCH (length keys)) && not (list_any is_no_key keys) && not (has_repeat keys)
+
+abbrev pub ListFits : List (List ℕ) → Type 0
+ListFits keys = IsTrue (list_fits keys)
+
+-- where there is no list, nothing of it is to be looked at
+abbrev pub fits_with : List (List ℕ) → Type 0 → Type 0
+fits_with [] rest = rest
+fits_with (key ∷ keys) rest = ListFits (key ∷ keys) × rest
+
+-- a program has at most so many nodes, at most so deep, and its list is within its own limits
 abbrev pub Fits : ProgramTree → Type 0
-Fits p = BlockFits MAX_DEPTH MAX_NODES p.statements
+Fits p = fits_with p.prefetch (BlockFits MAX_DEPTH MAX_NODES p.statements)

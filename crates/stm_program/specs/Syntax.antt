@@ -1,5 +1,5 @@
 -- The syntax of programs, as trees: what a contract sees of an expression, a condition, a statement and a block.
-use Rattle.std.specs.Prelude.{ℕ, ℤ, List}
+use Rattle.std.specs.Prelude.{ℕ, ℤ, List, []}
 use Rattle.stm_program.specs.declared.operator.Operator.{Operator}
 
 -- a variable is its number, and a text its bytes
@@ -36,10 +36,11 @@ mutual
     End : Block
     Then : Statement → Block → Block
 
--- what a contract sees of a program
+-- What a contract sees of a program. The keys of its list enter each attempt before the first statement, in the list's order.
 pub record ProgramTree : Type 0 where
   pub statements : Block
+  pub prefetch : List (List ℕ)
 
 -- the program of statements, and of nothing else
 abbrev pub of_statements : Block → ProgramTree
-of_statements b = record { statements = b }
+of_statements b = record { statements = b; prefetch = [] }

@@ -7,6 +7,7 @@ mod latest;
 pub mod laws;
 mod level;
 mod limits;
+mod list;
 mod operator;
 mod program;
 mod same;
@@ -18,7 +19,10 @@ pub use condition::{Cond, CondNode};
 pub use expression::{Expr, ExprNode};
 pub use latest::{last_write, latest_writes};
 pub use level::Level;
-pub use limits::{MAX_DEPTH, MAX_LEASE, MAX_NODES, MAX_TEXT, MAX_TURNS, MAX_VARIABLE, fits};
+pub use limits::{
+    MAX_DEPTH, MAX_LEASE, MAX_NODES, MAX_PREFETCH, MAX_TEXT, MAX_TURNS, MAX_VARIABLE, fits,
+};
+pub use list::{is_listed, list_fits};
 pub use operator::Operator;
 pub use program::Program;
 pub use statement::{Block, Stmt, StmtNode};

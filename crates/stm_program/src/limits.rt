@@ -16,7 +16,10 @@ pub const MAX_DEPTH: usize = 32;
 /// How many nodes a program may have.
 pub const MAX_NODES: usize = 4096;
 
-/// How many bytes a text of a program may have.
+/// How many keys the list of a program may have.
+pub const MAX_PREFETCH: usize = 128;
+
+/// How many bytes a text of a program may have, and a key of its list.
 pub const MAX_TEXT: usize = 65536;
 
 /// The greatest limit of a loop.

@@ -1,32 +1,39 @@
 //! Programs.
-ghost use Rattle.std.specs.Prelude.{◌≡◌, ◌↔◌, IsTrue};
+ghost use Rattle.std.specs.Prelude.{◌≡◌, ◌↔◌, IsTrue, map, string_bytes};
 ghost use Rattle.stm_program.specs.BlockView.{block_of};
 ghost use Rattle.stm_program.specs.Limits.{Fits};
 ghost use Rattle.stm_program.specs.Syntax.{of_statements};
 
+use crate::list::are_same_keys;
 use crate::same::are_same_statements;
 use crate::statement::Stmt;
 use std::alloc::AllocError;
 use std::marker::Model;
 
-/// A program: statements within the limits.
+/// A program: statements within the limits, and before them the keys of its list, whether the statements read them or not. Those enter
+/// each attempt first, in the list's order.
 ///
 /// It has at most 4096 nodes (a node is a statement, an expression or a condition), which stand at most
 /// 32 deep in one another. A text in it has at most 65536 bytes, a loop's limit is at most 1000, and a
-/// lease's id at most 9223372036854775807.
+/// lease's id at most 9223372036854775807. The list has at most 128 keys, each of 1 to 65536 bytes, none twice.
 #[derive(Debug)]
 pub struct Program {
+    prefetch: Vec<String>,
     statements: Vec<Stmt>,
 }
 
 impl Drop for Program {
     fn drop(self) {
-        let Program { statements: _ } = self;
+        let Program {
+            prefetch: _,
+            statements: _,
+        } = self;
     }
 }
 
 impl Model for Program {
-    ghost use Rattle.stm_program.specs.Syntax.{ProgramTree, of_statements};
+    ghost use Rattle.std.specs.Prelude.{map, string_bytes};
+    ghost use Rattle.stm_program.specs.Syntax.{ProgramTree};
     ghost use Rattle.stm_program.specs.Coding.{coded_program};
 
     ghost Value = { ProgramTree };
@@ -36,27 +43,55 @@ impl Model for Program {
     ghost use Rattle.stm_program.specs.BlockView.{block_of};
     ghost use Rattle.stm_program.specs.Limits.{Fits};
 
-    ghost view = { λ p. of_statements (block_of p.statements.items) };
+    ghost view = { λ p. record { statements = block_of p.statements.items; prefetch = map string_bytes p.prefetch.items } };
 
-    ghost invariant = { λ p. Fits (of_statements (block_of p.statements.items)) };
+    ghost invariant = { λ p. Fits (record { statements = block_of p.statements.items; prefetch = map string_bytes p.prefetch.items }) };
 }
 
 impl Program {
-    /// The program of these statements, which are within the limits: `fits` tells. It takes no memory.
+    /// The program of these statements and of no list. They are within the limits: `fits` tells. It takes no memory.
     pub fn of(statements: Vec<Stmt>) -> Program
         requires { Fits (of_statements (block_of statements.items)) }
         ensures { result ≡ of_statements (block_of statements.items) }
     {
-        Program { statements }
+        let prefetch = Vec::new(*statements.allocator());
+        Program {
+            prefetch,
+            statements,
+        }
+    }
+
+    /// The program of these statements behind a list of these keys. They are within the limits: `fits` and `list_fits` tell. It takes no
+    /// memory.
+    pub fn with_list(prefetch: Vec<String>, statements: Vec<Stmt>) -> Program
+        requires { Fits (record { statements = block_of statements.items; prefetch = map string_bytes prefetch.items }) }
+        ensures { result ≡ record { statements = block_of statements.items; prefetch = map string_bytes prefetch.items } }
+    {
+        Program {
+            prefetch,
+            statements,
+        }
     }
 
     /// Whether it is the same program as another one. `==` answers this.
     ///
-    /// It takes no memory, and looks at no more nodes than the smaller program has, however much is shared.
+    /// It takes no memory, and looks at the keys of the shorter list, and at no more nodes than the smaller program has, however much is
+    /// shared.
     pub fn is_same(&self, other: &Program) -> bool
         ensures { IsTrue result ↔ self.now ≡ other.now }
     {
+        if !are_same_keys(self.prefetch(), other.prefetch()) {
+            return false;
+        }
         are_same_statements(self.statements(), other.statements())
+    }
+
+    /// The keys of its list, in the list's order. It takes no memory.
+    pub fn prefetch(&self) -> &[String]
+        ensures same { map string_bytes result.now ≡ self.now.prefetch }
+        ensures fits { Fits self.now }
+    {
+        self.prefetch.as_slice()
     }
 
     /// The statements in order. It takes no memory.
@@ -68,13 +103,17 @@ impl Program {
     }
 }
 
-/// A copy shares all but the outermost statements with its source: it costs one step for each of these.
+/// A copy shares all but the outermost statements with its source: it costs one step for each of these and for each key of the list.
 impl Clone for Program {
     ghost is_clone = { λ p copy. copy ≡ p };
 
     fn clone(&self) -> Result<Program, AllocError> {
+        let prefetch = self.prefetch.clone()?;
         let statements = self.statements.clone()?;
-        Ok(Program { statements })
+        Ok(Program {
+            prefetch,
+            statements,
+        })
     }
 }
 

@@ -37,33 +37,33 @@ regroup front s (Err f) = refl
 one_more : (vs : List Value) (i : ℕ) (v : Value) → i < length vs → v ≡ get_or vs i v → drop i vs ≡ v ∷ drop (i + 1) vs
 one_more vs i v h e = drop-cons vs i v h ∙ rw (sym e, add-one) refl
 
-pub goes_on : (read : ℕ → Data → Read Statement) (front : List Statement) (vs : List Value) (i room rest : ℕ) (v : Value) (s : Statement) (total : Read Block)
-    → i < length vs → v ≡ get_or vs i v → within i (read room (view v)) ≡ Ok (s, rest)
-    → with_front front (statements_from read i room (items_view (drop i vs))) ≡ total
-    → with_front (front ++ s ∷ []) (statements_from read (i + 1) rest (items_view (drop (i + 1) vs))) ≡ total
+pub goes_on : (read : ℕ → Data → Read Statement) (front : List Statement) (vs : List Value) (start i room rest : ℕ) (v : Value) (s : Statement) (total : Read Block)
+    → i < length vs → v ≡ get_or vs i v → within (i + start) (read room (view v)) ≡ Ok (s, rest)
+    → with_front front (statements_from read (i + start) room (items_view (drop i vs))) ≡ total
+    → with_front (front ++ s ∷ []) (statements_from read (i + 1 + start) rest (items_view (drop (i + 1) vs))) ≡ total
 unfolding statements_from
-goes_on read front vs i room rest v s total lt at is so_far =
-    let k : i + 1 ≡ suc i = omega arith in
-    let one : with_front front (statements_from read i room (items_view (drop i vs)))
-    ≡ with_front (front ++ s ∷ []) (statements_from read (i + 1) rest (items_view (drop (i + 1) vs))) =
-    ap (λ (ws : List Value). with_front front (statements_from read i room (items_view ws))) (one_more vs i v lt at)
-    ∙ rw (is, k) (regroup front s (statements_from read (suc i) rest (items_view (drop (suc i) vs)))) in
+goes_on read front vs start i room rest v s total lt at is so_far =
+    let k : i + 1 + start ≡ suc (i + start) = omega arith in
+    let one : with_front front (statements_from read (i + start) room (items_view (drop i vs)))
+    ≡ with_front (front ++ s ∷ []) (statements_from read (i + 1 + start) rest (items_view (drop (i + 1) vs))) =
+    ap (λ (ws : List Value). with_front front (statements_from read (i + start) room (items_view ws))) (one_more vs i v lt at)
+    ∙ rw (is, k) (regroup front s (statements_from read (suc (i + start)) rest (items_view (drop (i + 1) vs)))) in
     sym one ∙ so_far
 
-pub ends : (e : ReadError) (read : ℕ → Data → Read Statement) (front : List Statement) (vs : List Value) (i room : ℕ) (v : Value) (total : Read Block)
-    → i < length vs → v ≡ get_or vs i v → TellsFault e (within i (read room (view v)))
-    → with_front front (statements_from read i room (items_view (drop i vs))) ≡ total → TellsFault e total
+pub ends : (e : ReadError) (read : ℕ → Data → Read Statement) (front : List Statement) (vs : List Value) (start i room : ℕ) (v : Value) (total : Read Block)
+    → i < length vs → v ≡ get_or vs i v → TellsFault e (within (i + start) (read room (view v)))
+    → with_front front (statements_from read (i + start) room (items_view (drop i vs))) ≡ total → TellsFault e total
 unfolding statements_from
-ends error.OutOfMemory read front vs i room v total lt at is so_far = tt
-ends (error.Bad f) read front vs i room v total lt at is so_far =
-    let one : with_front front (statements_from read i room (items_view (drop i vs))) ≡ Err f =
-    ap (λ (ws : List Value). with_front front (statements_from read i room (items_view ws))) (one_more vs i v lt at) ∙ rw is refl in
+ends error.OutOfMemory read front vs start i room v total lt at is so_far = tt
+ends (error.Bad f) read front vs start i room v total lt at is so_far =
+    let one : with_front front (statements_from read (i + start) room (items_view (drop i vs))) ≡ Err f =
+    ap (λ (ws : List Value). with_front front (statements_from read (i + start) room (items_view ws))) (one_more vs i v lt at) ∙ rw is refl in
     sym so_far ∙ one
 
-pub is_done : (read : ℕ → Data → Read Statement) (front : List Statement) (vs : List Value) (i room : ℕ) (total : Read Block)
-    → drop i vs ≡ [] → with_front front (statements_from read i room (items_view (drop i vs))) ≡ total → total ≡ Ok (block_of front, room)
+pub is_done : (read : ℕ → Data → Read Statement) (front : List Statement) (vs : List Value) (start i room : ℕ) (total : Read Block)
+    → drop i vs ≡ [] → with_front front (statements_from read (i + start) room (items_view (drop i vs))) ≡ total → total ≡ Ok (block_of front, room)
 unfolding statements_from
-is_done read front vs i room total h so_far =
-    let one : with_front front (statements_from read i room (items_view (drop i vs))) ≡ Ok (block_of front, room) =
+is_done read front vs start i room total h so_far =
+    let one : with_front front (statements_from read (i + start) room (items_view (drop i vs))) ≡ Ok (block_of front, room) =
     rw h (ap (λ (b : Block). Ok (b, room)) (block_after-end front)) in
     sym so_far ∙ one

@@ -4,6 +4,7 @@ pub mod OutcomeLemmas
 pub mod WordLemmas
 pub mod ExpressionSound
 pub mod ConditionSound
+pub mod KeyLists
 pub mod StatementSound
 pub mod ExpressionComplete
 pub mod ConditionComplete
@@ -13,6 +14,7 @@ pub mod WriteLoop
 pub mod ReaderMarks
 pub mod TableMarks
 pub mod MarkLemmas
+pub mod ListMarks
 pub mod ExpressionMarks
 pub mod ConditionMarks
 pub mod StatementMarks

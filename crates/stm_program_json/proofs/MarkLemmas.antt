@@ -129,6 +129,18 @@ pub number_then : {A B : Type 0} (p : List ℕ) (i room : ℕ) (reading : Outcom
 number_then p i room (Ok x) f first next rest h k = h ∙ k x refl
 number_then p i room (Err g) f first next rest h k = h ∙ deeper p i g
 
+-- the same, where the rest takes no room
+pub alone_then : {A B : Type 0} (p : List ℕ) (i room : ℕ) (reading : Outcome A) (f : A → Outcome B) (first : Option BadInput) (next rest : List Mark)
+    → first ≡ after_number (at p i) room reading next → ((x : A) → reading ≡ Ok x → first_of_marks room next ≡ after_number p room (f x) rest)
+    → first ≡ after_number p room (within i reading >>= f) rest
+alone_then p i room (Ok x) f first next rest h k = h ∙ k x refl
+alone_then p i room (Err g) f first next rest h k = h ∙ deeper p i g
+
+pub within_alone : {A : Type 0} (p : List ℕ) (i room : ℕ) (reading : Outcome A) (first : Option BadInput) (rest : List Mark)
+    → first ≡ after_number (at p i) room reading rest → first ≡ after_number p room (within i reading) rest
+within_alone p i room (Ok x) first rest h = h
+within_alone p i room (Err g) first rest h = h ∙ deeper p i g
+
 pub behind : (room : ℕ) (ms ns rest : List Mark) → first_of_marks room ((ms ++ ns) ++ rest) ≡ first_of_marks room (ms ++ (ns ++ rest))
 behind room ms ns rest = ap (first_of_marks room) (append_assoc ms ns rest)
 

@@ -1,26 +1,29 @@
 -- What data spell of a statement is read, where it is within the limits.
-use Rattle.std.proofs.Common.{◌≡◌, ℕ, zero, suc, ◌+◌, ◌-◌, ◌≤◌, List, [], ◌∷◌, Option, Some, Ok, refl, ap, ◌∙◌, arith, lit<}
-use Rattle.serde_json.specs.Data.{Data, array, Items}
+use Rattle.std.proofs.Common.{◌≡◌, inl, inr, ℕ, zero, suc, ◌+◌, ◌-◌, ◌≤◌, List, [], ◌∷◌, Option, Some, None, Ok, refl, sym, ap, ◌∙◌, arith, lit<}
+use Rattle.serde_json.specs.Data.{Data, array, Items, no_items, item}
 use Rattle.serde_json.specs.View.{items_of}
 use Rattle.stm_program_json.specs.declared.words.StmtWord.{StmtWord}
 use Rattle.stm_program_json.specs.declared.words.StmtWord.TheVariants as word
 use Rattle.stm_program_json.specs.declared.words.Simple.{Simple}
 use Rattle.stm_program_json.specs.declared.words.Simple.TheVariants as simple
-use Rattle.stm_program.specs.Syntax.{Expression, Statement, Set, Put, Del, If, For, Emit, Abort, Block, End, Then, ProgramTree}
+use Rattle.stm_program.specs.Syntax.{Expression, Statement, Set, Put, Del, If, For, Emit, Abort, Block, End, Then, ProgramTree, of_statements}
 use Rattle.stm_program.specs.Size.{expression_nodes, statement_nodes, block_nodes}
-use Rattle.stm_program.specs.Limits.{expression_depth, statement_depth, block_depth, ExpressionInRange, StatementInRange, BlockInRange, Fits}
+use Rattle.stm_program.specs.Limits.{expression_depth, statement_depth, block_depth, ExpressionInRange, StatementInRange, BlockInRange, BlockFits, Fits}
 use Rattle.stm_program_json.specs.Words.{statement_word}
 use Rattle.stm_program_json.specs.WordTexts.{simple_text, statement_text}
 use Rattle.stm_json.specs.Elements.{worded}
+use Rattle.stm_json.specs.Outcome.{Outcome}
 use Rattle.stm_program_json.specs.Reading.{Read, simple_of, statement_named, statement_array, statements_from, block_by}
-use Rattle.stm_program_json.specs.Reading.{expression_at, condition_at, statement_at, program_of}
+use Rattle.stm_program_json.specs.Reading.{expression_at, condition_at, statement_at, list_parts, program_list, program_of}
 use Rattle.stm_json.specs.Parts.{spelled}
-use Rattle.stm_program_json.specs.Grammar.{SpellsExpression, SpellsStatement, SpellsStatements, SpellsProgram}
+use Rattle.stm_program_json.specs.Grammar.{SpellsExpression, SpellsStatement, SpellsStatements, SpellsList, SpellsElements, SpellsProgram}
+use Rattle.stm_program.proofs.ListLemmas.{ListParts, list_parts as list_parts_of, statements_fit, list_of_program}
 use Rattle.stm_program.proofs.LimitLemmas.{statement_nodes-positive, statement_depth-positive}
 use Rattle.stm_program_json.proofs.WordLemmas.{statement_word-text}
 use Rattle.stm_json.proofs.ElementLemmas.{number_up_to-reads}
 use Rattle.stm_program_json.proofs.ExpressionComplete.{one_part-reads, expression_reads}
 use Rattle.stm_program_json.proofs.ConditionComplete.{condition_reads}
+use Rattle.stm_program_json.proofs.KeyLists.{list_reads}
 use Rattle.stm_program.specs.declared.limits.TheConstants.{MAX_DEPTH, MAX_NODES, MAX_TURNS, MAX_VARIABLE, MAX_LEASE}
 
 module _ (l : ℕ) (read : ℕ → Data → Read Statement)
@@ -92,11 +95,47 @@ statement_reads zero r m d s t f g h = absurd (omega (arith, statement_depth-pos
 statement_reads (suc l) zero m d s t f g h = absurd (omega (arith, statement_nodes-positive s))
 statement_reads (suc l) (suc r) m d s t f g h = array_reads l (statement_at l) (statement_reads l) r m d s t f g h
 
+-- the statements of a program, from an index on
+pub program_block : (i : ℕ) (ds : Items) (b : Block) → SpellsStatements ds b → BlockFits MAX_DEPTH MAX_NODES b
+    → statements_from (statement_at MAX_DEPTH) i MAX_NODES ds ≡ Ok (b, MAX_NODES - block_nodes b)
+program_block i ds b s f =
+    let h : MAX_NODES ≡ (MAX_NODES - block_nodes b) + block_nodes b = omega (arith, f.nodes) in
+    statements_read MAX_DEPTH (statement_at MAX_DEPTH) (statement_reads MAX_DEPTH) i MAX_NODES (MAX_NODES - block_nodes b) ds b s f.depth f.ranges h
+
+-- a statement begins with another word than a list
+no_list : (d : Data) (s : Statement) → SpellsStatement d s → list_parts (worded d) ≡ None
+no_list d (Set v e) (a, b, is, n, t) = ap (λ (x : Data). list_parts (worded x)) is
+no_list d (Put k e l) (a, b, c, is, t, u, n) = ap (λ (x : Data). list_parts (worded x)) is
+no_list d (Del k) (a, is, t) = ap (λ (x : Data). list_parts (worded x)) is
+no_list d (If i t e) (a, b, c, is, s, u, w) = ap (λ (x : Data). list_parts (worded x)) is
+no_list d (For v e n b) (a, c, i, ds, is, k, s, o, u) = ap (λ (x : Data). list_parts (worded x)) is
+no_list d (Emit e) (a, is, t) = ap (λ (x : Data). list_parts (worded x)) is
+no_list d (Abort e) (a, is, t) = ap (λ (x : Data). list_parts (worded x)) is
+
+alone_reads : (ds : Items) (b : Block) → SpellsStatements ds b → BlockFits MAX_DEPTH MAX_NODES b → program_list (Some ds) ≡ Ok (of_statements b)
+alone_reads ds End is f = rw is refl
+alone_reads ds (Then s b) (a, rest, is, t, u) f =
+    let none = no_list a s t in
+    let all = program_block 0 (item a rest) (Then s b) (a, rest, refl, t, u) f in
+    rw is (rw (none, all) refl)
+
+behind_reads : (ds : Items) (p : ProgramTree) (a : Data) (rest : Items) → ds ≡ item a rest → SpellsList a p.prefetch → SpellsStatements rest p.statements
+    → ListParts p.prefetch → BlockFits MAX_DEPTH MAX_NODES p.statements → program_list (Some ds) ≡ Ok p
+behind_reads ds p a rest is list s parts f =
+    let read = list_reads a p.prefetch list parts in
+    let all = program_block 1 rest p.statements s f in
+    rw is (rw (read.1, read.2, all) refl)
+
+elements_read : (ds : Items) (p : ProgramTree) → SpellsElements ds p → Fits p → program_list (Some ds) ≡ Ok p
+elements_read ds p (inl (none, s)) f =
+    let b : BlockFits MAX_DEPTH MAX_NODES p.statements = statements_fit p.prefetch (BlockFits MAX_DEPTH MAX_NODES p.statements) f in
+    alone_reads ds p.statements s b
+    ∙ ap (λ (keys : List (List ℕ)). (let o : Outcome ProgramTree = Ok (record { statements = p.statements; prefetch = keys }) in o)) (sym none)
+elements_read ds p (inr (a, rest, is, list, s)) f =
+    behind_reads ds p a rest is list s (list_parts_of p.prefetch (list_of_program p.prefetch (BlockFits MAX_DEPTH MAX_NODES p.statements) f))
+    (statements_fit p.prefetch (BlockFits MAX_DEPTH MAX_NODES p.statements) f)
+
 -- a program within the limits that data spell is read
 pub program_reads : (d : Data) (p : ProgramTree) → SpellsProgram d p → Fits p → program_of d ≡ Ok p
 unfolding program_of
-program_reads d p (ds, is, s) f =
-    let b = p.statements in
-    let h : MAX_NODES ≡ (MAX_NODES - block_nodes b) + block_nodes b = omega (arith, f.nodes) in
-    let e = block_reads MAX_DEPTH (statement_at MAX_DEPTH) (statement_reads MAX_DEPTH) MAX_NODES (MAX_NODES - block_nodes b) ds b s f.depth f.ranges h in
-    rw (is, e) refl
+program_reads d p (ds, is, s) f = rw is (elements_read ds p s f)

@@ -1,30 +1,32 @@
 -- The marks of a statement, of a block and of a program, beside what is read of them.
-use Rattle.std.proofs.Common.{◌≡◌, ℕ, zero, suc, ◌+◌, List, [], ◌++◌, Option, Some, None, Ok, Err, refl, sym, ap, ◌∙◌, arith, lit<}
+use Rattle.std.proofs.Common.{◌≡◌, ℕ, zero, suc, ◌+◌, List, [], ◌++◌, Bool, true, false, cond, Option, Some, None, Ok, Err, refl, sym, ap, ◌∙◌, arith, lit<, codes}
 use Rattle.std.proofs.lemmas.List.{append-nil}
 use Rattle.serde_json.specs.Data.{Data, string, array, Items, no_items, item}
 use Rattle.stm_json.specs.declared.cause.Cause.TheVariants.{Shape}
 use Rattle.stm_json.specs.declared.read_error.BadInput.{BadInput}
 use Rattle.stm_program_json.specs.declared.words.StmtWord.{StmtWord}
 use Rattle.stm_program_json.specs.declared.words.StmtWord.TheVariants as word
-use Rattle.stm_program.specs.Syntax.{Statement, Block, Then, of_statements}
+use Rattle.stm_program.specs.Syntax.{Statement, Block, Then, ProgramTree, of_statements}
 use Rattle.stm_program_json.specs.Words.{statement_word}
-use Rattle.stm_json.specs.Outcome.{Outcome, ◌>>=◌}
-use Rattle.stm_json.specs.Elements.{worded, number_up_to}
+use Rattle.stm_json.specs.Outcome.{Outcome, ◌>>=◌, within}
+use Rattle.stm_json.specs.Parts.{same}
+use Rattle.stm_json.specs.Elements.{worded, one_of, number_up_to}
 use Rattle.stm_program_json.specs.Reading.{Read, simple_of, statement_named, statement_array, statements_from, block_by}
-use Rattle.stm_program_json.specs.Reading.{expression_at, condition_at, statement_at, program_of}
+use Rattle.stm_program_json.specs.Reading.{expression_at, condition_at, statement_at, list_of, list_parts, program_after, program_of}
 use Rattle.stm_json.specs.Faults.{at}
-use Rattle.stm_program_json.specs.FirstFault.{Mark, wrong, first_of_marks, number_marks, first_fault}
+use Rattle.stm_program_json.specs.FirstFault.{Mark, wrong, first_of_marks, number_marks, marks_of_steps, marks_of_list, marks_of_elements, first_fault}
 use Rattle.stm_program_json.proofs.ReaderMarks.{expression_marks, condition_marks, statement_of_one, statement_of_two, statement_of_three, statement_of_four}
 use Rattle.stm_program_json.proofs.ReaderMarks.{statement_inner, statement_marks, block_marks, statements_marks}
-use Rattle.stm_program_json.proofs.TableMarks.{block_is}
-use Rattle.stm_program_json.proofs.MarkLemmas.{after, wrong_is, too_deep, too_many, one_node, number_marked, part_then, number_then, behind, made}
+use Rattle.stm_program_json.proofs.TableMarks.{steps_are}
+use Rattle.stm_program_json.proofs.MarkLemmas.{after, after_number, wrong_is, too_deep, too_many, one_node, number_marked, part_then, number_then, behind, made}
+use Rattle.stm_program_json.proofs.ListMarks.{list_marked}
 use Rattle.stm_program_json.proofs.ExpressionMarks.{one_marked, expression_marked}
 use Rattle.stm_program_json.proofs.ConditionMarks.{condition_marked}
 use Rattle.stm_program.specs.declared.limits.TheConstants.{MAX_DEPTH, MAX_NODES, MAX_TURNS, MAX_VARIABLE, MAX_LEASE}
 
 module _ (l k : ℕ) (depth : l + suc k ≡ suc MAX_DEPTH) (read : ℕ → Data → Read Statement)
     (sub : (q : List ℕ) (s : ℕ) (d : Data) (next : List Mark) → first_of_marks s (statement_marks (suc k) q d ++ next) ≡ after q (read s d) next) where
-  statements_marked : (p : List ℕ) (i r : ℕ) (ds : Items) (rest : List Mark)
+  pub statements_marked : (p : List ℕ) (i r : ℕ) (ds : Items) (rest : List Mark)
       → first_of_marks r (statements_marks (suc k) p i ds ++ rest) ≡ after p (statements_from read i r ds) rest
   unfolding statements_from
   statements_marked p i r no_items rest = refl
@@ -155,14 +157,44 @@ abbrev pub fault_of : {A : Type 0} → Outcome A → Option BadInput
 fault_of (Ok x) = None
 fault_of (Err f) = Some f
 
-told : (reading : Read Block) → after [] reading [] ≡ fault_of (reading >>= λ b. Ok (of_statements b.0))
-told (Ok x) = refl
-told (Err f) = refl
+-- a program's statements, from an index on
+program_steps : (i : ℕ) (ds : Items) → first_of_marks MAX_NODES (marks_of_steps 1 [] i ds) ≡ after [] (statements_from (statement_at MAX_DEPTH) i MAX_NODES ds) []
+program_steps i ds =
+    ap (first_of_marks MAX_NODES) (steps_are 1 [] i ds)
+    ∙ ap (first_of_marks MAX_NODES) (sym (append-nil (statements_marks 1 [] i ds)))
+    ∙ statements_marked MAX_DEPTH 0 refl (statement_at MAX_DEPTH) (statement_marked MAX_DEPTH 1 refl) [] i MAX_NODES ds []
+
+told : (make : Block → ProgramTree) (reading : Read Block) → after [] reading [] ≡ fault_of (reading >>= λ b. Ok (make b.0))
+told make (Ok x) = refl
+told make (Err f) = refl
+
+alone_fault : (all : Items) → first_of_marks MAX_NODES (marks_of_steps 1 [] 0 all)
+    ≡ fault_of (statements_from (statement_at MAX_DEPTH) 0 MAX_NODES all >>= λ b. Ok (of_statements b.0))
+alone_fault all = program_steps 0 all ∙ told of_statements (statements_from (statement_at MAX_DEPTH) 0 MAX_NODES all)
+
+listing : List (List ℕ) → Block → ProgramTree
+listing keys b = record { statements = b; prefetch = keys }
+
+-- behind a list that was read, or the fault of the list
+behind_fault : (ds : Items) (reading : Outcome (List (List ℕ))) (first : Option BadInput)
+    → first ≡ after_number (at [] 0) MAX_NODES reading (marks_of_steps 1 [] 1 ds)
+    → first ≡ fault_of (within 0 reading >>= λ keys. statements_from (statement_at MAX_DEPTH) 1 MAX_NODES ds >>= λ b. Ok
+    (record { statements = b.0; prefetch = keys }))
+behind_fault ds (Ok keys) first h = h ∙ program_steps 1 ds ∙ told (listing keys) (statements_from (statement_at MAX_DEPTH) 1 MAX_NODES ds)
+behind_fault ds (Err f) first h = h
+
+list_tested : (parts ds all : Items) (b : Bool)
+    → first_of_marks MAX_NODES (cond b (marks_of_list (at [] 0) parts ++ marks_of_steps 1 [] 1 ds) (marks_of_steps 1 [] 0 all))
+    ≡ fault_of (program_after (cond b (Some parts) None) all ds)
+list_tested parts ds all true = behind_fault ds (list_of (one_of parts)) _ (list_marked (at [] 0) MAX_NODES parts (marks_of_steps 1 [] 1 ds))
+list_tested parts ds all false = alone_fault all
+
+elements_fault : (d : Data) (ds : Items) → first_of_marks MAX_NODES (marks_of_elements (item d ds)) ≡ fault_of (program_after (list_parts (worded d)) (item d ds) ds)
+elements_fault (array (item (string w) parts)) ds = list_tested parts ds (item (array (item (string w) parts)) ds) (same w (codes "prefetch"))
+elements_fault _ ds = alone_fault (item _ ds)
 
 pub program_fault : (d : Data) → first_fault d ≡ fault_of (program_of d)
 unfolding first_fault program_of
-program_fault d =
-    ap (first_of_marks MAX_NODES) (block_is 1 [] d)
-    ∙ ap (first_of_marks MAX_NODES) (sym (append-nil (block_marks 1 [] d)))
-    ∙ block_marked MAX_DEPTH 0 refl (statement_at MAX_DEPTH) (statement_marked MAX_DEPTH 1 refl) [] MAX_NODES d []
-    ∙ told (block_by (statement_at MAX_DEPTH) MAX_NODES d)
+program_fault (array no_items) = refl
+program_fault (array (item d ds)) = elements_fault d ds
+program_fault _ = refl

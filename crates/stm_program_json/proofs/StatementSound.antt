@@ -5,9 +5,9 @@ use Rattle.stm_program_json.specs.declared.words.StmtWord.{StmtWord}
 use Rattle.stm_program_json.specs.declared.words.StmtWord.TheVariants as word
 use Rattle.stm_program_json.specs.declared.words.Simple.{Simple}
 use Rattle.stm_program_json.specs.declared.words.Simple.TheVariants as simple
-use Rattle.stm_program.specs.Syntax.{Expression, Statement, Set, Put, If, For, Block, End, Then, of_statements}
+use Rattle.stm_program.specs.Syntax.{Expression, Statement, Set, Put, If, For, Block, End, Then}
 use Rattle.stm_program.specs.Size.{expression_nodes, statement_nodes, block_nodes}
-use Rattle.stm_program.specs.Limits.{ExpressionFits, StatementFits, BlockFits, Fits}
+use Rattle.stm_program.specs.Limits.{ExpressionFits, StatementFits, BlockFits}
 use Rattle.stm_program_json.specs.Words.{statement_word}
 use Rattle.stm_program_json.specs.WordTexts.{simple_text}
 use Rattle.stm_json.specs.Outcome.{within}
@@ -15,7 +15,7 @@ use Rattle.stm_json.specs.Elements.{worded, one_of, two_of, three_of, four_of, n
 use Rattle.stm_program_json.specs.Reading.{Read, simple_of, set_of, put_of, if_of, for_of, statement_named, statement_array, statements_from, block_by}
 use Rattle.stm_program_json.specs.Reading.{expression_at, condition_at, statement_at}
 use Rattle.stm_json.specs.Parts.{spelled}
-use Rattle.stm_program_json.specs.Grammar.{SpellsExpression, SpellsStatement, SpellsStatements, SpellsProgram}
+use Rattle.stm_program_json.specs.Grammar.{SpellsExpression, SpellsStatement, SpellsStatements}
 use Rattle.stm_json.proofs.OutcomeLemmas.{bind_ok, within_ok}
 use Rattle.stm_program_json.proofs.OutcomeLemmas.{one_part_ok}
 use Rattle.stm_program_json.proofs.WordLemmas.{statement_word-is}
@@ -234,8 +234,7 @@ statement_sound zero r d x h = cc
 statement_sound (suc l) zero d x h = cc
 statement_sound (suc l) (suc r) d x h = array_sound l (statement_at l) (statement_sound l) r d (worded d) x refl h
 
-pub read_block_sound : (d : Data) (x : Block × ℕ) → block_by (statement_at MAX_DEPTH) MAX_NODES d ≡ Ok x
-    → SpellsProgram d (of_statements x.0) × Fits (of_statements x.0)
-read_block_sound d x h =
-    let b = block_sound MAX_DEPTH (statement_at MAX_DEPTH) (statement_sound MAX_DEPTH) MAX_NODES d x h in
-    ((b.items, b.is, b.read.spelled), b.read.fits)
+-- the statements of a program, from an index on
+pub program_statements : (i : ℕ) (ds : Items) (x : Block × ℕ) → statements_from (statement_at MAX_DEPTH) i MAX_NODES ds ≡ Ok x
+    → StatementsRead MAX_DEPTH MAX_NODES ds x
+program_statements i ds x h = statements_sound MAX_DEPTH (statement_at MAX_DEPTH) (statement_sound MAX_DEPTH) i MAX_NODES ds x h

@@ -291,6 +291,6 @@ mutual
   block_is k p (array ds) = steps_are k p 0 ds
   block_is k p _ = refl
 
-  steps_are : (k : ℕ) (p : List ℕ) (i : ℕ) (ds : Items) → marks_of_steps k p i ds ≡ statements_marks k p i ds
+  pub steps_are : (k : ℕ) (p : List ℕ) (i : ℕ) (ds : Items) → marks_of_steps k p i ds ≡ statements_marks k p i ds
   steps_are k p i no_items = refl
   steps_are k p i (item d ds) = both _ _ _ _ (node_is k (at p i) _ _ (step_is k (at p i) d)) (steps_are k p (suc i) ds)

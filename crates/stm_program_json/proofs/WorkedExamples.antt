@@ -1,5 +1,5 @@
 -- Worked examples of the grammar and of the first fault.
-use Rattle.std.proofs.Common.{◌≡◌, [], ◌∷◌, suc, None, refl, codes}
+use Rattle.std.proofs.Common.{◌≡◌, inl, [], ◌∷◌, suc, None, refl, codes}
 use Rattle.std.specs.Fmt.{digits}
 use Rattle.serde_json.specs.Data.{Data, number, unsigned, string, array, no_items, item}
 use Rattle.stm_json.specs.declared.cause.Cause.TheVariants.{Shape, Range}
@@ -22,7 +22,7 @@ emits_k = of_statements (Then (Emit (Get (Text (codes "k")))) End)
 -- [["emit",["get","k"]]] spells a program, and has no fault
 
 pub is_spelled : SpellsProgram (array (item emit_of_get no_items)) emits_k
-is_spelled = (item emit_of_get no_items, refl, (emit_of_get, no_items, refl, (get_of_k, refl, (string (codes "k"), refl, refl)), refl))
+is_spelled = (item emit_of_get no_items, refl, inl (refl, (emit_of_get, no_items, refl, (get_of_k, refl, (string (codes "k"), refl, refl)), refl)))
 
 pub has_no_fault : first_fault (array (item emit_of_get no_items)) ≡ None
 unfolding first_fault parts_behind

@@ -1,26 +1,22 @@
 -- Writing statements one after the other, as a loop does.
-use Rattle.std.proofs.Common.{◌≡◌, ℕ, zero, suc, ◌+◌, ◌<◌, ◌≤◌, List, [], ◌∷◌, ◌++◌, length, drop, get_or, map, refl, sym, ap, ◌∙◌, arith, add-one}
+use Rattle.std.proofs.Common.{◌≡◌, ℕ, zero, suc, ◌+◌, ◌<◌, ◌≤◌, List, [], ◌∷◌, ◌++◌, length, drop, get_or, map, refl, sym, ap, ◌∙◌, arith, add-one, codes}
 use Rattle.std.proofs.lemmas.List.{drop_all, map_push}
 use Rattle.std.proofs.Math.Seq.{drop-cons}
-use Rattle.serde_json.specs.Data.{Data, Items, no_items, item}
+use Rattle.serde_json.specs.Data.{Data, string, array, Items, no_items, item}
+use Rattle.stm_json.specs.Parts.{spelled}
 use Rattle.serde_json.specs.View.{view, items_of, items_view}
 use Rattle.serde_json.specs.declared.value.Value.{Value}
 use Rattle.stm_program.specs.Syntax.{Statement}
 use Rattle.stm_program.specs.BlockView.{block_of}
 use Rattle.stm_program.specs.Weight.{statement_weight, block_weight, block_weight-positive}
-use Rattle.stm_program_json.specs.Writing.{written_statement, written_statements}
+use Rattle.stm_program_json.specs.Writing.{items_after, written_statement, written_statements, written_keys, behind_list}
 use Rattle.stm_program.proofs.WeightLemmas.{statement_weight-positive}
 
--- elements behind those that were made
-abbrev pub items_after : List Data → Items → Items
-items_after [] es = es
-items_after (d ∷ ds) es = item d (items_after ds es)
-
-items_after-none : (ds : List Data) → items_after ds no_items ≡ items_of ds
+pub items_after-none : (ds : List Data) → items_after ds no_items ≡ items_of ds
 items_after-none [] = refl
 items_after-none (d ∷ ds) = ap (item d) (items_after-none ds)
 
-items_after-snoc : (ds : List Data) (d : Data) (es : Items) → items_after (ds ++ d ∷ []) es ≡ items_after ds (item d es)
+pub items_after-snoc : (ds : List Data) (d : Data) (es : Items) → items_after (ds ++ d ∷ []) es ≡ items_after ds (item d es)
 items_after-snoc [] d es = refl
 items_after-snoc (c ∷ ds) d es = ap (item c) (items_after-snoc ds d es)
 
@@ -41,6 +37,25 @@ pub is_done : (vs : List Value) (ss : List Statement) (i : ℕ) (total : Items) 
 is_done vs ss i total h so_far =
     let e = drop_all i ss h in
     sym (items_after-none (map view vs)) ∙ sym (ap (λ (ts : List Statement). items_after (map view vs) (written_statements (block_of ts))) e) ∙ so_far
+
+-- ---- keys, one after the other
+
+pub keys_end : (vs : List Value) → items_view vs ≡ items_after (map view vs) no_items
+keys_end vs = sym (items_after-none (map view vs))
+
+pub keys_more : (vs ws : List Value) (v : Value) (key : List ℕ) (keys : List (List ℕ)) (out : Items) → ws ≡ vs ++ v ∷ [] → view v ≡ string key
+    → out ≡ items_after (map view ws) (written_keys keys) → out ≡ items_after (map view vs) (written_keys (key ∷ keys))
+keys_more vs ws v key keys out pushed is others =
+    others ∙ ap (λ (xs : List Value). items_after (map view xs) (written_keys keys)) pushed
+    ∙ ap (λ (xs : List Data). items_after xs (written_keys keys)) (map_push view vs v)
+    ∙ items_after-snoc (map view vs) (view v) (written_keys keys)
+    ∙ ap (λ (d : Data). items_after (map view vs) (item d (written_keys keys))) is
+
+-- a list that has keys stands before the statements
+pub list_first : (keys : List (List ℕ)) (d : Data) (ds : Items) → 0 < length keys → d ≡ spelled (codes "prefetch") (array (written_keys keys) ∷ [])
+    → item d ds ≡ behind_list keys ds
+list_first [] d ds some is = absurd (omega arith)
+list_first (key ∷ keys) d ds some is = ap (λ (x : Data). item x ds) is
 
 -- each statement weighs less than its block
 pub item_weight : (ss : List Statement) (i : ℕ) (s : Statement) → i < length ss → s ≡ get_or ss i s → statement_weight s + 1 ≤ block_weight (block_of ss)

@@ -1,15 +1,15 @@
 -- What is written of a program spells it, and so reads as it again.
-use Rattle.std.proofs.Common.{◌≡◌, ℤ, pos, negsuc, Ok, refl, sym, ap, ◌∙◌, subst}
-use Rattle.serde_json.specs.Data.{Data, number, unsigned, negative}
+use Rattle.std.proofs.Common.{◌≡◌, inl, inr, ℕ, ℤ, pos, negsuc, List, [], ◌∷◌, Ok, refl, sym, ap, ◌∙◌, subst, codes}
+use Rattle.serde_json.specs.Data.{Data, number, unsigned, negative, array}
 use Rattle.serde_json.specs.Find.{of_integer}
 use Rattle.stm_program.specs.Syntax.{Expression, Text, Number, Variable, Get, Rev, Arithmetic, Cat, TextOf, NumOf, Condition, Equal, Less, Not, And, Or}
 use Rattle.stm_program.specs.Syntax.{Statement, Set, Put, Del, If, For, Emit, Abort, Block, End, Then, ProgramTree}
 use Rattle.stm_program.specs.Limits.{Fits}
-use Rattle.stm_program_json.specs.Grammar.{SpellsExpression, SpellsCondition, SpellsStatement, SpellsStatements, SpellsProgram}
+use Rattle.stm_program_json.specs.Grammar.{SpellsExpression, SpellsCondition, SpellsStatement, SpellsStatements, SpellsKeys, SpellsElements, SpellsProgram}
+use Rattle.stm_json.specs.Parts.{spelled}
 use Rattle.stm_json.specs.Elements.{SpellsNumber}
 use Rattle.stm_program_json.specs.Reading.{program_of}
-use Rattle.stm_program_json.specs.Writing.{written_number, written_expression, written_condition, written_statement, written_statements, written_program}
-use Rattle.stm_program_json.specs.Writing.{written_block}
+use Rattle.stm_program_json.specs.Writing.{written_number, written_expression, written_condition, written_statement, written_statements, written_keys, behind_list, written_program}
 use Rattle.stm_program_json.proofs.StatementComplete.{program_reads}
 
 number_spells : (z : ℤ) → SpellsNumber (number (of_integer z)) z
@@ -69,12 +69,29 @@ mutual
   statements_spell End = refl
   statements_spell (Then s b) = (written_statement s, written_statements b, refl, statement_spells s, statements_spell b)
 
+keys_spell : (keys : List (List ℕ)) → SpellsKeys (written_keys keys) keys
+keys_spell [] = refl
+keys_spell (key ∷ keys) = (written_keys keys, refl, keys_spell keys)
+
+elements_spell : (keys : List (List ℕ)) (b : Block)
+    → SpellsElements (behind_list keys (written_statements b)) (record { statements = b; prefetch = keys })
+elements_spell [] b = inl (refl, statements_spell b)
+elements_spell (key ∷ keys) b =
+    let list : Data = spelled (codes "prefetch") (array (written_keys (key ∷ keys)) ∷ []) in
+    inr (list, written_statements b, refl, (written_keys (key ∷ keys), refl, keys_spell (key ∷ keys)), statements_spell b)
+
 pub written_program-spells : (p : ProgramTree) → SpellsProgram (written_program p) p
-written_program-spells p = (written_statements p.statements, refl, statements_spell p.statements)
+written_program-spells p = (behind_list p.prefetch (written_statements p.statements), refl, elements_spell p.prefetch p.statements)
 
--- the same, for data and a program that are equal to these
-pub spells_as : (d : Data) (b : Block) (p : ProgramTree) → d ≡ written_block b → b ≡ p.statements → SpellsProgram d p
-spells_as d b p e f = subst (λ (x : Data). SpellsProgram x p) (sym (e ∙ ap written_block f)) (written_program-spells p)
+-- the same, for data, keys and statements that are equal to these
+pub written_as : (d : Data) (keys : List (List ℕ)) (b : Block) (p : ProgramTree) → d ≡ array (behind_list keys (written_statements b)) → keys ≡ p.prefetch
+    → b ≡ p.statements → d ≡ written_program p
+written_as d keys b p e f g =
+    e ∙ ap (λ (ks : List (List ℕ)). array (behind_list ks (written_statements b))) f
+    ∙ ap (λ (c : Block). array (behind_list p.prefetch (written_statements c))) g
 
-pub reads_as : (d : Data) (b : Block) (p : ProgramTree) → d ≡ written_block b → b ≡ p.statements → Fits p → program_of d ≡ Ok p
-reads_as d b p e f fits = program_reads d p (spells_as d b p e f) fits
+pub spells_as : (d : Data) (p : ProgramTree) → d ≡ written_program p → SpellsProgram d p
+spells_as d p e = subst (λ (x : Data). SpellsProgram x p) (sym e) (written_program-spells p)
+
+pub reads_as : (d : Data) (p : ProgramTree) → d ≡ written_program p → Fits p → program_of d ≡ Ok p
+reads_as d p e fits = program_reads d p (spells_as d p e) fits

@@ -1,14 +1,15 @@
 -- The first fault of data in a program's place, apart from reading: the marks of all the data in the order of reading, none
 -- left out behind a fault, and then the first of them that is a fault.
 use Rattle.std.specs.Prelude.{ℕ, zero, suc, ℤ, pos, negsuc, Bool, true, false, bytes_eq, List, [], ◌∷◌, ◌++◌, length, Option, Some, None, nat_le}
-use Rattle.std.specs.Prelude.{if◌then◌else◌, option_and_then, codes}
+use Rattle.std.specs.Prelude.{if◌then◌else◌, option_and_then, codes, ◌||◌, nat_eq, nat_lt}
+use Rattle.std.specs.List.{list_any}
 use Rattle.std.specs.Map.{lookup}
 use Rattle.serde_json.specs.Data.{Data, number, string, array, Items, no_items, item}
 use Rattle.serde_json.specs.Find.{as_number, as_integer}
 use Rattle.stm_json.specs.declared.cause.Cause.{Cause}
-use Rattle.stm_json.specs.declared.cause.Cause.TheVariants.{Shape, Range, TooDeep, TooManyNodes, TooLong}
+use Rattle.stm_json.specs.declared.cause.Cause.TheVariants.{Shape, Range, TooDeep, TooManyNodes, TooLong, TooMany}
 use Rattle.stm_json.specs.declared.read_error.BadInput.{BadInput}
-use Rattle.stm_program.specs.declared.limits.TheConstants.{MAX_DEPTH, MAX_NODES, MAX_TEXT, MAX_TURNS, MAX_VARIABLE, MAX_LEASE}
+use Rattle.stm_program.specs.declared.limits.TheConstants.{MAX_DEPTH, MAX_NODES, MAX_PREFETCH, MAX_TEXT, MAX_TURNS, MAX_VARIABLE, MAX_LEASE}
 use Rattle.stm_json.specs.Elements.{is_64_bit}
 use Rattle.stm_json.specs.Faults.{at}
 
@@ -120,6 +121,53 @@ abbrev mutual
   marks_of_steps k p index no_items = []
   marks_of_steps k p index (item d ds) = (Node k (at p index) ∷ marks_in Step k (at p index) d) ++ marks_of_steps k p (suc index) ds
 
+-- ---- the list of keys that a program may begin with
+
+-- the keys that come before: only texts are keys
+abbrev pub with_text : List (List ℕ) → Data → List (List ℕ)
+with_text earlier (string s) = earlier ++ s ∷ []
+with_text earlier _ = earlier
+
+-- a key behind these
+abbrev pub text_marks : List ℕ → List (List ℕ) → List ℕ → List Mark
+text_marks p earlier s =
+    if nat_eq (length s) 0 || list_any (bytes_eq s) earlier then wrong p Shape else (if nat_lt MAX_TEXT (length s) then wrong p TooLong else [])
+
+abbrev pub key_marks : List ℕ → List (List ℕ) → Data → List Mark
+key_marks p earlier (string s) = text_marks p earlier s
+key_marks p earlier _ = wrong p Shape
+
+-- the keys from an index on
+abbrev pub marks_of_keys : List ℕ → ℕ → List (List ℕ) → Items → List Mark
+marks_of_keys p index earlier no_items = []
+marks_of_keys p index earlier (item d ds) =
+    (if nat_lt index MAX_PREFETCH then key_marks (at p index) earlier d else wrong (at p index) TooMany) ++ marks_of_keys p (suc index) (with_text earlier d) ds
+
+-- what stands behind the word: one array
+abbrev pub marks_of_list : List ℕ → Items → List Mark
+marks_of_list p (item (array ks) no_items) = marks_of_keys (at p 1) 0 [] ks
+marks_of_list p (item d no_items) = wrong (at p 1) Shape
+marks_of_list p _ = wrong p Shape
+
+-- an array that begins with the word of a list
+abbrev pub is_list : Data → Bool
+is_list (array (item (string w) ds)) = bytes_eq w (codes "prefetch")
+is_list _ = false
+
+abbrev pub behind_word : Data → Items
+behind_word (array (item d ds)) = ds
+behind_word _ = no_items
+
+-- the elements of a program: its statements, behind its list where it has one
+abbrev pub marks_of_elements : Items → List Mark
+marks_of_elements no_items = []
+marks_of_elements (item d ds) =
+    if is_list d then marks_of_list (at [] 0) (behind_word d) ++ marks_of_steps 1 [] 1 ds else marks_of_steps 1 [] 0 (item d ds)
+
+abbrev pub program_marks : Data → List Mark
+program_marks (array ds) = marks_of_elements ds
+program_marks _ = wrong [] Shape
+
 -- ---- the first fault
 
 abbrev pub fault_at : List ℕ → Cause → Option BadInput
@@ -134,4 +182,4 @@ first_of_marks (suc room) (Node k p ∷ ms) = if nat_le k MAX_DEPTH then first_o
 
 -- the first fault of data in a program's place, if there is one
 unfoldable pub first_fault : Data → Option BadInput
-first_fault d = first_of_marks MAX_NODES (marks_in Block 1 [] d)
+first_fault d = first_of_marks MAX_NODES (program_marks d)

@@ -1,5 +1,5 @@
 -- Which data spell which program: the grammar, apart from reading.
-use Rattle.std.specs.Prelude.{◌≡◌, ℕ, pos, List, [], ◌∷◌, codes}
+use Rattle.std.specs.Prelude.{◌≡◌, ◌⊎◌, ℕ, pos, List, [], ◌∷◌, codes}
 use Rattle.serde_json.specs.Data.{Data, string, array, Items, no_items, item}
 use Rattle.stm_json.specs.Elements.{SpellsNumber}
 use Rattle.stm_program.specs.declared.operator.Operator.{Operator}
@@ -51,6 +51,21 @@ abbrev mutual
   SpellsStatements ds End = ds ≡ no_items
   SpellsStatements ds (Then s b) = (a : Data) × (rest : Items) × (ds ≡ item a rest) × SpellsStatement a s × SpellsStatements rest b
 
--- a program is spelled by an array of its statements
+-- keys, one after another
+abbrev pub SpellsKeys : Items → List (List ℕ) → Type 0
+SpellsKeys ds [] = ds ≡ no_items
+SpellsKeys ds (key ∷ keys) = (rest : Items) × (ds ≡ item (string key) rest) × SpellsKeys rest keys
+
+-- a list is spelled by an array of its keys behind a word
+abbrev pub SpellsList : Data → List (List ℕ) → Type 0
+SpellsList d keys = (ks : Items) × (d ≡ spelled (codes "prefetch") (array ks ∷ [])) × SpellsKeys ks keys
+
+-- the statements alone, where the program has no list, or behind its list
+abbrev pub SpellsElements : Items → ProgramTree → Type 0
+SpellsElements ds p =
+    ((p.prefetch ≡ []) × SpellsStatements ds p.statements)
+    ⊎ ((a : Data) × (rest : Items) × (ds ≡ item a rest) × SpellsList a p.prefetch × SpellsStatements rest p.statements)
+
+-- a program is spelled by an array of these
 abbrev pub SpellsProgram : Data → ProgramTree → Type 0
-SpellsProgram d p = (ds : Items) × (d ≡ array ds) × SpellsStatements ds p.statements
+SpellsProgram d p = (ds : Items) × (d ≡ array ds) × SpellsElements ds p

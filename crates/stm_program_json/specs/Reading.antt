@@ -1,10 +1,11 @@
 -- Reading a program: the value that data spell, or the first fault. At each node the depth is looked at first, then the
 -- number of nodes, then the shape, and then the elements in order. A reader is given how many levels and how many nodes
 -- are left, and answers how many nodes are left after it.
-use Rattle.std.specs.Prelude.{ℕ, zero, suc, List, length, Bool, true, false, Option, Some, None, Ok, is_some, if◌then◌else◌, nat_le}
+use Rattle.std.specs.Prelude.{ℕ, zero, suc, List, [], ◌∷◌, ◌++◌, length, Bool, true, false, ◌||◌, bytes_eq, Option, Some, None, Ok, is_some, if◌then◌else◌, nat_eq, nat_le, nat_lt, codes}
+use Rattle.std.specs.List.{list_any}
 use Rattle.serde_json.specs.Data.{Data, Items, no_items, item}
 use Rattle.serde_json.specs.Find.{as_str, as_array, as_number}
-use Rattle.stm_json.specs.declared.cause.Cause.TheVariants.{Shape, TooDeep, TooManyNodes, TooLong}
+use Rattle.stm_json.specs.declared.cause.Cause.TheVariants.{Shape, TooDeep, TooManyNodes, TooLong, TooMany}
 use Rattle.stm_program_json.specs.declared.words.ExprWord.{ExprWord}
 use Rattle.stm_program_json.specs.declared.words.ExprWord.TheVariants as word
 use Rattle.stm_program_json.specs.declared.words.Unary.{Unary}
@@ -21,11 +22,12 @@ use Rattle.stm_program_json.specs.declared.words.StmtWord.{StmtWord}
 use Rattle.stm_program_json.specs.declared.words.StmtWord.TheVariants as statement
 use Rattle.stm_program_json.specs.declared.words.Simple.{Simple}
 use Rattle.stm_program_json.specs.declared.words.Simple.TheVariants as simple
-use Rattle.stm_program.specs.declared.limits.TheConstants.{MAX_DEPTH, MAX_NODES, MAX_TEXT, MAX_TURNS, MAX_VARIABLE, MAX_LEASE}
+use Rattle.stm_program.specs.declared.limits.TheConstants.{MAX_DEPTH, MAX_NODES, MAX_PREFETCH, MAX_TEXT, MAX_TURNS, MAX_VARIABLE, MAX_LEASE}
 use Rattle.stm_program.specs.Syntax.{Expression, Text, Number, Variable, Get, Rev, Arithmetic, Cat, TextOf, NumOf, Condition, Equal, Less, Not, And, Or}
 use Rattle.stm_program.specs.Syntax.{Statement, Set, Put, Del, If, For, Emit, Abort, Block, End, Then, ProgramTree, of_statements}
 use Rattle.stm_program_json.specs.Words.{expression_word, condition_word, statement_word}
 use Rattle.stm_json.specs.Outcome.{Outcome, bad, ◌>>=◌, within}
+use Rattle.stm_json.specs.Parts.{same}
 use Rattle.stm_json.specs.Elements.{worded, one_of, two_of, three_of, four_of, number_up_to, whole_number}
 
 -- a tree, and how many nodes are left after it
@@ -169,8 +171,59 @@ statement_at (suc levels) zero d = bad TooManyNodes
 statement_at (suc levels) (suc room) d =
     statement_array (expression_at levels) (condition_at levels) (block_by (statement_at levels)) room (worded d)
 
+-- ---- the list of keys that a program may begin with: it is no node
+
+-- a key that comes behind these
+abbrev pub key_told : List (List ℕ) → Option (List ℕ) → Outcome (List ℕ)
+key_told earlier None = bad Shape
+key_told earlier (Some s) =
+    if nat_eq (length s) 0 || list_any (bytes_eq s) earlier then bad Shape else (if nat_lt MAX_TEXT (length s) then bad TooLong else Ok s)
+
+abbrev pub key_at : List (List ℕ) → Data → Outcome (List ℕ)
+key_at earlier d = if nat_lt (length earlier) MAX_PREFETCH then key_told earlier (as_str d) else bad TooMany
+
+-- these keys, and the others behind them
+unfoldable pub keys_from : List (List ℕ) → Items → Outcome (List (List ℕ))
+keys_from earlier no_items = Ok earlier
+keys_from earlier (item d ds) = within (length earlier) (key_at earlier d) >>= λ key. keys_from (earlier ++ key ∷ []) ds
+
+abbrev pub keys_array : Option Items → Outcome (List (List ℕ))
+keys_array None = bad Shape
+keys_array (Some ds) = keys_from [] ds
+
+-- nothing but the array of keys stands behind the word
+abbrev pub list_of : Option Data → Outcome (List (List ℕ))
+list_of None = bad Shape
+list_of (Some d) = within 1 (keys_array (as_array d))
+
+-- what stands behind the word, where an array begins with it
+abbrev pub list_parts : Option (List ℕ × Items) → Option Items
+list_parts None = None
+list_parts (Some p) = if same p.0 (codes "prefetch") then Some p.1 else None
+
 -- ---- programs
+
+-- with a list as the first element, and without
+abbrev pub program_after : Option Items → Items → Items → Outcome ProgramTree
+program_after (Some parts) all rest =
+    within 0 (list_of (one_of parts)) >>= λ keys. statements_from (statement_at MAX_DEPTH) 1 MAX_NODES rest >>= λ b. Ok
+    (record { statements = b.0; prefetch = keys })
+program_after None all rest = statements_from (statement_at MAX_DEPTH) 0 MAX_NODES all >>= λ b. Ok (of_statements b.0)
+
+abbrev pub program_list : Option Items → Outcome ProgramTree
+program_list None = bad Shape
+program_list (Some no_items) = Ok (of_statements End)
+program_list (Some (item d ds)) = program_after (list_parts (worded d)) (item d ds) ds
+
+-- The index of the first statement of a program among the elements that spell it: it stands behind a list, also behind one of no keys.
+abbrev pub first_among : Option Items → ℕ
+first_among None = 0
+first_among (Some no_items) = 0
+first_among (Some (item d ds)) = if is_some (list_parts (worded d)) then 1 else 0
+
+abbrev pub first_statement : Data → ℕ
+first_statement d = first_among (as_array d)
 
 -- the program that data spell, or the first fault
 unfoldable pub program_of : Data → Outcome ProgramTree
-program_of d = block_by (statement_at MAX_DEPTH) MAX_NODES d >>= λ b. Ok (of_statements b.0)
+program_of d = program_list (as_array d)

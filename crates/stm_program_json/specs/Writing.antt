@@ -1,5 +1,5 @@
 -- The one spelling of a program.
-use Rattle.std.specs.Prelude.{ℕ, [], ◌∷◌, codes}
+use Rattle.std.specs.Prelude.{ℕ, List, [], ◌∷◌, codes}
 use Rattle.serde_json.specs.Data.{Data, number, unsigned, string, array, Items, no_items, item}
 use Rattle.serde_json.specs.Find.{of_integer}
 use Rattle.stm_program.specs.Syntax.{Expression, Text, Number, Variable, Get, Rev, Arithmetic, Cat, TextOf, NumOf, Condition, Equal, Less, Not, And, Or}
@@ -42,9 +42,23 @@ abbrev mutual
   written_statements End = no_items
   written_statements (Then s b) = item (written_statement s) (written_statements b)
 
+-- elements behind others
+abbrev pub items_after : List Data → Items → Items
+items_after [] es = es
+items_after (d ∷ ds) es = item d (items_after ds es)
+
 abbrev pub written_block : Block → Data
 written_block b = array (written_statements b)
 
--- a program is the array of its statements
+abbrev pub written_keys : List (List ℕ) → Items
+written_keys [] = no_items
+written_keys (key ∷ keys) = item (string key) (written_keys keys)
+
+-- a list is written where it has keys
+abbrev pub behind_list : List (List ℕ) → Items → Items
+behind_list [] ds = ds
+behind_list (key ∷ keys) ds = item (spelled (codes "prefetch") (array (written_keys (key ∷ keys)) ∷ [])) ds
+
+-- a program is the array of its statements, behind its list
 abbrev pub written_program : ProgramTree → Data
-written_program p = written_block p.statements
+written_program p = array (behind_list p.prefetch (written_statements p.statements))

@@ -5,7 +5,7 @@ mod read;
 mod spell;
 mod words;
 
-pub use read::read_program;
+pub use read::{first_statement, read_program};
 pub use spell::write_program;
 pub use stm_json::{BadInput, Cause, ReadError};
 pub use stm_program::Program;

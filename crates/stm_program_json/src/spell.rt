@@ -7,17 +7,18 @@ ghost use Rattle.stm_program_json.specs.Writing.{written_program};
 
 mod arrays;
 mod expressions;
+mod list;
 mod statements;
 
 use serde_json::Value;
 use std::alloc::{AllocError, Global};
 use stm_program::Program;
 
-/// The one spelling of a program as a JSON value. Reading it gives the program again.
+/// The one spelling of a program as a JSON value: its list stands first, where it has keys. Reading it gives the program again.
 pub fn write_program(alloc: Global, program: &Program) -> Result<Value, AllocError>
     ensures exact { IfOk result (λ v. view v ≡ written_program program.now) }
     ensures spells { IfOk result (λ v. SpellsProgram (view v) program.now) }
     ensures reads_back { IfOk result (λ v. program_of (view v) ≡ OkOf program.now) }
 {
-    statements::statements_value(alloc, program.statements())
+    list::program_value(alloc, program.prefetch(), program.statements())
 }

@@ -17,6 +17,7 @@ use Rattle.stm_meaning.specs.Meaning.{evaluate, holds, run_block, run_over}
 use Rattle.stm_outcome.specs.declared.txn.Txn.{Txn}
 use Rattle.stm_outcome.specs.declared.txn.Op.TheVariants.{Put}
 use Rattle.stm_outcome.specs.declared.answer.OpAnswer.TheVariants.{Put as PutAnswer}
+use Rattle.stm_txn.specs.Standing.{at_revision}
 use Rattle.stm_attempt.specs.Settled.{settle}
 use Rattle.stm_entries.specs.declared.entry.Entry.{Entry}
 use Rattle.stm_entries.specs.declared.entry.Entry.TheVariants.{Program, Foreign}
@@ -52,7 +53,7 @@ paying =
     ∷ Step 1 ∷ Step 2 ∷ Step 2 ∷ Step 1 ∷ Step 1 ∷ Step 1 ∷ []
 
 -- the transfer has read b as 5, its commit fails, and its next attempt pays to the 12 that b has then
-transfer_is_made_again : replies_to paying (opened 1)
+transfer_is_made_again : replies_to paying (opened (at_revision 1))
     ≡ Ok (TxnDone (record { succeeded = true; revision = 2; answers = PutAnswer ∷ PutAnswer ∷ []; failed = None })) ∷ Ok (Started 1) ∷ Ok (Started 2)
     ∷ Ok (Fetched 1 (codes "a") 2 2 2) ∷ Ok (Fetched 2 (codes "b") 2 2 2) ∷ Ok (Committed 2 3 1 [] (seen.Get (codes "b") (codes "5") ∷ []) [])
     ∷ Ok (Fetched 1 (codes "b") 2 2 3) ∷ Ok (Conflict 1 (codes "b") 2 3)
@@ -67,7 +68,7 @@ abbrev transfer : Entry
 transfer = Program (of_statements (transfer_program (codes "a") (codes "b") 3)) Serializable [] []
     (seen.Get (codes "a") (codes "10") ∷ seen.Get (codes "b") (codes "12") ∷ []) 4
 
-paying_enters : entries_after 1 paying ≡ (Foreign open_accounts ∷ []) ++ (deposit ∷ transfer ∷ [])
+paying_enters : entries_after (at_revision 1) paying ≡ (Foreign open_accounts ∷ []) ++ (deposit ∷ transfer ∷ [])
 unfolding start_runner fetch commit step_live settle transfer_program deposit_program run_over run_block evaluate holds less equal arithmetic computed text_of num_of written_number key_in put_of get_key last_write latest_writes fresh digits
 paying_enters = refl
 
@@ -81,9 +82,9 @@ fifteen_at_first : total_now (replay (Foreign open_accounts ∷ []) (opening 1))
 unfolding written_number
 fifteen_at_first = refl
 
-twenty_two_at_last : total_now (history_after 1 paying) accounts ≡ Some (pos 22)
+twenty_two_at_last : total_now (history_after (at_revision 1) paying) accounts ≡ Some (pos 22)
 twenty_two_at_last =
-    recipes_in_worlds.totals 1 paying accounts (Foreign open_accounts ∷ []) (deposit ∷ transfer ∷ []) (pos 15) are_accounts paying_enters of_paying
+    recipes_in_worlds.totals (at_revision 1) paying accounts (Foreign open_accounts ∷ []) (deposit ∷ transfer ∷ []) (pos 15) are_accounts paying_enters of_paying
     fifteen_at_first
 
 -- ---- accounts that deposits make
@@ -100,7 +101,7 @@ filling_entries =
     ∷ Program (of_statements (transfer_program (codes "a") (codes "b") 3)) Serializable [] []
     (seen.Get (codes "a") (codes "10") ∷ seen.Get (codes "b") (codes "5") ∷ []) 4 ∷ []
 
-filling_enters : entries_after 1 filling ≡ filling_entries
+filling_enters : entries_after (at_revision 1) filling ≡ filling_entries
 unfolding start_runner fetch commit step_live settle transfer_program deposit_program run_over run_block evaluate holds less equal arithmetic computed text_of num_of written_number key_in put_of get_key last_write latest_writes fresh digits
 filling_enters = refl
 
@@ -113,8 +114,8 @@ of_filling = (
   ),
 )
 
-fifteen_were_deposited : counted_total (history_after 1 filling) accounts ≡ Some (pos 15)
-fifteen_were_deposited = recipes_in_worlds.deposits 1 filling accounts filling_entries are_accounts filling_enters of_filling
+fifteen_were_deposited : counted_total (history_after (at_revision 1) filling) accounts ≡ Some (pos 15)
+fifteen_were_deposited = recipes_in_worlds.deposits (at_revision 1) filling accounts filling_entries are_accounts filling_enters of_filling
 
 -- ---- two take from a queue of two, in turn
 
@@ -128,7 +129,7 @@ abbrev took : List ℕ → List ℕ → List ℕ → List TraceItem
 took head place item = seen.Get (codes "q/head") head ∷ seen.Get (codes "q/tail") (codes "2") ∷ seen.Get place item ∷ []
 
 -- both read the same head: the second commit fails, and its next attempt takes the second item
-each_takes_one : replies_to (emptying Serializable ++ Step 4 ∷ Step 4 ∷ []) (opened 1)
+each_takes_one : replies_to (emptying Serializable ++ Step 4 ∷ Step 4 ∷ []) (opened (at_revision 1))
     ≡ Ok (Started 1) ∷ Ok (Fetched 1 (codes "q/tail") 0 1 1) ∷ Ok (Committed 1 2 1 [] (seen.Get (codes "q/tail") [] ∷ []) [])
     ∷ Ok (Started 2) ∷ Ok (Fetched 2 (codes "q/tail") 2 2 2) ∷ Ok (Committed 2 3 1 [] (seen.Get (codes "q/tail") (codes "1") ∷ []) [])
     ∷ Ok (Started 3) ∷ Ok (Started 4)
@@ -146,7 +147,7 @@ queue_entries =
     ∷ Program (of_statements (dequeue_program (codes "q"))) Serializable [] (Text (codes "A") ∷ []) (took [] (codes "q/0") (codes "A")) 4
     ∷ Program (of_statements (dequeue_program (codes "q"))) Serializable [] (Text (codes "B") ∷ []) (took (codes "1") (codes "q/1") (codes "B")) 5 ∷ []
 
-emptying_enters : entries_after 1 (emptying Serializable ++ Step 4 ∷ Step 4 ∷ []) ≡ queue_entries
+emptying_enters : entries_after (at_revision 1) (emptying Serializable ++ Step 4 ∷ Step 4 ∷ []) ≡ queue_entries
 unfolding start_runner fetch commit step_live settle enqueue_program dequeue_program run_over run_block evaluate holds equal arithmetic computed concatenated text_of num_of written_number key_in put_of del_of get_key last_write latest_writes fresh digits
 emptying_enters = refl
 
@@ -156,8 +157,8 @@ of_emptying = (
   (Enqueues (record { item = codes "B"; commits = (refl, refl) }), (Dequeues (refl, refl), (Dequeues (refl, refl), tt))),
 )
 
-in_order : Kept (codes "q") [] (codes "A" ∷ codes "B" ∷ []) (codes "A" ∷ codes "B" ∷ []) (history_after 1 (emptying Serializable ++ Step 4 ∷ Step 4 ∷ []))
-in_order = recipes_in_worlds.items 1 (emptying Serializable ++ Step 4 ∷ Step 4 ∷ []) (codes "q") queue_entries some emptying_enters of_emptying
+in_order : Kept (codes "q") [] (codes "A" ∷ codes "B" ∷ []) (codes "A" ∷ codes "B" ∷ []) (history_after (at_revision 1) (emptying Serializable ++ Step 4 ∷ Step 4 ∷ []))
+in_order = recipes_in_worlds.items (at_revision 1) (emptying Serializable ++ Step 4 ∷ Step 4 ∷ []) (codes "q") queue_entries some emptying_enters of_emptying
 
 abbrev told_to_both : List ReadAnswer
 told_to_both =
@@ -167,8 +168,8 @@ told_to_both =
     ∷ []
 
 -- At ReadCommitted nothing is compared, and both take the first item: no law speaks of such commits.
-taken_twice : replies_to (emptying ReadCommitted) (opened 1)
-    ≡ replies_to (take 14 (emptying ReadCommitted)) (opened 1)
+taken_twice : replies_to (emptying ReadCommitted) (opened (at_revision 1))
+    ≡ replies_to (take 14 (emptying ReadCommitted)) (opened (at_revision 1))
     ++ Ok (Committed 3 4 1 (Text (codes "A") ∷ []) (took [] (codes "q/0") (codes "A")) told_to_both)
     ∷ Ok (Committed 4 5 1 (Text (codes "A") ∷ []) (took [] (codes "q/0") (codes "A")) told_to_both) ∷ []
 unfolding start_runner fetch commit step_live settle enqueue_program dequeue_program run_over run_block evaluate holds equal arithmetic computed concatenated text_of num_of written_number key_in put_of del_of get_key last_write latest_writes fresh digits
@@ -183,7 +184,7 @@ reserving =
     ∷ begin (release_program (codes "s") (codes "h")) Serializable ∷ Step 3 ∷ Step 3
     ∷ begin (reserve_program (codes "s") (codes "g") 0) RepeatableReads ∷ Step 4 ∷ Step 4 ∷ []
 
-refused_while_held : replies_to reserving (opened 1)
+refused_while_held : replies_to reserving (opened (at_revision 1))
     ≡ Ok (Started 1) ∷ Ok (Fetched 1 (codes "s") 0 1 1) ∷ Ok (Committed 1 2 1 [] (seen.Rev (codes "s") 0 ∷ []) [])
     ∷ Ok (Started 2) ∷ Ok (Fetched 2 (codes "s") 2 2 2) ∷ Ok (Aborted 2 (codes "held"))
     ∷ Ok (Started 3) ∷ Ok (Fetched 3 (codes "s") 2 2 2) ∷ Ok (Committed 3 3 1 [] (seen.Get (codes "s") (codes "h") ∷ []) [])
@@ -200,12 +201,12 @@ let_go = Program (of_statements (release_program (codes "s") (codes "h"))) Seria
 abbrev by_g : Entry
 by_g = Program (of_statements (reserve_program (codes "s") (codes "g") 0)) RepeatableReads [] [] (seen.Rev (codes "s") 0 ∷ []) 4
 
-reserving_enters : entries_after 1 reserving ≡ [] ++ (by_h ∷ (let_go ∷ []) ++ by_g ∷ [])
+reserving_enters : entries_after (at_revision 1) reserving ≡ [] ++ (by_h ∷ (let_go ∷ []) ++ by_g ∷ [])
 unfolding start_runner fetch commit step_live settle reserve_program release_program run_over run_block evaluate holds equal key_in text_in put_of del_of get_key rev_key last_write latest_writes fresh
 reserving_enters = refl
 
 freed_by_its_holder : IsFreed (codes "s") (let_go ∷ []) (replay_entry by_h (opening 1))
 freed_by_its_holder =
-    recipes_in_worlds.holders 1 reserving (codes "s") [] (let_go ∷ []) [] by_h by_g some reserving_enters
+    recipes_in_worlds.holders (at_revision 1) reserving (codes "s") [] (let_go ∷ []) [] by_h by_g some reserving_enters
     (record { holder = codes "h"; lease = 0; commits = (refl, refl) }) (record { holder = codes "g"; lease = 0; commits = (refl, refl) })
     (inr (inl (record { holder = codes "h"; commits = (refl, refl) })), tt)

@@ -1,7 +1,7 @@
 -- The lines of calls: each is the one that a check looks for, and leads to the store that the call leaves.
 --
 -- A check has no watchers, and a call of the store but a poll, a watch or a cancellation does not look at them.
-use Rattle.std.proofs.Common.{◌≡◌, ℕ, zero, suc, Bool, true, false, cond, List, [], ◌∷◌, length, Option, Some, None, Ok, Err, refl, sym, ◌∙◌}
+use Rattle.std.proofs.Common.{◌≡◌, ◌≤◌, ℕ, zero, suc, Bool, true, false, cond, List, [], ◌∷◌, length, Option, Some, None, Ok, Err, refl, sym, ◌∙◌}
 use Rattle.std.proofs.Common.{ap, arith}
 use Rattle.std.proofs.lemmas.Bool.{le-ltb}
 use Rattle.std.specs.Prelude.{Result, nat_lt}
@@ -25,6 +25,7 @@ use Rattle.stm_outcome.specs.declared.txn.Txn.{Txn as StoreTxn}
 use Rattle.stm_txn.specs.Grants.{grant_refusal_of}
 use Rattle.stm_txn.specs.LeaseKeys.{deletions_of}
 use Rattle.stm_outcome.specs.Outcome.{Done, outcome, is_used_up}
+use Rattle.stm_outcome.specs.Terms.{most_operations}
 use Rattle.stm_txn.specs.Standing.{Standing, Step, Advance, step_of, transacted, granted, kept_alive, ended, revoked, with_revision, with_lease, without_lease}
 use Rattle.stm_txn.specs.Standing.{after, expired_in, expire_up_to, expire_all, at_moment, advanced, watch_step, poll_step, cancel_step}
 use Rattle.stm_txn.specs.Standing.{terms_of, compaction_refusal, with_floor, floor_step, raised}
@@ -72,25 +73,25 @@ txn_same : (n : ℕ) (s : Standing) (o : Result Done StoreRefusal) →
 txn_same n s (Ok done) = refl
 txn_same n s (Err cause) = refl
 
-txn_store : (n : ℕ) (s : Standing) (txn : StoreTxn) (r : Result (Step TxnAnswer) StoreRefusal) → transacted s txn ≡ r →
+txn_store : (n : ℕ) (s : Standing) (txn : StoreTxn) (r : Result (Step TxnAnswer) StoreRefusal) → s.limit ≤ most_operations → transacted s txn ≡ r →
     led_by (txn_entries (now s.history) txn (line_told n (reply_to TxnDone r))) (unwatched s) s.moment ≡ unwatched (store_after_call s r)
-txn_store n s txn (Ok step) is = ap unwatched (sym (txn_led n s step.next txn step.answer is))
-txn_store n s txn (Err cause) is = refl
+txn_store n s txn (Ok step) few is = ap unwatched (sym (txn_led n s step.next txn step.answer few is))
+txn_store n s txn (Err cause) few is = refl
 
 txn_count : (n : ℕ) (s : Standing) (txn : StoreTxn) (r : Result (Step TxnAnswer) StoreRefusal) → StepIsTransacted s r →
     length (txn_entries (now s.history) txn (line_told n (reply_to TxnDone r))) ≡ length (if_changed s (store_after_call s r) txn)
 txn_count n s txn (Ok step) came = ap (λ revision. length (cond (nat_lt (now s.history) revision) (Foreign txn ∷ []) [])) came.counter
 txn_count n s txn (Err cause) came = ap (λ (b : Bool). length (cond b (Foreign txn ∷ []) [])) (sym (le-ltb (now s.history) (now s.history) (omega arith)))
 
-pub txn_right : (n : ℕ) (s : Standing) (rs : List Runner) (txn : StoreTxn) →
+pub txn_right : (n : ℕ) (s : Standing) (rs : List Runner) (txn : StoreTxn) → s.limit ≤ most_operations →
     let r = transacted s txn in
     let l : ReportLine = line_told n (reply_to TxnDone r) in
     CallIsRight s (store_after_call s r) (can_have rs (Txn txn) l) (line_told n (reply_to TxnDone (transacted (unwatched s) txn))) l (txn_entries (now s.history) txn l) s.moment
     (length (if_changed s (store_after_call s r) txn))
-txn_right n s rs txn = record {
+txn_right n s rs txn few = record {
   fits = by_reply (λ x. can_have rs (Txn txn) (line_told n x) ≡ true) TxnDone (transacted s txn) (λ x. refl) (λ cause. refl);
   is_line = txn_same n s (outcome (terms_of s) txn);
-  store = txn_store n s txn (transacted s txn) refl;
+  store = txn_store n s txn (transacted s txn) few refl;
   count = txn_count n s txn (transacted s txn) (is_transacted s txn);
 }
 

@@ -1,5 +1,5 @@
 -- A check says yes to the report of a right run, and so to what a script writes.
-use Rattle.std.proofs.Common.{◌≡◌, ℕ, ◌++◌, List, [], length, sym, ◌∙◌, ap, subst, unwrap_or}
+use Rattle.std.proofs.Common.{◌≡◌, ℕ, ◌++◌, List, [], length, sym, ◌∙◌, ap, subst}
 use Rattle.std.specs.Prelude.{Result}
 use Rattle.stm_compile.proofs.AgreeLemmas.{commit_is_the_run_now}
 use Rattle.stm_compile.proofs.ConflictLemmas.{failed_compares_conflict}
@@ -17,17 +17,19 @@ use Rattle.stm_reports.specs.declared.line.ReportLine.{ReportLine}
 use Rattle.stm_check.specs.StoreLines.{end_lines}
 use Rattle.stm_check.specs.Wrong.{AreRight}
 use Rattle.stm_texts.specs.declared.scenario.Scenario.{Scenario}
+use Rattle.stm_texts.specs.Opens.{setup_of}
 use Rattle.stm_report.specs.Report.{report_of, event_lines}
 use Rattle.stm_report.specs.Script.{IsRunReport}
 use Rattle.stm_report.specs.FormatScript.{IsRunText}
 use Rattle.stm_report.specs.Laws.{ChecksSayYes, IsOfRightReport, ScriptsPassChecks}
 use Rattle.stm_report.proofs.LinesRight.{point_at, all_right}
+use Rattle.stm_txn.specs.Standing.{Setup}
 
 laws : CommitLaws
 laws = record { run_now = commit_is_the_run_now; conflicts = failed_compares_conflict }
 
 -- a run of which the headline holds has the report of the world's own run
-one_run : (start : ℕ) (events : List WorldEvent) (replies : List (Result Reply Denied)) (w : World) → Holds start events replies w →
+one_run : (start : Setup) (events : List WorldEvent) (replies : List (Result Reply Denied)) (w : World) → Holds start events replies w →
     event_lines 1 (replies_to events (opened start))
     ++ end_lines (world_after events (opened start)).standing (length (world_after events (opened start)).entries)
     ≡ event_lines 1 replies ++ end_lines w.standing (length w.entries)
@@ -46,14 +48,14 @@ one_run start events replies w holds =
 
 pub checks_say_yes : ChecksSayYes
 checks_say_yes s replies w holds =
-    let start : ℕ = unwrap_or s.opening 1 in
+    let start : Setup = setup_of s.opening in
     subst (λ (lines : List ReportLine). AreRight 1 (point_at start [] []) s.events lines) (one_run start s.events replies w holds)
     (all_right start s.events laws)
 
 run_is_checked : (s : Scenario) (text : List ℕ) → IsRunReport s text → IsOfRightReport s text
 unfolding IsRunText
 run_is_checked s text written =
-    let start : ℕ = unwrap_or s.opening 1 in
+    let start : Setup = setup_of s.opening in
     record {
       report = report_of (world_after s.events (opened start)) (replies_to s.events (opened start));
       written = written;

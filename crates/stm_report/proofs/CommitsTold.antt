@@ -22,7 +22,7 @@ use Rattle.stm_entries.specs.Alone.{seen_at, left_by, left_by_run}
 use Rattle.stm_entries.specs.declared.entry.Entry.TheVariants.{Program}
 use Rattle.stm_entries.specs.Legal.{IsCommit}
 use Rattle.stm_lines.specs.Lines.{answer_told}
-use Rattle.stm_world.specs.Asked.{keys_read}
+use Rattle.stm_world.specs.Asked.{keys_first_read, keys_read}
 use Rattle.stm_world.specs.Right.{Situation, IsCommitted}
 use Rattle.stm_check.specs.Point.{reads_in, led_by}
 use Rattle.stm_check.specs.Replays.{AreTrulyTold, keys_told, IsRightCommit}
@@ -76,15 +76,15 @@ one_run a one other is too = let same : Some one ≡ Some other = ap run_in (sym
 
 fit_by : (b : Bool) (h : History) (program : ProgramTree) (answers reads : List ReadAnswer) (run alone : Run) →
     MatchBool b (answers ≡ []) (AreTrue h answers) → answers ≡ cond b [] reads →
-    run_over (cond b (state_now h) (look_up reads)) program.statements ≡ Ended alone → alone.reads ≡ keys_read reads →
+    run_over (cond b (state_now h) (look_up reads)) program.statements ≡ Ended alone → keys_first_read program.prefetch alone.reads ≡ keys_read reads →
     run_over (cond b (state_now h) (look_up answers)) program.statements ≡ Ended run →
-    MatchBool b (map answer_told answers ≡ []) ((keys_told (map answer_told answers) ≡ run.reads) × AreTrulyTold h (map answer_told answers))
+    MatchBool b (map answer_told answers ≡ []) ((keys_told (map answer_told answers) ≡ keys_first_read program.prefetch run.reads) × AreTrulyTold h (map answer_told answers))
 fit_by true h program answers reads run alone truth are is_alone in_order is = ap (map answer_told) truth
 fit_by false h program answers reads run alone truth are is_alone in_order is =
     let same : alone ≡ run =
     one_run (run_over (look_up answers) program.statements) alone run
     (ap (λ (rs : List ReadAnswer). run_over (look_up rs) program.statements) are ∙ is_alone) is in
-    (keys_are answers ∙ ap keys_read are ∙ sym in_order ∙ ap (λ (r : Run). r.reads) same, truly_told h answers truth)
+    (keys_are answers ∙ ap keys_read are ∙ sym in_order ∙ ap (λ (r : Run). keys_first_read program.prefetch r.reads) same, truly_told h answers truth)
 
 -- ---- a commit that is right in a log, and legal as an entry
 

@@ -9,7 +9,7 @@ use Rattle.stm_texts.specs.Grammar.{level_text}
 use Rattle.stm_world.specs.declared.event.WorldEvent.{WorldEvent}
 use Rattle.stm_world.specs.declared.event.WorldEvent.TheVariants as event
 use Rattle.stm_world.specs.declared.reply.Reply.{Reply}
-use Rattle.stm_world.specs.declared.reply.Reply.TheVariants.{Started, Fetched, Committed, Conflict, GaveUp, Aborted, Faulted, Ended}
+use Rattle.stm_world.specs.declared.reply.Reply.TheVariants.{Started, Prefetched, Fetched, Committed, Conflict, GaveUp, Aborted, Faulted, Ended}
 use Rattle.stm_world.specs.declared.reply.Reply.TheVariants.{Txn, Granted, Kept, Revoked, Advanced, Compacted, Watching, Batch, Lost, Cancelled}
 use Rattle.stm_world.specs.declared.refusal.Denied.{Denied}
 use Rattle.stm_world.specs.declared.refusal.Refusal.{Refusal}
@@ -21,7 +21,7 @@ use Rattle.stm_report.specs.declared.format_row.Lane.TheVariants.{Store, Runner}
 use Rattle.stm_report.specs.declared.format_pieces.TheConstants.{MOST_SHOWN, KEPT, MOST_COLUMNS}
 use Rattle.stm_report.specs.FormatShown.{shown, plain, front}
 use Rattle.stm_report.specs.FormatPieces.{joined, padded, tag_text}
-use Rattle.stm_report.specs.FormatWords.{named_words, told_words, start_words, fetched_words, commit_words, compared_words, txn_words, revoked_words}
+use Rattle.stm_report.specs.FormatWords.{named_words, told_words, start_words, listed_words, fetched_words, commit_words, compared_words, txn_words, revoked_words}
 use Rattle.stm_report.specs.FormatWords.{changed_words, advanced_words, batch_words, lost_words, asked_word, refused_words, reply_words, words_of}
 use Rattle.stm_report.specs.FormatRows.{lane_of, row_of, rows_of}
 use Rattle.stm_report.specs.FormatColumns.{column}
@@ -129,6 +129,11 @@ named_without word n none = joined_without (word ∷ codes " " ∷ decimal n ∷
 told_without : (word text : List ℕ) → has 10 word ≡ false → has 10 (told_words word text) ≡ false
 told_without word text none = joined_without (word ∷ codes " " ∷ shown text ∷ []) (none, (refl, (shown_without text, tt)))
 
+listed_without : (count revision : ℕ) → has 10 (listed_words count revision) ≡ false
+listed_without count revision =
+    joined_without (codes "read the list, " ∷ decimal count ∷ codes " keys, as of " ∷ decimal revision ∷ [])
+    (refl, (decimal_without count, (refl, (decimal_without revision, tt))))
+
 fetched_without : (key : List ℕ) (mod_rev of_rev : ℕ) → has 10 (fetched_words key mod_rev of_rev) ≡ false
 fetched_without key mod_rev of_rev =
     joined_without (codes "read " ∷ shown key ∷ codes " @" ∷ decimal mod_rev ∷ codes ", as of " ∷ decimal of_rev ∷ [])
@@ -170,6 +175,7 @@ refused_without e cause =
 
 reply_without : (e : WorldEvent) (reply : Reply) → has 10 (reply_words e reply) ≡ false
 reply_without e (Started runner) = start_without e
+reply_without e (Prefetched runner revision reads) = listed_without (length reads) revision
 reply_without e (Fetched runner key mod_rev of_rev revision) = fetched_without key mod_rev of_rev
 reply_without e (Committed runner revision attempts output trace answers) = commit_without revision attempts
 reply_without e (Conflict runner key seen now) = compared_without (codes "CONFLICT") key seen now refl

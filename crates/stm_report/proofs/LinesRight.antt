@@ -7,6 +7,7 @@ use Rattle.stm_history.specs.History.{History}
 use Rattle.stm_meaning.specs.declared.value.Value.{Value}
 use Rattle.stm_meaning.specs.declared.trace_item.TraceItem.{TraceItem}
 use Rattle.stm_txn.specs.Standing.{Standing, transacted, granted, kept_alive, revoked, advanced, watched, polled, cancelled, raised}
+use Rattle.stm_txn.specs.Standing.{Setup}
 use Rattle.stm_watch.specs.declared.watched.Watched.TheVariants.{Key, Range}
 use Rattle.stm_watch.specs.Calls.{watch, poll, watcher_at}
 use Rattle.stm_entries.specs.declared.entry.Entry.{Entry}
@@ -21,7 +22,7 @@ use Rattle.stm_reports.specs.declared.line.ReportLine.TheVariants.{Refused}
 use Rattle.stm_world.specs.declared.event.WorldEvent.{WorldEvent}
 use Rattle.stm_world.specs.declared.event.WorldEvent.TheVariants.{Start, Step, Txn, Grant, Keep, Revoke, Advance, WatchKey, WatchRange, Poll, Cancel, Compact}
 use Rattle.stm_world.specs.declared.reply.Reply.{Reply}
-use Rattle.stm_world.specs.declared.reply.Reply.TheVariants.{Started, Fetched, Committed, Conflict, GaveUp, Aborted, Faulted, Ended}
+use Rattle.stm_world.specs.declared.reply.Reply.TheVariants.{Started, Prefetched, Fetched, Committed, Conflict, GaveUp, Aborted, Faulted, Ended}
 use Rattle.stm_world.specs.declared.reply.Reply.TheVariants.{Txn as TxnDone, Granted, Kept, Revoked, Watching, Cancelled, Compacted}
 use Rattle.stm_world.specs.declared.refusal.Denied.{Denied}
 use Rattle.stm_world.specs.declared.refusal.Refusal.TheVariants.{BadLimit, NoRunner}
@@ -46,24 +47,25 @@ use Rattle.stm_check.specs.Wrong.{IsRight as IsRightLine, AreRight}
 use Rattle.stm_report.specs.Report.{event_lines}
 use Rattle.stm_report.proofs.RunsTold.{RunsAreTold, SaysNothing, none_are_told, says_nothing, advance_says_nothing, run_with, runs_with}
 use Rattle.stm_report.proofs.RunsTold.{same_runs, Goes, goes_on, ended_runs, failed_runs, begun_runs}
+use Rattle.stm_world.proofs.EventKeeps.{store_limit}
 use Rattle.stm_report.proofs.CallsTold.{unwatched, txn_right, grant_right, keep_right, revoke_right, advance_right, watch_stays, poll_stays}
 use Rattle.stm_report.proofs.CallsTold.{compact_same, compact_store, cancel_stays, by_reply, by_poll}
 use Rattle.stm_report.proofs.CommitsTold.{IsEntered, commit_right, commit_store}
 
 -- ---- a point, by the log so far
 
-abbrev pub point_at : ℕ → List Line → List Runner → Point
+abbrev pub point_at : Setup → List Line → List Runner → Point
 point_at start log rs = record { standing = unwatched (store start log); entries = length (entries_told start log); runners = rs }
 
 -- The line of the next event is right, and the point behind it is that of the longer log.
-record GoesOn (start n : ℕ) (log : List Line) (rs : List Runner) (event : WorldEvent) (reply : Result Reply Denied) : Type 0 where
+record GoesOn (start : Setup) (n : ℕ) (log : List Line) (rs : List Runner) (event : WorldEvent) (reply : Result Reply Denied) : Type 0 where
   is_right : IsRightLine n (point_at start log rs) event (line_told n reply)
   store_is : standing_after (unwatched (store start log)) rs event (line_told n reply) ≡ unwatched (store start (with_line event reply log))
   count_is : length (told_entries (unwatched (store start log)) rs event (line_told n reply))
       ≡ length (line_entries start (record { event = event; reply = reply }) log)
   runs : RunsAreTold (with_line event reply log) (runners_after event (line_told n reply) rs)
 
-next_point : (start n : ℕ) (log : List Line) (rs : List Runner) (event : WorldEvent) (reply : Result Reply Denied) → GoesOn start n log rs event reply →
+next_point : (start : Setup) (n : ℕ) (log : List Line) (rs : List Runner) (event : WorldEvent) (reply : Result Reply Denied) → GoesOn start n log rs event reply →
     after (point_at start log rs) event (line_told n reply)
     ≡ point_at start (with_line event reply log) (runners_after event (line_told n reply) rs)
 next_point start n log rs event reply g =
@@ -93,7 +95,7 @@ start_can limit count rs some is =
     ap (λ (b : Bool). not b && nat_eq (count + 1) (length rs + 1)) (other_number limit 0 some)
     ∙ ap (λ k. nat_eq (count + 1) (k + 1)) is ∙ same_number (count + 1)
 
-started_goes : (start n : ℕ) (log : List Line) (rs : List Runner) (task : Task) → RunsAreTold log rs → IsFresh start log (started log + 1) → task.limit ≢ 0 →
+started_goes : (start : Setup) (n : ℕ) (log : List Line) (rs : List Runner) (task : Task) → RunsAreTold log rs → IsFresh start log (started log + 1) → task.limit ≢ 0 →
     GoesOn start n log rs (Start task.program task.level task.limit) (Ok (Started (started log + 1)))
 started_goes start n log rs task told fresh some = record {
   is_right = (
@@ -105,7 +107,7 @@ started_goes start n log rs task told fresh some = record {
   runs = begun_runs start log rs task fresh told;
 }
 
-refused_start : (start n : ℕ) (log : List Line) (rs : List Runner) (task : Task) → RunsAreTold log rs → task.limit ≡ 0 →
+refused_start : (start : Setup) (n : ℕ) (log : List Line) (rs : List Runner) (task : Task) → RunsAreTold log rs → task.limit ≡ 0 →
     GoesOn start n log rs (Start task.program task.level task.limit) (denied BadLimit)
 refused_start start n log rs task told none = record {
   is_right = (fits_there n rs (Start task.program task.level task.limit) (denied BadLimit) refl, (none, refl, refl));
@@ -115,7 +117,7 @@ refused_start start n log rs task told none = record {
       (record { begins_is = refl; ends_is = refl; fails_is = refl }) told;
 }
 
-start_goes : (start n : ℕ) (log : List Line) (rs : List Runner) (task : Task) (reply : Result Reply Denied) → RunsAreTold log rs →
+start_goes : (start : Setup) (n : ℕ) (log : List Line) (rs : List Runner) (task : Task) (reply : Result Reply Denied) → RunsAreTold log rs →
     IsFresh start log (started log + 1) → StartIsRight (started log) task.limit reply →
     GoesOn start n log rs (Start task.program task.level task.limit) reply
 start_goes start n log rs task (Ok reply) told fresh right =
@@ -135,7 +137,7 @@ no_entry h l (Some r) none = none r
 still : (s : Standing) (es : List Entry) → es ≡ [] → led_by es s s.moment ≡ s
 still s es none = ap (λ (x : List Entry). led_by x s s.moment) none
 
-none_goes : (start n : ℕ) (log : List Line) (rs : List Runner) (id : ℕ) → RunsAreTold log rs → running id log ≡ None →
+none_goes : (start : Setup) (n : ℕ) (log : List Line) (rs : List Runner) (id : ℕ) → RunsAreTold log rs → running id log ≡ None →
     GoesOn start n log rs (Step id) (denied NoRunner)
 none_goes start n log rs id told none =
     let h : History = (store start log).history in
@@ -156,7 +158,7 @@ step_can log rs id runner task own goes =
     ∙ ap (λ (o : Option Runner). is_some o) goes.found
 
 -- a step that tells no entry
-record StepsOn (start n : ℕ) (log : List Line) (rs : List Runner) (id : ℕ) (reply : Reply) : Type 0 where
+record StepsOn (start : Setup) (n : ℕ) (log : List Line) (rs : List Runner) (id : ℕ) (reply : Reply) : Type 0 where
   can : can_have rs (Step id) (line_told n (Ok reply)) ≡ true
   replays : StepReplays (unwatched (store start log)) (running_in id rs) (line_told n (Ok reply))
   none : (r : Runner) → committed_entry (store start log).history (line_told n (Ok reply)) r ≡ []
@@ -164,7 +166,7 @@ record StepsOn (start n : ℕ) (log : List Line) (rs : List Runner) (id : ℕ) (
   count_stays : 0 ≡ length (line_entries start (record { event = Step id; reply = Ok reply }) log)
   runs_on : RunsAreTold (with_line (Step id) (Ok reply) log) (runners_after (Step id) (line_told n (Ok reply)) rs)
 
-steps_on : (start n : ℕ) (log : List Line) (rs : List Runner) (id : ℕ) (reply : Reply) → StepsOn start n log rs id reply →
+steps_on : (start : Setup) (n : ℕ) (log : List Line) (rs : List Runner) (id : ℕ) (reply : Reply) → StepsOn start n log rs id reply →
     GoesOn start n log rs (Step id) (Ok reply)
 steps_on start n log rs id reply on =
     let h : History = (store start log).history in
@@ -188,7 +190,7 @@ legal_entry : (revision : ℕ) (output : List Value) (trace : List TraceItem) (a
 legal_entry revision output trace answers o task s is legal =
     subst (λ (x : Option Task). AreLegal (commit_entry revision output trace answers x) (without_moment s)) is legal
 
-commit_goes : (start n : ℕ) (log : List Line) (rs : List Runner) (id revision attempts : ℕ) (task : Task) (output : List Value)
+commit_goes : (start : Setup) (n : ℕ) (log : List Line) (rs : List Runner) (id revision attempts : ℕ) (task : Task) (output : List Value)
     (trace : List TraceItem) (answers : List ReadAnswer) → RunsAreTold log rs → Goes log rs id task → begun id log ≡ Some task →
     IsEntered (situation start log id task) revision attempts (failures id log) output trace answers →
     GoesOn start n log rs (Step id) (Ok (Committed id revision attempts output trace answers))
@@ -214,7 +216,7 @@ commit_goes start n log rs id revision attempts task output trace answers told g
       runs = ended_runs (record { event = Step id; reply = Ok reply }) log rs id task (record { begins_is = refl; ends_is = refl; fails_is = refl }) goes told;
     }
 
-commit_of : (start n : ℕ) (log : List Line) (rs : List Runner) (id runner revision attempts : ℕ) (task : Task) (output : List Value)
+commit_of : (start : Setup) (n : ℕ) (log : List Line) (rs : List Runner) (id runner revision attempts : ℕ) (task : Task) (output : List Value)
     (trace : List TraceItem) (answers : List ReadAnswer) → RunsAreTold log rs → Goes log rs id task →
     AreLegal (line_entries start (record { event = Step id; reply = Ok (Committed runner revision attempts output trace answers) }) log)
     (without_moment (store start log)) →
@@ -232,10 +234,20 @@ commit_of start n log rs id runner revision attempts task output trace answers t
       may_be_sent = right.2;
     }))
 
-live_goes : (start n : ℕ) (log : List Line) (rs : List Runner) (id : ℕ) (task : Task) (reply : Result Reply Denied) → RunsAreTold log rs → Goes log rs id task →
+live_goes : (start : Setup) (n : ℕ) (log : List Line) (rs : List Runner) (id : ℕ) (task : Task) (reply : Result Reply Denied) → RunsAreTold log rs → Goes log rs id task →
     AreLegal (line_entries start (record { event = Step id; reply = reply }) log) (without_moment (store start log)) →
     StepIsRight (situation start log id task) reply → GoesOn start n log rs (Step id) reply
 live_goes start n log rs id task (Err refusal) told goes legal right = absurd right
+live_goes start n log rs id task (Ok (Prefetched runner revision reads)) told goes legal right =
+    steps_on start n log rs id (Prefetched runner revision reads) (record {
+      can = step_can log rs id runner task right.0 goes;
+      replays = tt;
+      none = λ r. refl;
+      store_stays = refl;
+      count_stays = refl;
+      runs_on = same_runs (record { event = Step id; reply = Ok (Prefetched runner revision reads) }) log rs
+          (record { begins_is = refl; ends_is = refl; fails_is = refl }) told;
+    })
 live_goes start n log rs id task (Ok (Fetched runner key mod_rev of_rev revision)) told goes legal right =
     steps_on start n log rs id (Fetched runner key mod_rev of_rev revision) (record {
       can = step_can log rs id runner task right.0 goes;
@@ -301,7 +313,7 @@ live_goes start n log rs id task (Ok (Ended runner cause)) told goes legal right
 live_goes start n log rs id task (Ok (Started runner)) told goes legal right = absurd right
 live_goes start n log rs id task (Ok _) told goes legal right = absurd right
 
-runner_goes : (start n : ℕ) (log : List Line) (rs : List Runner) (id : ℕ) (o : Option Task) (reply : Result Reply Denied) → RunsAreTold log rs →
+runner_goes : (start : Setup) (n : ℕ) (log : List Line) (rs : List Runner) (id : ℕ) (o : Option Task) (reply : Result Reply Denied) → RunsAreTold log rs →
     running id log ≡ o → AreLegal (line_entries start (record { event = Step id; reply = reply }) log) (without_moment (store start log)) →
     RunnerIsRight start log id o reply → GoesOn start n log rs (Step id) reply
 runner_goes start n log rs id None reply told runs legal right =
@@ -311,7 +323,7 @@ runner_goes start n log rs id (Some task) reply told runs legal right =
 
 -- ---- calls
 
-call_goes : (start n : ℕ) (log : List Line) (rs : List Runner) (event : WorldEvent) (reply : Result Reply Denied) →
+call_goes : (start : Setup) (n : ℕ) (log : List Line) (rs : List Runner) (event : WorldEvent) (reply : Result Reply Denied) →
     can_have rs event (line_told n reply) ≡ true → Replays n (unwatched (store start log)) rs event (line_told n reply) →
     standing_after (unwatched (store start log)) rs event (line_told n reply) ≡ unwatched (store start (with_line event reply log)) →
     length (told_entries (unwatched (store start log)) rs event (line_told n reply)) ≡ length (line_entries start (record { event = event; reply = reply }) log) →
@@ -323,7 +335,7 @@ call_goes start n log rs event reply can replays store_is count_is runs = record
   runs = runs;
 }
 
-event_goes : (start n : ℕ) (log : List Line) (rs : List Runner) (event : WorldEvent) (reply : Result Reply Denied) → RunsAreTold log rs →
+event_goes : (start : Setup) (n : ℕ) (log : List Line) (rs : List Runner) (event : WorldEvent) (reply : Result Reply Denied) → RunsAreTold log rs →
     IsFresh start log (started log + 1) → AreLegal (line_entries start (record { event = event; reply = reply }) log) (without_moment (store start log)) →
     IsRight start log event reply → GoesOn start n log rs event reply
 event_goes start n log rs (Start program level limit) reply told fresh legal right =
@@ -333,7 +345,7 @@ event_goes start n log rs (Step id) reply told fresh legal right =
 event_goes start n log rs (Txn txn) reply told fresh legal right =
     let s : Standing = store start log in
     let r = transacted s txn in
-    let c = txn_right n s rs txn in
+    let c = txn_right n s rs txn (store_limit start log) in
     subst (λ (x : Result Reply Denied). GoesOn start n log rs (Txn txn) x) (sym right)
     (call_goes start n log rs (Txn txn) (reply_to TxnDone r) c.fits c.is_line c.store c.count
     (same_runs (record { event = Txn txn; reply = reply_to TxnDone r }) log rs
@@ -418,17 +430,17 @@ event_goes start n log rs (Cancel watcher) reply told fresh legal right =
 -- ---- all lines
 
 -- what a line adds to the entries is legal where it is entered
-line_legal : (start : ℕ) (log : List Line) (w : World) (event : WorldEvent) → Follows start log w → (s : FollowsStep start log event (step event w)) →
+line_legal : (start : Setup) (log : List Line) (w : World) (event : WorldEvent) → Follows start log w → (s : FollowsStep start log event (step event w)) →
     AreLegal (line_entries start (record { event = event; reply = (step event w).reply }) log) (without_moment (store start log))
 line_legal start log w event f s =
     let line : Line = record { event = event; reply = (step event w).reply } in
-    let all : AreLegal (entries_told start log ++ line_entries start line log) (opening start) =
-    subst (λ (es : List Entry). AreLegal es (opening start)) s.follows.told s.follows.legal in
-    let there : replay (entries_told start log) (opening start) ≡ without_moment (store start log) =
-    ap (λ (es : List Entry). replay es (opening start)) (sym f.at.told) ∙ f.at.replays in
-    subst (AreLegal (line_entries start line log)) there (rest_legal (entries_told start log) (line_entries start line log) (opening start) all)
+    let all : AreLegal (entries_told start log ++ line_entries start line log) (opening start.revision) =
+    subst (λ (es : List Entry). AreLegal es (opening start.revision)) s.follows.told s.follows.legal in
+    let there : replay (entries_told start log) (opening start.revision) ≡ without_moment (store start log) =
+    ap (λ (es : List Entry). replay es (opening start.revision)) (sym f.at.told) ∙ f.at.replays in
+    subst (AreLegal (line_entries start line log)) there (rest_legal (entries_told start log) (line_entries start line log) (opening start.revision) all)
 
-lines_right : (start n : ℕ) (events : List WorldEvent) (log : List Line) (w : World) (rs : List Runner) → CommitLaws → Follows start log w →
+lines_right : (start : Setup) (n : ℕ) (events : List WorldEvent) (log : List Line) (w : World) (rs : List Runner) → CommitLaws → Follows start log w →
     RunsAreTold log rs →
     AreRight n (point_at start log rs) events
     (event_lines n (replies_to events w) ++ end_lines (world_after events w).standing (length (world_after events w).entries))
@@ -448,7 +460,7 @@ lines_right start n (e ∷ es) log w rs laws f told =
     )
 
 -- from the opening of a world on
-pub all_right : (start : ℕ) (events : List WorldEvent) → CommitLaws →
+pub all_right : (start : Setup) (events : List WorldEvent) → CommitLaws →
     AreRight 1 (point_at start [] []) events
     (event_lines 1 (replies_to events (opened start))
     ++ end_lines (world_after events (opened start)).standing (length (world_after events (opened start)).entries))

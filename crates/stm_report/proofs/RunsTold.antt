@@ -5,6 +5,7 @@ use Rattle.std.specs.Prelude.{nat_eq, option_map, Result, ◌||◌}
 use Rattle.stm_outcome.specs.declared.refusal.Refusal.{Refusal as StoreRefusal}
 use Rattle.stm_outcome.specs.declared.advance.Expired.{Expired}
 use Rattle.stm_txn.specs.Standing.{Step as StoreStep}
+use Rattle.stm_txn.specs.Standing.{Setup}
 use Rattle.stm_world.specs.declared.event.WorldEvent.TheVariants.{Start}
 use Rattle.stm_world.specs.declared.reply.Reply.{Reply}
 use Rattle.stm_world.specs.declared.reply.Reply.TheVariants.{Started}
@@ -128,7 +129,7 @@ failed_runs line log rs id task says goes told =
           ∙ ap (λ (b : Bool). runs_with (cond b (failures other log + 1) (failures other log)) (running other log)) ne));
     }
 
-pub begun_runs : (start : ℕ) (log : List Line) (rs : List Runner) (task : Task) → IsFresh start log (started log + 1) → RunsAreTold log rs →
+pub begun_runs : (start : Setup) (log : List Line) (rs : List Runner) (task : Task) → IsFresh start log (started log + 1) → RunsAreTold log rs →
     RunsAreTold (with_line (Start task.program task.level task.limit) (Ok (Started (started log + 1))) log)
     (rs ++ begun_run task.program task.level task.limit ∷ [])
 begun_runs start log rs task fresh told =

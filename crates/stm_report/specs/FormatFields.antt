@@ -8,7 +8,7 @@ use Rattle.stm_leases.specs.LeaseLog.{Term}
 use Rattle.stm_leases.specs.Live.{Live}
 use Rattle.stm_txn.specs.PresentKeys.{keys_present}
 use Rattle.stm_world.specs.declared.reply.Reply.{Reply}
-use Rattle.stm_world.specs.declared.reply.Reply.TheVariants.{Started, Fetched, Committed, Conflict, GaveUp, Aborted, Faulted, Ended}
+use Rattle.stm_world.specs.declared.reply.Reply.TheVariants.{Started, Prefetched, Fetched, Committed, Conflict, GaveUp, Aborted, Faulted, Ended}
 use Rattle.stm_world.specs.declared.reply.Reply.TheVariants.{Txn, Granted, Kept, Revoked, Advanced, Compacted, Watching, Batch, Lost, Cancelled}
 use Rattle.stm_world.specs.declared.refusal.Denied.{Denied}
 use Rattle.stm_world.specs.World.{World}
@@ -36,6 +36,7 @@ numbered names = codes "event" ∷ codes "kind" ∷ names
 
 abbrev pub reply_fields : Reply → List (List ℕ)
 reply_fields (Started runner) = numbered (codes "runner" ∷ [])
+reply_fields (Prefetched runner revision reads) = numbered (codes "runner" ∷ codes "revision" ∷ codes "reads" ∷ [])
 reply_fields (Fetched runner key mod_rev of_rev revision) =
     numbered (codes "runner" ∷ codes "key" ∷ codes "mod_rev" ∷ codes "of_rev" ∷ codes "revision" ∷ [])
 reply_fields (Committed runner revision attempts output trace answers) =

@@ -15,6 +15,7 @@ use Rattle.stm_report.specs.FormatWords.{words_of}
 -- the column of an event that was taken: its runner's
 abbrev pub reply_lane : Reply → Lane
 reply_lane (reply.Started runner) = Runner runner
+reply_lane (reply.Prefetched runner revision reads) = Runner runner
 reply_lane (reply.Fetched runner key mod_rev of_rev revision) = Runner runner
 reply_lane (reply.Committed runner revision attempts output trace answers) = Runner runner
 reply_lane (reply.Conflict runner key seen now) = Runner runner

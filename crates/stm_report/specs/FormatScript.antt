@@ -1,5 +1,5 @@
 -- What a script does in a format: from the bytes of a source to the report in a sink.
-use Rattle.std.specs.Prelude.{◌≡◌, ℕ, List, Bool, true, false, Option, Result, Ok, Err, IfSome, unwrap_or}
+use Rattle.std.specs.Prelude.{◌≡◌, ℕ, List, Bool, true, false, Option, Result, Ok, Err, IfSome}
 use Rattle.std.specs.Io.KnownBytes.{Appends, Keeps}
 use Rattle.stm_world.specs.declared.event.WorldEvent.{WorldEvent}
 use Rattle.stm_world.specs.declared.reply.Reply.{Reply}
@@ -8,6 +8,7 @@ use Rattle.stm_world.specs.World.{World, opened, world_after, replies_to}
 use Rattle.stm_texts.specs.declared.scenario.Scenario.{Scenario}
 use Rattle.stm_json.specs.Outcome.{Outcome}
 use Rattle.stm_texts.specs.Reading.{scenario_in}
+use Rattle.stm_texts.specs.Opens.{setup_of}
 use Rattle.stm_devices.specs.Transfers.{WritesFront}
 use Rattle.stm_report.specs.declared.run_script.ScriptFault.{ScriptFault}
 use Rattle.stm_report.specs.declared.run_script.ScriptFault.TheVariants.{OutOfMemory, Bad, Read, Write}
@@ -36,7 +37,7 @@ IsTextFrom format w events text = IsTextOf format (world_after events w) events 
 
 -- the text is that of a scenario's run, over an empty store at its opening revision
 unfoldable pub IsRunText : Format → Scenario → List ℕ → Type 0
-IsRunText format s text = IsTextFrom format (opened (unwrap_or s.opening 1)) s.events text
+IsRunText format s text = IsTextFrom format (opened (setup_of s.opening)) s.events text
 
 -- a scenario was read, and the text is that of its run
 abbrev pub IsOutputOf : Format → Outcome Scenario → List ℕ → Type 0

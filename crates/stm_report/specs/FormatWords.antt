@@ -6,7 +6,7 @@ use Rattle.stm_outcome.specs.Names.{refusal_name as store_refusal_name}
 use Rattle.stm_world.specs.declared.event.WorldEvent.{WorldEvent}
 use Rattle.stm_world.specs.declared.event.WorldEvent.TheVariants as event
 use Rattle.stm_world.specs.declared.reply.Reply.{Reply}
-use Rattle.stm_world.specs.declared.reply.Reply.TheVariants.{Started, Fetched, Committed, Conflict, GaveUp, Aborted, Faulted, Ended}
+use Rattle.stm_world.specs.declared.reply.Reply.TheVariants.{Started, Prefetched, Fetched, Committed, Conflict, GaveUp, Aborted, Faulted, Ended}
 use Rattle.stm_world.specs.declared.reply.Reply.TheVariants.{Txn, Granted, Kept, Revoked, Advanced, Compacted, Watching, Batch, Lost, Cancelled}
 use Rattle.stm_world.specs.declared.refusal.Denied.{Denied}
 use Rattle.stm_world.specs.declared.refusal.Refusal.{Refusal}
@@ -30,6 +30,10 @@ changed_words word revision = joined (word ∷ codes " @" ∷ decimal revision �
 abbrev pub start_words : WorldEvent → List ℕ
 start_words (event.Start program level limit) = joined (codes "start " ∷ level_text level ∷ [])
 start_words other = codes "start"
+
+-- the number of the keys of a list, and the revision whose state was read
+abbrev pub listed_words : ℕ → ℕ → List ℕ
+listed_words count revision = joined (codes "read the list, " ∷ decimal count ∷ codes " keys, as of " ∷ decimal revision ∷ [])
 
 -- a key, the revision of its last change, and the revision whose state was read
 abbrev pub fetched_words : List ℕ → ℕ → ℕ → List ℕ
@@ -63,6 +67,7 @@ lost_words watcher floor = joined (codes "LOST watcher " ∷ decimal watcher ∷
 
 abbrev pub reply_words : WorldEvent → Reply → List ℕ
 reply_words event (Started runner) = start_words event
+reply_words event (Prefetched runner revision reads) = listed_words (length reads) revision
 reply_words event (Fetched runner key mod_rev of_rev revision) = fetched_words key mod_rev of_rev
 reply_words event (Committed runner revision attempts output trace answers) = commit_words revision attempts
 reply_words event (Conflict runner key seen now) = compared_words (codes "CONFLICT") key seen now

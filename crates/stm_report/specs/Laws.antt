@@ -1,11 +1,12 @@
 -- Laws of reports.
-use Rattle.std.specs.Prelude.{◌≡◌, ℕ, List, Result, Ok, unwrap_or}
+use Rattle.std.specs.Prelude.{◌≡◌, ℕ, List, Result, Ok}
 use Rattle.stm_world.specs.declared.reply.Reply.{Reply}
 use Rattle.stm_world.specs.declared.refusal.Denied.{Denied}
 use Rattle.stm_world.specs.World.{World}
 use Rattle.stm_world.specs.Headline.{Holds}
 use Rattle.stm_texts.specs.declared.scenario.Scenario.{Scenario}
 use Rattle.stm_texts.specs.Reading.{scenario_in}
+use Rattle.stm_texts.specs.Opens.{setup_of}
 use Rattle.stm_reports.specs.declared.report.Report.{Report}
 use Rattle.stm_check.specs.declared.checking.Checked.TheVariants.{Yes}
 use Rattle.stm_check.specs.Judged.{IsJudged}
@@ -22,7 +23,7 @@ pub record IsOfRightRun (s : Scenario) (text : List ℕ) : Type 0 where
   pub replies : List (Result Reply Denied)
   pub world : World
   pub report : IsReport world replies text
-  pub holds : Holds (unwrap_or s.opening 1) s.events replies world
+  pub holds : Holds (setup_of s.opening) s.events replies world
 
 -- What a script writes for bytes that spell a scenario is the report of such a run.
 abbrev pub ReportsAreOfRightRuns : Type 0
@@ -32,7 +33,7 @@ ReportsAreOfRightRuns =
 -- Where the headline holds of a run, a check says yes to its report: no line of it is wrong.
 abbrev pub ChecksSayYes : Type 0
 ChecksSayYes =
-    (s : Scenario) (replies : List (Result Reply Denied)) (w : World) → Holds (unwrap_or s.opening 1) s.events replies w
+    (s : Scenario) (replies : List (Result Reply Denied)) (w : World) → Holds (setup_of s.opening) s.events replies w
     → IsJudged s (report_of w replies) Yes
 
 -- a text is that of a report of a scenario that a check says yes to

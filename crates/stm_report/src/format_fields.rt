@@ -48,6 +48,7 @@ fn runner_fields(reply: &Reply) -> &'static [&'static str]
 {
     match reply {
         Reply::Started { .. } => &["event", "kind", "runner"],
+        Reply::Prefetched { .. } => &["event", "kind", "runner", "revision", "reads"],
         Reply::Fetched { .. } => &[
             "event", "kind", "runner", "key", "mod_rev", "of_rev", "revision",
         ],

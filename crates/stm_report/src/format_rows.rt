@@ -13,6 +13,7 @@ fn reply_lane(reply: &Reply) -> Lane
 {
     match reply {
         Reply::Started { runner } => Lane::Runner(*runner),
+        Reply::Prefetched { runner, .. } => Lane::Runner(*runner),
         Reply::Fetched { runner, .. } => Lane::Runner(*runner),
         Reply::Committed { runner, .. } => Lane::Runner(*runner),
         Reply::Conflict { runner, .. } => Lane::Runner(*runner),

@@ -1,7 +1,7 @@
 //! From the bytes of a source to the report in a sink, in a format.
 ghost use Rattle.std.specs.Prelude.{◌≡◌, ◌≤◌, ◌+◌, false, length, IfOk};
 ghost use Rattle.stm_devices.specs.declared.transfer.TheConstants.{MOST_READ};
-ghost use Rattle.stm_texts.specs.Reading.{IsOpening};
+ghost use Rattle.stm_texts.specs.Opens.{IsOpening};
 ghost use Rattle.stm_report.specs.FormatScript.{IsTextOf, IsTextFrom, IsRunText, Answers, Writes, DoesAs};
 ghost use Rattle.stm_report.specs.FormatRows.{rows_of};
 ghost use Rattle.stm_report.specs.FormatNotes.{notes_of};
@@ -19,7 +19,7 @@ use crate::run_script::ScriptFault;
 use std::alloc::{AllocError, Global};
 use stm_devices::{ReadFault, Sink, Source, read_all, write_all};
 use stm_retry::{Denied, Reply, World, WorldEvent};
-use stm_texts::{ReadError, Scenario, read_scenario};
+use stm_texts::{ReadError, Scenario, opens_with, read_scenario};
 
 /// The text of a world, of the events that led to it, and of their replies.
 fn text_from(
@@ -92,8 +92,8 @@ fn run_report(alloc: Global, format: Format, scenario: &Scenario) -> Result<Vec<
     requires { IsOpening scenario.now.opening }
     ensures { IfOk result (λ text. IsRunText format scenario.now text.items) }
 {
-    let opening = scenario.opening.unwrap_or(1);
-    let mut world = World::with_revision(alloc, opening)?;
+    let opening = opens_with(scenario.opening);
+    let mut world = World::with_limits(alloc, opening.revision, opening.operations)?;
     let text = report_from(alloc, format, &mut world, scenario.events.as_slice());
     drop(world);
     text

@@ -2,7 +2,7 @@
 ghost use Rattle.std.specs.Prelude.{◌≡◌, codes, IfOk};
 ghost use Rattle.stm_texts.specs.Grammar.{level_text};
 ghost use Rattle.stm_lines.specs.Lines.{IsOfRunner};
-ghost use Rattle.stm_report.specs.FormatWords.{named_words, told_words, changed_words, start_words, fetched_words, commit_words, compared_words};
+ghost use Rattle.stm_report.specs.FormatWords.{named_words, told_words, changed_words, start_words, listed_words, fetched_words, commit_words, compared_words};
 ghost use Rattle.stm_report.specs.FormatWords.{txn_words, revoked_words, advanced_words, batch_words, lost_words, reply_words, asked_word, refused_words, words_of};
 
 use crate::format_pieces::{Piece, said};
@@ -58,6 +58,19 @@ fn started(alloc: Global, event: &WorldEvent) -> Result<Sequence<u8>, AllocError
         }
         _ => said(alloc, &[Piece::Say("start")]),
     }
+}
+
+/// The words of a list that was fetched.
+fn listed(alloc: Global, count: u64, revision: u64) -> Result<Sequence<u8>, AllocError>
+    ensures { IfOk result (λ words. words ≡ listed_words count revision) }
+{
+    let pieces = [
+        Piece::Say("read the list, "),
+        Piece::Number(count),
+        Piece::Say(" keys, as of "),
+        Piece::Number(revision),
+    ];
+    said(alloc, &pieces)
 }
 
 /// The words of a fetch.
@@ -187,6 +200,11 @@ fn runner_words(
 {
     match reply {
         Reply::Started { .. } => started(alloc, event),
+        Reply::Prefetched {
+            revision,
+            reads,
+            ..
+        } => listed(alloc, reads.len() as u64, *revision),
         Reply::Fetched {
             key,
             mod_rev,

@@ -23,15 +23,17 @@ use Rattle.stm_reports.specs.declared.line.ToldEvent.{ToldEvent}
 use Rattle.stm_reports.specs.declared.line.ToldEvent.TheVariants as event
 use Rattle.stm_reports.specs.declared.line.ToldOp.{ToldOp}
 use Rattle.stm_reports.specs.declared.line.ToldOp.TheVariants as op
+use Rattle.stm_reports.specs.declared.line.ToldRead.{ToldRead}
 use Rattle.stm_reports.specs.Elements.{six_of}
 use Rattle.stm_reports.specs.FirstFault.{or_null, plain_faults, list_of as list_faults, state_sorts, trace_table, answer_sorts, op_table}
-use Rattle.stm_reports.specs.FirstFault.{expired_sorts, watched_table}
+use Rattle.stm_reports.specs.FirstFault.{read_sorts, expired_sorts, watched_table}
 use Rattle.stm_reports.specs.Grammar.{Spells, SpellsItems, CountFits, AllCountsFit}
 use Rattle.stm_reports.specs.LineData.{list, whole, trace_data, text_or_null, answer_data, state_or_null, op_data}
-use Rattle.stm_reports.specs.LineData.{expired_data, event_data}
+use Rattle.stm_reports.specs.LineData.{read_data, expired_data, event_data}
 use Rattle.stm_reports.specs.Parts.{keyed_of, text_or_null_of}
 use Rattle.stm_reports.specs.Parts.{trace_get_of, trace_rev_of, trace_worded, trace_of, answer_with, answer_parts, answer_array, answer_of}
 use Rattle.stm_reports.specs.Parts.{op_get_of, op_put_of, op_del_of, op_worded, op_of, expired_with, expired_parts, expired_array, expired_of}
+use Rattle.stm_reports.specs.Parts.{read_with, read_parts, read_array, read_of}
 use Rattle.stm_reports.specs.Parts.{event_put_of, event_delete_of, event_worded, event_of}
 use Rattle.stm_reports.specs.Reading.{ops_of}
 use Rattle.stm_reports.proofs.ArrayLemmas.{worded_array, worded_spells, worded_shape}
@@ -249,6 +251,39 @@ op_reads d op.Put s fits =
 op_reads d (op.Del count) s fits =
     let w = worded_shape d (codes "del") (whole count ∷ []) s in
     ap op_of w.1 ∙ row_reads op_del_row 1 op_del_made op_del_from op_del_is w.0 (count, tt) w.2 (fits, tt)
+
+-- ---- keys of a list
+
+abbrev read_row_parts : Row (List ℕ × (ℕ × Unit {0}))
+read_row_parts = text_part & whole_part & nothing
+
+abbrev read_made : List ℕ × (ℕ × Unit {0}) → ToldRead
+read_made x = read_with x.0 (second x)
+
+abbrev read_from : Items → Outcome ToldRead
+read_from ds = read_parts (two_of ds)
+
+read_is : (ds : Items) → read_from ds ≡ read_row read_row_parts 0 read_made ds
+read_is = two_counted (read_row_parts.read ToldRead 0 read_made) AnyText any_number read_parts refl (λ a b. refl)
+
+pub read_told : (p : List ℕ) (d : Data) → first_of (plain_faults read_sorts p d) ≡ fault_of p (read_of d)
+unfolding read_of
+read_told p (array ds) = plain_told read_row_parts read_made read_from read_is p ds
+read_told p _ = wrong_is {A = ToldRead} p Shape (bad Shape) refl
+
+read_array-means : (d : Data) (o : Option Items) (x : ToldRead) → as_array d ≡ o → read_array o ≡ Ok x → Spells d (read_data x)
+read_array-means d None x e h = cc
+read_array-means d (Some ds) x e h =
+    subst (λ (y : Data). Spells y (read_data x)) (sym (list_is d ds e))
+    (plain_means read_row_parts read_made read_from read_is read_data (λ y. refl) ds x h)
+
+pub read_means : (d : Data) (x : ToldRead) → read_of d ≡ Ok x → Spells d (read_data x)
+unfolding read_of
+read_means d x h = read_array-means d (as_array d) x refl h
+
+pub read_reads : (d : Data) (x : ToldRead) → Spells d (read_data x) → read_of d ≡ Ok x
+unfolding read_of
+read_reads d x (ds, is, m) = rw is (row_reads read_row_parts 0 read_made read_from read_is ds (x.key, (x.mod_rev, tt)) m (tt, (tt, tt)))
 
 -- ---- expired leases
 

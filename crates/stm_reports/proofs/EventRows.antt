@@ -15,26 +15,27 @@ use Rattle.stm_json.specs.Faults.{Sort, AnyText, WordOf, By, first_of, at, fault
 use Rattle.stm_json.proofs.FaultLemmas.{fault_of, part_then, number_told}
 use Rattle.stm_reports.specs.declared.causes.RefusalName.{RefusalName}
 use Rattle.stm_reports.specs.declared.line.ReportLine.{ReportLine}
-use Rattle.stm_reports.specs.declared.line.ReportLine.TheVariants.{Started, Fetched, Committed, Conflict, GaveUp, Aborted, Faulted, Ended, Txn, Granted}
+use Rattle.stm_reports.specs.declared.line.ReportLine.TheVariants.{Started, Prefetched, Fetched, Committed, Conflict, GaveUp, Aborted, Faulted, Ended, Txn, Granted}
 use Rattle.stm_reports.specs.declared.line.ReportLine.TheVariants.{Kept, Revoked, Advanced, Compacted, Watching, Cancelled, Batch, Lost, Refused}
 use Rattle.stm_reports.specs.declared.line.ToldAnswer.{ToldAnswer}
 use Rattle.stm_reports.specs.declared.line.ToldEvent.{ToldEvent}
 use Rattle.stm_reports.specs.declared.line.ToldOp.{ToldOp}
+use Rattle.stm_reports.specs.declared.line.ToldRead.{ToldRead}
 use Rattle.stm_reports.specs.declared.words.EventWord.{EventWord}
 use Rattle.stm_reports.specs.declared.words.EventWord.TheVariants as event
 use Rattle.stm_reports.specs.FirstFault.{flag_faults, value_faults, plain_faults, list_of as list_faults, fault_names, refusal_names, trace_table}
-use Rattle.stm_reports.specs.FirstFault.{answer_sorts, op_table, expired_sorts, expired_list, watched_table, numbered_faults}
+use Rattle.stm_reports.specs.FirstFault.{answer_sorts, op_table, read_sorts, expired_sorts, expired_list, watched_table, numbered_faults}
 use Rattle.stm_reports.specs.Grammar.{Spells, SpellsItems, SpellsLine, CountsFit, AllCountsFit}
-use Rattle.stm_reports.specs.LineData.{list, word, numbered, value_data, trace_data, answer_data, op_data, expired_data, event_data, line_data}
+use Rattle.stm_reports.specs.LineData.{list, word, numbered, value_data, trace_data, answer_data, op_data, read_data, expired_data, event_data, line_data}
 use Rattle.stm_reports.specs.Names.{refusal_text}
-use Rattle.stm_reports.specs.Parts.{number_of, flag_of, fault_of as fault_part_of, cause_of, value_of, trace_of, answer_of, expired_of, event_of}
-use Rattle.stm_reports.specs.Reading.{ops_of, fetched_of, committed_of, conflict_of}
+use Rattle.stm_reports.specs.Parts.{number_of, flag_of, fault_of as fault_part_of, cause_of, value_of, trace_of, answer_of, read_of, expired_of, event_of}
+use Rattle.stm_reports.specs.Reading.{ops_of, prefetched_of, fetched_of, committed_of, conflict_of}
 use Rattle.stm_reports.specs.Reading.{gave_up_of, aborted_of, faulted_of, ended_of, txn_of, revoked_of, advanced_of, batch_of, refused_of, event_line_of}
 use Rattle.stm_reports.specs.Reading.{started_of, granted_of, kept_of, watching_of, cancelled_of, compacted_of, lost_of}
 use Rattle.stm_reports.specs.Words.{named, event_words}
 use Rattle.stm_reports.proofs.ArrayLemmas.{numbered_array, numbered_spells}
 use Rattle.stm_reports.proofs.ElementLaws.{trace_told, trace_means, trace_reads, answer_told, answer_means, answer_reads}
-use Rattle.stm_reports.proofs.ElementLaws.{expired_told, expired_means, expired_reads, event_told, event_means, event_reads}
+use Rattle.stm_reports.proofs.ElementLaws.{read_told, read_means, read_reads, expired_told, expired_means, expired_reads, event_told, event_means, event_reads}
 use Rattle.stm_reports.proofs.ElementLaws.{ops_told, ops_means, ops_reads}
 use Rattle.stm_reports.proofs.PartLaws.{number_means, flag_told, flag_means, flag_reads, fault_told, fault_means, fault_reads, cause_told}
 use Rattle.stm_reports.proofs.PartLaws.{cause_means, cause_reads, value_told, value_means, value_reads}
@@ -61,6 +62,9 @@ traces_part = list_part (worded_faults trace_table) trace_of trace_data trace_to
 
 abbrev answers_part : Part (List ToldAnswer)
 answers_part = list_part (plain_faults answer_sorts) answer_of answer_data answer_told answer_means answer_reads
+
+abbrev reads_part : Part (List ToldRead)
+reads_part = list_part (plain_faults read_sorts) read_of read_data read_told read_means read_reads
 
 abbrev expireds_part : Part (List Expired)
 expireds_part = list_part (plain_faults expired_sorts) expired_of expired_data expired_told expired_means expired_reads
@@ -91,6 +95,7 @@ made_of {X} row make = record { Parts = X; row = row; make = make }
 
 abbrev pub event_row : EventWord → EventRow
 event_row event.Started = made_of (whole_part & nothing) (λ n x. Started n x.0)
+event_row event.Prefetched = made_of (whole_part & whole_part & reads_part & nothing) (λ n x. Prefetched n x.0 (second x) (third x))
 event_row event.Fetched =
     made_of (whole_part & text_part & whole_part & whole_part & whole_part & nothing) (λ n x. Fetched n x.0 (second x) (third x) (fourth x) (fifth x))
 event_row event.Committed =
@@ -124,6 +129,7 @@ event_made w = (event_row w).make
 
 abbrev pub event_text : EventWord → List ℕ
 event_text event.Started = codes "started"
+event_text event.Prefetched = codes "prefetched"
 event_text event.Fetched = codes "fetched"
 event_text event.Committed = codes "committed"
 event_text event.Conflict = codes "conflict"
@@ -174,6 +180,8 @@ named_is make (Err e) s = refl
 event_is : (w : EventWord) (n : Data) (ds : Items) → event_line_of w n ds ≡ counted (event_sorts w) (numbered_read w n) ds
 event_is event.Started n ds =
     one_counted (numbered_read event.Started n) any_number (started_of n) refl (λ a. named_is Started (within 0 (number_of n)) (within 2 (number_of a))) ds
+event_is event.Prefetched n ds =
+    three_counted (numbered_read event.Prefetched n) any_number any_number (By (list_faults (plain_faults read_sorts))) (prefetched_of n) refl (λ a b c. refl) ds
 event_is event.Fetched n ds =
     five_counted (numbered_read event.Fetched n) any_number AnyText any_number any_number any_number (fetched_of n) refl (λ a b c d e. refl) ds
 event_is event.Committed n ds =

@@ -13,7 +13,7 @@ use Rattle.stm_json.specs.Faults.{Sort, first_of, sorts_of, sorted_faults, any_n
 use Rattle.stm_json.proofs.FaultLemmas.{fault_of, wrong_is, made}
 use Rattle.stm_json.proofs.PartLemmas.{text_is, list_is}
 use Rattle.stm_reports.specs.declared.line.ReportLine.{ReportLine}
-use Rattle.stm_reports.specs.declared.line.ReportLine.TheVariants.{Started, Fetched, Committed, Conflict, GaveUp, Aborted, Faulted, Ended, Txn, Granted}
+use Rattle.stm_reports.specs.declared.line.ReportLine.TheVariants.{Started, Prefetched, Fetched, Committed, Conflict, GaveUp, Aborted, Faulted, Ended, Txn, Granted}
 use Rattle.stm_reports.specs.declared.line.ReportLine.TheVariants.{Kept, Revoked, Advanced, Compacted, Watching, Cancelled, Batch, Lost, Refused, Key, Lease, End}
 use Rattle.stm_reports.specs.declared.words.EventWord.{EventWord}
 use Rattle.stm_reports.specs.declared.words.EventWord.TheVariants as event
@@ -198,6 +198,8 @@ of_standing d w parts l s read =
 
 pub line_reads : (d : Data) (l : ReportLine) → SpellsLine d l → line_of d ≡ Ok l
 line_reads d (Started n runner) (s, fits) = of_event event.Started n (runner, tt) d s (tt, tt)
+line_reads d (Prefetched n runner revision reads) (s, fits) =
+    of_event event.Prefetched n (runner, (revision, (reads, tt))) d s (tt, (tt, (tt, tt)))
 line_reads d (Fetched n runner key mod_rev of_rev revision) (s, fits) =
     of_event event.Fetched n (runner, (key, (mod_rev, (of_rev, (revision, tt))))) d s (tt, (tt, (tt, (tt, (tt, tt)))))
 line_reads d (Committed n runner revision attempts output trace answers) (s, fits) =

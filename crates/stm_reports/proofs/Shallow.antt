@@ -13,14 +13,15 @@ use Rattle.stm_meaning.specs.declared.trace_item.TraceItem.{TraceItem}
 use Rattle.stm_meaning.specs.declared.trace_item.TraceItem.TheVariants as trace
 use Rattle.stm_outcome.specs.declared.advance.Expired.{Expired}
 use Rattle.stm_reports.specs.declared.line.ReportLine.{ReportLine}
-use Rattle.stm_reports.specs.declared.line.ReportLine.TheVariants.{Started, Fetched, Committed, Conflict, GaveUp, Aborted, Faulted, Ended, Txn, Granted}
+use Rattle.stm_reports.specs.declared.line.ReportLine.TheVariants.{Started, Prefetched, Fetched, Committed, Conflict, GaveUp, Aborted, Faulted, Ended, Txn, Granted}
 use Rattle.stm_reports.specs.declared.line.ReportLine.TheVariants.{Kept, Revoked, Advanced, Compacted, Watching, Cancelled, Batch, Lost, Refused, Key, Lease, End}
 use Rattle.stm_reports.specs.declared.line.ToldAnswer.{ToldAnswer}
 use Rattle.stm_reports.specs.declared.line.ToldEvent.{ToldEvent}
 use Rattle.stm_reports.specs.declared.line.ToldEvent.TheVariants as event
 use Rattle.stm_reports.specs.declared.line.ToldOp.{ToldOp}
 use Rattle.stm_reports.specs.declared.line.ToldOp.TheVariants as op
-use Rattle.stm_reports.specs.LineData.{value_data, trace_data, text_or_null, answer_data, state_or_null, op_data, expired_data, event_data, line_data}
+use Rattle.stm_reports.specs.declared.line.ToldRead.{ToldRead}
+use Rattle.stm_reports.specs.LineData.{value_data, trace_data, text_or_null, answer_data, state_or_null, op_data, read_data, expired_data, event_data, line_data}
 
 -- data with no float and no object, nested at most so deep
 abbrev mutual
@@ -97,6 +98,9 @@ op_shallow (op.Get revision kv) = (tt, (refl, (state_shallow kv, tt)))
 op_shallow op.Put = (tt, tt)
 op_shallow (op.Del count) = (tt, (refl, tt))
 
+read_shallow : (r : ToldRead) → IsShallow (read_data r) 3
+read_shallow r = (tt, (refl, tt))
+
 expired_shallow : (e : Expired) → IsShallow (expired_data e) 3
 expired_shallow e = (refl, (refl, tt))
 
@@ -106,6 +110,7 @@ event_shallow (event.Delete key revision) = (tt, (tt, (refl, tt)))
 
 line_shallow : (l : ReportLine) → IsShallow (line_data l) 5
 line_shallow (Started n runner) = (refl, (tt, (refl, tt)))
+line_shallow (Prefetched n runner revision reads) = (refl, (tt, (refl, (refl, (listed read_data 3 read_shallow reads, tt)))))
 line_shallow (Fetched n runner key mod_rev of_rev revision) = (refl, (tt, (refl, (tt, (refl, (refl, (refl, tt)))))))
 line_shallow (Committed n runner revision attempts output trace answers) =
     (refl, (tt, (refl, (refl, (refl, (listed value_data 3 value_shallow output, (listed trace_data 3 trace_shallow trace, (listed answer_data 3 answer_shallow answers, tt))))))))

@@ -75,6 +75,9 @@ op_table =
     ∷ (codes "del", NumberIn 0 1 ∷ [])
     ∷ []
 
+abbrev pub read_sorts : List Sort
+read_sorts = AnyText ∷ any_number ∷ []
+
 abbrev pub expired_sorts : List Sort
 expired_sorts = any_number ∷ any_number ∷ []
 
@@ -90,6 +93,7 @@ expired_list = By (list_of (plain_faults expired_sorts))
 abbrev pub event_table : Table
 event_table =
     (codes "started", any_number ∷ [])
+    ∷ (codes "prefetched", any_number ∷ any_number ∷ By (list_of (plain_faults read_sorts)) ∷ [])
     ∷ (codes "fetched", any_number ∷ AnyText ∷ any_number ∷ any_number ∷ any_number ∷ [])
     ∷ (
       codes "committed",

@@ -14,13 +14,14 @@ use Rattle.stm_meaning.specs.declared.trace_item.TraceItem.TheVariants as trace
 use Rattle.stm_meaning.specs.Faults.{fault_name}
 use Rattle.stm_outcome.specs.declared.advance.Expired.{Expired}
 use Rattle.stm_reports.specs.declared.line.ReportLine.{ReportLine}
-use Rattle.stm_reports.specs.declared.line.ReportLine.TheVariants.{Started, Fetched, Committed, Conflict, GaveUp, Aborted, Faulted, Ended, Txn, Granted}
+use Rattle.stm_reports.specs.declared.line.ReportLine.TheVariants.{Started, Prefetched, Fetched, Committed, Conflict, GaveUp, Aborted, Faulted, Ended, Txn, Granted}
 use Rattle.stm_reports.specs.declared.line.ReportLine.TheVariants.{Kept, Revoked, Advanced, Compacted, Watching, Cancelled, Batch, Lost, Refused, Key, Lease, End}
 use Rattle.stm_reports.specs.declared.line.ToldAnswer.{ToldAnswer}
 use Rattle.stm_reports.specs.declared.line.ToldEvent.{ToldEvent}
 use Rattle.stm_reports.specs.declared.line.ToldEvent.TheVariants as event
 use Rattle.stm_reports.specs.declared.line.ToldOp.{ToldOp}
 use Rattle.stm_reports.specs.declared.line.ToldOp.TheVariants as op
+use Rattle.stm_reports.specs.declared.line.ToldRead.{ToldRead}
 use Rattle.stm_reports.specs.Names.{refusal_text}
 
 abbrev pub list : List Data → Data
@@ -62,6 +63,10 @@ op_data (op.Get revision kv) = list (word (codes "get") ∷ whole revision ∷ s
 op_data op.Put = list (word (codes "put") ∷ [])
 op_data (op.Del count) = list (word (codes "del") ∷ whole count ∷ [])
 
+-- a key of a list
+abbrev pub read_data : ToldRead → Data
+read_data r = list (string r.key ∷ whole r.mod_rev ∷ [])
+
 abbrev pub expired_data : Expired → Data
 expired_data e = list (whole e.id ∷ whole e.revision ∷ [])
 
@@ -82,6 +87,8 @@ numbered n w parts = list (whole n ∷ word w ∷ parts)
 
 abbrev pub line_data : ReportLine → Data
 line_data (Started n runner) = numbered n (codes "started") (whole runner ∷ [])
+line_data (Prefetched n runner revision reads) =
+    numbered n (codes "prefetched") (whole runner ∷ whole revision ∷ list (map read_data reads) ∷ [])
 line_data (Fetched n runner key mod_rev of_rev revision) =
     numbered n (codes "fetched") (whole runner ∷ string key ∷ whole mod_rev ∷ whole of_rev ∷ whole revision ∷ [])
 line_data (Committed n runner revision attempts output trace answers) =

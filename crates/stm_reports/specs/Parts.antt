@@ -20,6 +20,7 @@ use Rattle.stm_reports.specs.declared.line.ToldEvent.{ToldEvent}
 use Rattle.stm_reports.specs.declared.line.ToldEvent.TheVariants as event
 use Rattle.stm_reports.specs.declared.line.ToldOp.{ToldOp}
 use Rattle.stm_reports.specs.declared.line.ToldOp.TheVariants as op
+use Rattle.stm_reports.specs.declared.line.ToldRead.{ToldRead}
 use Rattle.stm_reports.specs.Elements.{five_of, six_of}
 use Rattle.stm_reports.specs.Words.{named, fault_words, refusal_words}
 
@@ -143,6 +144,20 @@ op_worded (Some p) =
 
 unfoldable pub op_of : Data → Outcome ToldOp
 op_of d = op_worded (worded d)
+
+abbrev pub read_with : List ℕ → ℕ → ToldRead
+read_with key mod_rev = record { key = key; mod_rev = mod_rev }
+
+abbrev pub read_parts : Option (Data × Data) → Outcome ToldRead
+read_parts None = bad Shape
+read_parts (Some p) = within 0 (text_of p.0) >>= λ key. within 1 (number_of p.1) >>= λ mod_rev. Ok (read_with key mod_rev)
+
+abbrev pub read_array : Option Items → Outcome ToldRead
+read_array None = bad Shape
+read_array (Some ds) = read_parts (two_of ds)
+
+unfoldable pub read_of : Data → Outcome ToldRead
+read_of d = read_array (as_array d)
 
 abbrev pub expired_with : ℕ → ℕ → Expired
 expired_with id revision = record { id = id; revision = revision }

@@ -11,11 +11,12 @@ use Rattle.stm_meaning.specs.declared.trace_item.TraceItem.{TraceItem}
 use Rattle.stm_outcome.specs.declared.advance.Expired.{Expired}
 use Rattle.stm_json.specs.Parts.{text_of, list_of}
 use Rattle.stm_reports.specs.declared.line.ReportLine.{ReportLine}
-use Rattle.stm_reports.specs.declared.line.ReportLine.TheVariants.{Started, Fetched, Committed, Conflict, GaveUp, Aborted, Faulted, Ended, Txn, Granted}
+use Rattle.stm_reports.specs.declared.line.ReportLine.TheVariants.{Started, Prefetched, Fetched, Committed, Conflict, GaveUp, Aborted, Faulted, Ended, Txn, Granted}
 use Rattle.stm_reports.specs.declared.line.ReportLine.TheVariants.{Kept, Revoked, Advanced, Compacted, Watching, Cancelled, Batch, Lost, Refused, Key, Lease, End}
 use Rattle.stm_reports.specs.declared.line.ToldAnswer.{ToldAnswer}
 use Rattle.stm_reports.specs.declared.line.ToldEvent.{ToldEvent}
 use Rattle.stm_reports.specs.declared.line.ToldOp.{ToldOp}
+use Rattle.stm_reports.specs.declared.line.ToldRead.{ToldRead}
 use Rattle.stm_reports.specs.declared.report.Report.{Report}
 use Rattle.stm_json.specs.declared.limits.TheConstants.{MOST_BYTES}
 use Rattle.stm_reports.specs.declared.words.EventWord.{EventWord}
@@ -25,7 +26,7 @@ use Rattle.stm_reports.specs.declared.words.StandingWord.TheVariants as standing
 use Rattle.stm_json.specs.Bytes.{data_of}
 use Rattle.stm_reports.specs.Bytes.{parts_of}
 use Rattle.stm_reports.specs.Elements.{five_of, six_of}
-use Rattle.stm_reports.specs.Parts.{number_of, flag_of, fault_of, cause_of, keyed_of, value_of, trace_of, answer_of, op_of, expired_of, event_of}
+use Rattle.stm_reports.specs.Parts.{number_of, flag_of, fault_of, cause_of, keyed_of, value_of, trace_of, answer_of, op_of, read_of, expired_of, event_of}
 use Rattle.stm_reports.specs.Words.{named, event_words, standing_words}
 
 -- ---- lists
@@ -41,6 +42,9 @@ answers_of d = list_of answer_of (as_array d)
 
 abbrev pub ops_of : Data → Outcome (List ToldOp)
 ops_of d = list_of op_of (as_array d)
+
+abbrev pub key_reads_of : Data → Outcome (List ToldRead)
+key_reads_of d = list_of read_of (as_array d)
 
 abbrev pub expireds_of : Data → Outcome (List Expired)
 expireds_of d = list_of expired_of (as_array d)
@@ -71,6 +75,12 @@ watching_of n o = named_of n o >>= λ p. Ok (Watching p.0 p.1)
 
 abbrev pub cancelled_of : Data → Option Data → Outcome ReportLine
 cancelled_of n o = named_of n o >>= λ p. Ok (Cancelled p.0 p.1)
+
+abbrev pub prefetched_of : Data → Option (Data × Data × Data) → Outcome ReportLine
+prefetched_of n None = bad Shape
+prefetched_of n (Some p) =
+    within 0 (number_of n) >>= λ number. within 2 (number_of p.0) >>= λ runner. within 3 (number_of p.1) >>= λ revision.
+    within 4 (key_reads_of p.2) >>= λ reads. Ok (Prefetched number runner revision reads)
 
 abbrev pub fetched_of : Data → Option (Data × Data × Data × Data × Data) → Outcome ReportLine
 fetched_of n None = bad Shape
@@ -150,6 +160,7 @@ refused_of n (Some p) =
 
 abbrev pub event_line_of : EventWord → Data → Items → Outcome ReportLine
 event_line_of event.Started n ds = started_of n (one_of ds)
+event_line_of event.Prefetched n ds = prefetched_of n (three_of ds)
 event_line_of event.Fetched n ds = fetched_of n (five_of ds)
 event_line_of event.Committed n ds = committed_of n (six_of ds)
 event_line_of event.Conflict n ds = conflict_of n (four_of ds)

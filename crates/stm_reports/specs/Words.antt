@@ -6,7 +6,7 @@ use Rattle.stm_json.specs.Parts.{same}
 use Rattle.stm_reports.specs.declared.causes.RefusalName.{RefusalName}
 use Rattle.stm_reports.specs.declared.causes.RefusalName.TheVariants as cause
 use Rattle.stm_reports.specs.declared.words.EventWord.{EventWord}
-use Rattle.stm_reports.specs.declared.words.EventWord.TheVariants.{Started, Fetched, Committed, Conflict, GaveUp, Aborted, Faulted, Ended}
+use Rattle.stm_reports.specs.declared.words.EventWord.TheVariants.{Started, Prefetched, Fetched, Committed, Conflict, GaveUp, Aborted, Faulted, Ended}
 use Rattle.stm_reports.specs.declared.words.EventWord.TheVariants.{Txn, Granted, Kept, Revoked, Advanced, Compacted, Watching, Cancelled, Batch, Lost, Refused}
 use Rattle.stm_reports.specs.declared.words.StandingWord.{StandingWord}
 use Rattle.stm_reports.specs.declared.words.StandingWord.TheVariants.{Key, Lease, End}
@@ -19,6 +19,7 @@ named (row ∷ rows) w = if same w row.0 then Some row.1 else named rows w
 abbrev pub event_words : List (List ℕ × EventWord)
 event_words =
     (codes "started", Started)
+    ∷ (codes "prefetched", Prefetched)
     ∷ (codes "fetched", Fetched)
     ∷ (codes "committed", Committed)
     ∷ (codes "conflict", Conflict)

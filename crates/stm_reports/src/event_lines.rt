@@ -3,7 +3,7 @@ ghost use Rattle.serde_json.specs.View.{view, items_view};
 ghost use Rattle.stm_json.specs.Elements.{one_of, two_of, three_of, four_of};
 ghost use Rattle.stm_json.specs.Tells.{Tells};
 ghost use Rattle.stm_reports.specs.Elements.{five_of, six_of};
-ghost use Rattle.stm_reports.specs.Reading.{named_of, fetched_of, committed_of, conflict_of, gave_up_of, aborted_of, faulted_of, ended_of, txn_of};
+ghost use Rattle.stm_reports.specs.Reading.{named_of, prefetched_of, fetched_of, committed_of, conflict_of, gave_up_of, aborted_of, faulted_of, ended_of, txn_of};
 ghost use Rattle.stm_reports.specs.Reading.{revoked_of, advanced_of, batch_of, refused_of, started_of, granted_of, kept_of, watching_of, cancelled_of};
 ghost use Rattle.stm_reports.specs.Reading.{compacted_of, lost_of};
 ghost use Rattle.stm_reports.specs.Reading.{event_line_of};
@@ -311,6 +311,25 @@ fn advanced(alloc: Global, number: &Json, elements: &[Json]) -> Result<ReportLin
     })
 }
 
+/// The line of a list that was fetched.
+fn prefetched(alloc: Global, number: &Json, elements: &[Json]) -> Result<ReportLine, ReadError>
+    ensures { Tells (λ l. l) result (prefetched_of (view number.now) (three_of (items_view elements.now))) }
+{
+    let Some((runner, revision, reads)) = three(elements) else {
+        return Err(fault(alloc, Cause::Shape));
+    };
+    let number = number_part(alloc, 0, number)?;
+    let runner = number_part(alloc, 2, runner)?;
+    let revision = number_part(alloc, 3, revision)?;
+    let reads = list_part(alloc, 4, reads)?;
+    Ok(ReportLine::Prefetched {
+        number,
+        runner,
+        revision,
+        reads,
+    })
+}
+
 /// The line of what a watcher had pending.
 fn batch(alloc: Global, number: &Json, elements: &[Json]) -> Result<ReportLine, ReadError>
     ensures { Tells (λ l. l) result (batch_of (view number.now) (three_of (items_view elements.now))) }
@@ -371,6 +390,7 @@ pub(crate) fn event_line(
 {
     match word {
         EventWord::Started => started(alloc, number, elements),
+        EventWord::Prefetched => prefetched(alloc, number, elements),
         EventWord::Fetched => fetched(alloc, number, elements),
         EventWord::Committed => committed(alloc, number, elements),
         EventWord::Conflict => conflict(alloc, number, elements),

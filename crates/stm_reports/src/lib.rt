@@ -22,7 +22,7 @@ pub use calls::{
     is_advanced, is_compacted, is_granted, is_kept, is_refused, is_revoked, is_txn, told_cause,
 };
 pub use causes::RefusalName;
-pub use line::{ReportLine, ToldAnswer, ToldEvent, ToldOp};
+pub use line::{ReportLine, ToldAnswer, ToldEvent, ToldOp, ToldRead};
 pub use reading::read_report;
 pub use report::Report;
 pub use same::{are_same_traces, are_same_values};

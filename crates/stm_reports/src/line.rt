@@ -17,6 +17,15 @@ pub struct ToldAnswer {
     pub of_rev: u64,
 }
 
+/// A key of a program's list that was read, as the line of the list tells it.
+#[derive(Debug, Drop)]
+pub struct ToldRead {
+    /// The key that was read.
+    pub key: Text,
+    /// Its modification revision, 0 where it was absent.
+    pub mod_rev: u64,
+}
+
 /// The answer to one operation of a transaction, as the transaction's line tells it.
 #[derive(Debug, Drop)]
 pub enum ToldOp {
@@ -45,6 +54,13 @@ pub enum ReportLine {
     Started {
         number: u64,
         runner: u64,
+    },
+    /// A step fetched the keys of the program's list, in its order: the revision shown, and the modification revision of each.
+    Prefetched {
+        number: u64,
+        runner: u64,
+        revision: u64,
+        reads: Sequence<ToldRead>,
     },
     /// A step fetched a key: its modification revision, the revision shown, and the one carried.
     Fetched {

@@ -10,11 +10,11 @@ ghost use Rattle.stm_json.specs.Parts.{text_of, each_from, list_of};
 ghost use Rattle.stm_reports.specs.Elements.{five_of, six_of};
 ghost use Rattle.stm_reports.specs.Parts.{flag_of, fault_of, cause_of, value_of, state_parts, state_of, keyed_of, text_or_null_of, state_or_null_of};
 ghost use Rattle.stm_reports.specs.Parts.{trace_get_of, trace_rev_of, trace_of, answer_parts, answer_of, op_get_of, op_del_of, op_put_of, op_of};
-ghost use Rattle.stm_reports.specs.Parts.{expired_parts, expired_of, event_put_of, event_delete_of, event_of};
+ghost use Rattle.stm_reports.specs.Parts.{read_parts, read_of, expired_parts, expired_of, event_put_of, event_delete_of, event_of};
 
 use crate::causes::RefusalName;
 use crate::elements::{five, six};
-use crate::line::{ToldAnswer, ToldEvent, ToldOp};
+use crate::line::{ToldAnswer, ToldEvent, ToldOp, ToldRead};
 use crate::words::{fault_named, refusal_name};
 use serde_json::Value as Json;
 use std::alloc::Global;
@@ -358,6 +358,30 @@ impl Element for ToldOp {
             op_del(alloc, elements)
         } else {
             Err(fault(alloc, Cause::Shape))
+        }
+    }
+}
+
+/// A key of a list that was read, from the two elements that spell it.
+fn key_read(alloc: Global, elements: &[Json]) -> Result<ToldRead, ReadError>
+    ensures { Tells (λ r. r) result (read_parts (two_of (items_view elements.now))) }
+{
+    let Some((key, mod_rev)) = two(elements) else {
+        return Err(fault(alloc, Cause::Shape));
+    };
+    let key = text_part(alloc, 0, key)?;
+    let mod_rev = number_part(alloc, 1, mod_rev)?;
+    Ok(ToldRead { key, mod_rev })
+}
+
+impl Element for ToldRead {
+    ghost reading = { read_of };
+
+    #[tactic(auto, unfolding(crate::specs::Parts::read_of))]
+    fn read(alloc: Global, value: &Json) -> Result<ToldRead, ReadError> {
+        match value.as_array() {
+            Some(elements) => key_read(alloc, elements.as_slice()),
+            None => Err(fault(alloc, Cause::Shape)),
         }
     }
 }

@@ -10,6 +10,8 @@ use stm_meaning::Fault;
 pub enum EventWord {
     /// `started`
     Started,
+    /// `prefetched`
+    Prefetched,
     /// `fetched`
     Fetched,
     /// `committed`
@@ -76,8 +78,9 @@ fn found<W: Copy>(rows: &[(&str, W)], word: &str) -> Option<W>
 }
 
 /// The words of the lines of events.
-static EVENT_WORDS: [(&str, EventWord); 19] = [
+static EVENT_WORDS: [(&str, EventWord); 20] = [
     ("started", EventWord::Started),
+    ("prefetched", EventWord::Prefetched),
     ("fetched", EventWord::Fetched),
     ("committed", EventWord::Committed),
     ("conflict", EventWord::Conflict),

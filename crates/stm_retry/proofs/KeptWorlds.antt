@@ -23,18 +23,20 @@ use Rattle.stm_outcome.specs.declared.answer.TxnAnswer.{TxnAnswer}
 use Rattle.stm_outcome.specs.declared.answer.FailedCompare.{FailedCompare}
 use Rattle.stm_outcome.specs.declared.advance.Expired.{Expired}
 use Rattle.stm_outcome.specs.declared.refusal.Refusal.{Refusal as StoreRefusal}
-use Rattle.stm_outcome.specs.declared.refusal.Refusal.TheVariants.{OutOfMemory}
+use Rattle.stm_outcome.specs.declared.refusal.Refusal.TheVariants.{OutOfMemory, TooManyOps}
 use Rattle.stm_outcome.specs.Outcome.{Done}
 use Rattle.stm_txn.specs.Standing.{Standing, Step as StoreStep, Advance as StoreAdvance, HasKept, with_history, kept, terms_of, transacted, granted, kept_alive}
 use Rattle.stm_txn.specs.Standing.{revoked, advanced, watched, polled, cancelled, raised, IsStopped}
 use Rattle.stm_txn.specs.Standing.{IsCutShort as StoreCutShort}
+use Rattle.stm_txn.specs.Standing.{Setup}
 use Rattle.stm_compile.specs.CommitTxn.{reread_keys}
 use Rattle.stm_compile.specs.Committed.{committed}
 use Rattle.stm_compile.specs.Conflicts.{Seen, seen_by}
 use Rattle.stm_attempt.specs.Known.{Known}
 use Rattle.stm_attempt.specs.Settled.{run_on}
+use Rattle.stm_attempt.specs.Entering.{is_due}
 use Rattle.stm_attempt.specs.Fetches.{at_of}
-use Rattle.stm_calls.specs.Fetched.{fetch_told}
+use Rattle.stm_calls.specs.Fetched.{fetch_told, fetch_all_told}
 use Rattle.stm_calls.specs.StateOf.{IsStateOf, entry_now}
 use Rattle.stm_entries.specs.declared.entry.Entry.{Entry}
 use Rattle.stm_entries.specs.declared.entry.Entry.TheVariants.{Grant as GrantEntry, Renew, Revoke as RevokeEntry, Foreign}
@@ -62,19 +64,19 @@ use Rattle.stm_world.specs.declared.refusal.Denied.{Denied}
 use Rattle.stm_world.specs.Told.{denied, reply_to, store_after_call, advance_reply, poll_reply, store_after_poll}
 use Rattle.stm_world.specs.Task.{Task, with_served, after_conflict, answers_told}
 use Rattle.stm_world.specs.World.{World, Stepped, Runner, Over, Live, runner_at, with_slot, begin, replied, refused, start_runner, entry_of, seen_in}
-use Rattle.stm_world.specs.World.{decided, commit_told, commit, finish, fetch_at, step_on, step_live, step_runner, called, if_taken, if_changed, expiries}
+use Rattle.stm_world.specs.World.{decided, commit_told, commit, finish, fetch_at, fetch_list, step_on, step_live, step_runner, called, if_taken, if_changed, expiries}
 use Rattle.stm_world.specs.World.{quietly_called, step, opened as opened_world}
 use Rattle.stm_world.specs.Sound.{IsSound, after_expiries}
 use Rattle.stm_world.specs.Appended.{HasAppended}
 use Rattle.stm_world.proofs.Wants.{NoWant, NeverWants, advanced_never}
 use Rattle.stm_world.proofs.NeverOutOfMemory.{raised_never}
-use Rattle.stm_world.proofs.Calls.{txn_follows, at_moment_follows}
+use Rattle.stm_world.proofs.Calls.{txn_goes_on, at_moment_follows}
 use Rattle.stm_world.proofs.Appending.{events_append}
 use Rattle.stm_world.proofs.Sound.{opened_is_sound, step_is_sound, base_is_reached}
 use Rattle.stm_retry.specs.Tells.{IsStep, IsUnchanged, IsCutShort, WantTells, RefusalTells, Tells, is_want_of_store, is_want}
 use Rattle.stm_retry.specs.Kept.{whole_store, whole_world, kept_world, IsKeptBy, compact_kept, KeptTells, BasesAreReached}
 use Rattle.stm_retry.proofs.CallLemmas.{refusal_tells}
-use Rattle.stm_retry.proofs.StepLemmas.{fetched_step, step_fetches}
+use Rattle.stm_retry.proofs.StepLemmas.{fetched_step, step_fetches, listed_step, step_lists}
 use Rattle.stm_retry.proofs.WorldLemmas.{refusal_cases, tells_sound}
 
 -- ---- the world of which something is kept
@@ -142,6 +144,29 @@ fetch_kept id r key base w reached =
 abbrev answer_as : (List ℕ → Option KeyState) → ℕ → List ℕ → ReadAnswer
 answer_as state counter key = record { key = key; kv = state key; of_rev = counter; revision = counter }
 
+-- a list
+listed_kept : (s : Standing) (keys : List (List ℕ)) → HasReached s → fetch_all_told (kept s) keys ≡ fetch_all_told s keys
+listed_kept s keys reached =
+    let g : History = cut (s.floor - 1) s.history in
+    let alike : IsAlike s.floor g s.history = cut_is_alike s.floor s.history reached in
+    let comes_to : (List ℕ → Option KeyState) → ℕ → Result (List ReadAnswer) StoreRefusal =
+    λ state counter. cond (nat_lt s.limit (length keys)) (Err TooManyOps) (Ok (map (answer_as state counter) keys)) in
+    ap (λ (state : List ℕ → Option KeyState). comes_to state (now g)) alike.keys_now ∙ ap (comes_to (key_now s.history)) alike.counter
+
+listed_by : (id : ℕ) (r : Runner) (revision : ℕ) (o : Result (List ReadAnswer) StoreRefusal) (w : World) →
+    listed_step id r revision o (kept_world w) ≡ kept_stepped (listed_step id r revision o w)
+listed_by id r revision (Ok answers) w = refl
+listed_by id r revision (Err cause) w = refl
+
+list_kept : (id : ℕ) (r : Runner) (w : World) → HasReached w.standing → fetch_list id r (kept_world w) ≡ kept_stepped (fetch_list id r w)
+list_kept id r w reached =
+    let keys : List (List ℕ) = r.task.program.prefetch in
+    step_lists id r (kept_world w)
+    ∙ ap (λ (n : ℕ). listed_step id r n (fetch_all_told (kept w.standing) keys) (kept_world w)) (counted w.standing reached)
+    ∙ ap (λ (o : Result (List ReadAnswer) StoreRefusal). listed_step id r (now w.standing.history) o (kept_world w)) (listed_kept w.standing keys reached)
+    ∙ listed_by id r (now w.standing.history) (fetch_all_told w.standing keys) w
+    ∙ ap kept_stepped (sym (step_lists id r w))
+
 conflict_kept : (task : Task) (floor : ℕ) (h : History) (known : Known) → floor ≤ now h →
     after_conflict task (cut (floor - 1) h) known ≡ after_conflict task h known
 conflict_kept task floor h known reached =
@@ -208,9 +233,16 @@ on_kept : (id : ℕ) (r : Runner) (reads : List ReadAnswer) (a : Answered) (w : 
 on_kept id r reads (Wants key trace) w reached = fetch_kept id r key (at_of r.task.level reads) w reached
 on_kept id r reads (EndedRun run) w reached = finish_kept id r reads run run.end w reached
 
+live_by : (id : ℕ) (r : Runner) (w : World) → HasReached w.standing → (due : Bool) →
+    cond due (fetch_list id r (kept_world w)) (step_on id r r.known.reads (run_on r.task.program r.known.reads) (kept_world w))
+    ≡ kept_stepped (cond due (fetch_list id r w) (step_on id r r.known.reads (run_on r.task.program r.known.reads) w))
+live_by id r w reached true = list_kept id r w reached
+live_by id r w reached false = on_kept id r r.known.reads (run_on r.task.program r.known.reads) w reached
+
 live_kept : (id : ℕ) (r : Runner) (w : World) → HasReached w.standing → step_live id r (kept_world w) ≡ kept_stepped (step_live id r w)
 unfolding step_live
-live_kept id r w reached = on_kept id r r.known.reads (run_on r.task.program r.known.reads) w reached
+live_kept id r w reached =
+    live_by id r w reached (is_due r.task.program.prefetch r.known.reads)
 
 runner_kept : (id : ℕ) (o : Option Runner) (w : World) → HasReached w.standing → step_runner id o (kept_world w) ≡ kept_stepped (step_runner id o w)
 runner_kept id None w reached = refl
@@ -263,7 +295,7 @@ step_kept (Txn txn) w k =
     ap (λ (o : Result (StoreStep TxnAnswer) StoreRefusal).
     called (reply_to TxnDone o) (store_after_call (kept s) o) (if_changed (kept s) (store_after_call (kept s) o) txn) (kept_world w))
     (transacted_kept s k.reached txn)
-    ∙ txn_by txn w (transacted s txn) k.reached ((txn_follows s txn).kept k).reached
+    ∙ txn_by txn w (transacted s txn) k.reached ((txn_goes_on s txn).kept k).reached
 step_kept (Grant id ttl) w k =
     let s : Standing = w.standing in
     ap (λ (o : Result (StoreStep (Unit {0})) StoreRefusal).
@@ -552,14 +584,14 @@ bases_are_reached opened m x id r found =
     subst (λ n. at_of r.task.level r.known.reads ≤ n) (sym same) (base_is_reached w id r x.sound found)
 
 -- a world that opens keeps all
-opened_is_kept : (start : ℕ) → IsKeptBy (opened_world start).standing (opened_world start)
+opened_is_kept : (start : Setup) → IsKeptBy (opened_world start).standing (opened_world start)
 opened_is_kept start = record {
   sound = opened_is_sound start;
   stands = ap (with_history (opened_world start).standing) (sym (cut_at_the_opening (opened_world start).standing.history (0 - 1) (omega arith)));
 }
 
-pub opened_leaves : (start : ℕ) (m : World) → m ≡ opened_world start → IsKeptBy m.standing (whole_world start m)
-opened_leaves start m is = subst (λ (w : World). IsKeptBy w.standing (whole_world start w)) (sym is) (opened_is_kept start)
+pub opened_leaves : (start : Setup) (m : World) → m ≡ opened_world start → IsKeptBy m.standing (whole_world start.revision m)
+opened_leaves start m is = subst (λ (w : World). IsKeptBy w.standing (whole_world start.revision w)) (sym is) (opened_is_kept start)
 
 -- a start
 pub started_leaves : (task : Task) (result : Result ℕ AllocError) (opened : ℕ) (old new : World) → IsKeptBy old.standing (whole_world opened old) →

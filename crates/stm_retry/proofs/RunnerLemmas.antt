@@ -1,32 +1,42 @@
 -- What a runner knows, and what its attempt relies on, from call to call.
-use Rattle.std.proofs.Common.{◌≡◌, ℕ, ◌<◌, List, [], ◌∷◌, ◌++◌, length, cond, refl, sym, ap, subst}
+use Rattle.std.proofs.Common.{◌≡◌, ◌⊎◌, inl, inr, ℕ, ◌<◌, Bool, true, false, List, [], ◌∷◌, ◌++◌, length, map, cond, refl, sym, ◌∙◌, ap, subst}
 use Rattle.std.specs.Prelude.{Option, None, Some, IfSome, Contains, is_some, Result, Ok, Err, OnOk, OnErr}
-use Rattle.std.proofs.lemmas.List.Elements.{All-push, All-append, All-same, All-weaker, All-contains}
+use Rattle.std.proofs.lemmas.List.Elements.{All-nil, All-cons, All-push, All-append, All-same, All-weaker, All-contains, All-from_recursion, recursion_from_All}
 use Rattle.stm_history.specs.declared.key_state.ReadAnswer.{ReadAnswer}
 use Rattle.stm_program.specs.Syntax.{ProgramTree}
+use Rattle.stm_program.specs.Limits.{Fits}
 use Rattle.stm_program.specs.declared.level.Level.{Level}
 use Rattle.stm_meaning.specs.declared.run.Answered.{Answered}
 use Rattle.stm_meaning.specs.declared.run.Answered.TheVariants.{Ended, Wants}
 use Rattle.stm_meaning.proofs.RunLaws.{wanted_keys_are_unknown}
+use Rattle.stm_outcome.specs.Commits.{AreNamed as KeysAreNamed}
 use Rattle.stm_compile.specs.Answers.{answer_in, look_up}
-use Rattle.stm_attempt.specs.Known.{Known, serving}
+use Rattle.stm_attempt.specs.Known.{Known, known_of, serving}
 use Rattle.stm_attempt.specs.Settled.{run_on, wanted, answer_for, settle, settled}
-use Rattle.stm_attempt.specs.AttemptState.{AttemptState, IsOf, begun, advanced, supplied, awaited, unserved}
+use Rattle.stm_attempt.specs.Entering.{is_due, answers_of_all, behind_list, gone_on}
+use Rattle.stm_attempt.specs.AttemptState.{AttemptState, IsOf, begun, advanced, supplied, supplied_all, awaited, list_awaited, unserved}
 use Rattle.stm_attempt.specs.Laws.{AddsPrefetched}
-use Rattle.stm_attempt.proofs.SettleLemmas.{settle_stays, settled_is_settled, settling_adds_prefetched}
+use Rattle.stm_attempt.proofs.SettleLemmas.{settle_stays, settling_adds_prefetched}
+use Rattle.stm_attempt.proofs.EnteringLemmas.{taken_are, where_it_comes, gone_settled, gone_on_is_gone_on, list_named}
 use Rattle.stm_world.specs.Task.{Task, nothing_known, with_served}
 use Rattle.stm_world.specs.World.{begin}
-use Rattle.stm_retry.specs.RunnerView.{view_of, AreNamed, IsRunner, with_answer}
+use Rattle.stm_retry.specs.RunnerView.{view_of, AreNamed, IsRunner, with_answer, with_answers}
 
 abbrev IsNamed : ReadAnswer → Type 0
 IsNamed a = 0 < length a.key
 
 -- ---- what a runner knows ----
 
--- where nothing was read or prefetched, nothing serves
-begin_knows_nothing : (task : Task) → with_served task nothing_known ≡ nothing_known
+-- where nothing was read or prefetched, no list is taken, and nothing serves
+begins_by : (program : ProgramTree) (keys : List (List ℕ)) →
+    cond (is_due keys []) (behind_list program nothing_known (answers_of_all keys [])) (settled program nothing_known) ≡ []
 unfolding settle
-begin_knows_nothing task = refl
+begins_by program [] = refl
+begins_by program (key ∷ keys) = refl
+
+begin_knows_nothing : (task : Task) → with_served task nothing_known ≡ nothing_known
+begin_knows_nothing task =
+    ap (λ (reads : List ReadAnswer). (let known : Known = record { reads = reads; prefetched = [] } in known)) (begins_by task.program task.program.prefetch)
 
 pub begun_runner : (task : Task) (level : Level) → (view_of task 0 (begun level [])).runner ≡ begin task
 begun_runner task level = ap (λ (known : Known). record { task = task; failures = 0; known = known }) (begin_knows_nothing task)
@@ -39,7 +49,7 @@ advanced_runner task failures attempt =
       task = task;
       failures = failures;
       known = record { reads = reads; prefetched = attempt.known.prefetched };
-    }) (settled_is_settled task.program attempt.known)
+    }) (gone_on_is_gone_on task.program attempt.known)
 
 -- ---- the key that is awaited ----
 
@@ -58,25 +68,31 @@ wanted_by program reads key (Wants k trace) e is =
     let same : k ≡ key = cc in
     subst (λ (l : List ℕ). 0 < length l) same (wanted_keys_are_unknown (look_up reads) program.statements k trace e).1
 
--- a key that is awaited is not empty, and what the attempt has read is settled
+-- a key that is awaited is not empty, and what the attempt has read has gone on
 pub record Awaits (program : ProgramTree) (known : Known) (key : List ℕ) : Type 0 where
   pub named : 0 < length key
-  pub settled : settled program known ≡ known.reads
+  pub gone : gone_on program known ≡ known.reads
 
-awaits_of : (program : ProgramTree) (known : Known) (key : List ℕ) →
+awaits_of : (program : ProgramTree) (known : Known) (key : List ℕ) → is_due program.prefetch known.reads ≡ false →
     unserved (serving known.reads known.prefetched) (wanted (run_on program known.reads)) ≡ Some key → Awaits program known key
-awaits_of program known key is =
+awaits_of program known key not is =
     let left = not_served (serving known.reads known.prefetched) (wanted (run_on program known.reads)) key is in
     record {
       named = wanted_by program known.reads key (run_on program known.reads) refl left.1;
-      settled = settle_stays (length known.prefetched) program known.prefetched known.reads left.0;
+      gone = gone_settled program known not ∙ settle_stays (length known.prefetched) program known.prefetched known.reads left.0;
     }
+
+awaits_behind : (program : ProgramTree) (known : Known) (key : List ℕ) (due : Bool) → is_due program.prefetch known.reads ≡ due →
+    cond due None (unserved (serving known.reads known.prefetched) (wanted (run_on program known.reads))) ≡ Some key → Awaits program known key
+awaits_behind program known key true is told = absurd (cc)
+awaits_behind program known key false is told = awaits_of program known key is told
 
 awaits_by : (program : ProgramTree) (kept : Option ProgramTree) (level : Level) (known : Known) (key : List ℕ) →
     IfSome kept (λ (k : ProgramTree). k ≡ program) → awaited (record { program = kept; level = level; known = known }) ≡ Some key →
     Awaits program known key
 awaits_by program None level known key of is = absurd (cc)
-awaits_by program (Some k) level known key of is = subst (λ (p : ProgramTree). Awaits p known key) of (awaits_of k known key is)
+awaits_by program (Some k) level known key of is =
+    subst (λ (p : ProgramTree). Awaits p known key) of (awaits_behind k known key (is_due k.prefetch known.reads) refl is)
 
 pub awaits : (program : ProgramTree) (attempt : AttemptState) (key : List ℕ) → IsOf program attempt → awaited attempt ≡ Some key →
     Awaits program attempt.known key
@@ -90,7 +106,39 @@ supplied_runner task failures attempt a of is =
       task = task;
       failures = failures;
       known = with_served task (record { reads = reads ++ a ∷ []; prefetched = attempt.known.prefetched });
-    }) (sym (awaits task.program attempt a.key of is).settled)
+    }) (sym (awaits task.program attempt a.key of is).gone)
+
+-- ---- the list that is awaited ----
+
+listed_behind : (program : ProgramTree) (keys : List (List ℕ)) (due : Bool) → cond due (Some program.prefetch) None ≡ Some keys → keys ≡ program.prefetch
+listed_behind program keys true is = cc
+listed_behind program keys false is = absurd (cc)
+
+listed_by : (program : ProgramTree) (kept : Option ProgramTree) (level : Level) (known : Known) (keys : List (List ℕ)) →
+    IfSome kept (λ (k : ProgramTree). k ≡ program) → list_awaited (record { program = kept; level = level; known = known }) ≡ Some keys →
+    keys ≡ program.prefetch
+listed_by program None level known keys of is = absurd (cc)
+listed_by program (Some k) level known keys of is =
+    listed_behind k keys (is_due k.prefetch known.reads) is ∙ ap (λ (p : ProgramTree). p.prefetch) of
+
+-- it is the program's
+pub listed : (program : ProgramTree) (attempt : AttemptState) (keys : List (List ℕ)) → IsOf program attempt → list_awaited attempt ≡ Some keys →
+    keys ≡ program.prefetch
+listed program attempt keys of is = listed_by program attempt.program attempt.level attempt.known keys of is
+
+-- the key of an answer to it is not empty
+named_of : (answers : List ReadAnswer) (keys : List (List ℕ)) → map (λ (a : ReadAnswer). a.key) answers ≡ keys → KeysAreNamed keys → AreNamed answers
+named_of answers keys is named =
+    by answers (subst KeysAreNamed (sym is) named)
+  where
+    by : (l : List ReadAnswer) → KeysAreNamed (map (λ (a : ReadAnswer). a.key) l) → AreNamed l
+    by [] all = All-nil IsNamed
+    by (a ∷ l) all = All-cons IsNamed a l all.0 (by l all.1)
+
+-- the answers to the list are what the runner has read, before what serves behind them
+pub listed_runner : (task : Task) (failures : ℕ) (attempt : AttemptState) (answers : List ReadAnswer) →
+    (view_of task failures (supplied_all answers attempt)).runner ≡ with_answers answers (view_of task failures attempt).runner
+listed_runner task failures attempt answers = refl
 
 -- ---- calls that memory may refuse ----
 
@@ -109,10 +157,24 @@ named_settled program known read prefetched =
     (All-append IsNamed known.reads adds.added read
     (All-weaker (Contains known.prefetched) IsNamed (λ a within. All-contains IsNamed known.prefetched a prefetched within) adds.added adds.prefetched))
 
+start_named : (program : ProgramTree) (known : Known) (start : List ReadAnswer) → AreNamed known.reads → AreNamed known.prefetched →
+    (known.reads ≡ start) ⊎ (answers_of_all program.prefetch known.prefetched ≡ Some start) → AreNamed start
+start_named program known start read prefetched (inl same) = subst AreNamed same read
+start_named program known start read prefetched (inr is) =
+    All-from_recursion IsNamed start
+    (taken_are IsNamed program.prefetch known.prefetched start (recursion_from_All IsNamed known.prefetched prefetched) is)
+
+named_gone : (program : ProgramTree) (known : Known) → AreNamed known.reads → AreNamed known.prefetched → AreNamed (gone_on program known)
+named_gone program known read prefetched = elim (where_it_comes program known) [
+  | inl d ↦ subst AreNamed (sym d.stays) read
+  | inr s ↦ subst AreNamed (sym s.settles)
+      (named_settled program (known_of s.start known.prefetched) (start_named program known s.start read prefetched s.is_start) prefetched)
+]
+
 -- what the runner knows has its keys
 pub named_runner : (task : Task) (failures : ℕ) (attempt : AttemptState) → IsRunner task failures attempt →
     AreNamed (view_of task failures attempt).runner.known.reads
-named_runner task failures attempt x = named_settled task.program attempt.known x.read x.prefetched
+named_runner task failures attempt x = named_gone task.program attempt.known x.read x.prefetched
 
 pub advanced_is_runner : (task : Task) (failures : ℕ) (attempt : AttemptState) → IsRunner task failures attempt →
     IsRunner task failures (advanced task.program attempt)
@@ -121,7 +183,7 @@ advanced_is_runner task failures attempt x =
       of_program = refl;
       of_level = x.of_level;
       has_more = x.has_more;
-      read = named_settled task.program attempt.known x.read x.prefetched;
+      read = named_gone task.program attempt.known x.read x.prefetched;
       prefetched = x.prefetched;
     }
 
@@ -133,5 +195,17 @@ supplied_is_runner task failures attempt a x is =
       of_level = x.of_level;
       has_more = x.has_more;
       read = All-push IsNamed attempt.known.reads a x.read (awaits task.program attempt a.key x.of_program is).named;
+      prefetched = x.prefetched;
+    }
+
+pub listed_is_runner : (task : Task) (failures : ℕ) (attempt : AttemptState) (answers : List ReadAnswer) → IsRunner task failures attempt →
+    Fits task.program → list_awaited attempt ≡ Some (map (λ (a : ReadAnswer). a.key) answers) → IsRunner task failures (supplied_all answers attempt)
+listed_is_runner task failures attempt answers x fits is =
+    record {
+      of_program = x.of_program;
+      of_level = x.of_level;
+      has_more = x.has_more;
+      read = named_of answers task.program.prefetch (listed task.program attempt (map (λ (a : ReadAnswer). a.key) answers) x.of_program is)
+          (list_named task.program fits);
       prefetched = x.prefetched;
     }

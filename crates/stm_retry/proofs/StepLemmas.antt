@@ -1,7 +1,7 @@
 -- The parts of a runner's step, as the code has them at hand.
 use Rattle.std.proofs.Common.{◌≡◌, ◌≢◌, ℕ, ◌+◌, ◌<◌, List, [], ◌∷◌, ◌++◌, length, map, Option, Some, None, Result, Ok, Err, Bool, true, false, cond, refl, sym}
 use Rattle.std.proofs.Common.{◌∙◌, ap, subst, ◌⊎◌, inl, inr}
-use Rattle.std.specs.Prelude.{nat_eq, slice_get, IsOk, is_ok, IfOk, OnOk, OnErr}
+use Rattle.std.specs.Prelude.{nat_eq, nat_lt, slice_get, IsOk, is_ok, IfOk, OnOk, OnErr}
 use Rattle.std.specs.declared.alloc.AllocError.{AllocError}
 use Rattle.std.proofs.lemmas.List.Elements.{All-nil, All-cons, All-head, All-tail}
 use Rattle.stm_history.specs.declared.key_state.ReadAnswer.{ReadAnswer}
@@ -20,7 +20,7 @@ use Rattle.stm_meaning.specs.declared.run.Answered.TheVariants.{Ended as EndedRu
 use Rattle.stm_meaning.proofs.RunLaws.{wanted_keys_are_unknown}
 use Rattle.stm_outcome.specs.declared.answer.FailedCompare.{FailedCompare}
 use Rattle.stm_outcome.specs.declared.refusal.Refusal.{Refusal as StoreRefusal}
-use Rattle.stm_outcome.specs.declared.refusal.Refusal.TheVariants.{OutOfMemory, Compacted}
+use Rattle.stm_outcome.specs.declared.refusal.Refusal.TheVariants.{OutOfMemory, TooManyOps, Compacted}
 use Rattle.stm_outcome.specs.Outcome.{Done}
 use Rattle.stm_outcome.specs.Commits.{revision_read}
 use Rattle.stm_txn.specs.Standing.{Standing, with_history, terms_of}
@@ -30,35 +30,213 @@ use Rattle.stm_compile.specs.Answers.{look_up, answer_now}
 use Rattle.stm_compile.specs.CommitTxn.{reread_keys}
 use Rattle.stm_compile.specs.Committed.{committed}
 use Rattle.stm_compile.specs.Conflicts.{Seen, seen_by}
-use Rattle.stm_attempt.specs.declared.next.Next.TheVariants.{Fetch, Ready, Aborted as AbortedNext, Faulted as FaultedNext}
+use Rattle.stm_attempt.specs.declared.next.Next.{Next}
+use Rattle.stm_attempt.specs.declared.next.Next.TheVariants.{FetchAll, Fetch, Ready, Aborted as AbortedNext, Faulted as FaultedNext}
 use Rattle.stm_attempt.specs.Settled.{run_on}
-use Rattle.stm_attempt.specs.Fetches.{at_of}
+use Rattle.stm_attempt.specs.Entering.{is_due}
+use Rattle.stm_attempt.specs.Fetches.{AllShow, ShowOneRevision, at_of}
 use Rattle.stm_attempt.specs.ReadyRun.{ReadyRun}
-use Rattle.stm_attempt.specs.Next.{next_at_end, next_after}
+use Rattle.stm_attempt.specs.Next.{next_at_end, next_after, list_asked}
 use Rattle.stm_entries.specs.declared.entry.Entry.{Entry}
 use Rattle.stm_entries.specs.declared.entry.Entry.TheVariants.{Program as ProgramEntry}
-use Rattle.stm_calls.specs.Fetched.{fetched, fetch_told}
+use Rattle.stm_calls.specs.Fetched.{fetched, fetch_told, fetch_all_told, IsRefusalOfAll}
 use Rattle.stm_calls.specs.Sent.{sent, seen_in as seen_told}
 use Rattle.stm_calls.proofs.Cases.{HasCommitted, HasFailed, is_refused}
 use Rattle.stm_world.specs.declared.reply.Reply.{Reply}
-use Rattle.stm_world.specs.declared.reply.Reply.TheVariants.{Started, Fetched, Committed, Conflict, GaveUp, Ended}
+use Rattle.stm_world.specs.declared.reply.KeyRead.{KeyRead}
+use Rattle.stm_world.specs.declared.reply.Reply.TheVariants.{Started, Prefetched, Fetched, Committed, Conflict, GaveUp, Ended}
 use Rattle.stm_world.specs.declared.refusal.Refusal.TheVariants.{BadLimit}
-use Rattle.stm_world.specs.Task.{Task, after_fetch, answers_told}
+use Rattle.stm_world.specs.Task.{Task, modified_now, after_fetch, answers_told}
 use Rattle.stm_world.specs.World.{World, Stepped, Runner, Slot, Over, Live, begin, runner_at, with_slot, start_runner, step_runner, step_live}
-use Rattle.stm_world.specs.World.{step_on, fetch, fetch_at, finish, commit, commit_told, decided, take_commit, fail_commit, seen_in, replied, refused, entry_of}
+use Rattle.stm_world.specs.World.{step_on, fetch, fetch_at, fetch_list, finish, commit, commit_told, decided, take_commit, fail_commit, seen_in, replied, refused, entry_of}
 use Rattle.stm_retry.specs.declared.told.Told.{Told}
 use Rattle.stm_retry.specs.declared.told.Told.TheVariants.{GoesOn, Ends}
 use Rattle.stm_retry.specs.MachineTells.{Tells}
-use Rattle.stm_retry.specs.RunnerView.{AreNamed, next_for, with_answer, begun_again}
+use Rattle.stm_retry.specs.RunnerView.{AreNamed, next_for, with_answer, with_answers, begun_again}
 use Rattle.stm_retry.specs.RunnerTells.{Workplace, workplace, world_around, reply_in, slot_after, Leaves, TellsEnd, IsReady, may_go_on}
-use Rattle.stm_retry.specs.RunnerTells.{told_of_fetch, after_told_fetch, told_of_failure, reply_told, slot_left}
+use Rattle.stm_retry.specs.RunnerTells.{told_of_fetch, after_told_fetch, key_read, told_of_list, after_told_list, told_of_failure, reply_told, slot_left}
 use Rattle.stm_world.proofs.Slots.{other_number, count_grows}
 use Rattle.stm_retry.proofs.SlotLemmas.{put_back, put_there}
+
+-- ---- whether the list is due ----
+
+-- the list is not due, and this is next behind it
+pub record IsBehind (r : Runner) (next : Next) : Type 0 where
+  pub has_list : is_due r.task.program.prefetch r.known.reads ≡ false
+  pub is_next : next_after r.task.program r.task.level r.known.reads (run_on r.task.program r.known.reads) ≡ next
+
+behind_by : (r : Runner) (next : Next) (due : Bool) → is_due r.task.program.prefetch r.known.reads ≡ due → list_asked next ≡ None →
+    cond due (FetchAll r.task.program.prefetch 0) (next_after r.task.program r.task.level r.known.reads (run_on r.task.program r.known.reads)) ≡ next →
+    IsBehind r next
+behind_by r next true is no_list told =
+    let both : Some r.task.program.prefetch ≡ None = ap list_asked told ∙ no_list in absurd (cc both)
+behind_by r next false is no_list told = record { has_list = is; is_next = told }
+
+-- where what is next is no list, the list is not due
+is_behind : (r : Runner) (next : Next) → list_asked next ≡ None → next_for r ≡ next → IsBehind r next
+is_behind r next no_list told = behind_by r next (is_due r.task.program.prefetch r.known.reads) refl no_list told
+
+step_behind : (id : ℕ) (r : Runner) (w : World) → is_due r.task.program.prefetch r.known.reads ≡ false →
+    step_live id r w ≡ step_on id r r.known.reads (run_on r.task.program r.known.reads) w
+unfolding step_live
+step_behind id r w not =
+    ap (λ (b : Bool). cond b (fetch_list id r w) (step_on id r r.known.reads (run_on r.task.program r.known.reads) w)) not
+
+step_due : (id : ℕ) (r : Runner) (w : World) → is_due r.task.program.prefetch r.known.reads ≡ true → step_live id r w ≡ fetch_list id r w
+unfolding step_live
+step_due id r w due =
+    ap (λ (b : Bool). cond b (fetch_list id r w) (step_on id r r.known.reads (run_on r.task.program r.known.reads) w)) due
+
+-- ---- a list ----
+
+-- the runner's list is due, and these are its keys
+pub record IsListing (r : Runner) (keys : List (List ℕ)) : Type 0 where
+  pub due : is_due r.task.program.prefetch r.known.reads ≡ true
+  pub keys_are : r.task.program.prefetch ≡ keys
+
+no_list_at_end : (program : ProgramTree) (level : Level) (reads : List ReadAnswer) (run : Run) (end : End) (keys : List (List ℕ)) (at : ℕ) →
+    next_at_end program level reads run end ≡ FetchAll keys at → ⊥
+no_list_at_end program level reads run DoneEnd keys at told = cc
+no_list_at_end program level reads run (AbortedEnd text) keys at told = cc
+no_list_at_end program level reads run (FaultedEnd fault) keys at told = cc
+
+no_list_behind : (program : ProgramTree) (level : Level) (reads : List ReadAnswer) (x : Answered) (keys : List (List ℕ)) (at : ℕ) →
+    next_after program level reads x ≡ FetchAll keys at → ⊥
+no_list_behind program level reads (Wants k trace) keys at told = cc
+no_list_behind program level reads (EndedRun run) keys at told = no_list_at_end program level reads run run.end keys at told
+
+listing_by : (r : Runner) (keys : List (List ℕ)) (at : ℕ) (due : Bool) → is_due r.task.program.prefetch r.known.reads ≡ due →
+    cond due (FetchAll r.task.program.prefetch 0) (next_after r.task.program r.task.level r.known.reads (run_on r.task.program r.known.reads))
+    ≡ FetchAll keys at → IsListing r keys
+listing_by r keys at true is told = record { due = is; keys_are = cc }
+listing_by r keys at false is told =
+    absurd (no_list_behind r.task.program r.task.level r.known.reads (run_on r.task.program r.known.reads) keys at told)
+
+pub is_listing : (r : Runner) (keys : List (List ℕ)) (at : ℕ) → next_for r ≡ FetchAll keys at → IsListing r keys
+is_listing r keys at told = listing_by r keys at (is_due r.task.program.prefetch r.known.reads) refl told
+
+-- a fetch of the list in the step of a runner, by what it comes to
+abbrev pub listed_step : ℕ → Runner → ℕ → Result (List ReadAnswer) StoreRefusal → World → Stepped
+listed_step id r revision (Ok answers) w = replied (Prefetched id revision (map key_read answers)) id (Live (with_answers answers r)) w
+listed_step id r revision (Err cause) w = replied (Ended id cause) id Over w
+
+told_now : (h : History) (keys : List (List ℕ)) → map key_read (map (answer_now h) keys) ≡ map (modified_now h) keys
+told_now h [] = refl
+told_now h (key ∷ keys) = ap (λ (l : List KeyRead). modified_now h key ∷ l) (told_now h keys)
+
+listed_by : (id : ℕ) (r : Runner) (w : World) (many : Bool) →
+    cond many (replied (Ended id TooManyOps) id Over w)
+    (replied (Prefetched id (now w.standing.history) (map (modified_now w.standing.history) r.task.program.prefetch)) id
+    (Live (with_answers (map (answer_now w.standing.history) r.task.program.prefetch) r)) w)
+    ≡ listed_step id r (now w.standing.history) (cond many (Err TooManyOps) (Ok (map (answer_now w.standing.history) r.task.program.prefetch))) w
+listed_by id r w true = refl
+listed_by id r w false =
+    ap (λ (reads : List KeyRead). replied (Prefetched id (now w.standing.history) reads) id
+    (Live (with_answers (map (answer_now w.standing.history) r.task.program.prefetch) r)) w)
+    (sym (told_now w.standing.history r.task.program.prefetch))
+
+pub step_lists : (id : ℕ) (r : Runner) (w : World) →
+    fetch_list id r w ≡ listed_step id r (now w.standing.history) (fetch_all_told w.standing r.task.program.prefetch) w
+step_lists id r w = listed_by id r w (nat_lt w.standing.limit (length r.task.program.prefetch))
+
+listed_leaves : (id : ℕ) (r q : Runner) (s after : Standing) (entries : List Entry) (slots : List Slot) (revision : ℕ)
+    (o : Result (List ReadAnswer) StoreRefusal) (told : Told) → told ≡ told_of_list id revision o → q ≡ after_told_list o r → after ≡ s →
+    listed_step id r revision o (world_around (workplace s entries r) slots)
+    ≡ record { reply = Ok (reply_in told); next = world_around (workplace after entries q) (with_slot id (slot_after told q) slots) }
+listed_leaves id r q s after entries slots revision (Ok answers) told told_is runner_is standing_is =
+    let new : Runner = with_answers answers r in
+    let says : Told = GoesOn (Prefetched id revision (map key_read answers)) in
+    let made : Told → Runner → Standing → Stepped = λ t p x.
+    record { reply = Ok (reply_in t); next = world_around (workplace x entries p) (with_slot id (slot_after t p) slots) } in
+    sym (ap (λ (t : Told). made t q after) told_is ∙ ap (λ (p : Runner). made says p after) runner_is ∙ ap (λ (x : Standing). made says new x) standing_is)
+listed_leaves id r q s after entries slots revision (Err cause) told told_is runner_is standing_is =
+    let says : Told = Ends (Ended id cause) in
+    let made : Told → Standing → Stepped = λ t x.
+    record { reply = Ok (reply_in t); next = world_around (workplace x entries q) (with_slot id (slot_after t q) slots) } in
+    sym (ap (λ (t : Told). made t after) told_is ∙ ap (λ (x : Standing). made says x) standing_is)
+
+pub list_leaves : (id : ℕ) (r q : Runner) (s after : Standing) (entries : List Entry) (keys : List (List ℕ)) (told : Told) → IsListing r keys →
+    told ≡ told_of_list id (now s.history) (fetch_all_told s keys) → q ≡ after_told_list (fetch_all_told s keys) r → after ≡ s →
+    Leaves id (Ok told) (workplace s entries r) (workplace after entries q) (step_live id r)
+list_leaves id r q s after entries keys told x told_is runner_is standing_is slots =
+    let w : World = world_around (workplace s entries r) slots in
+    step_due id r w x.due
+    ∙ step_lists id r w
+    ∙ ap (λ (l : List (List ℕ)). listed_step id r (now s.history) (fetch_all_told s l) w) x.keys_are
+    ∙ listed_leaves id r q s after entries slots (now s.history) (fetch_all_told s keys) told told_is runner_is standing_is
+
+-- what the fetch of a list has answered: each key as it is now
+pub record AreAnswers (s : Standing) (keys : List (List ℕ)) (answers : List ReadAnswer) : Type 0 where
+  pub are_now : map (answer_now s.history) keys ≡ answers
+
+answers_by : (s : Standing) (keys : List (List ℕ)) (answers : List ReadAnswer) (many : Bool) →
+    cond many (Err TooManyOps) (Ok (map (answer_now s.history) keys)) ≡ Ok answers → AreAnswers s keys answers
+answers_by s keys answers true is = absurd (cc)
+answers_by s keys answers false is = record { are_now = cc }
+
+are_answers : (s : Standing) (keys : List (List ℕ)) (answers : List ReadAnswer) → fetch_all_told s keys ≡ Ok answers → AreAnswers s keys answers
+are_answers s keys answers is = answers_by s keys answers (nat_lt s.limit (length keys)) is
+
+keys_now : (h : History) (keys : List (List ℕ)) → map (λ (a : ReadAnswer). a.key) (map (answer_now h) keys) ≡ keys
+keys_now h [] = refl
+keys_now h (key ∷ keys) = ap (λ (l : List (List ℕ)). key ∷ l) (keys_now h keys)
+
+-- they are of the list's keys, in its order
+pub listed_keys : (s : Standing) (keys : List (List ℕ)) (answers : List ReadAnswer) → fetch_all_told s keys ≡ Ok answers →
+    keys ≡ map (λ (a : ReadAnswer). a.key) answers
+listed_keys s keys answers is =
+    sym (keys_now s.history keys) ∙ ap (λ (l : List ReadAnswer). map (λ (a : ReadAnswer). a.key) l) (are_answers s keys answers is).are_now
+
+-- and all of one revision
+show_now : (h : History) (keys : List (List ℕ)) → AllShow (now h) (map (answer_now h) keys)
+show_now h [] = tt
+show_now h (key ∷ keys) = (refl, show_now h keys)
+
+show_one : (h : History) (keys : List (List ℕ)) → ShowOneRevision (map (answer_now h) keys)
+show_one h [] = tt
+show_one h (key ∷ keys) = show_now h keys
+
+pub listed_show_one : (s : Standing) (keys : List (List ℕ)) (answers : List ReadAnswer) → fetch_all_told s keys ≡ Ok answers → ShowOneRevision answers
+listed_show_one s keys answers is = subst ShowOneRevision (are_answers s keys answers is).are_now (show_one s.history keys)
+
+-- what a fetch of a list that the store answered tells and leaves, where a growth was refused too
+pub list_answers : (s : Standing) (id revision : ℕ) (keys : List (List ℕ)) (answers : List ReadAnswer) (outcome : Result Told AllocError) →
+    revision ≡ now s.history → fetch_all_told s keys ≡ Ok answers →
+    IfOk outcome (λ told. told ≡ GoesOn (Prefetched id revision (map key_read answers))) →
+    IfOk outcome (λ told. told ≡ told_of_list id (now s.history) (fetch_all_told s keys))
+list_answers s id revision keys answers (Ok told) counts is told_is =
+    told_is ∙ ap (λ (n : ℕ). told_of_list id n (Ok answers)) counts ∙ ap (told_of_list id (now s.history)) (sym is)
+list_answers s id revision keys answers (Err e) counts is told_is = tt
+
+pub list_answers_leaves : (s : Standing) (keys : List (List ℕ)) (answers : List ReadAnswer) (r q : Runner) (outcome : Result Told AllocError) →
+    fetch_all_told s keys ≡ Ok answers → OnOk outcome (q ≡ with_answers answers r) → OnOk outcome (q ≡ after_told_list (fetch_all_told s keys) r)
+list_answers_leaves s keys answers r q (Ok told) is left = left ∙ ap (λ (o : Result (List ReadAnswer) StoreRefusal). after_told_list o r) (sym is)
+list_answers_leaves s keys answers r q (Err e) is left = tt
+
+-- the same of one that the store refused
+list_cause : (s : Standing) (keys : List (List ℕ)) (cause : StoreRefusal) → cause ≢ OutOfMemory → IsRefusalOfAll s keys cause →
+    fetch_all_told s keys ≡ Err cause
+list_cause s keys cause not (inl want) = absurd (not want)
+list_cause s keys cause not (inr is) = is
+
+pub list_refused : (s : Standing) (id : ℕ) (keys : List (List ℕ)) (cause : StoreRefusal) (outcome : Result Told AllocError) →
+    IsRefusalOfAll s keys cause → IfOk outcome (λ told. told ≡ Ends (Ended id cause)) → OnOk outcome (cause ≢ OutOfMemory) →
+    IfOk outcome (λ told. told ≡ told_of_list id (now s.history) (fetch_all_told s keys))
+list_refused s id keys cause (Ok told) refused told_is not =
+    told_is ∙ ap (told_of_list id (now s.history)) (sym (list_cause s keys cause not refused))
+list_refused s id keys cause (Err e) refused told_is not = tt
+
+pub list_refused_leaves : (s : Standing) (keys : List (List ℕ)) (cause : StoreRefusal) (r : Runner) (outcome : Result Told AllocError) →
+    IsRefusalOfAll s keys cause → OnOk outcome (cause ≢ OutOfMemory) → OnOk outcome (r ≡ after_told_list (fetch_all_told s keys) r)
+list_refused_leaves s keys cause r (Ok told) refused not =
+    ap (λ (o : Result (List ReadAnswer) StoreRefusal). after_told_list o r) (sym (list_cause s keys cause not refused))
+list_refused_leaves s keys cause r (Err e) refused not = tt
 
 -- ---- a fetch ----
 
 -- the runner's program wants this key, at this revision
 pub record IsWanting (r : Runner) (key : List ℕ) (at : ℕ) : Type 0 where
+  pub has_list : is_due r.task.program.prefetch r.known.reads ≡ false
   pub trace : List TraceItem
   pub wants : run_on r.task.program r.known.reads ≡ Wants key trace
   pub at_is : at_of r.task.level r.known.reads ≡ at
@@ -69,15 +247,17 @@ no_fetch_at_end program level reads run DoneEnd key at told = cc
 no_fetch_at_end program level reads run (AbortedEnd text) key at told = cc
 no_fetch_at_end program level reads run (FaultedEnd fault) key at told = cc
 
-wanting_by : (r : Runner) (x : Answered) (key : List ℕ) (at : ℕ) → run_on r.task.program r.known.reads ≡ x →
+wanting_by : (r : Runner) (x : Answered) (key : List ℕ) (at : ℕ) → is_due r.task.program.prefetch r.known.reads ≡ false → run_on r.task.program r.known.reads ≡ x →
     next_after r.task.program r.task.level r.known.reads x ≡ Fetch key at → IsWanting r key at
-wanting_by r (Wants k trace) key at is told =
+wanting_by r (Wants k trace) key at listed is told =
     let same : k ≡ key = cc in
-    record { trace = trace; wants = is ∙ ap (λ (l : List ℕ). Wants l trace) same; at_is = cc }
-wanting_by r (EndedRun run) key at is told = absurd (no_fetch_at_end r.task.program r.task.level r.known.reads run run.end key at told)
+    record { has_list = listed; trace = trace; wants = is ∙ ap (λ (l : List ℕ). Wants l trace) same; at_is = cc }
+wanting_by r (EndedRun run) key at listed is told = absurd (no_fetch_at_end r.task.program r.task.level r.known.reads run run.end key at told)
 
 pub is_wanting : (r : Runner) (key : List ℕ) (at : ℕ) → next_for r ≡ Fetch key at → IsWanting r key at
-is_wanting r key at told = wanting_by r (run_on r.task.program r.known.reads) key at refl told
+is_wanting r key at told =
+    let behind : IsBehind r (Fetch key at) = is_behind r (Fetch key at) refl told in
+    wanting_by r (run_on r.task.program r.known.reads) key at behind.has_list refl behind.is_next
 
 -- a key that is wanted is not empty
 pub wanted_is_named : (r : Runner) (key : List ℕ) (at : ℕ) → IsWanting r key at → 0 < length key
@@ -118,10 +298,10 @@ fetched_leaves id r q s after entries slots key (Err cause) told told_is runner_
 pub fetch_leaves : (id : ℕ) (r q : Runner) (s after : Standing) (entries : List Entry) (key : List ℕ) (at : ℕ) (told : Told) → IsWanting r key at →
     told ≡ told_of_fetch id key (fetch_told s key at) → q ≡ after_told_fetch (fetch_told s key at) r → after ≡ s →
     Leaves id (Ok told) (workplace s entries r) (workplace after entries q) (step_live id r)
-unfolding step_live
 fetch_leaves id r q s after entries key at told x told_is runner_is standing_is slots =
     let w : World = world_around (workplace s entries r) slots in
-    ap (λ (a : Answered). step_on id r r.known.reads a w) x.wants
+    step_behind id r w x.has_list
+    ∙ ap (λ (a : Answered). step_on id r r.known.reads a w) x.wants
     ∙ ap (λ (n : ℕ). fetch_at id r key n w) x.at_is
     ∙ step_fetches id r key at w
     ∙ fetched_leaves id r q s after entries slots key (fetch_told s key at) told told_is runner_is standing_is
@@ -168,28 +348,30 @@ fetch_refused_leaves s key at cause r (Err e) refused not = tt
 
 -- ---- a run that came to its end ----
 
-ready_at_end : (r : Runner) (run : Run) (end : End) (ready : ReadyRun) → run_on r.task.program r.known.reads ≡ EndedRun run → run.end ≡ end →
+ready_at_end : (r : Runner) (run : Run) (end : End) (ready : ReadyRun) → is_due r.task.program.prefetch r.known.reads ≡ false →
+    run_on r.task.program r.known.reads ≡ EndedRun run → run.end ≡ end →
     next_at_end r.task.program r.task.level r.known.reads run end ≡ Ready ready → (q : Run) × IsReady r q ready
-ready_at_end r run DoneEnd ready is ended told = (run, record { is_run = is; is_done = ended; is = cc })
-ready_at_end r run (AbortedEnd text) ready is ended told = absurd (cc)
-ready_at_end r run (FaultedEnd fault) ready is ended told = absurd (cc)
+ready_at_end r run DoneEnd ready listed is ended told = (run, record { has_list = listed; is_run = is; is_done = ended; is = cc })
+ready_at_end r run (AbortedEnd text) ready listed is ended told = absurd (cc)
+ready_at_end r run (FaultedEnd fault) ready listed is ended told = absurd (cc)
 
-ready_by : (r : Runner) (x : Answered) (ready : ReadyRun) → run_on r.task.program r.known.reads ≡ x →
+ready_by : (r : Runner) (x : Answered) (ready : ReadyRun) → is_due r.task.program.prefetch r.known.reads ≡ false → run_on r.task.program r.known.reads ≡ x →
     next_after r.task.program r.task.level r.known.reads x ≡ Ready ready → (q : Run) × IsReady r q ready
-ready_by r (Wants k trace) ready is told = absurd (cc)
-ready_by r (EndedRun run) ready is told = ready_at_end r run run.end ready is refl told
+ready_by r (Wants k trace) ready listed is told = absurd (cc)
+ready_by r (EndedRun run) ready listed is told = ready_at_end r run run.end ready listed is refl told
 
 pub is_ready : (r : Runner) (ready : ReadyRun) → next_for r ≡ Ready ready → (q : Run) × IsReady r q ready
-is_ready r ready told = ready_by r (run_on r.task.program r.known.reads) ready refl told
+is_ready r ready told =
+    let behind : IsBehind r (Ready ready) = is_behind r (Ready ready) refl told in
+    ready_by r (run_on r.task.program r.known.reads) ready behind.has_list refl behind.is_next
 
-finished : (id : ℕ) (r : Runner) (run : Run) (w : World) → run_on r.task.program r.known.reads ≡ EndedRun run →
-    step_live id r w ≡ finish id r r.known.reads run run.end w
-unfolding step_live
-finished id r run w is = ap (λ (a : Answered). step_on id r r.known.reads a w) is
+finished : (id : ℕ) (r : Runner) (run : Run) (w : World) → is_due r.task.program.prefetch r.known.reads ≡ false →
+    run_on r.task.program r.known.reads ≡ EndedRun run → step_live id r w ≡ finish id r r.known.reads run run.end w
+finished id r run w listed is = step_behind id r w listed ∙ ap (λ (a : Answered). step_on id r r.known.reads a w) is
 
 step_commits : (id : ℕ) (r : Runner) (run : Run) (ready : ReadyRun) (w : World) → IsReady r run ready →
     step_live id r w ≡ commit id r r.known.reads run w
-step_commits id r run ready w x = finished id r run w x.is_run ∙ ap (λ (e : End). finish id r r.known.reads run e w) x.is_done
+step_commits id r run ready w x = finished id r run w x.has_list x.is_run ∙ ap (λ (e : End). finish id r r.known.reads run e w) x.is_done
 
 -- what its commit leaves is what its step leaves
 pub commit_leaves : (id : ℕ) (r : Runner) (run : Run) (ready : ReadyRun) (outcome : Result Told AllocError) (before after : Workplace) → IsReady r run ready →
@@ -215,38 +397,47 @@ ready_runs r run ready x = ap (λ (p : ReadyRun). run_on p.program p.answers) x.
 
 -- the program aborted or faulted
 pub record IsOver (r : Runner) (run : Run) : Type 0 where
+  pub has_list : is_due r.task.program.prefetch r.known.reads ≡ false
   pub is_run : run_on r.task.program r.known.reads ≡ EndedRun run
   pub not_done : run.end ≢ DoneEnd
 
-aborted_at_end : (r : Runner) (run aborted : Run) (end : End) → run_on r.task.program r.known.reads ≡ EndedRun run → run.end ≡ end →
+aborted_at_end : (r : Runner) (run aborted : Run) (end : End) → is_due r.task.program.prefetch r.known.reads ≡ false →
+    run_on r.task.program r.known.reads ≡ EndedRun run → run.end ≡ end →
     next_at_end r.task.program r.task.level r.known.reads run end ≡ AbortedNext aborted → IsOver r aborted
-aborted_at_end r run aborted DoneEnd is ended told = absurd (cc)
-aborted_at_end r run aborted (AbortedEnd text) is ended told =
-    let same : run ≡ aborted = cc in subst (IsOver r) same (record { is_run = is; not_done = λ done. absurd (cc) })
-aborted_at_end r run aborted (FaultedEnd fault) is ended told = absurd (cc)
+aborted_at_end r run aborted DoneEnd listed is ended told = absurd (cc)
+aborted_at_end r run aborted (AbortedEnd text) listed is ended told =
+    let same : run ≡ aborted = cc in subst (IsOver r) same (record { has_list = listed; is_run = is; not_done = λ done. absurd (cc) })
+aborted_at_end r run aborted (FaultedEnd fault) listed is ended told = absurd (cc)
 
-aborted_by : (r : Runner) (x : Answered) (aborted : Run) → run_on r.task.program r.known.reads ≡ x →
+aborted_by : (r : Runner) (x : Answered) (aborted : Run) → is_due r.task.program.prefetch r.known.reads ≡ false →
+    run_on r.task.program r.known.reads ≡ x →
     next_after r.task.program r.task.level r.known.reads x ≡ AbortedNext aborted → IsOver r aborted
-aborted_by r (Wants k trace) aborted is told = absurd (cc)
-aborted_by r (EndedRun run) aborted is told = aborted_at_end r run aborted run.end is refl told
+aborted_by r (Wants k trace) aborted listed is told = absurd (cc)
+aborted_by r (EndedRun run) aborted listed is told = aborted_at_end r run aborted run.end listed is refl told
 
 pub has_aborted : (r : Runner) (run : Run) → next_for r ≡ AbortedNext run → IsOver r run
-has_aborted r run told = aborted_by r (run_on r.task.program r.known.reads) run refl told
+has_aborted r run told =
+    let behind : IsBehind r (AbortedNext run) = is_behind r (AbortedNext run) refl told in
+    aborted_by r (run_on r.task.program r.known.reads) run behind.has_list refl behind.is_next
 
-faulted_at_end : (r : Runner) (run faulted : Run) (end : End) → run_on r.task.program r.known.reads ≡ EndedRun run → run.end ≡ end →
+faulted_at_end : (r : Runner) (run faulted : Run) (end : End) → is_due r.task.program.prefetch r.known.reads ≡ false →
+    run_on r.task.program r.known.reads ≡ EndedRun run → run.end ≡ end →
     next_at_end r.task.program r.task.level r.known.reads run end ≡ FaultedNext faulted → IsOver r faulted
-faulted_at_end r run faulted DoneEnd is ended told = absurd (cc)
-faulted_at_end r run faulted (AbortedEnd text) is ended told = absurd (cc)
-faulted_at_end r run faulted (FaultedEnd fault) is ended told =
-    let same : run ≡ faulted = cc in subst (IsOver r) same (record { is_run = is; not_done = λ done. absurd (cc) })
+faulted_at_end r run faulted DoneEnd listed is ended told = absurd (cc)
+faulted_at_end r run faulted (AbortedEnd text) listed is ended told = absurd (cc)
+faulted_at_end r run faulted (FaultedEnd fault) listed is ended told =
+    let same : run ≡ faulted = cc in subst (IsOver r) same (record { has_list = listed; is_run = is; not_done = λ done. absurd (cc) })
 
-faulted_by : (r : Runner) (x : Answered) (faulted : Run) → run_on r.task.program r.known.reads ≡ x →
+faulted_by : (r : Runner) (x : Answered) (faulted : Run) → is_due r.task.program.prefetch r.known.reads ≡ false →
+    run_on r.task.program r.known.reads ≡ x →
     next_after r.task.program r.task.level r.known.reads x ≡ FaultedNext faulted → IsOver r faulted
-faulted_by r (Wants k trace) faulted is told = absurd (cc)
-faulted_by r (EndedRun run) faulted is told = faulted_at_end r run faulted run.end is refl told
+faulted_by r (Wants k trace) faulted listed is told = absurd (cc)
+faulted_by r (EndedRun run) faulted listed is told = faulted_at_end r run faulted run.end listed is refl told
 
 pub has_faulted : (r : Runner) (run : Run) → next_for r ≡ FaultedNext run → IsOver r run
-has_faulted r run told = faulted_by r (run_on r.task.program r.known.reads) run refl told
+has_faulted r run told =
+    let behind : IsBehind r (FaultedNext run) = is_behind r (FaultedNext run) refl told in
+    faulted_by r (run_on r.task.program r.known.reads) run behind.has_list refl behind.is_next
 
 end_is : (id : ℕ) (r : Runner) (run : Run) (end : End) (reply : Reply) (w : World) → TellsEnd id end reply →
     finish id r r.known.reads run end w ≡ replied reply id Over w
@@ -257,7 +448,7 @@ end_is id r run (FaultedEnd fault) reply w tells = ap (λ (x : Reply). replied x
 pub end_leaves : (id : ℕ) (r q : Runner) (s : Standing) (entries : List Entry) (run : Run) (reply : Reply) → IsOver r run → TellsEnd id run.end reply →
     Leaves id (Ok (Ends reply)) (workplace s entries r) (workplace s entries q) (step_live id r)
 end_leaves id r q s entries run reply x tells slots =
-    finished id r run (world_around (workplace s entries r) slots) x.is_run ∙ end_is id r run run.end reply (world_around (workplace s entries r) slots) tells
+    finished id r run (world_around (workplace s entries r) slots) x.has_list x.is_run ∙ end_is id r run run.end reply (world_around (workplace s entries r) slots) tells
 
 -- ---- a commit ----
 
@@ -469,10 +660,15 @@ on_is_taken id r reads (Wants key trace) w =
     (fetch_is_taken id r key of_rev w)
 on_is_taken id r reads (EndedRun run) w = finish_is_taken id r reads run run.end w
 
+list_is_taken : (id : ℕ) (r : Runner) (w : World) → IsOk (fetch_list id r w).reply
+list_is_taken id r w = either_is_taken (nat_lt w.standing.limit (length r.task.program.prefetch)) _ _ refl refl
+
 -- a step of a runner that is there is taken
 pub live_is_taken : (id : ℕ) (r : Runner) (w : World) → IsOk (step_live id r w).reply
 unfolding step_live
-live_is_taken id r w = on_is_taken id r r.known.reads (run_on r.task.program r.known.reads) w
+live_is_taken id r w =
+    either_is_taken (is_due r.task.program.prefetch r.known.reads) (fetch_list id r w) (step_on id r r.known.reads (run_on r.task.program r.known.reads) w)
+    (list_is_taken id r w) (on_is_taken id r r.known.reads (run_on r.task.program r.known.reads) w)
 
 -- ---- a start ----
 

@@ -14,7 +14,7 @@ use Rattle.stm_entries.specs.declared.entry.Entry.TheVariants.{Expire}
 use Rattle.stm_world.specs.declared.event.WorldEvent.{WorldEvent}
 use Rattle.stm_world.specs.declared.event.WorldEvent.TheVariants.{Start, Step, Txn, Grant, Keep, Revoke, Advance, WatchKey, WatchRange, Poll, Cancel, Compact}
 use Rattle.stm_world.specs.declared.reply.Reply.{Reply}
-use Rattle.stm_world.specs.declared.reply.Reply.TheVariants.{Started, Fetched, Committed, Conflict, GaveUp, Aborted, Faulted, Ended, Advanced}
+use Rattle.stm_world.specs.declared.reply.Reply.TheVariants.{Started, Prefetched, Fetched, Committed, Conflict, GaveUp, Aborted, Faulted, Ended, Advanced}
 use Rattle.stm_world.specs.declared.reply.Reply.TheVariants.{Txn as TxnDone, Granted, Kept, Revoked, Watching, Batch, Cancelled, Compacted, Lost}
 use Rattle.stm_world.specs.declared.refusal.Denied.{Denied}
 use Rattle.stm_world.specs.Told.{advance_reply}
@@ -127,6 +127,7 @@ cut_repeats moment expired old new above cut =
 -- with nothing in front a reply is as it is
 none_in_front : (reply : Result Reply Denied) → with_expired [] reply ≡ reply
 none_in_front (Ok (Started runner)) = refl
+none_in_front (Ok (Prefetched runner revision reads)) = refl
 none_in_front (Ok (Fetched runner key mod_rev of_rev revision)) = refl
 none_in_front (Ok (Committed runner revision attempts output trace answers)) = refl
 none_in_front (Ok (Conflict runner key seen now)) = refl

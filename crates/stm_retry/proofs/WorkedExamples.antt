@@ -69,7 +69,7 @@ abbrev put_once : History
 put_once = record { opening = opening_at 1; revisions = (Put (codes "a") (codes "1") 1 ∷ Put (codes "b") (codes "1") 2 ∷ []) ∷ [] }
 
 abbrev store : Standing
-store = record { history = put_once; floor = 0; live = both; moment = 0; watchers = [] }
+store = record { history = put_once; floor = 0; limit = 128; live = both; moment = 0; watchers = [] }
 
 abbrev at_nine : Standing
 at_nine = at_moment store 9

@@ -23,11 +23,13 @@ use Rattle.stm_outcome.specs.declared.refusal.Refusal.TheVariants.{LeaseIdOutOfR
 use Rattle.stm_outcome.specs.Commits.{revision_read}
 use Rattle.stm_outcome.specs.Outcome.{Done}
 use Rattle.stm_txn.specs.Standing.{terms_of}
+use Rattle.stm_txn.specs.Standing.{Setup}
 use Rattle.stm_outcome.specs.Terms.{is_below_floor}
 use Rattle.stm_world.specs.declared.reply.Reply.TheVariants.{Ended}
 use Rattle.stm_compile.specs.Committed.{committed}
 use Rattle.stm_compile.specs.Conflicts.{Seen, seen_by}
 use Rattle.stm_attempt.specs.Settled.{run_on}
+use Rattle.stm_attempt.specs.Entering.{is_due}
 use Rattle.stm_attempt.specs.Fetches.{at_of}
 use Rattle.stm_world.specs.declared.event.WorldEvent.{WorldEvent}
 use Rattle.stm_world.specs.declared.event.WorldEvent.TheVariants.{Start, Step, Txn, Grant, Keep, Revoke, Advance, WatchKey, WatchRange, Poll, Cancel, Compact}
@@ -37,7 +39,7 @@ use Rattle.stm_world.specs.declared.refusal.Refusal.TheVariants.{Store, BadLimit
 use Rattle.stm_world.specs.declared.refusal.Denied.{Denied}
 use Rattle.stm_world.specs.Task.{Task}
 use Rattle.stm_world.specs.World.{World, Runner, Stepped, Over, runner_at, refused, replied, start_runner, fetch, seen_in, fail_commit, decided, commit_told, commit, finish}
-use Rattle.stm_world.specs.World.{step_on, step_live, step_runner}
+use Rattle.stm_world.specs.World.{fetch_list, step_on, step_live, step_runner}
 use Rattle.stm_world.specs.World.{step, world_after, replies_to}
 use Rattle.stm_world.specs.Sound.{IsSound}
 use Rattle.stm_world.specs.Headline.{Holds}
@@ -103,9 +105,18 @@ on_plain : (id : ℕ) (r : Runner) (reads : List ReadAnswer) (answered : Answere
 on_plain id r reads (Wants key trace) w = base_plain id r key (at_of r.task.level reads) w (is_below_floor w.standing.floor (at_of r.task.level reads))
 on_plain id r reads (EndedRun run) w = finish_plain id r reads run run.end w
 
+either_plain : (b : Bool) (one other : Stepped) → PlainOnly one.reply → PlainOnly other.reply → PlainOnly (cond b one other).reply
+either_plain true one other first second = first
+either_plain false one other first second = second
+
+list_plain : (id : ℕ) (r : Runner) (w : World) → PlainOnly (fetch_list id r w).reply
+list_plain id r w = either_plain (nat_lt w.standing.limit (length r.task.program.prefetch)) _ _ tt tt
+
 live_plain : (id : ℕ) (r : Runner) (w : World) → PlainOnly (step_live id r w).reply
 unfolding step_live
-live_plain id r w = on_plain id r r.known.reads (run_on r.task.program r.known.reads) w
+live_plain id r w =
+    either_plain (is_due r.task.program.prefetch r.known.reads) (fetch_list id r w) (step_on id r r.known.reads (run_on r.task.program r.known.reads) w)
+    (list_plain id r w) (on_plain id r r.known.reads (run_on r.task.program r.known.reads) w)
 
 step_plain : (id : ℕ) (found : Option Runner) (w : World) → PlainOnly (step_runner id found w).reply
 step_plain id None w = tt
@@ -281,7 +292,7 @@ stops_at events i e w new start reply within is reached want told =
     (subst (λ (x : World). WantTells e (expired_of reply) x new) reached (want_of e reply w new want told)))
 
 -- a run from a world of which the headline holds
-pub run_holds : (start : ℕ) (before events : List WorldEvent) (earlier : List (Result Reply Denied)) (old new : World) (replies : List (Result Reply Denied)) →
+pub run_holds : (start : Setup) (before events : List WorldEvent) (earlier : List (Result Reply Denied)) (old new : World) (replies : List (Result Reply Denied)) →
     replies ≡ replies_to events old → new ≡ world_after events old → Holds start before earlier old →
     Holds start (before ++ events) (earlier ++ replies) new
 run_holds start before events earlier old new replies replied reached holds =
@@ -291,7 +302,7 @@ run_holds start before events earlier old new replies replied reached holds =
     (headline_goes_on laws start before events earlier old holds))
 
 -- one event, where memory was had
-pub step_holds : (start : ℕ) (before : List WorldEvent) (earlier : List (Result Reply Denied)) (event : WorldEvent) (reply : Result Reply Denied)
+pub step_holds : (start : Setup) (before : List WorldEvent) (earlier : List (Result Reply Denied)) (event : WorldEvent) (reply : Result Reply Denied)
     (old new : World) → ran_out reply ≡ false → Tells event reply old new → Holds start before earlier old →
     Holds start (before ++ event ∷ []) (earlier ++ reply ∷ []) new
 step_holds start before earlier event reply old new had told holds =

@@ -1,5 +1,5 @@
 -- What a step of a runner tells, and what it leaves of the store, the entries and the runner.
-use Rattle.std.specs.Prelude.{◌≡◌, ℕ, ◌+◌, nat_lt, Bool, if◌then◌else◌, List, Result, Ok, Err}
+use Rattle.std.specs.Prelude.{◌≡◌, ℕ, ◌+◌, nat_lt, Bool, false, if◌then◌else◌, List, map, Result, Ok, Err}
 use Rattle.stm_history.specs.declared.key_state.ReadAnswer.{ReadAnswer}
 use Rattle.stm_history.specs.History.{mod_of}
 use Rattle.std.specs.declared.alloc.AllocError.{AllocError}
@@ -10,15 +10,17 @@ use Rattle.stm_meaning.specs.declared.run.Answered.TheVariants.{Ended as EndedRu
 use Rattle.stm_outcome.specs.declared.refusal.Refusal.{Refusal as StoreRefusal}
 use Rattle.stm_txn.specs.Standing.{Standing}
 use Rattle.stm_attempt.specs.Settled.{run_on}
+use Rattle.stm_attempt.specs.Entering.{is_due}
 use Rattle.stm_attempt.specs.ReadyRun.{ReadyRun, ready_run}
 use Rattle.stm_entries.specs.declared.entry.Entry.{Entry}
 use Rattle.stm_world.specs.declared.reply.Reply.{Reply}
-use Rattle.stm_world.specs.declared.reply.Reply.TheVariants.{Fetched, Conflict, GaveUp, Aborted, Faulted, Ended}
+use Rattle.stm_world.specs.declared.reply.KeyRead.{KeyRead}
+use Rattle.stm_world.specs.declared.reply.Reply.TheVariants.{Prefetched, Fetched, Conflict, GaveUp, Aborted, Faulted, Ended}
 use Rattle.stm_world.specs.declared.refusal.Denied.{Denied}
 use Rattle.stm_world.specs.World.{World, Stepped, Runner, Slot, Over, Live, with_slot}
 use Rattle.stm_retry.specs.declared.told.Told.{Told}
 use Rattle.stm_retry.specs.declared.told.Told.TheVariants.{GoesOn, Ends}
-use Rattle.stm_retry.specs.RunnerView.{with_answer}
+use Rattle.stm_retry.specs.RunnerView.{with_answer, with_answers}
 
 -- what a step of a runner works on
 pub record Workplace : Type 0 where
@@ -70,6 +72,20 @@ abbrev pub after_told_fetch : Result ReadAnswer StoreRefusal → Runner → Runn
 after_told_fetch (Ok a) r = with_answer a r
 after_told_fetch (Err cause) r = r
 
+-- what is told of an answer to a key of a list
+abbrev pub key_read : ReadAnswer → KeyRead
+key_read a = record { key = a.key; mod_rev = mod_of a.kv }
+
+-- what a fetch of a list tells where this is the store's revision: one that the store refuses ends the run
+abbrev pub told_of_list : ℕ → ℕ → Result (List ReadAnswer) StoreRefusal → Told
+told_of_list id revision (Ok answers) = GoesOn (Prefetched id revision (map key_read answers))
+told_of_list id revision (Err cause) = Ends (Ended id cause)
+
+-- the runner after it
+abbrev pub after_told_list : Result (List ReadAnswer) StoreRefusal → Runner → Runner
+after_told_list (Ok answers) r = with_answers answers r
+after_told_list (Err cause) r = r
+
 -- the reply of a run that came to such an end with nothing to commit
 abbrev pub TellsEnd : ℕ → End → Reply → Type 0
 TellsEnd id Done reply = ⊥
@@ -78,6 +94,7 @@ TellsEnd id (FaultedEnd fault) reply = reply ≡ Faulted id fault
 
 -- the runner's program came to its end on what it has read, and this is its run, ready to commit
 pub record IsReady (r : Runner) (run : Run) (ready : ReadyRun) : Type 0 where
+  pub has_list : is_due r.task.program.prefetch r.known.reads ≡ false
   pub is_run : run_on r.task.program r.known.reads ≡ EndedRun run
   pub is_done : run.end ≡ Done
   pub is : ready ≡ ready_run r.task.program r.task.level r.known.reads run

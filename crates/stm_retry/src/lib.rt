@@ -2,7 +2,7 @@
 //! a time.
 //!
 //! A runner's step evaluates its program on the answers that it has recorded, and then makes at most one
-//! transaction: the fetch of the key that it wants, or its commit.
+//! transaction: the fetch of its program's list or of the key that it wants, or its commit.
 #![tactic(auto)]
 
 mod entries;
@@ -21,5 +21,5 @@ pub use stm_history::{ReadAnswer, Sequence, Text};
 pub use stm_meaning::{Fault, State, TraceItem, Value};
 pub use stm_program::{Level, Program};
 pub use stm_txn::{Expired, Refusal as StoreRefusal, Store, Txn, TxnAnswer};
-pub use stm_world::{Denied, Entry, Event, Refusal, Reply, WorldEvent};
+pub use stm_world::{Denied, Entry, Event, KeyRead, Refusal, Reply, WorldEvent};
 pub use world::{RunStop, World};

@@ -1,6 +1,7 @@
 //! What a world is made of, and its step.
 ghost use Rattle.std.specs.Prelude.{◌≡◌, ◌≤◌, [], IfOk};
 ghost use Rattle.stm_history.specs.declared.revisions.TheConstants.{HIGHEST_REVISION};
+ghost use Rattle.stm_outcome.specs.Terms.{most_operations};
 ghost use Rattle.stm_world.specs.World.{opened};
 ghost use Rattle.stm_retry.specs.MachineTells.{as_reply};
 ghost use Rattle.stm_retry.specs.Kept.{KeptTells, BasesAreReached};
@@ -61,13 +62,14 @@ fn to_reply(
 }
 
 impl Machine {
-    /// A world whose store opens at this revision.
-    pub(crate) fn new(alloc: Global, start: u64) -> Result<Machine, AllocError>
-        requires { (1 ≤ start) × (start ≤ HIGHEST_REVISION) }
-        ensures { IfOk result (λ m. m ≡ opened start) }
+    /// A world whose store opens at this revision, and takes so many operations.
+    pub(crate) fn new(alloc: Global, start: u64, operations: usize) -> Result<Machine, AllocError>
+        requires revision { (1 ≤ start) × (start ≤ HIGHEST_REVISION) }
+        requires operations { (1 ≤ operations) × (operations ≤ most_operations) }
+        ensures { IfOk result (λ m. m ≡ opened (record { revision = start; limit = operations })) }
     {
         Ok(Machine {
-            store: Store::with_revision(alloc, start)?,
+            store: Store::with_limits(alloc, start, operations)?,
             runners: Vec::new(alloc),
             entries: Vec::new(alloc),
         })

@@ -1,13 +1,15 @@
 //! Runs of programs that have not ended.
-ghost use Rattle.std.specs.Prelude.{◌≡◌, ◌≢◌, ◌+◌, ◌<◌, nat_lt, false, None, Some, [], All, IfOk, OnOk, OnErr};
+ghost use Rattle.std.specs.Prelude.{◌≡◌, ◌≢◌, ◌+◌, ◌<◌, nat_lt, false, None, Some, [], map, All, IfOk, OnOk, OnErr};
+ghost use Rattle.stm_history.specs.declared.key_state.ReadAnswer.{ReadAnswer as Answer};
+ghost use Rattle.stm_outcome.specs.Commits.{AreNamed as KeysAreNamed};
 ghost use Rattle.stm_outcome.specs.Numbers.{ReadFits};
 ghost use Rattle.stm_compile.specs.Levels.{is_serializable};
 ghost use Rattle.stm_attempt.specs.Known.{HaveDistinctKeys};
 ghost use Rattle.stm_attempt.specs.Fetches.{ShowOneRevision};
 ghost use Rattle.stm_attempt.specs.AttemptState.{begun};
-ghost use Rattle.stm_attempt.specs.Next.{key_asked};
+ghost use Rattle.stm_attempt.specs.Next.{key_asked, list_asked};
 ghost use Rattle.stm_world.specs.World.{begin};
-ghost use Rattle.stm_retry.specs.RunnerView.{task_of, AreNamed, next_for, with_answer, begun_again};
+ghost use Rattle.stm_retry.specs.RunnerView.{task_of, AreNamed, next_for, with_answer, with_answers, begun_again};
 
 use std::alloc::{AllocError, Global};
 use std::marker::Model;
@@ -18,7 +20,7 @@ use stm_program::{Level, Program};
 
 /// A run of a program that has not ended.
 ///
-/// Contracts see the runner of the world that it is, and the key whose answer it waits for.
+/// Contracts see the runner of the world that it is, and the key whose answer it waits for, or the list whose answers.
 #[derive(Drop)]
 pub(crate) struct Runner {
     program: Program,
@@ -96,8 +98,12 @@ impl Runner {
         ensures same { self.new.runner ≡ self.old.runner }
         ensures next { IfOk result (λ next. next ≡ next_for self.old.runner) }
         ensures asked { IfOk result (λ next. self.new.awaits ≡ key_asked next) }
+        ensures list { IfOk result (λ next. self.new.awaits_list ≡ list_asked next) }
         ensures named { AreNamed self.new.runner.known.reads }
+        ensures keys { KeysAreNamed self.new.runner.task.program.prefetch }
     {
+        // No key of a list is empty.
+        self.program.prefetch();
         self.attempt.advance(&self.program)
     }
 
@@ -111,6 +117,21 @@ impl Runner {
         ensures err { OnErr result (self.new ≡ self.old) }
     {
         self.attempt.supply(answer)
+    }
+
+    /// Takes the answers to the list that the runner waits for, in its order. All show one revision.
+    ///
+    /// Want of memory is the only refusal, and leaves the runner as it was.
+    pub(crate) fn supply_all(&mut self, answers: Vec<ReadAnswer>) -> Result<(), AllocError>
+        requires asked { self.old.awaits_list ≡ Some (map (λ (a : Answer). a.key) answers.items) }
+        requires in_range { All ReadFits answers.items }
+        requires one_revision { ShowOneRevision answers.items }
+        ensures ok { OnOk result (self.new.runner ≡ with_answers answers.items self.old.runner) }
+        ensures err { OnErr result (self.new ≡ self.old) }
+    {
+        // No key of a list is empty.
+        self.program.prefetch();
+        self.attempt.supply_all(answers)
     }
 
     /// Whether the run may send one more commit, should the present one fail.

@@ -1,22 +1,24 @@
 //! The steps of runners.
-ghost use Rattle.std.specs.Prelude.{◌≡◌, ◌≢◌, ◌<◌, ◌≤◌, ◌∷◌, ◌++◌, [], Some, Ok, true, false, length, All, IfOk, OnOk, OnErr, vec_len, vec_capacity};
+ghost use Rattle.std.specs.Prelude.{◌≡◌, ◌≢◌, ◌<◌, ◌≤◌, ◌∷◌, ◌++◌, [], Some, Ok, true, false, length, map, All, IfOk, OnOk, OnErr, vec_len, vec_capacity};
+ghost use Rattle.stm_history.specs.declared.key_state.ReadAnswer.{ReadAnswer as Answer};
 ghost use Rattle.stm_history.specs.History.{now, mod_of};
 ghost use Rattle.stm_meaning.specs.declared.run.End.TheVariants.{Done};
 ghost use Rattle.stm_meaning.specs.declared.run.Run.{Run as ARun};
 ghost use Rattle.stm_outcome.specs.declared.refusal.Refusal.TheVariants.{OutOfMemory};
 ghost use Rattle.stm_outcome.specs.Numbers.{ReadFits};
+ghost use Rattle.stm_outcome.specs.Commits.{AreNamed as KeysAreNamed};
 ghost use Rattle.stm_compile.specs.Levels.{is_serializable};
 ghost use Rattle.stm_attempt.specs.Known.{HaveDistinctKeys};
 ghost use Rattle.stm_attempt.specs.Fetches.{ShowOneRevision, at_of};
-ghost use Rattle.stm_calls.specs.Fetched.{fetch_told};
+ghost use Rattle.stm_calls.specs.Fetched.{fetch_told, fetch_all_told};
 ghost use Rattle.stm_entries.specs.declared.entry.Entry.TheVariants.{Program as ProgramEntry};
-ghost use Rattle.stm_world.specs.declared.reply.Reply.TheVariants.{Fetched, Started, Committed, Ended};
+ghost use Rattle.stm_world.specs.declared.reply.Reply.TheVariants.{Prefetched, Fetched, Started, Committed, Ended};
 ghost use Rattle.stm_world.specs.Task.{answers_told};
 ghost use Rattle.stm_world.specs.World.{Runner as LiveRunner, start_runner, step_runner, step_live, commit as commit_of, runner_at};
 ghost use Rattle.stm_retry.specs.declared.told.Told.TheVariants.{GoesOn, Ends};
 ghost use Rattle.stm_retry.specs.MachineTells.{Tells};
-ghost use Rattle.stm_retry.specs.RunnerView.{task_of, AreNamed, with_answer, begun_again};
-ghost use Rattle.stm_retry.specs.RunnerTells.{workplace, Leaves, TellsEnd, IsReady, told_of_fetch, after_told_fetch, told_of_failure, may_go_on, reply_in, reply_told, slot_left};
+ghost use Rattle.stm_retry.specs.RunnerView.{task_of, AreNamed, with_answer, with_answers, begun_again};
+ghost use Rattle.stm_retry.specs.RunnerTells.{workplace, Leaves, TellsEnd, IsReady, told_of_fetch, after_told_fetch, key_read, told_of_list, after_told_list, told_of_failure, may_go_on, reply_in, reply_told, slot_left};
 
 use crate::entries::entry_of;
 use crate::machine::{Machine, denied};
@@ -31,7 +33,7 @@ use stm_history::{KeyState, ReadAnswer, Sequence, Text};
 use stm_meaning::{End, Run};
 use stm_program::{Level, Program};
 use stm_txn::{Refusal as StoreRefusal, Store};
-use stm_world::{Denied, Entry, Refusal, Reply};
+use stm_world::{Denied, Entry, KeyRead, Refusal, Reply};
 
 /// The modification revision of a key's state, 0 where it is absent.
 fn mod_rev_in(kv: &Option<KeyState>) -> u64
@@ -89,6 +91,73 @@ fn fetch(
     let fetched = stm_calls::fetch(alloc, store, key.as_str(), at);
     match fetched {
         Ok(answer) => take_answer(id, runner, key, answer),
+        Err(cause) => end_refused(id, cause),
+    }
+}
+
+/// What is told of the answer to a key of a list.
+fn read_told(answer: &ReadAnswer) -> Result<KeyRead, AllocError>
+    ensures { IfOk result (λ read. read ≡ key_read answer.now) }
+{
+    let key = answer.key.clone()?;
+    let mod_rev = mod_rev_in(&answer.kv);
+    Ok(KeyRead { key, mod_rev })
+}
+
+/// What is told of the answers to a list, in their order.
+fn reads_told(alloc: Global, answers: &[ReadAnswer]) -> Result<Sequence<KeyRead>, AllocError>
+    ensures { IfOk result (λ reads. reads ≡ map key_read answers.now) }
+{
+    let mut reads = Sequence::new(alloc);
+    for answer in answers {
+        reads.push(read_told(answer)?)?;
+    }
+    Ok(reads)
+}
+
+/// Takes the answers to the fetch of a list, which the runner waits for; this is the store's revision.
+fn take_answers(
+    alloc: Global,
+    id: u64,
+    runner: &mut Runner,
+    revision: u64,
+    answers: Vec<ReadAnswer>,
+) -> Result<Told, AllocError>
+    requires asked { runner.old.awaits_list ≡ Some (map (λ (a : Answer). a.key) answers.items) }
+    requires in_range { All ReadFits answers.items }
+    requires one_revision { ShowOneRevision answers.items }
+    ensures told { IfOk result (λ told. told ≡ GoesOn (Prefetched id revision (map key_read answers.items))) }
+    ensures ok { OnOk result (runner.new.runner ≡ with_answers answers.items runner.old.runner) }
+    ensures err { OnErr result (runner.new.runner ≡ runner.old.runner) }
+{
+    let reads = reads_told(alloc, answers.as_slice())?;
+    runner.supply_all(answers)?;
+    Ok(Told::GoesOn(Reply::Prefetched {
+        runner: id,
+        revision,
+        reads,
+    }))
+}
+
+/// Fetches the list that a runner waits for. A fetch that the store refuses, since the keys are more than it takes operations, ends the
+/// run.
+fn fetch_list(
+    alloc: Global,
+    store: &mut Store,
+    id: u64,
+    runner: &mut Runner,
+    keys: &[Text],
+) -> Result<Told, AllocError>
+    requires asked { runner.old.awaits_list ≡ Some keys.now }
+    requires named { KeysAreNamed keys.now }
+    ensures told { IfOk result (λ told. told ≡ told_of_list id (now store.old.standing.history) (fetch_all_told store.old.standing keys.now)) }
+    ensures ok { OnOk result (runner.new.runner ≡ after_told_list (fetch_all_told store.old.standing keys.now) runner.old.runner) }
+    ensures err { OnErr result (runner.new.runner ≡ runner.old.runner) }
+    ensures store { store.new.standing ≡ store.old.standing }
+{
+    let revision = store.keys().revision();
+    match stm_calls::fetch_all(alloc, store, keys) {
+        Ok(answers) => take_answers(alloc, id, runner, revision, answers),
         Err(cause) => end_refused(id, cause),
     }
 }
@@ -256,8 +325,8 @@ fn commit(
     }
 }
 
-/// Makes one step of a runner: its program is evaluated on what it has read, and then it makes at most one
-/// transaction.
+/// Makes one step of a runner: its list is fetched where it is due, else its program is evaluated on what it has read, and then it makes at
+/// most one transaction.
 pub(crate) fn step_live(
     alloc: Global,
     store: &mut Store,
@@ -271,6 +340,10 @@ pub(crate) fn step_live(
 {
     let next = runner.advance()?;
     match next {
+        Next::FetchAll { keys, .. } => {
+            let told = fetch_list(alloc, store, id, runner, keys.as_slice())?;
+            Ok(told)
+        }
         Next::Fetch { key, at } => {
             let told = fetch(alloc, store, id, runner, key, at)?;
             Ok(told)

@@ -1,9 +1,10 @@
 //! The world.
-ghost use Rattle.std.specs.Prelude.{◌≡◌, ◌≢◌, ◌≤◌, ℕ, false, List, [], ◌∷◌, ◌++◌, length, is_some, Result, Ok, Err, IfOk, IfErr, OnOk, OnErr};
+ghost use Rattle.std.specs.Prelude.{◌≡◌, ◌≢◌, ◌≤◌, false, List, [], ◌∷◌, ◌++◌, length, is_some, Result, Ok, Err, IfOk, IfErr, OnOk, OnErr};
 ghost use Rattle.stm_history.specs.declared.revisions.TheConstants.{HIGHEST_REVISION};
 ghost use Rattle.stm_history.specs.History.{now, AreRevisions};
 ghost use Rattle.stm_outcome.specs.declared.refusal.Refusal.TheVariants.{OutOfMemory};
-ghost use Rattle.stm_txn.specs.Standing.{kept};
+ghost use Rattle.stm_outcome.specs.Terms.{most_operations};
+ghost use Rattle.stm_txn.specs.Standing.{Setup, at_revision, kept};
 ghost use Rattle.stm_entries.specs.Replayed.{opening, without_moment};
 ghost use Rattle.stm_entries.specs.Replay.{replay};
 ghost use Rattle.stm_entries.specs.Legal.{AreLegal};
@@ -30,7 +31,7 @@ use stm_calls::state_of;
 use stm_history::{HIGHEST_REVISION, Sequence};
 use stm_meaning::State;
 use stm_program::{Level, Program};
-use stm_txn::{Expired, Refusal as StoreRefusal, Store};
+use stm_txn::{Expired, MOST_OPERATIONS, Refusal as StoreRefusal, Store};
 use stm_world::{Denied, Entry, Refusal, Reply, WorldEvent};
 
 /// Runners of programs over one store.
@@ -105,19 +106,31 @@ fn expired_of(alloc: Global, reply: Result<Reply, Denied>) -> Sequence<Expired>
 }
 
 impl World {
-    /// A world with an empty store at revision 1 and moment 0. Want of memory is its only refusal.
+    /// A world with an empty store at revision 1 and moment 0, which takes up to `MOST_OPERATIONS` operations. Want of memory is its only
+    /// refusal.
     pub fn new(alloc: Global) -> Result<World, AllocError>
-        ensures { IfOk result (λ w. w ≡ opened 1) }
+        ensures { IfOk result (λ w. w ≡ opened (at_revision 1)) }
     {
         World::with_revision(alloc, 1)
     }
 
-    /// A world with an empty store at this revision and moment 0. Want of memory is its only refusal.
+    /// A world with an empty store at this revision and moment 0, which takes up to `MOST_OPERATIONS` operations. Want of memory is its only
+    /// refusal.
     pub fn with_revision(alloc: Global, start: u64) -> Result<World, AllocError>
         requires { (1 ≤ start) × (start ≤ HIGHEST_REVISION) }
-        ensures { IfOk result (λ w. w ≡ opened start) }
+        ensures { IfOk result (λ w. w ≡ opened (at_revision start)) }
     {
-        let machine = Machine::new(alloc, start)?;
+        World::with_limits(alloc, start, MOST_OPERATIONS)
+    }
+
+    /// A world with an empty store at this revision and moment 0, which takes at most `operations` elements in each of a transaction's three
+    /// lists: a fetch, a commit or another client's transaction with more is refused as `TooManyOps`. Want of memory is its only refusal.
+    pub fn with_limits(alloc: Global, start: u64, operations: usize) -> Result<World, AllocError>
+        requires revision { (1 ≤ start) × (start ≤ HIGHEST_REVISION) }
+        requires operations { (1 ≤ operations) × (operations ≤ most_operations) }
+        ensures { IfOk result (λ w. w ≡ opened (record { revision = start; limit = operations })) }
+    {
+        let machine = Machine::new(alloc, start, operations)?;
         Ok(World {
             alloc,
             opened: start,
@@ -173,7 +186,7 @@ impl World {
     pub fn step(&mut self, event: &WorldEvent) -> Result<Reply, Denied>
         ensures told { Tells event.now result self.old self.new }
         ensures reads { ReadsAreNow event.now self.old }
-        ensures headline { ran_out result ≡ false → (start : ℕ) (before : List WorldEvent) (earlier : List (Result Reply Denied))
+        ensures headline { ran_out result ≡ false → (start : Setup) (before : List WorldEvent) (earlier : List (Result Reply Denied))
             → Holds start before earlier self.old → Holds start (before ++ event.now ∷ []) (earlier ++ result ∷ []) self.new }
     {
         self.machine.step(self.alloc, event)
@@ -235,7 +248,7 @@ impl World {
         ensures ok { OnOk result (self.new ≡ world_after events.now self.old) }
         ensures stopped { IfErr result (λ stop. IsRunStop events.now stop.done stop.expired self.old self.new) }
         ensures goes_on { IfErr result (λ stop. GoesOnAlike events.now stop.done stop.expired self.old self.new) }
-        ensures headline { IfOk result (λ replies. (start : ℕ) (before : List WorldEvent) (earlier : List (Result Reply Denied))
+        ensures headline { IfOk result (λ replies. (start : Setup) (before : List WorldEvent) (earlier : List (Result Reply Denied))
             → Holds start before earlier self.old → Holds start (before ++ events.now) (earlier ++ replies.items) self.new) }
         ensures appended { OnOk result (HasAppended self.old self.new) }
     {

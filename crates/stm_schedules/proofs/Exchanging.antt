@@ -1,5 +1,5 @@
 -- Two quiet steps of different runners, in either order.
-use Rattle.std.proofs.Common.{◌≡◌, ◌≢◌, ◌⊎◌, ℕ, ◌+◌, ◌-◌, ◌<◌, Bool, true, false, cond, List, [], ◌∷◌, ◌++◌, length, Option, Some, None, Result, Ok, Err}
+use Rattle.std.proofs.Common.{◌≡◌, ◌≢◌, ◌⊎◌, ℕ, ◌+◌, ◌-◌, ◌<◌, Bool, true, false, cond, List, [], ◌∷◌, ◌++◌, length, map, Option, Some, None, Result, Ok, Err}
 use Rattle.std.proofs.Common.{inl, inr, refl, sym, ◌∙◌, ap, arith, length-append}
 use Rattle.std.proofs.lemmas.List.{set_comm}
 use Rattle.std.specs.Prelude.{nat_lt, not, slice_get}
@@ -13,7 +13,7 @@ use Rattle.stm_meaning.specs.declared.run.Answered.{Answered}
 use Rattle.stm_meaning.specs.declared.run.Answered.TheVariants.{Ended as EndedRun, Wants}
 use Rattle.stm_outcome.specs.declared.answer.FailedCompare.{FailedCompare}
 use Rattle.stm_outcome.specs.declared.refusal.Refusal.{Refusal as StoreRefusal}
-use Rattle.stm_outcome.specs.declared.refusal.Refusal.TheVariants.{Compacted as CompactedRefusal}
+use Rattle.stm_outcome.specs.declared.refusal.Refusal.TheVariants.{TooManyOps as TooManyOpsRefusal, Compacted as CompactedRefusal}
 use Rattle.stm_outcome.specs.Outcome.{Done}
 use Rattle.stm_outcome.specs.Commits.{revision_read}
 use Rattle.stm_txn.specs.Standing.{Standing, terms_of}
@@ -21,16 +21,17 @@ use Rattle.stm_outcome.specs.Terms.{is_below_floor}
 use Rattle.stm_compile.specs.Committed.{committed}
 use Rattle.stm_compile.specs.Conflicts.{Seen, seen_by}
 use Rattle.stm_attempt.specs.Settled.{run_on}
+use Rattle.stm_attempt.specs.Entering.{is_due}
 use Rattle.stm_attempt.specs.Fetches.{at_of}
 use Rattle.stm_entries.specs.declared.entry.Entry.{Entry}
 use Rattle.stm_world.specs.declared.event.WorldEvent.TheVariants.{Step}
 use Rattle.stm_world.specs.declared.reply.Reply.{Reply}
-use Rattle.stm_world.specs.declared.reply.Reply.TheVariants.{Fetched, Committed, Conflict, GaveUp, Aborted, Faulted, Ended}
+use Rattle.stm_world.specs.declared.reply.Reply.TheVariants.{Prefetched, Fetched, Committed, Conflict, GaveUp, Aborted, Faulted, Ended}
 use Rattle.stm_world.specs.declared.refusal.Denied.{Denied}
 use Rattle.stm_world.specs.declared.refusal.Refusal.TheVariants.{NoRunner}
 use Rattle.stm_world.specs.Told.{denied}
-use Rattle.stm_world.specs.Task.{answer_at, after_fetch, after_conflict, answers_told}
-use Rattle.stm_world.specs.World.{World, Runner, Slot, Over, Live, Stepped, runner_at, with_slot, replied, fetch, entry_of, seen_in, decided}
+use Rattle.stm_world.specs.Task.{answer_at, modified_now, after_list, after_fetch, after_conflict, answers_told}
+use Rattle.stm_world.specs.World.{World, Runner, Slot, Over, Live, Stepped, runner_at, with_slot, replied, fetch, fetch_list, entry_of, seen_in, decided}
 use Rattle.stm_world.specs.World.{commit_told, commit, finish, step_on, step_live, step_runner, step}
 use Rattle.stm_world.proofs.Slots.{runner_there, runner_other}
 use Rattle.stm_schedules.specs.declared.outcome.RunnerEnd.{RunnerEnd}
@@ -231,9 +232,45 @@ answered_does id r reads (Wants key trace) s =
     (λ slots entries. same_fetch id r key base s slots entries below) (inl (fetch_if_touches id r key base s below))
 answered_does id r reads (EndedRun run) s = finish_does id r reads run run.end s
 
+-- a fetch of a list, by whether it has too many keys
+list_touches_by : (id : ℕ) (r : Runner) (s : Standing) (many : Bool) → Touches id s (λ w. cond many (replied (Ended id TooManyOpsRefusal) id Over w)
+    (replied (Prefetched id (now w.standing.history) (map (modified_now w.standing.history) r.task.program.prefetch)) id
+    (Live (record r { known = after_list r.task w.standing.history r.known })) w))
+list_touches_by id r s true = record {
+  reply = Ok (Ended id TooManyOpsRefusal);
+  slot = Some Over;
+  end = Some (EndedEnd TooManyOpsRefusal);
+  is = λ slots entries. refl;
+  told = refl;
+  known = λ ends. refl;
+  fits = tt;
+}
+list_touches_by id r s false = record {
+  reply = Ok (Prefetched id (now s.history) (map (modified_now s.history) r.task.program.prefetch));
+  slot = Some (Live (record r { known = after_list r.task s.history r.known }));
+  end = None;
+  is = λ slots entries. refl;
+  told = refl;
+  known = λ ends. refl;
+  fits = tt;
+}
+
+list_does : (id : ℕ) (r : Runner) (s : Standing) → Does id s (fetch_list id r)
+list_does id r s =
+    does_alike id s
+    (λ w. cond (nat_lt s.limit (length r.task.program.prefetch)) (replied (Ended id TooManyOpsRefusal) id Over w)
+    (replied (Prefetched id (now w.standing.history) (map (modified_now w.standing.history) r.task.program.prefetch)) id
+    (Live (record r { known = after_list r.task w.standing.history r.known })) w))
+    (fetch_list id r) (λ slots entries. refl) (inl (list_touches_by id r s (nat_lt s.limit (length r.task.program.prefetch))))
+
+does_by : (id : ℕ) (r : Runner) (s : Standing) (due : Bool) →
+    Does id s (λ w. cond due (fetch_list id r w) (step_on id r r.known.reads (run_on r.task.program r.known.reads) w))
+does_by id r s true = list_does id r s
+does_by id r s false = answered_does id r r.known.reads (run_on r.task.program r.known.reads) s
+
 live_does : (id : ℕ) (r : Runner) (s : Standing) → Does id s (step_live id r)
 unfolding step_live
-live_does id r s = answered_does id r r.known.reads (run_on r.task.program r.known.reads) s
+live_does id r s = does_by id r s (is_due r.task.program.prefetch r.known.reads)
 
 pub runner_does : (id : ℕ) (o : Option Runner) (s : Standing) → Does id s (step_runner id o)
 runner_does id None s =

@@ -6,6 +6,7 @@ use Rattle.stm_outcome.specs.declared.advance.Expired.{Expired}
 use Rattle.stm_outcome.specs.declared.refusal.Refusal.{Refusal as StoreRefusal}
 use Rattle.stm_txn.specs.Standing.{Step as StoreStep}
 use Rattle.stm_txn.specs.Standing.{transacted, granted, kept_alive, revoked, advanced, watched, cancelled, raised}
+use Rattle.stm_txn.specs.Standing.{Setup}
 use Rattle.stm_watch.specs.declared.watched.Watched.TheVariants.{Key, Range}
 use Rattle.stm_world.specs.declared.event.WorldEvent.{WorldEvent}
 use Rattle.stm_world.specs.declared.event.WorldEvent.TheVariants.{Start, Step, Txn, Grant, Keep, Revoke, Advance}
@@ -149,7 +150,7 @@ known_run : (events : List WorldEvent) (w : World) (ends : Ends) → AreKnown w.
 known_run [] w ends known = known
 known_run (e ∷ es) w ends known = known_run es (step e w).next (after_told (step e w).reply ends) (known_event e w ends known)
 
-along : (start : ℕ) (events : List WorldEvent) (schedule : List Move) →
+along : (start : Setup) (events : List WorldEvent) (schedule : List Move) →
     AreKnown (place_after schedule (begun start events)).world.runners (ends_after schedule (begun start events) (ends_begun start events))
 along start events schedule =
     let p : Place = begun start events in

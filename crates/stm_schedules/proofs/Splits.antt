@@ -1,5 +1,5 @@
 -- A scenario in two parts: up to the last start, and behind it.
-use Rattle.std.proofs.Common.{◌≡◌, ℕ, Bool, true, false, cond, ◌||◌, List, [], ◌∷◌, ◌++◌, map, refl, sym, ◌∙◌, ap}
+use Rattle.std.proofs.Common.{◌≡◌, Bool, true, false, cond, ◌||◌, List, [], ◌∷◌, ◌++◌, map, refl, sym, ◌∙◌, ap}
 use Rattle.stm_program.specs.declared.level.Level.{Level}
 use Rattle.stm_world.specs.declared.event.WorldEvent.{WorldEvent}
 use Rattle.stm_world.specs.declared.event.WorldEvent.TheVariants.{Start}
@@ -10,6 +10,7 @@ use Rattle.stm_schedules.specs.Schedules.{place_after, events_along}
 use Rattle.stm_schedules.specs.Scenarios.{is_start, has_start, up_to_last_start, behind_last_start, begun, with_schedule, at_level, ScenariosAreSplit}
 use Rattle.stm_schedules.proofs.Members.{both_false}
 use Rattle.stm_schedules.proofs.Runs.{world_along}
+use Rattle.stm_txn.specs.Standing.{Setup}
 
 both_by : (b : Bool) (e : WorldEvent) (es first second : List WorldEvent) → first ++ second ≡ es → cond b (e ∷ first) [] ++ cond b second (e ∷ es) ≡ e ∷ es
 both_by true e es first second is = ap (λ (rest : List WorldEvent). e ∷ rest) is
@@ -27,7 +28,7 @@ no_start_behind : (events : List WorldEvent) → has_start (behind_last_start ev
 no_start_behind [] = refl
 no_start_behind (e ∷ es) = none_by (has_start (e ∷ es)) e es (behind_last_start es) refl (no_start_behind es)
 
-replayed : (start : ℕ) (events : List WorldEvent) (schedule : List Move) →
+replayed : (start : Setup) (events : List WorldEvent) (schedule : List Move) →
     world_after (with_schedule events schedule) (opened start) ≡ (place_after schedule (begun start events)).world
 replayed start events schedule =
     runs_go_on.worlds (up_to_last_start events) (events_along schedule (behind_last_start events)) (opened start)

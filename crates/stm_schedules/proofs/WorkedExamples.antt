@@ -11,6 +11,7 @@ use Rattle.stm_meaning.specs.declared.run.End.TheVariants.{Aborted as AbortedEnd
 use Rattle.stm_meaning.specs.Meaning.{evaluate, holds, run_block, run_over}
 use Rattle.stm_attempt.specs.Settled.{settle}
 use Rattle.stm_outcome.specs.declared.txn.Op.TheVariants.{Put}
+use Rattle.stm_txn.specs.Standing.{at_revision}
 use Rattle.stm_world.specs.declared.event.WorldEvent.{WorldEvent}
 use Rattle.stm_world.specs.declared.event.WorldEvent.TheVariants.{Start, Step, Txn, Grant}
 use Rattle.stm_world.specs.World.{start_runner, fetch, commit, step_live}
@@ -48,15 +49,15 @@ put_and_delete = Start put_a ReadCommitted 1 ∷ Start delete_a ReadCommitted 1 
 abbrev below_ten : ProgramTree
 below_ten = of_statements (Then (If (Less (Rev (Text (codes "a"))) (Number (pos 10))) EndBlock (Then (Abort (Text (codes "put last"))) EndBlock)) EndBlock)
 
-both_can_step : moves (begun 9 put_and_delete) ≡ StepOf 1 ∷ StepOf 2 ∷ []
+both_can_step : moves (begun (at_revision 9) put_and_delete) ≡ StepOf 1 ∷ StepOf 2 ∷ []
 unfolding start_runner
 both_can_step = refl
 
-first_step_breaks : first_bad (keeps below_ten) 2 (begun 9 put_and_delete) ≡ Some (StepOf 1 ∷ [])
+first_step_breaks : first_bad (keeps below_ten) 2 (begun (at_revision 9) put_and_delete) ≡ Some (StepOf 1 ∷ [])
 unfolding start_runner fetch commit step_live settle run_over run_block evaluate holds key_in text_in less put_of del_of get_key rev_key last_write latest_writes fresh
 first_step_breaks = refl
 
-its_end : end_alone below_ten (place_after (StepOf 1 ∷ []) (begun 9 put_and_delete)).world ≡ Some (AbortedEnd (codes "put last"))
+its_end : end_alone below_ten (place_after (StepOf 1 ∷ []) (begun (at_revision 9) put_and_delete)).world ≡ Some (AbortedEnd (codes "put last"))
 unfolding start_runner fetch commit step_live settle run_over run_block evaluate holds key_in text_in less put_of del_of get_key rev_key last_write latest_writes fresh
 its_end = refl
 
@@ -78,18 +79,18 @@ monday value end = record {
 }
 
 -- step, step, other; step, other, step; other, step, step
-serializable_covers : outcomes_at 3 (begun 1 (covered Serializable)) (ends_begun 1 (covered Serializable))
+serializable_covers : outcomes_at 3 (begun (at_revision 1) (covered Serializable)) (ends_begun (at_revision 1) (covered Serializable))
     ≡ monday (codes "bob") (Committed []) ∷ monday (codes "ann") (Committed []) ∷ monday (codes "ann") (Committed []) ∷ []
 unfolding start_runner fetch commit step_live settle run_over run_block evaluate key_in text_in put_of get_key last_write latest_writes fresh
 serializable_covers = refl
 
-snapshot_gives_up : outcomes_up_to 3 (begun 1 (covered SerializableSnapshot)) (ends_begun 1 (covered SerializableSnapshot))
+snapshot_gives_up : outcomes_up_to 3 (begun (at_revision 1) (covered SerializableSnapshot)) (ends_begun (at_revision 1) (covered SerializableSnapshot))
     ≡ monday (codes "bob") (Committed []) ∷ monday (codes "bob") (GaveUp (codes "monday")) ∷ monday (codes "ann") (Committed []) ∷ []
 unfolding start_runner fetch commit step_live settle run_over run_block evaluate key_in text_in put_of get_key last_write latest_writes fresh
 snapshot_gives_up = refl
 
 -- each of them has three moves
-three_moves : (goes_on 3 (begun 1 (covered Serializable)) ≡ true) × (goes_on 4 (begun 1 (covered Serializable)) ≡ false)
+three_moves : (goes_on 3 (begun (at_revision 1) (covered Serializable)) ≡ true) × (goes_on 4 (begun (at_revision 1) (covered Serializable)) ≡ false)
 unfolding start_runner fetch commit step_live settle run_over run_block evaluate key_in text_in put_of get_key last_write latest_writes fresh
 three_moves = (refl, refl)
 
@@ -102,10 +103,10 @@ copy_to key = of_statements (Then (PutStatement (Text key) (Get (Text (codes "x"
 abbrev two_copies : List WorldEvent
 two_copies = Start (copy_to (codes "a")) ReadCommitted 1 ∷ Start (copy_to (codes "b")) ReadCommitted 1 ∷ []
 
-six_schedules : length (outcomes_at 4 (begun 1 two_copies) (ends_begun 1 two_copies)) ≡ 6
+six_schedules : length (outcomes_at 4 (begun (at_revision 1) two_copies) (ends_begun (at_revision 1) two_copies)) ≡ 6
 unfolding start_runner fetch commit step_live settle run_over run_block evaluate key_in text_in put_of get_key last_write latest_writes fresh
 six_schedules = refl
 
-four_are_looked_at : length (fewer_outcomes_at 4 None (begun 1 two_copies) (ends_begun 1 two_copies)) ≡ 4
+four_are_looked_at : length (fewer_outcomes_at 4 None (begun (at_revision 1) two_copies) (ends_begun (at_revision 1) two_copies)) ≡ 4
 unfolding start_runner fetch commit step_live settle run_over run_block evaluate key_in text_in put_of get_key last_write latest_writes fresh
 four_are_looked_at = refl

@@ -6,6 +6,7 @@ use Rattle.std.specs.Prelude.{Result, Ok, Err, slice_set, Contains}
 use Rattle.std.specs.List.{filter_map, flat_map}
 use Rattle.stm_history.specs.History.{History, key_now, value_of}
 use Rattle.stm_txn.specs.PresentKeys.{keys_present}
+use Rattle.stm_txn.specs.Standing.{Setup}
 use Rattle.stm_world.specs.declared.event.WorldEvent.{WorldEvent}
 use Rattle.stm_world.specs.declared.reply.Reply.{Reply}
 use Rattle.stm_world.specs.declared.reply.Reply.TheVariants as reply
@@ -49,7 +50,7 @@ after_replies [] ends = ends
 after_replies (told ∷ more) ends = after_replies more (after_told told ends)
 
 -- what is known of the ends where the schedules of a scenario begin
-abbrev pub ends_begun : ℕ → List WorldEvent → Ends
+abbrev pub ends_begun : Setup → List WorldEvent → Ends
 ends_begun start events = after_replies (replies_to (up_to_last_start events) (opened start)) []
 
 -- what is known of them after one more move
@@ -139,8 +140,8 @@ pub record OutcomesAreThose : Type 0 where
 
 -- Along every schedule of a scenario the ends of exactly those runners are known that have ended, so a whole one shows an end of each.
 pub record EndsAreKnown : Type 0 where
-  pub along : (start : ℕ) (events : List WorldEvent) (schedule : List Move)
+  pub along : (start : Setup) (events : List WorldEvent) (schedule : List Move)
       → AreKnown (place_after schedule (begun start events)).world.runners (ends_after schedule (begun start events) (ends_begun start events))
-  pub whole : (start : ℕ) (events : List WorldEvent) (schedule : List Move) → IsWhole schedule (begun start events)
+  pub whole : (start : Setup) (events : List WorldEvent) (schedule : List Move) → IsWhole schedule (begun start events)
       → length (known_ends (ends_after schedule (begun start events) (ends_begun start events)))
       ≡ length (place_after schedule (begun start events)).world.runners

@@ -1,5 +1,5 @@
 -- A scenario whose interleavings are looked at: what is run first, and what the others bring.
-use Rattle.std.specs.Prelude.{◌≡◌, ℕ, Bool, true, false, ◌||◌, if◌then◌else◌, List, [], ◌∷◌, ◌++◌, map}
+use Rattle.std.specs.Prelude.{◌≡◌, Bool, true, false, ◌||◌, if◌then◌else◌, List, [], ◌∷◌, ◌++◌, map}
 use Rattle.stm_program.specs.declared.level.Level.{Level}
 use Rattle.stm_world.specs.declared.event.WorldEvent.{WorldEvent}
 use Rattle.stm_world.specs.declared.event.WorldEvent.TheVariants.{Start}
@@ -7,6 +7,7 @@ use Rattle.stm_world.specs.World.{opened, world_after}
 use Rattle.stm_schedules.specs.declared.moves.Move.{Move}
 use Rattle.stm_schedules.specs.Places.{Place}
 use Rattle.stm_schedules.specs.Schedules.{place_after, events_along}
+use Rattle.stm_txn.specs.Standing.{Setup}
 
 abbrev pub is_start : WorldEvent → Bool
 is_start (Start program level limit) = true
@@ -27,7 +28,7 @@ behind_last_start [] = []
 behind_last_start (e ∷ es) = if has_start (e ∷ es) then behind_last_start es else e ∷ es
 
 -- the place from which schedules of a scenario go: the events up to the last start are run, and the others bring those behind it
-abbrev pub begun : ℕ → List WorldEvent → Place
+abbrev pub begun : Setup → List WorldEvent → Place
 begun start events = record { world = world_after (up_to_last_start events) (opened start); others = behind_last_start events }
 
 -- the scenario with the events of a schedule in the place of those behind the last start
@@ -47,7 +48,7 @@ pub record ScenariosAreSplit : Type 0 where
   -- no start stands behind the last one
   pub no_start_behind : (events : List WorldEvent) → has_start (behind_last_start events) ≡ false
   -- a scenario with the events of a schedule leads to where the schedule leads
-  pub replayed : (start : ℕ) (events : List WorldEvent) (schedule : List Move)
+  pub replayed : (start : Setup) (events : List WorldEvent) (schedule : List Move)
       → world_after (with_schedule events schedule) (opened start) ≡ (place_after schedule (begun start events)).world
   -- starts at another level stand where they stood
   pub levels : (level : Level) (events : List WorldEvent)

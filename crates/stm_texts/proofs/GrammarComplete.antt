@@ -1,9 +1,10 @@
 -- A scenario that bytes spell is read.
-use Rattle.std.proofs.Common.{◌≡◌, ℕ, suc, ◌+◌, ◌<◌, ◌≤◌, List, [], ◌∷◌, length, lt-ltb, Option, Some, None, Ok, refl, codes}
+use Rattle.std.proofs.Common.{◌≡◌, ℕ, suc, ◌+◌, ◌<◌, ◌≤◌, List, [], ◌∷◌, length, lt-ltb, Option, Some, None, Ok, inl, inr, refl, sym, codes}
 use Rattle.std.proofs.Common.{ap, ◌∙◌, arith}
 use Rattle.serde_json.specs.Data.{Data, string, Items, item}
-use Rattle.stm_json.specs.Outcome.{◌>>=◌}
-use Rattle.stm_json.specs.Elements.{worded, number_up_to}
+use Rattle.serde_json.specs.View.{items_of}
+use Rattle.stm_json.specs.Outcome.{Outcome, ◌>>=◌, within}
+use Rattle.stm_json.specs.Elements.{worded, number_up_to, number_in}
 use Rattle.stm_program.specs.declared.level.Level.{Level}
 use Rattle.stm_program.specs.declared.level.Level.TheVariants.{SerializableSnapshot}
 use Rattle.stm_program_json.proofs.StatementComplete.{program_reads}
@@ -13,12 +14,14 @@ use Rattle.stm_txn_json.proofs.GrammarComplete.{txn_reads}
 use Rattle.stm_json.proofs.PartLemmas.{text_reads, number_reads, up_to_reads}
 use Rattle.stm_world.specs.declared.event.WorldEvent.{WorldEvent}
 use Rattle.stm_world.specs.declared.event.WorldEvent.TheVariants.{Start, Step, Txn, Grant, Keep, Revoke, Advance, Compact, WatchKey, WatchRange, Poll, Cancel}
+use Rattle.stm_outcome.specs.Terms.{most_operations}
+use Rattle.stm_texts.specs.declared.scenario.Opening.{Opening}
 use Rattle.stm_texts.specs.declared.scenario.Scenario.{Scenario}
 use Rattle.stm_history.specs.declared.revisions.TheConstants.{HIGHEST_NUMBER, HIGHEST_REVISION}
 use Rattle.stm_texts.specs.declared.events.TheConstants.{HIGHEST_LIMIT, MOST_EVENTS}
-use Rattle.stm_texts.specs.Grammar.{level_text, SpellsNumbered, SpellsEvent, SpellsElements, SpellsData, SpellsScenario}
+use Rattle.stm_texts.specs.Grammar.{level_text, SpellsNumbered, SpellsEvent, SpellsOpening, SpellsElements, SpellsData, SpellsScenario}
 use Rattle.stm_texts.specs.Reading.{level_named, level_of, watcher_event, event_of, event_after, events_from, begins, scenario_list, scenario_of}
-use Rattle.stm_texts.specs.Reading.{scenario_read, scenario_in}
+use Rattle.stm_texts.specs.Reading.{opening_at, opening_of, scenario_read, scenario_in}
 use Rattle.stm_texts.proofs.ScenarioLemmas.{scenario_in-short}
 
 -- ---- levels
@@ -106,17 +109,35 @@ no_opening d (Cancel watcher) (a, is, in_range) = ap (λ (x : Data). begins (wor
 
 -- ---- scenarios
 
-elements_read : (ds : Items) (opening : Option ℕ) (es : List WorldEvent) → SpellsElements ds opening es → length es ≤ MOST_EVENTS
+-- what stands behind the word begin
+opening_read : (d : Data) (opening : Opening) → SpellsOpening d opening → (parts : Items) × (begins (worded d) ≡ Some parts) × (opening_of parts ≡ Ok opening)
+opening_read d opening (inl (a, is, of_revision, most)) =
+    let n = number_reads 1 HIGHEST_REVISION a opening.revision (omega arith) of_revision in (
+      items_of (a ∷ []),
+      ap (λ (x : Data). begins (worded x)) is,
+      ap (λ (o : Outcome ℕ). within 1 o >>= λ revision. Ok (opening_at revision most_operations)) n
+          ∙ ap (λ (limit : ℕ). (let o : Outcome Opening = Ok (opening_at opening.revision limit) in o)) (sym most),
+    )
+opening_read d opening (inr (a, b, is, of_revision, of_operations)) =
+    let n = number_reads 1 HIGHEST_REVISION a opening.revision (omega arith) of_revision in
+    let m = number_reads 1 most_operations b opening.operations (omega arith) of_operations in (
+      items_of (a ∷ b ∷ []),
+      ap (λ (x : Data). begins (worded x)) is,
+      ap (λ (o : Outcome ℕ). within 1 o >>= λ revision. within 2 (number_in 1 most_operations b) >>= λ operations. Ok (opening_at revision operations)) n
+          ∙ ap (λ (o : Outcome ℕ). within 2 o >>= λ operations. Ok (opening_at opening.revision operations)) m,
+    )
+
+elements_read : (ds : Items) (opening : Option Opening) (es : List WorldEvent) → SpellsElements ds opening es → length es ≤ MOST_EVENTS
     → scenario_list (Some ds) ≡ Ok (record { opening = opening; events = es })
 elements_read ds None [] is few = rw is refl
 elements_read ds None (e ∷ es) (d, rest, is, s, others) few =
     let none = no_opening d e s in
     let all = events_read 0 0 (item d rest) (e ∷ es) (omega arith) (d, rest, refl, s, others) in
     rw is (rw (none, all) refl)
-elements_read ds (Some opening) es (a, rest, is, in_range, others) few =
-    let n = number_reads 1 HIGHEST_REVISION a opening (omega arith) in_range in
+elements_read ds (Some opening) es (a, rest, is, begin, others) few =
+    let opened = opening_read a opening begin in
     let all = events_read 1 0 rest es (omega arith) others in
-    rw is (rw (n, all) refl)
+    rw is (rw (opened.1, opened.2, all) refl)
 
 data_read : (d : Data) (s : Scenario) → SpellsData d s → scenario_of d ≡ Ok s
 unfolding scenario_of

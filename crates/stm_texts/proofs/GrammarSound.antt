@@ -1,36 +1,37 @@
 -- What is read of a scenario is spelled by the bytes.
 use Rattle.std.proofs.Common.{◌≡◌, ℕ, suc, ◌+◌, ◌<◌, ◌≤◌, List, [], ◌∷◌, length, Bool, true, false, cond, ltb, ltb-true, Option}
-use Rattle.std.proofs.Common.{Some, None, Ok, refl, ap, subst, ◌∙◌, arith, codes}
+use Rattle.std.proofs.Common.{Some, None, Ok, inl, inr, refl, ap, subst, ◌∙◌, arith, codes}
 use Rattle.std.proofs.lemmas.Bool.Decides.{nat_tests}
 use Rattle.std.proofs.lemmas.Slice.Eq.{bytes_eq-Decides}
 use Rattle.serde_json.specs.Data.{Data, string, array, Items, no_items, item}
 use Rattle.serde_json.specs.Find.{as_array}
-use Rattle.serde_json.specs.View.{items_of}
 use Rattle.stm_json.specs.declared.cause.Cause.TheVariants.{TooMany, TooLong}
 use Rattle.stm_json.specs.Outcome.{bad, ◌>>=◌, within}
-use Rattle.stm_json.specs.Elements.{worded, one_of, two_of, three_of, number_up_to}
+use Rattle.stm_json.specs.Elements.{worded, one_of, two_of, three_of, number_up_to, number_in}
 use Rattle.stm_json.proofs.OutcomeLemmas.{bind_ok, within_ok}
 use Rattle.stm_json.proofs.ElementLemmas.{worded-is, one_of-is, two_of-is, three_of-is}
 use Rattle.stm_program.specs.declared.level.Level.{Level}
 use Rattle.stm_program.specs.declared.level.Level.TheVariants.{SerializableSnapshot, Serializable, RepeatableReads, ReadCommitted}
 use Rattle.stm_program_json.specs.Reading.{program_of}
 use Rattle.stm_program_json.proofs.ProgramLemmas.{program_sound}
-use Rattle.stm_json.specs.Parts.{spelled, SpellsNumberIn, SpellsEach, same}
+use Rattle.stm_json.specs.Parts.{spelled, SpellsEach, same}
 use Rattle.stm_txn_json.specs.Reading.{txn_of}
 use Rattle.stm_txn_json.proofs.GrammarSound.{txn_sound}
 use Rattle.stm_json.proofs.PartLemmas.{on_text-is, list_is, number_is, up_to_is, word_and}
 use Rattle.stm_txn_json.proofs.WordLemmas.{chosen, no_word}
 use Rattle.stm_world.specs.declared.event.WorldEvent.{WorldEvent}
 use Rattle.stm_world.specs.declared.event.WorldEvent.TheVariants.{Start, Step, Txn, Grant, Keep, Revoke, Advance, Compact}
+use Rattle.stm_outcome.specs.Terms.{most_operations}
+use Rattle.stm_texts.specs.declared.scenario.Opening.{Opening}
 use Rattle.stm_texts.specs.declared.scenario.Scenario.{Scenario}
 use Rattle.stm_history.specs.declared.revisions.TheConstants.{HIGHEST_NUMBER, HIGHEST_REVISION}
 use Rattle.stm_texts.specs.declared.events.TheConstants.{HIGHEST_LIMIT, MOST_EVENTS}
 use Rattle.stm_json.specs.declared.limits.TheConstants.{MOST_BYTES}
 use Rattle.stm_json.specs.Bytes.{data_of}
-use Rattle.stm_texts.specs.Grammar.{level_text, SpellsNumbered, SpellsEvent, SpellsElements, SpellsData, SpellsScenario}
+use Rattle.stm_texts.specs.Grammar.{level_text, SpellsNumbered, SpellsEvent, SpellsOpening, SpellsElements, SpellsData, SpellsScenario}
 use Rattle.stm_texts.specs.Reading.{level_named, level_of, start_of, grant_of, number_alone, step_of, keep_of, revoke_of, advance_of, compact_of}
 use Rattle.stm_texts.specs.Reading.{txn_event}
-use Rattle.stm_texts.specs.Reading.{watcher_event, event_worded, event_of, event_after, events_from, begins, opening_of}
+use Rattle.stm_texts.specs.Reading.{watcher_event, event_worded, event_of, event_after, events_from, begins, opening_at, opening_by, opening_of}
 use Rattle.stm_texts.proofs.WatcherSound.{watcher_sound}
 use Rattle.stm_texts.specs.Reading.{scenario_after, scenario_list, scenario_of, scenario_read, scenario_in}
 
@@ -175,7 +176,7 @@ events_sound first before (item d ds) es few h =
 abbrev ElementsRead : Items → Scenario → Type 0
 ElementsRead ds s = SpellsElements ds s.opening s.events × (length s.events ≤ MOST_EVENTS)
 
-abbrev scenario_with : Option ℕ → List WorldEvent → Scenario
+abbrev scenario_with : Option Opening → List WorldEvent → Scenario
 scenario_with opening es = record { opening = opening; events = es }
 
 alone_sound : (ds : Items) (s : Scenario) → (events_from 0 0 ds >>= λ es. Ok (scenario_with None es)) ≡ Ok s → ElementsRead ds s
@@ -196,23 +197,41 @@ begins-is d (Some p) parts w h =
     let is = begins_is p parts (same p.0 (codes "begin")) refl h in
     worded-is d p w ∙ rw (is.0, is.1) refl
 
-opening_sound : (parts : Items) (o : Option Data) (n : ℕ) → one_of parts ≡ o → opening_of o ≡ Ok n
-    → (a : Data) × (parts ≡ items_of (a ∷ [])) × SpellsNumberIn 1 HIGHEST_REVISION a n
-opening_sound parts None n e h = cc
-opening_sound parts (Some a) n e h = (a, one_of-is parts a e, number_is 1 HIGHEST_REVISION a n (within_ok 1 _ _ h))
+opening_sound : (d : Data) (parts : Items) (one : Option Data) (two : Option (Data × Data)) (opening : Opening) → one_of parts ≡ one → two_of parts ≡ two
+    → d ≡ array (item (string (codes "begin")) parts) → opening_by one two ≡ Ok opening → SpellsOpening d opening
+opening_sound d parts None None opening e f is h = cc
+opening_sound d parts (Some a) two opening e f is h =
+    let revision = bind_ok (within 1 (number_in 1 HIGHEST_REVISION a)) _ opening h in
+    let same : opening_at revision.0 most_operations ≡ opening = cc revision.2 in
+    subst (SpellsOpening d) same (inl (
+      a,
+      is ∙ ap (λ (x : Items). array (item (string (codes "begin")) x)) (one_of-is parts a e),
+      number_is 1 HIGHEST_REVISION a revision.0 (within_ok 1 _ _ revision.1),
+      refl,
+    ))
+opening_sound d parts None (Some p) opening e f is h =
+    let revision = bind_ok (within 1 (number_in 1 HIGHEST_REVISION p.0)) _ opening h in
+    let operations = bind_ok (within 2 (number_in 1 most_operations p.1)) _ opening revision.2 in
+    let same : opening_at revision.0 operations.0 ≡ opening = cc operations.2 in
+    subst (SpellsOpening d) same (inr (
+      p.0,
+      p.1,
+      is ∙ ap (λ (x : Items). array (item (string (codes "begin")) x)) (two_of-is parts p f),
+      number_is 1 HIGHEST_REVISION p.0 revision.0 (within_ok 1 _ _ revision.1),
+      number_is 1 most_operations p.1 operations.0 (within_ok 2 _ _ operations.1),
+    ))
 
 after_sound : (d : Data) (ds : Items) (o : Option Items) (s : Scenario) → begins (worded d) ≡ o → scenario_after o (item d ds) ds ≡ Ok s
     → ElementsRead (item d ds) s
 after_sound d ds None s e h = alone_sound (item d ds) s h
 after_sound d ds (Some parts) s e h =
-    let opening = bind_ok (within 0 (opening_of (one_of parts))) _ s h in
+    let opening = bind_ok (within 0 (opening_of parts)) _ s h in
     let events = bind_ok (events_from 1 0 ds) _ s opening.2 in
     let r = events_sound 1 0 ds events.0 (omega arith) events.1 in
-    let o = opening_sound parts (one_of parts) opening.0 refl (within_ok 0 _ _ opening.1) in
-    let begin : d ≡ spelled (codes "begin") (o.0 ∷ []) =
-    begins-is d (worded d) parts refl e ∙ ap (λ (x : Items). array (item (string (codes "begin")) x)) o.1 in
+    let begin : SpellsOpening d opening.0 =
+    opening_sound d parts (one_of parts) (two_of parts) opening.0 refl refl (begins-is d (worded d) parts refl e) (within_ok 0 _ _ opening.1) in
     let is : scenario_with (Some opening.0) events.0 ≡ s = cc events.2 in
-    subst (ElementsRead (item d ds)) is ((o.0, ds, ap (λ (x : Data). item x ds) begin, o.2, r.0), omega (arith, r.1))
+    subst (ElementsRead (item d ds)) is ((d, ds, refl, begin, r.0), omega (arith, r.1))
 
 list_sound : (d : Data) (o : Option Items) (s : Scenario) → as_array d ≡ o → scenario_list o ≡ Ok s → SpellsData d s
 list_sound d None s e h = cc

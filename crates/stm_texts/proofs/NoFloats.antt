@@ -1,12 +1,16 @@
 -- No program, event or scenario is written with a float.
-use Rattle.std.proofs.Common.{◌≡◌, false, ℕ, ℤ, pos, negsuc, List, [], ◌∷◌, ◌++◌, map, Option, Some, None, refl}
+use Rattle.std.proofs.Common.{◌≡◌, Bool, true, false, cond, codes, ℕ, ℤ, pos, negsuc, List, [], ◌∷◌, ◌++◌, map, Option, Some, None, refl}
 use Rattle.serde_json.specs.Data.{Data}
 use Rattle.serde_json.specs.Find.{is_float, of_integer}
 use Rattle.serde_json.specs.View.{items_of}
 use Rattle.serde_json.specs.Written.{has_float, items_have_float}
 use Rattle.stm_program.specs.Syntax.{Expression, Text, Number, Variable, Get, Rev, Arithmetic, Cat, TextOf, NumOf, Condition, Equal, Less, Not, And, Or}
 use Rattle.stm_program.specs.Syntax.{Statement, Set, Put, Del, If, For, Emit, Abort, Block, End, Then, ProgramTree}
-use Rattle.stm_program_json.specs.Writing.{written_expression, written_condition, written_statement, written_statements, written_program}
+use Rattle.stm_program_json.specs.Writing.{written_number, written_expression, written_condition, written_statement, written_statements, written_program}
+use Rattle.std.specs.Prelude.{nat_eq}
+use Rattle.stm_json.specs.Parts.{spelled}
+use Rattle.stm_outcome.specs.Terms.{most_operations}
+use Rattle.stm_texts.specs.declared.scenario.Opening.{Opening}
 use Rattle.stm_texts.specs.declared.scenario.Scenario.{Scenario}
 use Rattle.stm_outcome.specs.declared.txn.Compare.{Compare}
 use Rattle.stm_outcome.specs.declared.txn.Op.{Op}
@@ -94,9 +98,14 @@ event-no_float _ = refl
 
 -- ---- scenarios
 
-elements-no_float : (o : Option ℕ) (es : List WorldEvent) → items_have_float (items_of (opening_elements o ++ map written_event es)) ≡ false
+begin-no_float : (is_most : Bool) (revision operations : ℕ) (es : List WorldEvent) → items_have_float (items_of
+    (spelled (codes "begin") (cond is_most (written_number revision ∷ []) (written_number revision ∷ written_number operations ∷ [])) ∷ map written_event es)) ≡ false
+begin-no_float true revision operations es = each-no_float written_event event-no_float es
+begin-no_float false revision operations es = each-no_float written_event event-no_float es
+
+elements-no_float : (o : Option Opening) (es : List WorldEvent) → items_have_float (items_of (opening_elements o ++ map written_event es)) ≡ false
 elements-no_float None es = each-no_float written_event event-no_float es
-elements-no_float (Some r) es = each-no_float written_event event-no_float es
+elements-no_float (Some o) es = begin-no_float (nat_eq o.operations most_operations) o.revision o.operations es
 
 pub scenario-no_float : (s : Scenario) → has_float (written_scenario s) ≡ false
 scenario-no_float s = elements-no_float s.opening s.events

@@ -6,10 +6,11 @@ use Rattle.stm_json.specs.declared.cause.Cause.TheVariants.{NotJson, Shape, TooL
 use Rattle.stm_json.specs.declared.read_error.BadInput.{BadInput}
 use Rattle.stm_json.specs.Outcome.{step}
 use Rattle.stm_program_json.specs.FirstFault.{first_fault as program_fault}
-use Rattle.stm_json.specs.Faults.{Faults, first_of, wrong, AnyText, WordOf, NumberIn, By, Table, worded_faults, any_number}
+use Rattle.stm_json.specs.Faults.{Faults, first_of, wrong, Sort, AnyText, WordOf, NumberIn, By, Table, sorted_faults, worded_faults, any_number}
 use Rattle.stm_txn_json.specs.FirstFault.{txn_row}
 use Rattle.stm_json.specs.Parts.{same}
 use Rattle.stm_history.specs.declared.revisions.TheConstants.{HIGHEST_REVISION}
+use Rattle.stm_outcome.specs.Terms.{most_operations}
 use Rattle.stm_texts.specs.declared.events.TheConstants.{HIGHEST_LIMIT, MOST_EVENTS}
 use Rattle.stm_json.specs.declared.limits.TheConstants.{MOST_BYTES}
 use Rattle.stm_json.specs.Bytes.{data_of}
@@ -56,8 +57,15 @@ events_faults first before (item d ds) = event_faults (step (first + before)) be
 
 -- ---- scenarios
 
-abbrev pub opening_table : Table
-opening_table = (codes "begin", NumberIn 1 HIGHEST_REVISION ∷ []) ∷ []
+-- a revision, and behind it a limit where there are two parts
+abbrev pub opening_sorts : Items → List Sort
+opening_sorts (item r (item o no_items)) = NumberIn 1 HIGHEST_REVISION ∷ NumberIn 1 most_operations ∷ []
+opening_sorts other = NumberIn 1 HIGHEST_REVISION ∷ []
+
+-- the faults of an array of the word begin
+abbrev pub opening_faults : List ℕ → Data → Faults
+opening_faults p (array (item (string w) ds)) = sorted_faults p (Some (opening_sorts ds)) ds
+opening_faults p _ = wrong p Shape
 
 -- an array that begins with the word begin
 abbrev pub is_opening : Data → Bool
@@ -67,7 +75,7 @@ is_opening _ = false
 abbrev pub elements_faults : Items → Faults
 elements_faults no_items = []
 elements_faults (item d ds) =
-    if is_opening d then worded_faults opening_table (step 0) d ++ events_faults 1 0 ds else events_faults 0 0 (item d ds)
+    if is_opening d then opening_faults (step 0) d ++ events_faults 1 0 ds else events_faults 0 0 (item d ds)
 
 abbrev pub data_faults : Option Data → Faults
 data_faults None = wrong [] NotJson

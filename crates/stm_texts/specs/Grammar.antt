@@ -1,5 +1,5 @@
 -- Which bytes spell which scenario: the grammar, apart from reading.
-use Rattle.std.specs.Prelude.{◌≡◌, ℕ, ◌≤◌, List, [], ◌∷◌, length, Option, Some, None, codes}
+use Rattle.std.specs.Prelude.{◌≡◌, ◌⊎◌, ℕ, ◌≤◌, List, [], ◌∷◌, length, Option, Some, None, codes}
 use Rattle.serde_json.specs.Data.{Data, string, array, Items, item}
 use Rattle.stm_program.specs.Limits.{Fits}
 use Rattle.stm_program.specs.declared.level.Level.{Level}
@@ -9,6 +9,8 @@ use Rattle.stm_json.specs.Parts.{spelled, SpellsNumberIn, SpellsEach}
 use Rattle.stm_txn_json.specs.Grammar.{SpellsTxn}
 use Rattle.stm_world.specs.declared.event.WorldEvent.{WorldEvent}
 use Rattle.stm_world.specs.declared.event.WorldEvent.TheVariants.{Start, Step, Txn, Grant, Keep, Revoke, Advance, Compact, WatchKey, WatchRange, Poll, Cancel}
+use Rattle.stm_outcome.specs.Terms.{most_operations}
+use Rattle.stm_texts.specs.declared.scenario.Opening.{Opening}
 use Rattle.stm_texts.specs.declared.scenario.Scenario.{Scenario}
 use Rattle.stm_history.specs.declared.revisions.TheConstants.{HIGHEST_NUMBER, HIGHEST_REVISION}
 use Rattle.stm_texts.specs.declared.events.TheConstants.{HIGHEST_LIMIT, MOST_EVENTS}
@@ -46,11 +48,17 @@ SpellsEvent d (Poll watcher most) = (a : Data) × (b : Data) × (d ≡ spelled (
     × SpellsNumberIn 0 HIGHEST_NUMBER a watcher × SpellsNumberIn 0 HIGHEST_NUMBER b most
 SpellsEvent d (Cancel watcher) = SpellsNumbered (codes "cancel") d watcher
 
--- events one after the other, alone or behind an array of the word begin and the opening revision
-abbrev pub SpellsElements : Items → Option ℕ → List WorldEvent → Type 0
+-- the revision that a store opens at, alone where it takes as many operations as any, or with the most that it takes
+abbrev pub SpellsOpening : Data → Opening → Type 0
+SpellsOpening d opening =
+    ((a : Data) × (d ≡ spelled (codes "begin") (a ∷ [])) × SpellsNumberIn 1 HIGHEST_REVISION a opening.revision × (opening.operations ≡ most_operations))
+    ⊎ ((a : Data) × (b : Data) × (d ≡ spelled (codes "begin") (a ∷ b ∷ [])) × SpellsNumberIn 1 HIGHEST_REVISION a opening.revision
+    × SpellsNumberIn 1 most_operations b opening.operations)
+
+-- events one after the other, alone or behind an array of the word begin and what the store opens with
+abbrev pub SpellsElements : Items → Option Opening → List WorldEvent → Type 0
 SpellsElements ds None es = SpellsEach SpellsEvent ds es
-SpellsElements ds (Some opening) es = (a : Data) × (rest : Items) × (ds ≡ item (spelled (codes "begin") (a ∷ [])) rest)
-    × SpellsNumberIn 1 HIGHEST_REVISION a opening × SpellsEach SpellsEvent rest es
+SpellsElements ds (Some opening) es = (a : Data) × (rest : Items) × (ds ≡ item a rest) × SpellsOpening a opening × SpellsEach SpellsEvent rest es
 
 -- an array of not too many events
 abbrev pub SpellsData : Data → Scenario → Type 0

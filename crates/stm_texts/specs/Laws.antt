@@ -3,7 +3,7 @@ use Rattle.std.specs.Prelude.{◌≡◌, ◌≤◌, List, [], ◌∷◌, length,
 use Rattle.serde_json.specs.Data.{Data}
 use Rattle.serde_json.specs.Written.{has_float}
 use Rattle.stm_texts.specs.Grammar.{SpellsEvent, SpellsData}
-use Rattle.stm_texts.specs.Reading.{IsOpening}
+use Rattle.stm_texts.specs.Opens.{IsOpening}
 use Rattle.stm_texts.specs.declared.events.TheConstants.{MOST_EVENTS}
 use Rattle.stm_texts.specs.declared.scenario.Scenario.{Scenario}
 use Rattle.stm_world.specs.declared.event.WorldEvent.{WorldEvent}

@@ -1,5 +1,6 @@
 pub mod FirstFault
 pub mod Grammar
+pub mod Opens
 pub mod Reading
 pub mod Writing
 pub mod Laws

@@ -1,6 +1,6 @@
 -- Reading a scenario: the value that a text spells, or the first fault. A value is looked at before its elements, and
 -- these from the first to the last.
-use Rattle.std.specs.Prelude.{ℕ, suc, ◌+◌, ◌≤◌, List, [], ◌∷◌, length, Option, Some, None, Ok, if◌then◌else◌, nat_lt, codes}
+use Rattle.std.specs.Prelude.{ℕ, suc, ◌+◌, List, [], ◌∷◌, length, Option, Some, None, Ok, if◌then◌else◌, nat_lt, codes}
 use Rattle.serde_json.specs.Data.{Data, Items, no_items, item}
 use Rattle.serde_json.specs.Find.{as_str, as_array}
 use Rattle.stm_json.specs.Elements.{worded, one_of, two_of, three_of, number_up_to, number_in}
@@ -15,6 +15,8 @@ use Rattle.stm_world.specs.declared.event.WorldEvent.TheVariants.{Start, Step, T
 use Rattle.stm_json.specs.declared.cause.Cause.TheVariants.{NotJson, Shape, TooLong, TooMany}
 use Rattle.stm_texts.specs.declared.events.TheConstants.{HIGHEST_LIMIT, MOST_EVENTS}
 use Rattle.stm_json.specs.declared.limits.TheConstants.{MOST_BYTES}
+use Rattle.stm_outcome.specs.Terms.{most_operations}
+use Rattle.stm_texts.specs.declared.scenario.Opening.{Opening}
 use Rattle.stm_texts.specs.declared.scenario.Scenario.{Scenario}
 use Rattle.stm_json.specs.Bytes.{data_of}
 use Rattle.stm_json.specs.Outcome.{Outcome, bad, ◌>>=◌, within}
@@ -128,28 +130,33 @@ events_from first before no_items = Ok []
 events_from first before (item d ds) =
     within (first + before) (event_after before d) >>= λ e. events_from first (suc before) ds >>= λ es. Ok (e ∷ es)
 
--- ---- the opening revision
+-- ---- the opening
 
 -- an array that begins with the word begin
 abbrev pub begins : Option (List ℕ × Items) → Option Items
 begins None = None
 begins (Some p) = if same p.0 (codes "begin") then Some p.1 else None
 
-abbrev pub opening_of : Option Data → Outcome ℕ
-opening_of None = bad Shape
-opening_of (Some d) = within 1 (number_in 1 HIGHEST_REVISION d)
+abbrev pub opening_at : ℕ → ℕ → Opening
+opening_at revision operations = record { revision = revision; operations = operations }
 
--- what an opening revision is, if there is one
-abbrev pub IsOpening : Option ℕ → Type 0
-IsOpening None = Unit {0}
-IsOpening (Some r) = (1 ≤ r) × (r ≤ HIGHEST_REVISION)
+-- a revision alone, whose limit is the highest, or a revision and a limit
+abbrev pub opening_by : Option Data → Option (Data × Data) → Outcome Opening
+opening_by (Some r) two = within 1 (number_in 1 HIGHEST_REVISION r) >>= λ revision. Ok (opening_at revision most_operations)
+opening_by None (Some p) =
+    within 1 (number_in 1 HIGHEST_REVISION p.0) >>= λ revision. within 2 (number_in 1 most_operations p.1) >>= λ operations. Ok
+    (opening_at revision operations)
+opening_by None None = bad Shape
+
+abbrev pub opening_of : Items → Outcome Opening
+opening_of ds = opening_by (one_of ds) (two_of ds)
 
 -- ---- scenarios
 
--- with an opening revision as the first element, and without
+-- with what it opens with as the first element, and without
 abbrev pub scenario_after : Option Items → Items → Items → Outcome Scenario
 scenario_after (Some ds) all rest =
-    within 0 (opening_of (one_of ds)) >>= λ opening. events_from 1 0 rest >>= λ es. Ok (record { opening = Some opening; events = es })
+    within 0 (opening_of ds) >>= λ opening. events_from 1 0 rest >>= λ es. Ok (record { opening = Some opening; events = es })
 scenario_after None all rest = events_from 0 0 all >>= λ es. Ok (record { opening = None; events = es })
 
 abbrev pub scenario_list : Option Items → Outcome Scenario

@@ -1,9 +1,11 @@
 -- The one spelling of events and scenarios.
-use Rattle.std.specs.Prelude.{ℕ, List, [], ◌∷◌, ◌++◌, map, Option, Some, None, codes}
+use Rattle.std.specs.Prelude.{ℕ, nat_eq, if◌then◌else◌, List, [], ◌∷◌, ◌++◌, map, Option, Some, None, codes}
 use Rattle.serde_json.specs.Data.{Data, string, array}
 use Rattle.serde_json.specs.View.{items_of}
 use Rattle.stm_program_json.specs.Writing.{written_number, written_program}
 use Rattle.stm_texts.specs.Grammar.{level_text}
+use Rattle.stm_outcome.specs.Terms.{most_operations}
+use Rattle.stm_texts.specs.declared.scenario.Opening.{Opening}
 use Rattle.stm_texts.specs.declared.scenario.Scenario.{Scenario}
 use Rattle.stm_outcome.specs.declared.txn.Compare.{Compare}
 use Rattle.stm_outcome.specs.declared.txn.Op.{Op}
@@ -71,14 +73,18 @@ written_event (Cancel watcher) = spelled (codes "cancel") (written_number watche
 
 -- ---- scenarios
 
--- the element that names the opening revision
-abbrev pub written_opening : ℕ → Data
-written_opening r = spelled (codes "begin") (written_number r ∷ [])
+-- the element that says what the store opens with: the limit is left out where it is the highest
+abbrev pub opening_parts : Opening → List Data
+opening_parts o =
+    if nat_eq o.operations most_operations then written_number o.revision ∷ [] else written_number o.revision ∷ written_number o.operations ∷ []
 
--- it stands first, where one is named
-abbrev pub opening_elements : Option ℕ → List Data
+abbrev pub written_opening : Opening → Data
+written_opening o = spelled (codes "begin") (opening_parts o)
+
+-- it stands first, where there is one
+abbrev pub opening_elements : Option Opening → List Data
 opening_elements None = []
-opening_elements (Some r) = written_opening r ∷ []
+opening_elements (Some o) = written_opening o ∷ []
 
 abbrev pub written_scenario : Scenario → Data
 written_scenario s = array (items_of (opening_elements s.opening ++ map written_event s.events))

@@ -15,7 +15,7 @@ mod written_txns;
 pub use events::MOST_EVENTS;
 pub use laws::written_scenarios_spell;
 pub use reading::read_scenario;
-pub use scenario::Scenario;
+pub use scenario::{Opening, Scenario, opens_with};
 pub use stm_history::{Sequence, Text};
 pub use stm_json::{BadInput, Cause, MOST_BYTES, ReadError};
 pub use stm_world::WorldEvent;

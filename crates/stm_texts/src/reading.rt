@@ -1,19 +1,25 @@
 //! Reading scenarios.
-ghost use Rattle.std.specs.Prelude.{◌≡◌, ◌≤◌, Ok as OkOf, None, option_map, IfOk, MatchResult};
+ghost use Rattle.std.specs.Prelude.{◌≡◌, ◌≤◌, Ok as OkOf, None, Some, option_map, IfOk, MatchResult};
 ghost use Rattle.serde_json.specs.View.{view, items_view};
-ghost use Rattle.stm_json.specs.Elements.{worded, one_of};
+ghost use Rattle.stm_json.specs.Elements.{worded, number_in};
+ghost use Rattle.stm_json.specs.Outcome.{within as within_outcome};
+ghost use Rattle.stm_outcome.specs.Terms.{most_operations};
+ghost use Rattle.stm_texts.specs.Opens.{IsOpening};
 ghost use Rattle.stm_json.specs.Tells.{Tells};
 ghost use Rattle.stm_texts.specs.FirstFault.{first_fault};
 ghost use Rattle.stm_json.specs.Faults.{IsFirstFault};
 ghost use Rattle.stm_texts.specs.Grammar.{SpellsScenario};
-ghost use Rattle.stm_texts.specs.Reading.{begins, opening_of, scenario_of, scenario_in, IsOpening};
+ghost use Rattle.stm_texts.specs.Reading.{begins, opening_of, scenario_of, scenario_in};
 
 use crate::events::events;
-use crate::scenario::Scenario;
+use crate::scenario::{Opening, Scenario};
 use serde_json::Value;
 use std::alloc::Global;
 use stm_history::{HIGHEST_REVISION, Sequence};
-use stm_json::{Cause, MOST_BYTES, ReadError, fault, number_between, one, within, worded_array};
+use stm_json::{
+    Cause, MOST_BYTES, ReadError, fault, number_between, one, two, within, worded_array,
+};
+use stm_outcome::MOST_OPERATIONS;
 
 /// What stands behind the word `begin`, where an array begins with it.
 fn beginning(value: &Value) -> Option<&[Value]>
@@ -27,17 +33,47 @@ fn beginning(value: &Value) -> Option<&[Value]>
     }
 }
 
-/// The opening revision.
-fn opening(alloc: Global, elements: &[Value]) -> Result<u64, ReadError>
-    ensures value { Tells (λ n. n) result (opening_of (one_of (items_view elements.now))) }
+/// The revision that a store opens at, which stands at index 1.
+fn opening_revision(alloc: Global, value: &Value) -> Result<u64, ReadError>
+    ensures value { Tells (λ n. n) result (within_outcome 1 (number_in 1 HIGHEST_REVISION (view value.now))) }
     ensures range { IfOk result (λ n. (1 ≤ n) × (n ≤ HIGHEST_REVISION)) }
 {
-    let Some(first) = one(elements) else {
-        return Err(fault(alloc, Cause::Shape));
-    };
-    let number = number_between(alloc, 1, HIGHEST_REVISION, first);
+    let number = number_between(alloc, 1, HIGHEST_REVISION, value);
     let number = within(alloc, 1, number)?;
     Ok(number)
+}
+
+/// The most operations that it takes, which stand at index 2.
+fn opening_operations(alloc: Global, value: &Value) -> Result<usize, ReadError>
+    ensures value { Tells (λ n. n) result (within_outcome 2 (number_in 1 most_operations (view value.now))) }
+    ensures range { IfOk result (λ n. (1 ≤ n) × (n ≤ most_operations)) }
+{
+    let number = number_between(alloc, 1, MOST_OPERATIONS as u64, value);
+    let number = within(alloc, 2, number)?;
+    Ok(number as usize)
+}
+
+/// What the store opens with: a revision, or a revision and a limit.
+fn opening(alloc: Global, elements: &[Value]) -> Result<Opening, ReadError>
+    ensures value { Tells (λ o. o) result (opening_of (items_view elements.now)) }
+    ensures range { IfOk result (λ o. IsOpening (Some o)) }
+{
+    if let Some(revision) = one(elements) {
+        let revision = opening_revision(alloc, revision)?;
+        return Ok(Opening {
+            revision,
+            operations: MOST_OPERATIONS,
+        });
+    }
+    let Some((revision, operations)) = two(elements) else {
+        return Err(fault(alloc, Cause::Shape));
+    };
+    let revision = opening_revision(alloc, revision)?;
+    let operations = opening_operations(alloc, operations)?;
+    Ok(Opening {
+        revision,
+        operations,
+    })
 }
 
 /// The scenario that a value spells.
@@ -96,7 +132,8 @@ fn scenario_of_bytes(alloc: Global, bytes: &[u8]) -> Result<Scenario, ReadError>
 }
 
 /// The scenario that bytes spell, as JSON in UTF-8: an array of events, whose first element may be
-/// `["begin",R]` with the opening revision, from 1 to 9223372036854775806.
+/// `["begin",R]` with the opening revision, from 1 to 9223372036854775806, or `["begin",R,OPS]` with the most operations
+/// of each list of a transaction, too, from 1 to 128.
 ///
 /// It fails by the first fault of the text, with its place and cause: more than 16777216 bytes are too
 /// long, whatever they are; then bytes that are not JSON; then the first fault in reading order, a value

@@ -1,5 +1,5 @@
 //! Writing events.
-ghost use Rattle.std.specs.Prelude.{◌≡◌, [], ◌∷◌, false, IfOk};
+ghost use Rattle.std.specs.Prelude.{◌≡◌, [], ◌∷◌, false, IfOk, codes};
 ghost use Rattle.serde_json.specs.View.{view};
 ghost use Rattle.serde_json.specs.Written.{has_float};
 ghost use Rattle.stm_program_json.specs.Writing.{written_number};
@@ -8,9 +8,11 @@ ghost use Rattle.stm_json.specs.Parts.{spelled};
 ghost use Rattle.stm_world.specs.declared.event.WorldEvent.TheVariants.{Start, Grant, WatchKey, WatchRange, Poll};
 ghost use Rattle.stm_texts.specs.Writing.{written_event, written_opening};
 
+use crate::scenario::Opening;
 use crate::written_txns::txn_json;
 use serde_json::{Value as Json, json};
 use std::alloc::{AllocError, Global};
+use stm_outcome::MOST_OPERATIONS;
 use stm_program::{Level, Program};
 use stm_program_json::write_program;
 use stm_world::WorldEvent;
@@ -114,9 +116,20 @@ pub fn event_json(alloc: Global, event: &WorldEvent) -> Result<Json, AllocError>
     event_value(alloc, event)
 }
 
-/// The first element of a scenario that names its opening revision, as a JSON value. It fails where a growth was refused.
-pub fn opening_json(alloc: Global, revision: u64) -> Result<Json, AllocError>
-    ensures { IfOk result (λ v. view v ≡ written_opening revision) }
+/// The array of the word of an opening, a revision and a limit.
+fn limited_json(alloc: Global, revision: u64, operations: u64) -> Result<Json, AllocError>
+    ensures { IfOk result (λ v. view v ≡ spelled (codes "begin") (written_number revision ∷ written_number operations ∷ [])) }
 {
-    numbered(alloc, "begin", revision)
+    let value = json!(in alloc; ["begin", revision, operations])?;
+    Ok(value)
+}
+
+/// The first element of a scenario that says what its store opens with, as a JSON value. It fails where a growth was refused.
+pub fn opening_json(alloc: Global, opening: Opening) -> Result<Json, AllocError>
+    ensures { IfOk result (λ v. view v ≡ written_opening opening) }
+{
+    if opening.operations == MOST_OPERATIONS {
+        return numbered(alloc, "begin", opening.revision);
+    }
+    limited_json(alloc, opening.revision, opening.operations as u64)
 }

@@ -8,9 +8,10 @@ use Rattle.stm_job.specs.declared.job.Job.{Job}
 use Rattle.stm_jobs.specs.Outcomes.{Tally, Counts}
 use Rattle.stm_jobs.proofs.TallyLemmas.{no_text}
 use Rattle.stm_threading.specs.Running.{AreCounted, HasCounted, IsOutcome}
+use Rattle.stm_txn.specs.Standing.{Setup}
 
 -- none was made
-pub none_made : (start : ℕ) (calls : List WorldEvent) (jobs : List Job) (tally : Tally) → tally ≡ [] → AreCounted 0 start calls jobs tally
+pub none_made : (start : Setup) (calls : List WorldEvent) (jobs : List Job) (tally : Tally) → tally ≡ [] → AreCounted 0 start calls jobs tally
 none_made start calls jobs tally none = record {
   texts = [];
   many = refl;
@@ -19,12 +20,12 @@ none_made start calls jobs tally none = record {
 }
 
 -- the numbers in the tally add up to how many were made
-pub all_made : (runs start : ℕ) (calls : List WorldEvent) (jobs : List Job) (tally : Tally) → AreCounted runs start calls jobs tally
+pub all_made : (runs : ℕ) (start : Setup) (calls : List WorldEvent) (jobs : List Job) (tally : Tally) → AreCounted runs start calls jobs tally
     → sum (values_of tally) ≡ runs
 all_made runs start calls jobs tally made = made.counted.total ∙ made.many
 
 -- one more was made
-pub one_made : (runs start : ℕ) (calls : List WorldEvent) (jobs : List Job) (before after : Tally) → AreCounted runs start calls jobs before
+pub one_made : (runs : ℕ) (start : Setup) (calls : List WorldEvent) (jobs : List Job) (before after : Tally) → AreCounted runs start calls jobs before
     → HasCounted start calls jobs before after → AreCounted (runs + 1) start calls jobs after
 one_made runs start calls jobs before after made more = record {
   texts = made.texts ++ more.0 ∷ [];

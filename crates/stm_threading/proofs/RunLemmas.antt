@@ -28,6 +28,7 @@ use Rattle.stm_threading.specs.declared.shown.Printing.{Printing}
 use Rattle.stm_threading.specs.declared.shown.Shown.{Shown}
 use Rattle.stm_threading.specs.Running.{IsTextOf, IsOfRun, IsPrintedOfJobs, IsBrokenOffFor, IsBrokenOff, IsBrokenOffOf, IsPrintedOf}
 use Rattle.stm_threading.specs.Running.{fault_told, fault_read, judged, Answers, Writes, Does}
+use Rattle.stm_txn.specs.Standing.{Setup}
 
 -- what follows of two things that hold of a value holds of it
 pub of_both : {T E : Type 0} (r : Result T E) (P Q R : T → Type 0) → IfOk r P → IfOk r Q → ((x : T) → P x → Q x → R x) → IfOk r R
@@ -37,7 +38,7 @@ of_both (Err e) P Q R p q follows = tt
 -- ---- the run
 
 -- the text is of the hall that the jobs were run to, from the one over this store
-pub is_of_run : (shown : Shown) (start : ℕ) (calls : List WorldEvent) (jobs : List Job) (text : List ℕ) (standing : Standing) (ends : List JobEnd)
+pub is_of_run : (shown : Shown) (start : Setup) (calls : List WorldEvent) (jobs : List Job) (text : List ℕ) (standing : Standing) (ends : List JobEnd)
     (attempts : List ℕ) (committed : ℕ) (before after : HallState) → standing ≡ store_after start calls → before ≡ made_over standing
     → RanTo before jobs ends attempts committed after → IsTextOf shown ends attempts (length jobs) committed after text
     → IsOfRun shown start calls jobs ends text
@@ -50,7 +51,7 @@ is_of_run shown start calls jobs text standing ends attempts committed before af
 }
 
 -- a run from the hall over this store that was broken off is told by its cause
-pub broken_off : (start : ℕ) (calls : List WorldEvent) (jobs : List Job) (fault : JobsFault) (cause : FaultCause) (standing : Standing) (ends : List JobEnd)
+pub broken_off : (start : Setup) (calls : List WorldEvent) (jobs : List Job) (fault : JobsFault) (cause : FaultCause) (standing : Standing) (ends : List JobEnd)
     (before after : HallState) → standing ≡ store_after start calls → before ≡ made_over standing
     → BrokeOff before jobs cause ends after → fault ≡ fault_told cause → IsBrokenOff start calls jobs fault
 broken_off start calls jobs fault cause standing ends before after stands made broke told =
@@ -67,12 +68,12 @@ broken_off start calls jobs fault cause standing ends before after stands made b
     by_cause (AtFault job) broken = broken
 
 -- one that was not is told as want of memory
-pub no_room : (start : ℕ) (calls : List WorldEvent) (jobs : List Job) (fault : JobsFault) → fault ≡ OutOfMemory → IsBrokenOff start calls jobs fault
+pub no_room : (start : Setup) (calls : List WorldEvent) (jobs : List Job) (fault : JobsFault) → fault ≡ OutOfMemory → IsBrokenOff start calls jobs fault
 no_room start calls jobs fault told = subst (λ (f : JobsFault). IsBrokenOff start calls jobs f) (sym told) tt
 
 -- ---- what is answered
 
-broken_at : (s : Scenario) (sorted : Sorted) (start : ℕ) (calls : List WorldEvent) (jobs : List Job) (cause : FaultCause) → accepted s ≡ Ok sorted
+broken_at : (s : Scenario) (sorted : Sorted) (start : Setup) (calls : List WorldEvent) (jobs : List Job) (cause : FaultCause) → accepted s ≡ Ok sorted
     → start ≡ opening_of s → calls ≡ sorted.calls → map task_of jobs ≡ sorted.tasks → IsBrokenOffFor start calls jobs cause → IsBrokenOffOf (Ok s) cause
 broken_at s sorted start calls jobs cause is_accepted opens called are_its broken = (
   s,
@@ -89,7 +90,7 @@ broken_at s sorted start calls jobs cause is_accepted opens called are_its broke
 
 module _ (printing : Printing) where
   -- of a scenario that was accepted: the lines of a run of its jobs, or a run that was broken off
-  pub answers_of : (s : Scenario) (sorted : Sorted) (start : ℕ) (calls : List WorldEvent) (jobs : List Job) (result : Result Printed JobsFault)
+  pub answers_of : (s : Scenario) (sorted : Sorted) (start : Setup) (calls : List WorldEvent) (jobs : List Job) (result : Result Printed JobsFault)
       → accepted s ≡ Ok sorted → start ≡ opening_of s → calls ≡ sorted.calls → map task_of jobs ≡ sorted.tasks
       → IfOk result (λ p. IsPrintedOfJobs printing start calls jobs p.ends (string_bytes p.text)) → IfErr result (IsBrokenOff start calls jobs)
       → Answers printing (Ok s) result

@@ -26,6 +26,7 @@ use Rattle.stm_threading.specs.declared.shown.Shown.{Shown}
 use Rattle.stm_threading.specs.declared.shown.Shown.TheVariants.{Values, Ends, Outcome}
 use Rattle.stm_threading.specs.declared.shown.Printing.{Printing}
 use Rattle.stm_threading.specs.declared.shown.Printing.TheVariants.{Values as PrintValues, Ends as PrintEnds, Outcomes as PrintOutcomes}
+use Rattle.stm_txn.specs.Standing.{Setup}
 
 -- ---- the run
 
@@ -35,9 +36,9 @@ IsTextOf Values ends attempts jobs committed after text = AreLinesOf false ends 
 IsTextOf Ends ends attempts jobs committed after text = AreLinesOf true ends attempts jobs committed after.standing.history text
 IsTextOf Outcome ends attempts jobs committed after text = IsFrontOf ends after text
 
--- The text is that of a run of these jobs from a hall over the store that opens at a revision and has taken these calls: what stands in it is the hall that
+-- The text is that of a run of these jobs from a hall over the store that opens so and has taken these calls: what stands in it is the hall that
 -- the run came to, and each job has its end there.
-pub record IsOfRun (shown : Shown) (start : ℕ) (calls : List WorldEvent) (jobs : List Job) (ends : List JobEnd) (text : List ℕ) : Type 0 where
+pub record IsOfRun (shown : Shown) (start : Setup) (calls : List WorldEvent) (jobs : List Job) (ends : List JobEnd) (text : List ℕ) : Type 0 where
   pub attempts : List ℕ
   pub committed : ℕ
   pub after : HallState
@@ -45,39 +46,39 @@ pub record IsOfRun (shown : Shown) (start : ℕ) (calls : List WorldEvent) (jobs
   pub shows : IsTextOf shown ends attempts (length jobs) committed after text
 
 -- the text is the front of the line of the outcome of such a run
-abbrev pub IsOutcome : ℕ → List WorldEvent → List Job → List ℕ → Type 0
+abbrev pub IsOutcome : Setup → List WorldEvent → List Job → List ℕ → Type 0
 IsOutcome start calls jobs text = (ends : List JobEnd) × IsOfRun Outcome start calls jobs ends text
 
 -- one more text was counted, that of such a run
-abbrev pub HasCounted : ℕ → List WorldEvent → List Job → Tally → Tally → Type 0
+abbrev pub HasCounted : Setup → List WorldEvent → List Job → Tally → Tally → Type 0
 HasCounted start calls jobs before after =
     (text : List ℕ) × IsOutcome start calls jobs text
     × ((texts : List (List ℕ)) → Counts texts before → Counts (texts ++ text ∷ []) after)
 
 -- The tally is that of so many texts, each of them that of such a run. That a run was made for each is the body's matter: two of them may be of
 -- one run.
-pub record AreCounted (runs start : ℕ) (calls : List WorldEvent) (jobs : List Job) (tally : Tally) : Type 0 where
+pub record AreCounted (runs : ℕ) (start : Setup) (calls : List WorldEvent) (jobs : List Job) (tally : Tally) : Type 0 where
   pub texts : List (List ℕ)
   pub many : length texts ≡ runs
   pub each : All (IsOutcome start calls jobs) texts
   pub counted : Counts texts tally
 
 -- what is printed of these jobs: of a run of them, in which they ended so, or what so many runs came to, of which no end is told
-abbrev pub IsPrintedOfJobs : Printing → ℕ → List WorldEvent → List Job → List JobEnd → List ℕ → Type 0
+abbrev pub IsPrintedOfJobs : Printing → Setup → List WorldEvent → List Job → List JobEnd → List ℕ → Type 0
 IsPrintedOfJobs PrintValues start calls jobs ends text = IsOfRun Values start calls jobs ends text
 IsPrintedOfJobs PrintEnds start calls jobs ends text = IsOfRun Ends start calls jobs ends text
 IsPrintedOfJobs (PrintOutcomes runs) start calls jobs ends text =
     (ends ≡ []) × (tally : Tally) × AreCounted runs start calls jobs tally × (text ≡ tally_text tally runs)
 
 -- the run of these jobs, from such a hall, was broken off for this cause
-pub record IsBrokenOffFor (start : ℕ) (calls : List WorldEvent) (jobs : List Job) (cause : FaultCause) : Type 0 where
+pub record IsBrokenOffFor (start : Setup) (calls : List WorldEvent) (jobs : List Job) (cause : FaultCause) : Type 0 where
   pub ends : List JobEnd
   pub after : HallState
   pub broke : BrokeOff (made_over (store_after start calls)) jobs cause ends after
 
 -- What is told of a run of these jobs of which nothing is printed: the cause for which it was broken off. Memory may be wanted before the run and after
 -- it, too.
-abbrev pub IsBrokenOff : ℕ → List WorldEvent → List Job → JobsFault → Type 0
+abbrev pub IsBrokenOff : Setup → List WorldEvent → List Job → JobsFault → Type 0
 IsBrokenOff start calls jobs OutOfMemory = Unit {0}
 IsBrokenOff start calls jobs Spawn = IsBrokenOffFor start calls jobs NoThread
 IsBrokenOff start calls jobs (Audit job) = IsBrokenOffFor start calls jobs (AtFault job)

@@ -1,8 +1,9 @@
 //! From the bytes of a source to what is printed of its jobs in a sink.
-ghost use Rattle.std.specs.Prelude.{◌≡◌, ◌≤◌, ◌+◌, ℕ, List, false, length, sum, string_bytes, Ok, IfOk, IfErr, OnOk};
+ghost use Rattle.std.specs.Prelude.{◌≡◌, ◌≤◌, ◌+◌, List, false, length, sum, string_bytes, Some, Ok, IfOk, IfErr, OnOk};
 ghost use Rattle.stm_devices.specs.declared.transfer.TheConstants.{MOST_READ};
-ghost use Rattle.stm_history.specs.declared.revisions.TheConstants.{HIGHEST_REVISION};
-ghost use Rattle.stm_texts.specs.Reading.{IsOpening, scenario_in};
+ghost use Rattle.stm_texts.specs.Reading.{scenario_in};
+ghost use Rattle.stm_texts.specs.Opens.{IsOpening, as_setup};
+ghost use Rattle.stm_txn.specs.Standing.{Setup};
 ghost use Rattle.stm_world.specs.declared.event.WorldEvent.{WorldEvent};
 ghost use Rattle.stm_threading.specs.declared.running.JobsFault.TheVariants.{OutOfMemory};
 ghost use Rattle.stm_workers.specs.declared.run.TheConstants.{MOST_WORKERS};
@@ -23,7 +24,7 @@ use stm_history::{Sequence, Text};
 use stm_job::{FaultCause, Gathered, Job, JobEnd, RunFault};
 use stm_jobs::{accept, count_one, front_of, lines, open_store, tally_text};
 use stm_json::{BadInput, ReadError};
-use stm_texts::{Scenario, read_scenario};
+use stm_texts::{Opening, Scenario, opens_with, read_scenario};
 use stm_txn::Store;
 use stm_workers::{NoGate, run_workers};
 use stm_world::WorldEvent;
@@ -153,9 +154,9 @@ fn text_on<R: Threads + Wait + Sync>(
     shown: Shown,
 ) -> Result<Printed, JobsFault>
     requires { (1 ≤ workers) × (workers ≤ MOST_WORKERS) }
-    ensures shows { IfOk result (λ p. (start : ℕ) (calls : List WorldEvent) → store.standing ≡ store_after start calls
+    ensures shows { IfOk result (λ p. (start : Setup) (calls : List WorldEvent) → store.standing ≡ store_after start calls
         → IsOfRun shown start calls jobs.now p.ends (string_bytes p.text)) }
-    ensures fault { IfErr result (λ fault. (start : ℕ) (calls : List WorldEvent) → store.standing ≡ store_after start calls
+    ensures fault { IfErr result (λ fault. (start : Setup) (calls : List WorldEvent) → store.standing ≡ store_after start calls
         → IsBrokenOff start calls jobs.now fault) }
 {
     match run_workers(rt, alloc, jobs, workers, Hall::new(alloc, store), &NoGate) {
@@ -164,21 +165,22 @@ fn text_on<R: Threads + Wait + Sync>(
     }
 }
 
-/// What is to be shown of a run of these jobs on an empty store at this revision, once these calls of it were made.
+/// What is to be shown of a run of these jobs on an empty store that opens with this, once these calls of it were made.
 fn run_once<R: Threads + Wait + Sync>(
     rt: &R,
     alloc: Global,
-    start: u64,
+    opening: Opening,
     calls: &[WorldEvent],
     jobs: &[Job],
     workers: usize,
     shown: Shown,
 ) -> Result<Printed, JobsFault>
-    requires { (1 ≤ workers) × (workers ≤ MOST_WORKERS) × (1 ≤ start) × (start ≤ HIGHEST_REVISION) }
-    ensures shows { IfOk result (λ p. IsOfRun shown start calls.now jobs.now p.ends (string_bytes p.text)) }
-    ensures fault { IfErr result (IsBrokenOff start calls.now jobs.now) }
+    requires workers { (1 ≤ workers) × (workers ≤ MOST_WORKERS) }
+    requires opening { IsOpening (Some opening) }
+    ensures shows { IfOk result (λ p. IsOfRun shown (as_setup opening) calls.now jobs.now p.ends (string_bytes p.text)) }
+    ensures fault { IfErr result (IsBrokenOff (as_setup opening) calls.now jobs.now) }
 {
-    match open_store(alloc, start, calls) {
+    match open_store(alloc, opening, calls) {
         Ok(store) => text_on(rt, alloc, store, jobs, workers, shown),
         Err(_) => Err(JobsFault::OutOfMemory),
     }
@@ -188,19 +190,20 @@ fn run_once<R: Threads + Wait + Sync>(
 fn count_run<R: Threads + Wait + Sync>(
     rt: &R,
     alloc: Global,
-    start: u64,
+    opening: Opening,
     calls: &[WorldEvent],
     jobs: &[Job],
     workers: usize,
     tally: &mut BTreeMap<Text, u64>,
     made: u32,
 ) -> Result<(), JobsFault>
-    requires workers { (1 ≤ workers) × (workers ≤ MOST_WORKERS) × (1 ≤ start) × (start ≤ HIGHEST_REVISION) }
+    requires workers { (1 ≤ workers) × (workers ≤ MOST_WORKERS) }
+    requires opening { IsOpening (Some opening) }
     requires made { sum (values_of tally.old.entries) ≡ made }
-    ensures counted { OnOk result (HasCounted start calls.now jobs.now tally.old.entries tally.new.entries) }
-    ensures fault { IfErr result (IsBrokenOff start calls.now jobs.now) }
+    ensures counted { OnOk result (HasCounted (as_setup opening) calls.now jobs.now tally.old.entries tally.new.entries) }
+    ensures fault { IfErr result (IsBrokenOff (as_setup opening) calls.now jobs.now) }
 {
-    let front = match run_once(rt, alloc, start, calls, jobs, workers, Shown::Outcome) {
+    let front = match run_once(rt, alloc, opening, calls, jobs, workers, Shown::Outcome) {
         Ok(printed) => printed.text,
         Err(fault) => return Err(fault),
     };
@@ -214,19 +217,20 @@ fn count_run<R: Threads + Wait + Sync>(
 fn count_runs<R: Threads + Wait + Sync>(
     rt: &R,
     alloc: Global,
-    start: u64,
+    opening: Opening,
     calls: &[WorldEvent],
     jobs: &[Job],
     workers: usize,
     runs: u32,
 ) -> Result<BTreeMap<Text, u64>, JobsFault>
-    requires { (1 ≤ workers) × (workers ≤ MOST_WORKERS) × (1 ≤ start) × (start ≤ HIGHEST_REVISION) }
-    ensures counted { IfOk result (λ tally. AreCounted runs start calls.now jobs.now tally.entries) }
-    ensures fault { IfErr result (IsBrokenOff start calls.now jobs.now) }
+    requires workers { (1 ≤ workers) × (workers ≤ MOST_WORKERS) }
+    requires opening { IsOpening (Some opening) }
+    ensures counted { IfOk result (λ tally. AreCounted runs (as_setup opening) calls.now jobs.now tally.entries) }
+    ensures fault { IfErr result (IsBrokenOff (as_setup opening) calls.now jobs.now) }
 {
     let mut tally = BTreeMap::new(alloc);
     for made in 0..runs {
-        match count_run(rt, alloc, start, calls, jobs, workers, &mut tally, made) {
+        match count_run(rt, alloc, opening, calls, jobs, workers, &mut tally, made) {
             Ok(()) => {}
             Err(fault) => return Err(fault),
         }
@@ -238,17 +242,18 @@ fn count_runs<R: Threads + Wait + Sync>(
 fn run_often<R: Threads + Wait + Sync>(
     rt: &R,
     alloc: Global,
-    start: u64,
+    opening: Opening,
     calls: &[WorldEvent],
     jobs: &[Job],
     workers: usize,
     runs: u32,
 ) -> Result<Printed, JobsFault>
-    requires { (1 ≤ workers) × (workers ≤ MOST_WORKERS) × (1 ≤ start) × (start ≤ HIGHEST_REVISION) }
-    ensures printed { IfOk result (λ p. IsPrintedOfJobs (OfRuns runs) start calls.now jobs.now p.ends (string_bytes p.text)) }
-    ensures fault { IfErr result (IsBrokenOff start calls.now jobs.now) }
+    requires workers { (1 ≤ workers) × (workers ≤ MOST_WORKERS) }
+    requires opening { IsOpening (Some opening) }
+    ensures printed { IfOk result (λ p. IsPrintedOfJobs (OfRuns runs) (as_setup opening) calls.now jobs.now p.ends (string_bytes p.text)) }
+    ensures fault { IfErr result (IsBrokenOff (as_setup opening) calls.now jobs.now) }
 {
-    let tally = match count_runs(rt, alloc, start, calls, jobs, workers, runs) {
+    let tally = match count_runs(rt, alloc, opening, calls, jobs, workers, runs) {
         Ok(tally) => tally,
         Err(fault) => return Err(fault),
     };
@@ -261,24 +266,25 @@ fn run_often<R: Threads + Wait + Sync>(
     }
 }
 
-/// What is printed of these jobs, each run of which is made on an empty store at this revision, once these calls of it were made.
+/// What is printed of these jobs, each run of which is made on an empty store that opens with this, once these calls of it were made.
 fn text_of<R: Threads + Wait + Sync>(
     rt: &R,
     alloc: Global,
-    start: u64,
+    opening: Opening,
     calls: &[WorldEvent],
     jobs: &[Job],
     workers: usize,
     printing: Printing,
 ) -> Result<Printed, JobsFault>
-    requires { (1 ≤ workers) × (workers ≤ MOST_WORKERS) × (1 ≤ start) × (start ≤ HIGHEST_REVISION) }
-    ensures printed { IfOk result (λ p. IsPrintedOfJobs printing start calls.now jobs.now p.ends (string_bytes p.text)) }
-    ensures fault { IfErr result (IsBrokenOff start calls.now jobs.now) }
+    requires workers { (1 ≤ workers) × (workers ≤ MOST_WORKERS) }
+    requires opening { IsOpening (Some opening) }
+    ensures printed { IfOk result (λ p. IsPrintedOfJobs printing (as_setup opening) calls.now jobs.now p.ends (string_bytes p.text)) }
+    ensures fault { IfErr result (IsBrokenOff (as_setup opening) calls.now jobs.now) }
 {
     match printing {
-        Printing::Values => run_once(rt, alloc, start, calls, jobs, workers, Shown::Values),
-        Printing::Ends => run_once(rt, alloc, start, calls, jobs, workers, Shown::Ends),
-        Printing::Outcomes(runs) => run_often(rt, alloc, start, calls, jobs, workers, runs),
+        Printing::Values => run_once(rt, alloc, opening, calls, jobs, workers, Shown::Values),
+        Printing::Ends => run_once(rt, alloc, opening, calls, jobs, workers, Shown::Ends),
+        Printing::Outcomes(runs) => run_often(rt, alloc, opening, calls, jobs, workers, runs),
     }
 }
 
@@ -294,12 +300,12 @@ fn text_of_scenario<R: Threads + Wait + Sync>(
     requires opening { IsOpening scenario.opening }
     ensures { Answers printing (Ok scenario) result }
 {
-    let start = scenario.opening.unwrap_or(1);
+    let opening = opens_with(scenario.opening);
     let sorted = accept(alloc, scenario)?;
     text_of(
         rt,
         alloc,
-        start,
+        opening,
         sorted.calls.as_slice(),
         sorted.jobs.as_slice(),
         workers,

@@ -23,7 +23,7 @@ use Rattle.stm_outcome.specs.LookUps.{copy, with_copied}
 use Rattle.stm_txn.specs.Leasing.{hangs_of, HangOnLive, with_hang}
 use Rattle.stm_txn.specs.Standing.{Standing, terms_of}
 use Rattle.stm_outcome.specs.Numbers.{LeaseFits, ChangeFits, ChangesFit, RevisionsFit, OpeningFits, LeasesFit}
-use Rattle.stm_outcome.proofs.Lowering.{both_none}
+use Rattle.stm_outcome.proofs.Widening.{both_none}
 
 pub both : (a b : Bool) → (a && b) ≡ true → (a ≡ true) × (b ≡ true)
 both true b is = (refl, is)

@@ -56,28 +56,36 @@ has_come x e counter revision tells = elim (cases_lt counter revision) [ inl les
 abbrev pub done : Standing → Result (Step (Unit {0})) Refusal
 done next = Ok (record { answer = tt; next = next })
 
-module _ (keys next : Contents) (leases : Leases) (moment : ℕ) (watchers after : WatchersView) (revision : ℕ) (above : keys.floor < revision)
+module _ (limit : ℕ) (keys next : Contents) (leases : Leases) (moment : ℕ) (watchers after : WatchersView) (revision : ℕ) (above : keys.floor < revision)
     (reached : revision ≤ now keys.history) (lost : watchings after ≡ compacted_watchers keys.history revision (watchings watchers)) where
   abbrev old : Standing
-  old = (store_of keys leases moment watchers).standing
+  old = (store_of limit keys leases moment watchers).standing
 
-  pub raised_told : next ≡ keys_with_floor revision keys → raised old revision ≡ done (store_of next leases moment after).standing
+  pub raised_told : next ≡ keys_with_floor revision keys → raised old revision ≡ done (store_of limit next leases moment after).standing
   raised_told is =
       ap (λ o. floor_step o (with_floor old revision)) (not_refused old revision above reached)
-      ∙ ap (λ (ws : List (Option Watching)). done (record { history = keys.history; floor = revision; live = leases.live; moment = moment; watchers = ws })) (sym lost)
-      ∙ ap (λ (k : Contents). done (store_of k leases moment after).standing) (sym is)
+      ∙ ap (λ (ws : List (Option Watching)). done (record {
+        history = keys.history;
+        floor = revision;
+        limit = limit;
+        live = leases.live;
+        moment = moment;
+        watchers = ws;
+      })) (sym lost)
+      ∙ ap (λ (k : Contents). done (store_of limit k leases moment after).standing) (sym is)
 
-  pub compacted_told : next ≡ compacted_at revision keys → compacted old revision ≡ done (store_of next leases moment after).standing
+  pub compacted_told : next ≡ compacted_at revision keys → compacted old revision ≡ done (store_of limit next leases moment after).standing
   compacted_told is =
       ap (λ o. floor_step o (kept (with_floor old revision))) (not_refused old revision above reached)
       ∙ ap (λ (ws : List (Option Watching)). done (record {
         history = cut (revision - 1) keys.history;
         floor = revision;
+        limit = limit;
         live = leases.live;
         moment = moment;
         watchers = ws;
       })) (sym lost)
-      ∙ ap (λ (k : Contents). done (store_of k leases moment after).standing) (sym is)
+      ∙ ap (λ (k : Contents). done (store_of limit k leases moment after).standing) (sym is)
 
 module _ (keys next : Contents) (leases : Leases) (watchers after : WatchersView) (revision : ℕ) (reached : revision ≤ now keys.history)
     (at : after.floor ≡ revision) (parts : AreParts keys leases watchers) where

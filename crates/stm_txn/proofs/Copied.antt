@@ -16,9 +16,9 @@ AreParts keys leases watchers =
     × (keys.floor ≤ now keys.history)
 
 -- what contracts see of its parts
-abbrev pub store_of : Contents → Leases → ℕ → WatchersView → StoreView
-store_of keys leases moment watchers = record {
-  standing = record { history = keys.history; floor = keys.floor; live = leases.live; moment = moment; watchers = watchings watchers };
+abbrev pub store_of : ℕ → Contents → Leases → ℕ → WatchersView → StoreView
+store_of limit keys leases moment watchers = record {
+  standing = record { history = keys.history; floor = keys.floor; limit = limit; live = leases.live; moment = moment; watchers = watchings watchers };
   present = keys.present;
 }
 
@@ -30,8 +30,8 @@ module _ (keys copied_keys : Contents) (leases copied_leases : Leases) (watchers
       (subst (λ (l : Leases). AreParts keys l copied_watchers) (sym same_leases)
       (subst (λ (ws : WatchersView). AreParts keys (record leases { spare = 0 }) ws) (sym same_watchers) are))
 
-  pub store_copied : (moment : ℕ) → store_of copied_keys copied_leases moment copied_watchers ≡ store_of keys leases moment watchers
-  store_copied moment =
-      ap (λ (k : Contents). store_of k copied_leases moment copied_watchers) same_keys
-      ∙ ap (λ (l : Leases). store_of keys l moment copied_watchers) same_leases
-      ∙ ap (λ (ws : WatchersView). store_of keys leases moment ws) same_watchers
+  pub store_copied : (limit moment : ℕ) → store_of limit copied_keys copied_leases moment copied_watchers ≡ store_of limit keys leases moment watchers
+  store_copied limit moment =
+      ap (λ (k : Contents). store_of limit k copied_leases moment copied_watchers) same_keys
+      ∙ ap (λ (l : Leases). store_of limit keys l moment copied_watchers) same_leases
+      ∙ ap (λ (ws : WatchersView). store_of limit keys leases moment ws) same_watchers

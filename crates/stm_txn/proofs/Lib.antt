@@ -16,3 +16,4 @@ pub mod Watches
 pub mod WorkedExamples
 pub mod Polling
 pub mod Copied
+pub mod Limits

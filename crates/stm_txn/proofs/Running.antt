@@ -23,7 +23,7 @@ use Rattle.stm_leases.specs.Live.{Live}
 use Rattle.stm_txn.specs.Leasing.{hung_by, with_hang, hangs_of, HangOnLive}
 use Rattle.stm_outcome.specs.Terms.{Terms, is_below_floor}
 use Rattle.stm_txn.specs.Standing.{Standing, terms_of}
-use Rattle.stm_outcome.proofs.Lowering.{both_none, reached_case}
+use Rattle.stm_outcome.proofs.Widening.{both_none, reached_case}
 
 one_readable : (terms : Terms) (op : Op) → op_refusal terms op ≡ None → is_readable (now terms.history) op ≡ true
 one_readable terms (Get key rev) none =

@@ -56,10 +56,16 @@ refusal_of : (s : Standing) (outcome_of : Result Done Refusal) (refusal : Refusa
 refusal_of s (Ok done) refusal is = is
 refusal_of s (Err cause) refusal is = is
 
-same_but_history : (s next : Standing) → next.floor ≡ s.floor → next.live ≡ s.live → next.moment ≡ s.moment → next.watchers ≡ s.watchers
-    → with_history s next.history ≡ next
-same_but_history s next floor live moment watchers =
-    λ i. record { history = next.history; floor = sym floor i; live = sym live i; moment = sym moment i; watchers = sym watchers i }
+same_but_history : (s next : Standing) → next.floor ≡ s.floor → next.limit ≡ s.limit → next.live ≡ s.live → next.moment ≡ s.moment
+    → next.watchers ≡ s.watchers → with_history s next.history ≡ next
+same_but_history s next floor limit live moment watchers = λ i. record {
+  history = next.history;
+  floor = sym floor i;
+  limit = sym limit i;
+  live = sym live i;
+  moment = sym moment i;
+  watchers = sym watchers i;
+}
 
 abbrev answered : TxnAnswer → Standing → Result (Step TxnAnswer) Refusal
 answered a next = Ok record { answer = a; next = next }
@@ -75,11 +81,11 @@ as_run s txn failed ops whole first branch =
 pub came : (s next : Standing) (txn : Txn) (failed : Option FailedCompare) (ops : List Op) (r : Result TxnAnswer Refusal) →
     fault_of (terms_of s).limit txn ≡ None → first_failed (key_now s.history) 0 txn.compares ≡ failed → chosen failed txn ≡ ops →
     IfOk r (λ a. outcome_copied (terms_of s) failed ops ≡ Ok record { answer = a; history = next.history }) →
-    IfErr r (IsRefusalOf (outcome_copied (terms_of s) failed ops)) → next.floor ≡ s.floor → next.live ≡ s.live → next.moment ≡ s.moment
-    → next.watchers ≡ s.watchers → Tells (transacted s txn) r next
-came s next txn failed ops (Ok a) whole first branch ok refused floor live moment watchers =
+    IfErr r (IsRefusalOf (outcome_copied (terms_of s) failed ops)) → next.floor ≡ s.floor → next.limit ≡ s.limit → next.live ≡ s.live
+    → next.moment ≡ s.moment → next.watchers ≡ s.watchers → Tells (transacted s txn) r next
+came s next txn failed ops (Ok a) whole first branch ok refused floor limit live moment watchers =
     ap (step_of s) (as_run s txn failed ops whole first branch ∙ ok)
-    ∙ ap (answered a) (same_but_history s next floor live moment watchers)
-came s next txn failed ops (Err e) whole first branch ok refused floor live moment watchers =
+    ∙ ap (answered a) (same_but_history s next floor limit live moment watchers)
+came s next txn failed ops (Err e) whole first branch ok refused floor limit live moment watchers =
     subst (λ o. IsRefusalOf (step_of s o) e) (sym (as_run s txn failed ops whole first branch))
     (refusal_of s (outcome_copied (terms_of s) failed ops) e refused)

@@ -27,6 +27,7 @@ three_puts = record {
         ∷ [];
   };
   floor = 0;
+  limit = 128;
   live = finmap.empty;
   moment = 0;
   watchers = [];
@@ -43,6 +44,7 @@ left = record {
     revisions = (PutChange (codes "b") (codes "1") 0 ∷ []) ∷ [];
   };
   floor = 4;
+  limit = 128;
   live = finmap.empty;
   moment = 0;
   watchers = [];

@@ -7,7 +7,7 @@
 -- revision, ascending by bytes, that due leases end by the moment when they were due, then by id, and that watchers are
 -- polled, so that a poll is what cancels a watcher that is lost.
 use Rattle.std.specs.Prelude.{◌≡◌, ◌≤◌, ◌⊎◌, ℕ, zero, suc, ◌-◌, false, nat_le, nat_lt, if◌then◌else◌, List, [], ◌∷◌, ◌++◌, length, map}
-use Rattle.std.specs.Prelude.{Option, Some, None, IfSome, IsOk, Result, Ok, Err}
+use Rattle.std.specs.Prelude.{Option, Some, None, IfSome, IsOk, Result, Ok, Err, min}
 use Rattle.std.specs.FinMap as finmap
 use Rattle.stm_history.specs.declared.change.Change.{Change}
 use Rattle.stm_history.specs.Cut.{cut}
@@ -29,29 +29,47 @@ use Rattle.stm_outcome.specs.declared.answer.TxnAnswer.{TxnAnswer}
 use Rattle.stm_outcome.specs.declared.advance.Expired.{Expired}
 use Rattle.stm_outcome.specs.declared.refusal.Refusal.{Refusal}
 use Rattle.stm_outcome.specs.declared.refusal.Refusal.TheVariants.{OutOfMemory, EmptyKey, FutureRevision, Compacted, LeaseNotFound, NoWatcher, RevisionsUsedUp, TimeGoesBack}
-use Rattle.stm_outcome.specs.Terms.{Terms, terms_above}
+use Rattle.stm_outcome.specs.Terms.{Terms, most_operations, terms_at}
 use Rattle.stm_outcome.specs.Commits.{applied}
 use Rattle.stm_outcome.specs.Effect.{op_of}
 use Rattle.stm_outcome.specs.Outcome.{Done, outcome, branch_outcome, with_changes, is_used_up}
 use Rattle.stm_txn.specs.Grants.{grant_refusal_of}
 use Rattle.stm_txn.specs.LeaseKeys.{deletions_of}
 
--- a store: its history, its floor, which is the lowest revision that can be read, its live leases with their terms, its
--- moment in seconds, and its watchers, watcher 1 first, with nothing where one was cancelled
+-- a store: its history, its floor, which is the lowest revision that can be read, the most operations that it takes in each list of a
+-- transaction, its live leases with their terms, its moment in seconds, and its watchers, watcher 1 first, with nothing where one was
+-- cancelled
 pub record Standing : Type 0 where
   pub history : History
   pub floor : ℕ
+  pub limit : ℕ
   pub live : Live
   pub moment : ℕ
   pub watchers : List (Option Watching)
 
--- a store that opens at a revision
-abbrev pub opening : ℕ → Standing
-opening number = record { history = opened_at number; floor = 0; live = finmap.empty; moment = 0; watchers = [] }
+-- what a store opens with: its revision, and the most operations that it takes
+pub record Setup : Type 0 where
+  pub revision : ℕ
+  pub limit : ℕ
+
+-- the highest limit, which a store has that is given none
+abbrev pub at_revision : ℕ → Setup
+at_revision number = record { revision = number; limit = most_operations }
+
+-- a store that opens: no store takes more than the highest limit
+abbrev pub opening : Setup → Standing
+opening setup = record {
+  history = opened_at setup.revision;
+  floor = 0;
+  limit = min setup.limit most_operations;
+  live = finmap.empty;
+  moment = 0;
+  watchers = [];
+}
 
 -- the terms on which a store takes a transaction
 abbrev pub terms_of : Standing → Terms
-terms_of s = terms_above s.floor s.history s.live
+terms_of s = terms_at s.limit s.floor s.history s.live
 
 -- what a call that is not refused comes to: its answer, and the store after it
 pub record Step (A : Type 0) : Type 0 where

@@ -18,13 +18,14 @@ pub record StoreView : Type 0 where
 -- a store is stored as its parts
 abbrev pub store_code : Coded Contents → Coded (List (Option Watching)) → Coded StoreView
 store_code contents watchers =
-    code_by (Contents × (Live × (ℕ × List (Option Watching)))) (coded× contents (coded× (finmap.code coded_ℕ term_code) (coded× coded_ℕ watchers)))
+    code_by (Contents × (Live × (ℕ × (ℕ × List (Option Watching)))))
+    (coded× contents (coded× (finmap.code coded_ℕ term_code) (coded× coded_ℕ (coded× coded_ℕ watchers))))
     (λ s. (
       record { history = s.standing.history; present = s.present; opened = 0; floor = s.standing.floor },
-      (s.standing.live, (s.standing.moment, s.standing.watchers)),
+      (s.standing.live, (s.standing.limit, (s.standing.moment, s.standing.watchers))),
     ))
     (λ p. record {
-      standing = record { history = p.0.history; floor = p.0.floor; live = p.1.0; moment = p.1.1.0; watchers = p.1.1.1 };
+      standing = record { history = p.0.history; floor = p.0.floor; limit = p.1.1.0; live = p.1.0; moment = p.1.1.1.0; watchers = p.1.1.1.1 };
       present = p.0.present;
     })
     (λ _. refl)

@@ -1,6 +1,6 @@
 //! Why a call would be refused, found without changing anything.
-ghost use Rattle.std.specs.Prelude.{◌≡◌, Option, None};
-ghost use Rattle.stm_outcome.specs.Terms.{most_operations, terms_above};
+ghost use Rattle.std.specs.Prelude.{◌≡◌, ℕ, Option, None};
+ghost use Rattle.stm_outcome.specs.Terms.{terms_at, terms_above};
 ghost use Rattle.stm_leases.specs.Live.{is_id, is_ttl, grant_refusal};
 ghost use Rattle.stm_outcome.specs.declared.answer.FailedCompare.{FailedCompare as AFailedCompare};
 ghost use Rattle.stm_outcome.specs.Checks.{fault_of, has_clash};
@@ -29,20 +29,25 @@ fn find_run_refusal(keys: &Keys, leases: &Leases, ops: &[Op]) -> Option<Refusal>
     }
 }
 
-/// Why the branch that the compares pick would be refused, of a transaction that is right as a whole.
+/// Why the branch that the compares pick would be refused, of a transaction that is right as a whole at a limit of operations.
 fn find_chosen_refusal(keys: &Keys, leases: &Leases, txn: &Txn) -> Option<Refusal>
-    requires { fault_of most_operations txn.now ≡ None }
-    ensures { result ≡ refusal_of (outcome (terms_above keys.now.floor keys.now.history leases.now.live) txn.now) }
+    ensures { (limit : ℕ) → fault_of limit txn.now ≡ None
+        → result ≡ refusal_of (outcome (terms_at limit keys.now.floor keys.now.history leases.now.live) txn.now) }
 {
     let failed = find_failed(txn.compares.as_slice(), keys);
     find_run_refusal(keys, leases, choose(txn, failed))
 }
 
-/// Why a transaction would be refused.
-pub(crate) fn find_txn_refusal(keys: &Keys, leases: &Leases, txn: &Txn) -> Option<Refusal>
-    ensures { result ≡ refusal_of (outcome (terms_above keys.now.floor keys.now.history leases.now.live) txn.now) }
+/// Why a transaction would be refused at a limit of operations.
+pub(crate) fn find_txn_refusal(
+    keys: &Keys,
+    leases: &Leases,
+    limit: usize,
+    txn: &Txn,
+) -> Option<Refusal>
+    ensures { result ≡ refusal_of (outcome (terms_at limit keys.now.floor keys.now.history leases.now.live) txn.now) }
 {
-    match find_fault(txn) {
+    match find_fault(txn, limit) {
         Some(refusal) => Some(refusal),
         None => find_chosen_refusal(keys, leases, txn),
     }

@@ -13,6 +13,7 @@ ghost use Rattle.stm_leases.specs.Leases.{StandsFor};
 ghost use Rattle.stm_leases.specs.Live.{is_live_in, AreInRange};
 ghost use Rattle.stm_leases.specs.DueFirst.{first_due};
 ghost use Rattle.stm_outcome.specs.Branches.{branch_refusal};
+ghost use Rattle.stm_outcome.specs.Terms.{most_operations};
 ghost use Rattle.stm_outcome.specs.LookUps.{changes_copied, answers_copied, outcome_copied};
 ghost use Rattle.stm_outcome.specs.Outcome.{is_used_up, chosen, would_change};
 ghost use Rattle.stm_txn.specs.Grants.{grant_refusal_of, grant_told};
@@ -29,11 +30,13 @@ use stm_history::{Change, Sequence, Text};
 use stm_keys::{ApplyRefusal, HIGHEST_REVISION, Keys, ReadRefusal};
 use stm_leases::{GrantError, KeysError, Leases};
 use stm_outcome::{
-    AdvanceRefused, Expired, FailedCompare, Op, Refusal, Txn, TxnAnswer, find_failed, find_fault,
+    AdvanceRefused, Expired, FailedCompare, Op, OperationLimit, Refusal, Txn, TxnAnswer,
+    find_failed, find_fault,
 };
 use stm_watch::{Batch, PollRefusal, WatchRefusal, Watchers};
 
-/// A store: its keys at every revision that is kept, its leases, its moment in whole seconds, and its watchers.
+/// A store: its keys at every revision that is kept, its leases, its moment in whole seconds, its watchers, and the most operations that it
+/// takes in each list of a transaction.
 ///
 /// Each key hangs on the lease that its state names, and a watcher is ready exactly where events of it are pending, or
 /// where it is lost: that is kept in every store.
@@ -42,6 +45,7 @@ pub struct Store {
     leases: Leases,
     moment: u64,
     watchers: Watchers,
+    limit: OperationLimit,
     alloc: Global,
 }
 
@@ -52,6 +56,7 @@ impl Drop for Store {
             leases: _,
             moment: _,
             watchers: _,
+            limit: _,
             alloc: _,
         } = self;
     }
@@ -74,7 +79,14 @@ impl Model for Store {
     ghost coded = { store_code key_store.the_row.coded (Prim.hlevel (codes)) };
 
     ghost view = { λ s. record {
-      standing = record { history = s.keys.history; floor = s.keys.floor; live = s.leases.live; moment = s.moment; watchers = watchings s.watchers };
+      standing = record {
+        history = s.keys.history;
+        floor = s.keys.floor;
+        limit = s.limit;
+        live = s.leases.live;
+        moment = s.moment;
+        watchers = watchings s.watchers;
+      };
       present = s.keys.present;
     } };
 
@@ -181,15 +193,15 @@ impl Store {
     ghost use Rattle.stm_txn.specs.LeaseKeys.{deletions_of};
     ghost use Rattle.stm_outcome.specs.Outcome.{with_changes, answer_of};
     ghost use Rattle.stm_outcome.specs.Numbers.{AnswerFits, StatesFit, ExpiredFits, AllExpiredFit, EventsFit};
-    ghost use Rattle.stm_txn.specs.Standing.{opening, IsRefusalOf, Tells, refusal_of, transacted, made, written, granted, kept_alive, told, ended, revoked};
+    ghost use Rattle.stm_txn.specs.Standing.{opening, at_revision, IsRefusalOf, Tells, refusal_of, transacted, made, written, granted, kept_alive, told, ended, revoked};
     ghost use Rattle.stm_txn.specs.Standing.{terms_of, watched, polled, poll_refused, cancelled, raised, compacted};
     ghost use Rattle.stm_watch.specs.declared.watched.Watched.TheVariants.{Key, Range};
     ghost use Rattle.stm_watch.specs.Calls.{IsNextPending};
     ghost use Rattle.stm_txn.specs.Standing.{after, expired_in, expire_all, at_moment, advanced, HasCome, IsStopped, IsCutShort, with_expiries};
 
-    /// An empty store at revision 1 and moment 0. Want of memory is its only refusal.
+    /// An empty store at revision 1 and moment 0, which takes up to `MOST_OPERATIONS` operations. Want of memory is its only refusal.
     pub fn new(alloc: Global) -> Result<Store, AllocError>
-        ensures standing { IfOk result (λ s. s.standing ≡ opening 1) }
+        ensures standing { IfOk result (λ s. s.standing ≡ opening (at_revision 1)) }
         ensures present { IfOk result (λ s. s.present ≡ []) }
         ensures log { IfOk result (λ s. StandsFor s.standing.live []) }
     {
@@ -197,11 +209,11 @@ impl Store {
     }
 
     /// An empty store whose counter is `start`, at moment 0, with watchers of which there are none. It takes no memory.
-    fn opened(alloc: Global, start: u64, watchers: Watchers) -> Store
+    fn opened(alloc: Global, start: u64, limit: OperationLimit, watchers: Watchers) -> Store
         requires positive { 1 ≤ start }
         requires bounded { start ≤ HIGHEST_REVISION }
         requires unwatched { watchers ≡ no_watchers }
-        ensures standing { result.standing ≡ opening start }
+        ensures standing { result.standing ≡ record (opening (at_revision start)) { limit = limit } }
         ensures present { result.present ≡ [] }
         ensures log { StandsFor result.standing.live [] }
     {
@@ -210,21 +222,39 @@ impl Store {
             leases: Leases::new(alloc),
             moment: 0,
             watchers,
+            limit,
             alloc,
         }
     }
 
     /// An empty store whose counter is `start`, at moment 0: its keys are absent at every revision up to
-    /// `start`. Want of memory is its only refusal.
+    /// `start`. It takes up to `MOST_OPERATIONS` operations. Want of memory is its only refusal.
     pub fn with_revision(alloc: Global, start: u64) -> Result<Store, AllocError>
         requires positive { 1 ≤ start }
         requires bounded { start ≤ HIGHEST_REVISION }
-        ensures standing { IfOk result (λ s. s.standing ≡ opening start) }
+        ensures standing { IfOk result (λ s. s.standing ≡ opening (at_revision start)) }
         ensures present { IfOk result (λ s. s.present ≡ []) }
         ensures log { IfOk result (λ s. StandsFor s.standing.live []) }
     {
         let watchers = Watchers::new(alloc)?;
-        Ok(Store::opened(alloc, start, watchers))
+        Ok(Store::opened(alloc, start, OperationLimit::highest(), watchers))
+    }
+
+    /// An empty store whose counter is `start`, at moment 0, as `with_revision` makes one, that takes at most `operations` elements in
+    /// each of a transaction's three lists. Want of memory is its only refusal. (etcd's server has the flag `--max-txn-ops` for it.)
+    pub fn with_limits(alloc: Global, start: u64, operations: usize) -> Result<Store, AllocError>
+        requires positive { 1 ≤ start }
+        requires bounded { start ≤ HIGHEST_REVISION }
+        requires some { 1 ≤ operations }
+        requires few { operations ≤ most_operations }
+        ensures standing { IfOk result (λ s. s.standing ≡ opening (record { revision = start; limit = operations })) }
+        ensures limit { IfOk result (λ s. s.standing.limit ≡ operations) }
+        ensures present { IfOk result (λ s. s.present ≡ []) }
+        ensures log { IfOk result (λ s. StandsFor s.standing.live []) }
+    {
+        let watchers = Watchers::new(alloc)?;
+        let limit = OperationLimit::new(operations);
+        Ok(Store::opened(alloc, start, limit, watchers))
     }
 
     /// The keys. The counter of every store is at least 1, and no number of a state, its lease included, is
@@ -246,6 +276,15 @@ impl Store {
         ensures reached { self.now.standing.floor ≤ now self.now.standing.history }
     {
         self.keys.floor()
+    }
+
+    /// The most elements that the store takes in each of a transaction's three lists: those with more are refused as `TooManyOps`.
+    pub fn limit(&self) -> usize
+        ensures limit { result ≡ self.now.standing.limit }
+        ensures some { 1 ≤ self.now.standing.limit }
+        ensures few { self.now.standing.limit ≤ most_operations }
+    {
+        self.limit.count()
     }
 
     /// The moment, in whole seconds.
@@ -282,6 +321,7 @@ impl Store {
         requires present { DeletePresent self.old.standing.history changes.items }
         ensures ok { OnOk result (self.new.standing.history ≡ add_revision self.old.standing.history changes.items) }
         ensures floor { self.new.standing.floor ≡ self.old.standing.floor }
+        ensures limit { self.new.standing.limit ≡ self.old.standing.limit }
         ensures live { self.new.standing.live ≡ self.old.standing.live }
         ensures moment { self.new.standing.moment ≡ self.old.standing.moment }
         ensures watchers { self.new.standing.watchers ≡ self.old.standing.watchers }
@@ -309,6 +349,7 @@ impl Store {
         requires present { DeletePresent self.old.standing.history changes.items }
         ensures ok { OnOk result (self.new.standing.history ≡ with_changes self.old.standing.history changes.items) }
         ensures floor { self.new.standing.floor ≡ self.old.standing.floor }
+        ensures limit { self.new.standing.limit ≡ self.old.standing.limit }
         ensures live { self.new.standing.live ≡ self.old.standing.live }
         ensures moment { self.new.standing.moment ≡ self.old.standing.moment }
         ensures watchers { self.new.standing.watchers ≡ self.old.standing.watchers }
@@ -333,6 +374,7 @@ impl Store {
             (changes_copied self.old.standing.history [] ops.now) (answers_copied self.old.standing.history [] ops.now)) }
         ensures history { OnOk result (self.new.standing.history ≡ with_changes self.old.standing.history (changes_copied self.old.standing.history [] ops.now)) }
         ensures floor { self.new.standing.floor ≡ self.old.standing.floor }
+        ensures limit { self.new.standing.limit ≡ self.old.standing.limit }
         ensures live { self.new.standing.live ≡ self.old.standing.live }
         ensures moment { self.new.standing.moment ≡ self.old.standing.moment }
         ensures watchers { self.new.standing.watchers ≡ self.old.standing.watchers }
@@ -349,19 +391,27 @@ impl Store {
         })
     }
 
+    /// The first refusal along a branch.
+    fn branch_refusal(&self, ops: &[Op]) -> Option<Refusal>
+        ensures { result ≡ branch_refusal (terms_of self.now.standing) ops.now }
+    {
+        find_refusal(ops, &self.keys, &self.leases)
+    }
+
     /// Runs one branch, whose first failed compare is given.
     fn run(&mut self, ops: &[Op], failed: Option<FailedCompare>) -> Result<TxnAnswer, Refusal>
         requires { has_clash ops.now ≡ false }
         ensures ok { IfOk result (λ answer. outcome_copied (terms_of self.old.standing) failed ops.now
             ≡ Ok (record { answer = answer; history = self.new.standing.history })) }
         ensures floor { self.new.standing.floor ≡ self.old.standing.floor }
+        ensures limit { self.new.standing.limit ≡ self.old.standing.limit }
         ensures live { self.new.standing.live ≡ self.old.standing.live }
         ensures moment { self.new.standing.moment ≡ self.old.standing.moment }
         ensures watchers { self.new.standing.watchers ≡ self.old.standing.watchers }
         ensures refused { IfErr result (IsRefusalOf (outcome_copied (terms_of self.old.standing) failed ops.now)) }
         ensures err { OnErr result (self.new ≡ self.old) }
     {
-        if let Some(refusal) = find_refusal(ops, &self.keys, &self.leases) {
+        if let Some(refusal) = self.branch_refusal(ops) {
             return Err(refusal);
         }
         if uses_up(&self.keys, ops) {
@@ -385,7 +435,7 @@ impl Store {
         ensures step { Tells (transacted self.old.standing txn.now) result self.new.standing }
         ensures err { OnErr result (self.new ≡ self.old) }
     {
-        match find_fault(txn) {
+        match find_fault(txn, self.limit.count()) {
             Some(refusal) => Err(refusal),
             None => self.run_chosen(txn),
         }
@@ -393,7 +443,8 @@ impl Store {
 
     /// Runs a transaction, as one step.
     ///
-    /// The whole transaction is looked at first: `TooManyOps`, `EmptyKey`, `DuplicateKey`. Then the
+    /// The whole transaction is looked at first: `TooManyOps` where one of its three lists has more elements than the store's limit,
+    /// `EmptyKey`, `DuplicateKey`. Then the
     /// compares pick the branch, and the first of its operations that is refused decides:
     /// `FutureRevision` for a read above the counter, `Compacted` for one below the floor, `LeaseNotFound` for a put on a
     /// lease that is not live. Then comes `RevisionsUsedUp`, where something is to change at `HIGHEST_REVISION`, then
@@ -727,7 +778,7 @@ impl Store {
     pub fn txn_refusal(&self, txn: &Txn) -> Option<Refusal>
         ensures { result ≡ refusal_of (transacted self.now.standing txn.now) }
     {
-        find_txn_refusal(&self.keys, &self.leases, txn)
+        find_txn_refusal(&self.keys, &self.leases, self.limit.count(), txn)
     }
 
     /// Whether a transaction would change something now: whether the branch that its compares pick puts a key, or
@@ -764,7 +815,7 @@ impl Store {
 }
 
 impl Store {
-    /// A copy of the store: its keys at every revision, its leases, its moment and its watchers.
+    /// A copy of the store: its keys at every revision, its leases, its moment, its watchers and its limit of operations.
     ///
     /// It takes a step for each revision, lease and watcher. Want of memory is its only refusal.
     pub fn copy(&self) -> Result<Store, AllocError>
@@ -785,6 +836,7 @@ impl Store {
             leases,
             moment: self.moment,
             watchers,
+            limit: self.limit,
             alloc: self.alloc,
         })
     }

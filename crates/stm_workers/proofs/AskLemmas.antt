@@ -58,11 +58,11 @@ shown_by_done terms key at done came =
           ∙ ap (λ (d : Done). shown_at at d.answer.revision) made;
     }
 
-of_answered : (o : Result Done Refusal) (answer : TxnAnswer) → answered o ≡ Ok answer → (done : Done) × (o ≡ Ok done) × (done.answer ≡ answer)
+pub of_answered : (o : Result Done Refusal) (answer : TxnAnswer) → answered o ≡ Ok answer → (done : Done) × (o ≡ Ok done) × (done.answer ≡ answer)
 of_answered (Ok done) answer is = (done, refl, ap (λ (r : Result TxnAnswer FetchRefusal). elim r [ Ok a ↦ a | Err e ↦ answer ]) is)
 of_answered (Err cause) answer is = absurd (cc)
 
-of_test : (b : Bool) (refusal : FetchRefusal) (rest : Result TxnAnswer FetchRefusal) (answer : TxnAnswer) → cond b (Err refusal) rest ≡ Ok answer →
+pub of_test : (b : Bool) (refusal : FetchRefusal) (rest : Result TxnAnswer FetchRefusal) (answer : TxnAnswer) → cond b (Err refusal) rest ≡ Ok answer →
     rest ≡ Ok answer
 of_test true refusal rest answer is = absurd (cc)
 of_test false refusal rest answer is = is

@@ -1,7 +1,7 @@
 -- What a worker does for a job, step by step.
 use Rattle.std.proofs.Common.{◌≡◌, ◌⊎◌, inl, inr, ℕ, zero, suc, ◌+◌, ◌≤◌, Bool, true, false, List, [], None, Some, Result, Ok, Err, IfOk, IfErr}
 use Rattle.std.proofs.Common.{refl, sym, ◌∙◌, ap, subst, arith}
-use Rattle.stm_attempt.specs.declared.next.Next.TheVariants.{Fetch}
+use Rattle.stm_attempt.specs.declared.next.Next.TheVariants.{FetchAll, Fetch}
 use Rattle.stm_attempt.specs.AttemptState.{AttemptState, begun}
 use Rattle.stm_attempt.specs.Next.{next_of}
 use Rattle.stm_attempt.specs.ReadyRun.{ReadyRun}
@@ -17,7 +17,7 @@ use Rattle.stm_workers.specs.declared.stop.Stop.{Stop}
 use Rattle.stm_workers.specs.declared.stop.Stop.TheVariants.{OutOfMemory}
 use Rattle.stm_workers.specs.Calls.{committed_by, JudgedInSomeHall}
 use Rattle.stm_workers.specs.AttemptOutcomes.{IfEnded, IfAgain}
-use Rattle.stm_workers.specs.Attempts.{JobState, state_of, job_end_told, end_after, IsUnanswered, IsTurnedAway, IsFetch, HasFetched, IsEvaluated, HasTried}
+use Rattle.stm_workers.specs.Attempts.{JobState, state_of, job_end_told, end_after, IsUnanswered, AreUnanswered, IsTurnedAway, IsFetch, HasFetched, IsEvaluated, HasTried}
 use Rattle.stm_workers.specs.Attempts.{IsStop, HasStopped, IsNextAttempt, HasFailed, HaveFailed, HasEnded, ComesTo, EndsByVerdict}
 use Rattle.stm_workers.specs.Attempts.{EndsByStop, HasCome}
 
@@ -42,7 +42,15 @@ pub fetch_stops : (job : Job) (at : JobState) (key : List ℕ) (of_rev : ℕ) (s
     seen ≡ at.seen → (stop ≡ OutOfMemory) ⊎ (IsStop job at stop × (seen ≡ at.seen))
 fetch_stops job at key of_rev stop seen wants (inl want) same = inl want
 fetch_stops job at key of_rev stop seen wants (inr refused) same =
-    inr (inr (inl (record { key = key; of_rev = of_rev; wants = wants; refused = refused })), same)
+    inr (inr (inl (inl (record { key = key; of_rev = of_rev; wants = wants; refused = refused }))), same)
+
+-- or its list was
+pub list_stops : (job : Job) (at : JobState) (keys : List (List ℕ)) (of_rev : ℕ) (stop : Stop) (seen : ℕ) →
+    next_of job.program at.attempt.level at.attempt.known ≡ FetchAll keys of_rev → (stop ≡ OutOfMemory) ⊎ AreUnanswered at.seen keys stop →
+    seen ≡ at.seen → (stop ≡ OutOfMemory) ⊎ (IsStop job at stop × (seen ≡ at.seen))
+list_stops job at keys of_rev stop seen wants (inl want) same = inl want
+list_stops job at keys of_rev stop seen wants (inr refused) same =
+    inr (inr (inl (inr (record { keys = keys; of_rev = of_rev; wants = wants; refused = refused }))), same)
 
 -- it goes no further from where its fetches lead
 pub stops_there : (job : Job) (before at : JobState) (stop : Stop) (seen : ℕ) → HasFetched job before at →

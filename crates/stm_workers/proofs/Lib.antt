@@ -1,5 +1,6 @@
 pub mod LockedLemmas
 pub mod AskLemmas
+pub mod ListAskLemmas
 pub mod NextLemmas
 pub mod AttemptLemmas
 pub mod OutcomeLemmas

@@ -278,6 +278,9 @@ ready_of_some jobs job ready is of =
 
 -- ---- what lies under the lock
 
+pub same_gone : (before old new : HallState) → new ≡ old → HasGoneOn before old → HasGoneOn before new
+same_gone before old new same gone = subst (HasGoneOn before) (sym same) gone
+
 pub same_count : (before old new : HallState) (total : ℕ) → new ≡ old → commits_in old.entries ≡ commits_in before.entries + total →
     commits_in new.entries ≡ commits_in before.entries + total
 same_count before old new total same counted = ap (λ (h : HallState). commits_in h.entries) same ∙ counted

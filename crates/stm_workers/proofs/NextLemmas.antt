@@ -1,7 +1,8 @@
 -- What an attempt answers: a run that is not done, or is its job's; and that it stays an attempt of its job.
-use Rattle.std.proofs.Common.{◌≡◌, ◌≢◌, ℕ, List, Some, refl, sym, ◌∙◌, ap, subst}
+use Rattle.std.proofs.Common.{◌≡◌, ◌≢◌, ℕ, Bool, true, false, cond, List, map, Option, None, Some, refl, sym, ◌∙◌, ap, subst}
 use Rattle.stm_history.specs.declared.key_state.ReadAnswer.{ReadAnswer}
 use Rattle.stm_program.specs.Syntax.{ProgramTree}
+use Rattle.stm_program.specs.Limits.{Fits}
 use Rattle.stm_program.specs.declared.level.Level.{Level}
 use Rattle.stm_meaning.specs.declared.run.End.{End}
 use Rattle.stm_meaning.specs.declared.run.End.TheVariants.{Done as DoneEnd, Aborted as AbortedEnd, Faulted as FaultedEnd}
@@ -9,14 +10,30 @@ use Rattle.stm_meaning.specs.declared.run.Run.{Run}
 use Rattle.stm_meaning.specs.declared.run.Answered.{Answered}
 use Rattle.stm_meaning.specs.declared.run.Answered.TheVariants.{Ended, Wants}
 use Rattle.stm_attempt.specs.declared.next.Next.{Next}
-use Rattle.stm_attempt.specs.declared.next.Next.TheVariants.{Fetch, Ready, Aborted, Faulted}
-use Rattle.stm_attempt.specs.AttemptState.{AttemptState, begun, advanced, supplied, awaited}
+use Rattle.stm_attempt.specs.declared.next.Next.TheVariants.{FetchAll, Fetch, Ready, Aborted, Faulted}
+use Rattle.stm_attempt.specs.AttemptState.{AttemptState, begun, advanced, supplied, supplied_all, awaited, list_awaited}
 use Rattle.stm_attempt.specs.Known.{Known}
 use Rattle.stm_attempt.specs.ReadyRun.{ReadyRun, ready_run}
-use Rattle.stm_attempt.specs.Settled.{run_on, settled}
-use Rattle.stm_attempt.specs.Next.{next_at_end, next_after, next_of, key_asked}
+use Rattle.stm_attempt.specs.Settled.{run_on}
+use Rattle.stm_attempt.specs.Entering.{is_due, gone_on}
+use Rattle.stm_attempt.specs.Next.{next_at_end, next_after, next_of, key_asked, list_asked}
+use Rattle.stm_outcome.specs.Commits.{AreNamed}
+use Rattle.stm_attempt.proofs.EnteringLemmas.{list_named}
 use Rattle.stm_job.specs.declared.job.Job.{Job}
 use Rattle.stm_workers.specs.Calls.{IsOfJob, IsRunOfJob}
+
+-- where what is next is no list, the list is not due
+behind_by : (program : ProgramTree) (level : Level) (reads : List ReadAnswer) (next : Next) (due : Bool) → list_asked next ≡ None →
+    cond due (FetchAll program.prefetch 0) (next_after program level reads (run_on program reads)) ≡ next →
+    next_after program level reads (run_on program reads) ≡ next
+behind_by program level reads next true no_list told =
+    let both : Some program.prefetch ≡ None = ap list_asked told ∙ no_list in absurd (cc both)
+behind_by program level reads next false no_list told = told
+
+next_behind : (program : ProgramTree) (level : Level) (known : Known) (next : Next) → list_asked next ≡ None → next_of program level known ≡ next →
+    next_after program level (gone_on program known) (run_on program (gone_on program known)) ≡ next
+next_behind program level known next no_list told =
+    behind_by program level (gone_on program known) next (is_due program.prefetch (gone_on program known)) no_list told
 
 aborted_at_end : (program : ProgramTree) (level : Level) (reads : List ReadAnswer) (run aborted : Run) (end : End) → run.end ≡ end →
     next_at_end program level reads run end ≡ Aborted aborted → aborted.end ≢ DoneEnd
@@ -33,7 +50,8 @@ aborted_by program level reads (Ended run) aborted told = aborted_at_end program
 -- a run that was aborted or has faulted is not done
 pub aborted_is_not_done : (program : ProgramTree) (level : Level) (known : Known) (run : Run) → next_of program level known ≡ Aborted run → run.end ≢ DoneEnd
 aborted_is_not_done program level known run told =
-    let reads : List ReadAnswer = settled program known in aborted_by program level reads (run_on program reads) run told
+    let reads : List ReadAnswer = gone_on program known in
+    aborted_by program level reads (run_on program reads) run (next_behind program level known (Aborted run) refl told)
 
 faulted_at_end : (program : ProgramTree) (level : Level) (reads : List ReadAnswer) (run faulted : Run) (end : End) → run.end ≡ end →
     next_at_end program level reads run end ≡ Faulted faulted → faulted.end ≢ DoneEnd
@@ -49,7 +67,8 @@ faulted_by program level reads (Ended run) faulted told = faulted_at_end program
 
 pub faulted_is_not_done : (program : ProgramTree) (level : Level) (known : Known) (run : Run) → next_of program level known ≡ Faulted run → run.end ≢ DoneEnd
 faulted_is_not_done program level known run told =
-    let reads : List ReadAnswer = settled program known in faulted_by program level reads (run_on program reads) run told
+    let reads : List ReadAnswer = gone_on program known in
+    faulted_by program level reads (run_on program reads) run (next_behind program level known (Faulted run) refl told)
 
 -- and it is the program's run on what the attempt has read
 aborted_run_at : (program : ProgramTree) (level : Level) (reads : List ReadAnswer) (run aborted : Run) (end : End) →
@@ -65,9 +84,10 @@ aborted_run program level reads (Ended run) aborted told =
     ap (λ (r : Run). Ended r) (aborted_run_at program level reads run aborted run.end told)
 
 pub aborted_is_run : (program : ProgramTree) (level : Level) (known : Known) (run : Run) → next_of program level known ≡ Aborted run →
-    run_on program (settled program known) ≡ Ended run
+    run_on program (gone_on program known) ≡ Ended run
 aborted_is_run program level known run told =
-    let reads : List ReadAnswer = settled program known in aborted_run program level reads (run_on program reads) run told
+    let reads : List ReadAnswer = gone_on program known in
+    aborted_run program level reads (run_on program reads) run (next_behind program level known (Aborted run) refl told)
 
 faulted_run_at : (program : ProgramTree) (level : Level) (reads : List ReadAnswer) (run faulted : Run) (end : End) →
     next_at_end program level reads run end ≡ Faulted faulted → run ≡ faulted
@@ -82,9 +102,10 @@ faulted_run program level reads (Ended run) faulted told =
     ap (λ (r : Run). Ended r) (faulted_run_at program level reads run faulted run.end told)
 
 pub faulted_is_run : (program : ProgramTree) (level : Level) (known : Known) (run : Run) → next_of program level known ≡ Faulted run →
-    run_on program (settled program known) ≡ Ended run
+    run_on program (gone_on program known) ≡ Ended run
 faulted_is_run program level known run told =
-    let reads : List ReadAnswer = settled program known in faulted_run program level reads (run_on program reads) run told
+    let reads : List ReadAnswer = gone_on program known in
+    faulted_run program level reads (run_on program reads) run (next_behind program level known (Faulted run) refl told)
 
 -- ---- what is ready
 
@@ -107,8 +128,9 @@ ready_by program level reads (Ended run) ready told = ready_at_end program level
 pub ready_is_of : (job : Job) (attempt : AttemptState) (ready : ReadyRun) → IsOfJob job attempt →
     next_of job.program attempt.level attempt.known ≡ Ready ready → IsRunOfJob job ready
 ready_is_of job attempt ready of told =
-    let reads : List ReadAnswer = settled job.program attempt.known in
-    let both = ready_by job.program attempt.level reads (run_on job.program reads) ready told in
+    let reads : List ReadAnswer = gone_on job.program attempt.known in
+    let both = ready_by job.program attempt.level reads (run_on job.program reads) ready
+    (next_behind job.program attempt.level attempt.known (Ready ready) refl told) in
     (both.0, both.1 ∙ of.1)
 
 -- ---- an attempt of a job
@@ -127,7 +149,40 @@ pub waits_for : (attempt : AttemptState) (next : Next) (key : List ℕ) (at : �
     next ≡ Fetch key at → answer.key ≡ key → awaited attempt ≡ Some answer.key
 waits_for attempt next key at answer asked is same = asked ∙ ap key_asked is ∙ ap (λ (k : List ℕ). Some k) (sym same)
 
--- what is taken out of an attempt that went on is what it has settled on
+-- the same of a list
+pub all_supplied_is_of : (job : Job) (answers : List ReadAnswer) (old new : AttemptState) → new ≡ supplied_all answers old → IsOfJob job old →
+    IsOfJob job new
+all_supplied_is_of job answers old new is of = subst (IsOfJob job) (sym is) of
+
+pub waits_for_list : (attempt : AttemptState) (next : Next) (keys : List (List ℕ)) (at : ℕ) (answers : List ReadAnswer) →
+    list_awaited attempt ≡ list_asked next → next ≡ FetchAll keys at → map (λ (a : ReadAnswer). a.key) answers ≡ keys →
+    list_awaited attempt ≡ Some (map (λ (a : ReadAnswer). a.key) answers)
+waits_for_list attempt next keys at answers asked is same = asked ∙ ap list_asked is ∙ ap (λ (l : List (List ℕ)). Some l) (sym same)
+
+no_list_at_end : (program : ProgramTree) (level : Level) (reads : List ReadAnswer) (run : Run) (end : End) (keys : List (List ℕ)) (at : ℕ) →
+    next_at_end program level reads run end ≡ FetchAll keys at → ⊥
+no_list_at_end program level reads run DoneEnd keys at told = cc
+no_list_at_end program level reads run (AbortedEnd text) keys at told = cc
+no_list_at_end program level reads run (FaultedEnd fault) keys at told = cc
+
+no_list_behind : (program : ProgramTree) (level : Level) (reads : List ReadAnswer) (x : Answered) (keys : List (List ℕ)) (at : ℕ) →
+    next_after program level reads x ≡ FetchAll keys at → ⊥
+no_list_behind program level reads (Wants k trace) keys at told = cc
+no_list_behind program level reads (Ended run) keys at told = no_list_at_end program level reads run run.end keys at told
+
+listed_by : (program : ProgramTree) (level : Level) (reads : List ReadAnswer) (keys : List (List ℕ)) (at : ℕ) (due : Bool) →
+    cond due (FetchAll program.prefetch 0) (next_after program level reads (run_on program reads)) ≡ FetchAll keys at → program.prefetch ≡ keys
+listed_by program level reads keys at true told = cc
+listed_by program level reads keys at false told = absurd (no_list_behind program level reads (run_on program reads) keys at told)
+
+-- its keys are the program's, and none of them is empty
+pub list_is_named : (program : ProgramTree) (level : Level) (known : Known) (keys : List (List ℕ)) (at : ℕ) → Fits program →
+    next_of program level known ≡ FetchAll keys at → AreNamed keys
+list_is_named program level known keys at fits told =
+    subst AreNamed (listed_by program level (gone_on program known) keys at (is_due program.prefetch (gone_on program known)) told)
+    (list_named program fits)
+
+-- what is taken out of an attempt that went on is what it has read then
 pub reads_taken : (program : ProgramTree) (old new : AttemptState) (reads : List ReadAnswer) → new ≡ advanced program old → reads ≡ new.known.reads →
-    reads ≡ settled program old.known
+    reads ≡ gone_on program old.known
 reads_taken program old new reads is taken = taken ∙ ap (λ (a : AttemptState). a.known.reads) is

@@ -13,12 +13,14 @@ use Rattle.stm_outcome.specs.declared.answer.OpAnswer.TheVariants.{Get as GetAns
 use Rattle.stm_outcome.specs.declared.answer.TxnAnswer.{TxnAnswer}
 use Rattle.stm_outcome.specs.declared.refusal.Refusal.TheVariants.{OutOfMemory as Want}
 use Rattle.stm_compile.specs.Levels.{is_serializable}
-use Rattle.stm_attempt.specs.declared.next.Next.TheVariants.{Fetch, Ready}
-use Rattle.stm_attempt.specs.AttemptState.{AttemptState, begun, advanced, supplied}
+use Rattle.stm_attempt.specs.declared.next.Next.TheVariants.{FetchAll, Fetch, Ready}
+use Rattle.stm_attempt.specs.AttemptState.{AttemptState, begun, advanced, supplied, supplied_all}
 use Rattle.stm_attempt.specs.Next.{next_of}
 use Rattle.stm_attempt.specs.ReadyRun.{ReadyRun}
-use Rattle.stm_attempt.specs.Settled.{run_on, settled}
-use Rattle.stm_calls.specs.Fetched.{fetch_of}
+use Rattle.stm_attempt.specs.Settled.{run_on}
+use Rattle.stm_attempt.specs.Entering.{gone_on}
+use Rattle.stm_calls.specs.Fetched.{fetch_of, fetch_all_of}
+use Rattle.stm_calls.specs.Reads.{reads_in}
 use Rattle.stm_hall.specs.declared.refusal.FetchRefusal.{FetchRefusal}
 use Rattle.stm_hall.specs.declared.refusal.FetchRefusal.TheVariants.{Behind as FetchBehind, Store as FetchRefused}
 use Rattle.stm_hall.specs.declared.refusal.CommitRefusal.{CommitRefusal}
@@ -102,15 +104,28 @@ pub record IsUnanswered (seen : ℕ) (key : List ℕ) (at : ℕ) (stop : Stop) :
   pub by_hall : AnswersInSomeHall seen (fetch_of key at) (Err cause)
   pub told : fetch_refusal_told stop ≡ Some cause
 
+-- a hall that was asked for the keys of a list, by who has seen this, answered so, and carried this revision
+pub record AreAnswered (seen : ℕ) (keys : List (List ℕ)) (answers : List ReadAnswer) (revision : ℕ) : Type 0 where
+  pub told : TxnAnswer
+  pub by_hall : AnswersInSomeHall seen (fetch_all_of keys) (Ok told)
+  pub are_read : answers ≡ reads_in told.answers
+  pub carries : revision ≡ told.revision
+
+-- it refused, as the stop tells
+pub record AreUnanswered (seen : ℕ) (keys : List (List ℕ)) (stop : Stop) : Type 0 where
+  pub cause : FetchRefusal
+  pub by_hall : AnswersInSomeHall seen (fetch_all_of keys) (Err cause)
+  pub told : fetch_refusal_told stop ≡ Some cause
+
 -- a hall refused the commit of a ready attempt, as the stop tells
 pub record IsTurnedAway (ready : ReadyRun) (stop : Stop) : Type 0 where
   pub cause : CommitRefusal
   pub by_hall : JudgedInSomeHall ready (Err cause)
   pub told : commit_refusal_told stop ≡ Some cause
 
--- A fetch: the attempt wants a key at a revision; that is asked for, with exactly what was seen; and the attempt goes on with the answer, whose revision is
+-- A fetch of a key: the attempt wants a key at a revision; that is asked for, with exactly what was seen; and the attempt goes on with the answer, whose revision is
 -- what was seen then.
-pub record IsFetch (job : Job) (before after : JobState) : Type 0 where
+pub record IsKeyFetch (job : Job) (before after : JobState) : Type 0 where
   pub key : List ℕ
   pub at : ℕ
   pub wants : next_of job.program before.attempt.level before.attempt.known ≡ Fetch key at
@@ -118,6 +133,18 @@ pub record IsFetch (job : Job) (before after : JobState) : Type 0 where
   pub answered : IsAnswered before.seen key at answer
   pub goes_on : after.attempt ≡ supplied answer (advanced job.program before.attempt)
   pub sees : after.seen ≡ answer.revision
+
+-- A fetch of a list: the attempt wants its keys; all are asked for at once, with exactly what was seen; and the attempt goes on with the answers.
+pub record IsListFetch (job : Job) (before after : JobState) : Type 0 where
+  pub keys : List (List ℕ)
+  pub at : ℕ
+  pub wants : next_of job.program before.attempt.level before.attempt.known ≡ FetchAll keys at
+  pub answers : List ReadAnswer
+  pub answered : AreAnswered before.seen keys answers after.seen
+  pub goes_on : after.attempt ≡ supplied_all answers (advanced job.program before.attempt)
+
+abbrev pub IsFetch : Job → JobState → JobState → Type 0
+IsFetch job before after = IsKeyFetch job before after ⊎ IsListFetch job before after
 
 -- so many fetches, one after the other
 abbrev pub AreFetches : Job → ℕ → JobState → JobState → Type 0
@@ -151,16 +178,26 @@ pub record HasTried (job : Job) (before : JobState) (verdict : Verdict) (seen : 
 -- the program has come to an end other than its last statement, on what the attempt has read
 pub record IsEndOfRun (job : Job) (at : JobState) (stop : Stop) : Type 0 where
   pub run : Run
-  pub is_run : run_on job.program (settled job.program at.attempt.known) ≡ EndedRun run
+  pub is_run : run_on job.program (gone_on job.program at.attempt.known) ≡ EndedRun run
   pub told : end_told stop ≡ Some run.end
-  pub reads : reads_told stop ≡ Some (settled job.program at.attempt.known)
+  pub reads : reads_told stop ≡ Some (gone_on job.program at.attempt.known)
 
 -- the key that it wants is refused
-pub record IsFetchRefused (job : Job) (at : JobState) (stop : Stop) : Type 0 where
+pub record IsKeyRefused (job : Job) (at : JobState) (stop : Stop) : Type 0 where
   pub key : List ℕ
   pub of_rev : ℕ
   pub wants : next_of job.program at.attempt.level at.attempt.known ≡ Fetch key of_rev
   pub refused : IsUnanswered at.seen key of_rev stop
+
+-- or its list
+pub record IsListRefused (job : Job) (at : JobState) (stop : Stop) : Type 0 where
+  pub keys : List (List ℕ)
+  pub of_rev : ℕ
+  pub wants : next_of job.program at.attempt.level at.attempt.known ≡ FetchAll keys of_rev
+  pub refused : AreUnanswered at.seen keys stop
+
+abbrev pub IsFetchRefused : Job → JobState → Stop → Type 0
+IsFetchRefused job at stop = IsKeyRefused job at stop ⊎ IsListRefused job at stop
 
 -- its commit is
 pub record IsCommitRefused (job : Job) (at : JobState) (stop : Stop) : Type 0 where

@@ -9,7 +9,7 @@ use Rattle.stm_program.specs.declared.level.Level.{Level}
 use Rattle.stm_program.specs.declared.level.Level.TheVariants.{SerializableSnapshot, Serializable, RepeatableReads, ReadCommitted}
 use Rattle.stm_outcome.specs.declared.txn.Txn.{Txn}
 use Rattle.stm_outcome.specs.declared.answer.TxnAnswer.{TxnAnswer}
-use Rattle.stm_txn.specs.Standing.{Standing, opening, with_history}
+use Rattle.stm_txn.specs.Standing.{Standing, opening, at_revision, with_history}
 use Rattle.stm_attempt.specs.AttemptState.{AttemptState, IsOf}
 use Rattle.stm_attempt.specs.ReadyRun.{ReadyRun}
 use Rattle.stm_entries.specs.declared.entry.Entry.{Entry}
@@ -113,7 +113,7 @@ abbrev pub no_table : TableId
 no_table = record { words = 0; slots = 0; views_name = 0; atom = 0; block = 0; offset = 0; slot_names = [] }
 
 abbrev pub no_hall : HallState
-no_hall = made_over (opening 1)
+no_hall = made_over (opening (at_revision 1))
 
 -- how many commits the end of a job counts
 abbrev pub counted_end : JobEnd → ℕ

@@ -110,7 +110,7 @@ fn after_verdict(
 }
 
 impl<'a, R: RunOfJobs, W: Wait, G: Gate> Executor<'a, R, W, G> {
-    /// Goes on with an attempt to the next key that it wants, which is fetched, or until it is ready.
+    /// Goes on with an attempt to its list or to the next key that it wants, which is fetched, or until it is ready.
     fn go_on(
         &self,
         place: usize,
@@ -126,11 +126,21 @@ impl<'a, R: RunOfJobs, W: Wait, G: Gate> Executor<'a, R, W, G> {
         ensures is_ready { IfOk result (λ found. IfSome found (λ ready. IsReadyAt job.now (state_of attempt.old seen.old) ready × (seen.new ≡ seen.old))) }
         ensures stops { IfErr result (λ stop. (stop ≡ OutOfMemory) ⊎ (IsStop job.now (state_of attempt.old seen.old) stop × (seen.new ≡ seen.old))) }
     {
+        // No key of a list is empty.
+        job.program.prefetch();
         let next = attempt.advance(&job.program)?;
         match next {
             Next::Ready(ready) => Ok(Some(ready)),
             Next::Aborted(run) => Err(Stop::of_run(run, attempt.take_reads())),
             Next::Faulted(run) => Err(Stop::of_run(run, attempt.take_reads())),
+            Next::FetchAll { keys, .. } => {
+                self.gate.before_fetch(place);
+                let asked = self.ask_all(keys.as_slice(), seen);
+                drop(keys);
+                let answers = asked?;
+                attempt.supply_all(answers)?;
+                Ok(None)
+            }
             Next::Fetch { key, at } => {
                 self.gate.before_fetch(place);
                 let asked = self.ask(&key, at, seen);

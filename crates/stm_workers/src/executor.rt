@@ -1,9 +1,12 @@
 //! What each worker of a run calls the hall with.
-ghost use Rattle.std.specs.Prelude.{◌≡◌, ◌⊎◌, ◌+◌, ◌<◌, ◌≤◌, true, Ok, IfOk, IfErr, OnErr};
+ghost use Rattle.std.specs.Prelude.{◌≡◌, ◌⊎◌, ◌+◌, ◌<◌, ◌≤◌, true, map, Ok, All, IfOk, IfErr, OnErr};
+ghost use Rattle.stm_history.specs.declared.key_state.ReadAnswer.{ReadAnswer as Answer};
 ghost use Rattle.stm_outcome.specs.Numbers.{ReadFits};
+ghost use Rattle.stm_outcome.specs.Commits.{AreNamed};
+ghost use Rattle.stm_attempt.specs.Fetches.{ShowOneRevision};
 ghost use Rattle.stm_hall.specs.Verdicts.{CanGoOn};
 ghost use Rattle.stm_workers.specs.declared.stop.Stop.TheVariants.{OutOfMemory};
-ghost use Rattle.stm_workers.specs.Attempts.{IsAnswered, IsUnanswered, IsTurnedAway};
+ghost use Rattle.stm_workers.specs.Attempts.{IsAnswered, IsUnanswered, AreAnswered, AreUnanswered, IsTurnedAway};
 ghost use Rattle.stm_workers.specs.Calls.{committed_by, is_run_of_some, shown_at, JudgedInSomeHall};
 
 use crate::gate::Gate;
@@ -13,6 +16,7 @@ use std::alloc::Global;
 use std::sync::ledger::Share;
 use std::sync::{Mutex, Wait};
 use stm_attempt::{ReadAnswer, Ready, Text};
+use stm_calls::{read_all, take_reads};
 use stm_hall::{Verdict, prepare};
 
 /// What each worker of a run calls the hall with: the lock round it, which is held for one fetch or one commit at a time, and the gate.
@@ -43,6 +47,33 @@ impl<'a, R: RunOfJobs, W: Wait, G: Gate> Executor<'a, R, W, G> {
             Ok(answer) => {
                 *seen = answer.revision;
                 Ok(answer)
+            }
+            Err(refusal) => Err(Stop::of_fetch(refusal)),
+        }
+    }
+
+    /// Fetches keys, none of which is empty, as they are now, and remembers the revision that the answer carries: none of those before was
+    /// greater. Where it stops, nothing was seen.
+    pub(crate) fn ask_all(&self, keys: &[Text], seen: &mut u64) -> Result<Vec<ReadAnswer>, Stop>
+        requires { AreNamed keys.now }
+        ensures keys { IfOk result (λ answers. map (λ (a : Answer). a.key) answers.items ≡ keys.now) }
+        ensures in_range { IfOk result (λ answers. All ReadFits answers.items) }
+        ensures one_revision { IfOk result (λ answers. ShowOneRevision answers.items) }
+        ensures stopped { OnErr result (seen.new ≡ seen.old) }
+        ensures never_falls { seen.old ≤ seen.new }
+        ensures answered { IfOk result (λ answers. AreAnswered seen.old keys.now answers.items seen.new) }
+        ensures refused { IfErr result (λ stop. (stop ≡ OutOfMemory) ⊎ AreUnanswered seen.old keys.now stop) }
+    {
+        let reading = read_all(self.alloc, keys)?;
+        // Under the lock: the keys are looked up, and their values copied.
+        let told = self.locked.lock(self.rt).fetch_all(*seen, &reading);
+        drop(reading);
+        match told {
+            Ok(told) => {
+                let revision = told.revision;
+                let answers = take_reads(self.alloc, told.answers)?;
+                *seen = revision;
+                Ok(answers)
             }
             Err(refusal) => Err(Stop::of_fetch(refusal)),
         }

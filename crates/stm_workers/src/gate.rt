@@ -3,7 +3,7 @@
 /// What each worker calls without the lock, with the job's place. A call may look again and again for what another thread does, as far as
 /// it ends by itself: the worker goes on when it returns.
 pub trait Gate {
-    /// A key is about to be fetched for the job.
+    /// A key or a list is about to be fetched for the job.
     fn before_fetch(&self, job: usize);
 
     /// A commit of the job is about to be sent.

@@ -2,9 +2,9 @@
 
 ghost use Rattle.stm_workers.specs.Codes.{entries_set, halls_set, histories_set, numbers_set, truths_set};
 ghost use Rattle.std.specs.Prelude.{◌≡◌, ◌+◌, ◌<◌, ◌≤◌, true, OnErr, IfOk};
-ghost use Rattle.stm_outcome.specs.Numbers.{ReadFits};
+ghost use Rattle.stm_outcome.specs.Numbers.{AnswerFits, ReadFits};
 ghost use Rattle.stm_calls.specs.Fetched.{fetch_of};
-ghost use Rattle.stm_hall.specs.Fetching.{told_alone};
+ghost use Rattle.stm_hall.specs.Fetching.{OnlyReads, told_alone};
 ghost use Rattle.stm_hall.specs.Verdicts.{CanGoOn, CommitTells, verdict_of};
 ghost use Rattle.stm_workers.specs.Commits.{commits_in};
 ghost use Rattle.stm_workers.specs.Calls.{HasGoneOn, HasKeptStore, AnswersInSomeHall, JudgedInSomeHall, committed_by, is_run_of_some, takes_commits_of};
@@ -13,6 +13,7 @@ use std::marker::Brand;
 use std::sync::ledger::{Book, Ledger, Share};
 use stm_attempt::ReadAnswer;
 use stm_hall::{CommitRefusal, FetchRefusal, Hall, Prepared, Verdict};
+use stm_txn::{Txn, TxnAnswer};
 
 /// One run of jobs: its table, how many jobs and seats that has, the jobs, and the hall that was handed in. Its ledger counts commits;
 /// each worker has one part of it, and so has who started them.
@@ -86,6 +87,16 @@ impl<R: RunOfJobs> Locked<R> {
         ensures numbers { IfOk result ReadFits }
     {
         self.hall.fetch_one(seen, key, at)
+    }
+
+    /// Answers reads for a worker that has seen this revision, as the hall does. It changes nothing.
+    pub fn fetch_all(&mut self, seen: u64, txn: &Txn) -> Result<TxnAnswer, FetchRefusal>
+        requires { OnlyReads txn.now }
+        ensures answer { AnswersInSomeHall seen txn.now result }
+        ensures seen { IfOk result (λ answer. seen ≤ answer.revision) }
+        ensures numbers { IfOk result AnswerFits }
+    {
+        self.hall.fetch(seen, txn)
     }
 
     /// Commits an attempt of one of the run's jobs that was prepared, as the hall does. A commit counts in the share of who sent it.

@@ -1,5 +1,5 @@
 -- Events only append entries.
-use Rattle.std.proofs.Common.{◌≡◌, ℕ, ◌+◌, List, [], ◌∷◌, ◌++◌, length, Option, Some, None, Bool, true, false, cond, refl, sym, ◌∙◌, ap, subst}
+use Rattle.std.proofs.Common.{◌≡◌, ℕ, ◌+◌, List, [], ◌∷◌, ◌++◌, length, map, Option, Some, None, Bool, true, false, cond, refl, sym, ◌∙◌, ap, subst}
 use Rattle.std.proofs.lemmas.List.{append-nil}
 use Rattle.std.specs.Prelude.{nat_eq, nat_lt, slice_get, Result, Ok, Err}
 use Rattle.stm_history.specs.declared.key_state.ReadAnswer.{ReadAnswer}
@@ -17,11 +17,12 @@ use Rattle.stm_outcome.specs.Commits.{revision_read}
 use Rattle.stm_txn.specs.Standing.{Standing, transacted, granted, kept_alive, revoked, advanced, Advance as StoreAdvance, terms_of}
 use Rattle.stm_txn.specs.Standing.{watched, polled, cancelled, raised}
 use Rattle.stm_outcome.specs.Terms.{is_below_floor}
-use Rattle.stm_outcome.specs.declared.refusal.Refusal.TheVariants.{Compacted as CompactedRefusal}
+use Rattle.stm_outcome.specs.declared.refusal.Refusal.TheVariants.{TooManyOps as TooManyOpsRefusal, Compacted as CompactedRefusal}
 use Rattle.stm_watch.specs.declared.watched.Watched.TheVariants.{Key, Range}
 use Rattle.stm_compile.specs.Committed.{committed}
 use Rattle.stm_compile.specs.Conflicts.{Seen, seen_by}
 use Rattle.stm_attempt.specs.Settled.{run_on}
+use Rattle.stm_attempt.specs.Entering.{is_due}
 use Rattle.stm_attempt.specs.Fetches.{at_of}
 use Rattle.stm_entries.specs.declared.entry.Entry.{Entry}
 use Rattle.stm_entries.specs.declared.entry.Entry.TheVariants.{Grant as GrantEntry, Renew, Revoke as RevokeEntry}
@@ -33,11 +34,11 @@ use Rattle.stm_world.specs.declared.event.WorldEvent.{WorldEvent}
 use Rattle.stm_world.specs.declared.event.WorldEvent.TheVariants.{Start, Step, Txn, Grant, Keep, Revoke, Advance}
 use Rattle.stm_world.specs.declared.event.WorldEvent.TheVariants.{WatchKey, WatchRange, Poll, Cancel, Compact}
 use Rattle.stm_world.specs.declared.reply.Reply.{Reply}
-use Rattle.stm_world.specs.declared.reply.Reply.TheVariants.{Started, Fetched, Conflict, GaveUp, Aborted, Faulted, Ended}
+use Rattle.stm_world.specs.declared.reply.Reply.TheVariants.{Started, Prefetched, Fetched, Conflict, GaveUp, Aborted, Faulted, Ended}
 use Rattle.stm_world.specs.declared.refusal.Refusal.TheVariants.{BadLimit}
 use Rattle.stm_world.specs.Told.{store_after_call, store_after_poll}
-use Rattle.stm_world.specs.Task.{Task, answer_at, after_fetch, after_conflict}
-use Rattle.stm_world.specs.World.{World, Runner, Slot, Over, Live, runner_at, with_slot, refused, replied, begin, start_runner, fetch, entry_of}
+use Rattle.stm_world.specs.Task.{Task, answer_at, modified_now, after_list, after_fetch, after_conflict}
+use Rattle.stm_world.specs.World.{World, Runner, Slot, Over, Live, runner_at, with_slot, refused, replied, begin, start_runner, fetch, fetch_list, entry_of}
 use Rattle.stm_world.specs.World.{seen_in, decided, commit_told, commit, finish, step_on, step_live, step_runner, if_taken, if_changed}
 use Rattle.stm_world.specs.World.{expiries, step}
 use Rattle.stm_world.specs.Sound.{IsSound}
@@ -162,9 +163,23 @@ answered_appends w id r (Wants key trace) truth is =
     fetch_at_appends w id r key (at_of r.task.level r.known.reads) (is_below_floor w.standing.floor (at_of r.task.level r.known.reads))
 answered_appends w id r (EndedRun run) truth is = finish_appends w id r run run.end truth is refl
 
+list_appends : (w : World) (id : ℕ) (r : Runner) (many : Bool) →
+    Appends w (cond many (replied (Ended id TooManyOpsRefusal) id Over w)
+    (replied (Prefetched id (now w.standing.history) (map (modified_now w.standing.history) r.task.program.prefetch)) id
+    (Live (record r { known = after_list r.task w.standing.history r.known })) w))
+list_appends w id r true = ended_appends w id (Ended id TooManyOpsRefusal)
+list_appends w id r false =
+    stays w (Ok (Prefetched id (now w.standing.history) (map (modified_now w.standing.history) r.task.program.prefetch)))
+    (with_slot id (Live (record r { known = after_list r.task w.standing.history r.known })) w.runners)
+
+list_or_run-appends : (w : World) (id : ℕ) (r : Runner) (due : Bool) → AreTrue w.standing.history r.known.reads →
+    Appends w (cond due (fetch_list id r w) (step_on id r r.known.reads (run_on r.task.program r.known.reads) w))
+list_or_run-appends w id r true truth = list_appends w id r (nat_lt w.standing.limit (length r.task.program.prefetch))
+list_or_run-appends w id r false truth = answered_appends w id r (run_on r.task.program r.known.reads) truth refl
+
 live_appends : (w : World) (id : ℕ) (r : Runner) → AreTrue w.standing.history r.known.reads → Appends w (step_live id r w)
 unfolding step_live
-live_appends w id r truth = answered_appends w id r (run_on r.task.program r.known.reads) truth refl
+live_appends w id r truth = list_or_run-appends w id r (is_due r.task.program.prefetch r.known.reads) truth
 
 runner_by : (w : World) (id : ℕ) (o : Option Runner) → IsSound w → runner_at id w.runners ≡ o → Appends w (step_runner id o w)
 runner_by w id None sound found = stays w (denied NoRunner) w.runners
@@ -176,7 +191,7 @@ event_appends (Step id) w sound = runner_by w id (runner_at id w.runners) sound 
 event_appends (Txn txn) w sound =
     let s : Standing = w.standing in
     let next : Standing = store_after_call s (transacted s txn) in
-    called_appends w (reply_to TxnDone (transacted s txn)) next (if_changed s next txn) (txn_follows s txn)
+    called_appends w (reply_to TxnDone (transacted s txn)) next (if_changed s next txn) (txn_follows s txn sound.limit)
 event_appends (Grant lease ttl) w sound =
     let s : Standing = w.standing in
     let o = granted s lease ttl in

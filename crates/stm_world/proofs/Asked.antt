@@ -1,33 +1,40 @@
 -- Answers that were added when their keys were wanted are of the keys that the run reads.
-use Rattle.std.proofs.Common.{◌≡◌, ℕ, zero, suc, Bool, true, false, cond, List, [], ◌∷◌, ◌++◌, length, Option, Some, None, refl, sym, ◌∙◌, ap, subst}
+use Rattle.std.proofs.Common.{◌≡◌, ◌⊎◌, inl, inr, ℕ, zero, suc, ◌+◌, ◌≤◌, Bool, true, false, cond, List, [], ◌∷◌, ◌++◌, length, map, take, drop, Option, Some, None, refl, sym, ◌∙◌, ap, subst, arith, length-append}
 use Rattle.std.proofs.Common.{append_assoc, append-nil}
 use Rattle.std.specs.Prelude.{bytes_eq, is_some, option_map, ◌||◌}
 use Rattle.std.specs.List.{list_any}
+use Rattle.std.proofs.lemmas.List.{drop_all, take-append-le, length-map}
 use Rattle.std.proofs.lemmas.Slice.Eq.{bytes_eq-Decides}
 use Rattle.stm_history.specs.declared.key_state.ReadAnswer.{ReadAnswer}
 use Rattle.stm_history.specs.History.{History}
 use Rattle.stm_program.specs.Syntax.{ProgramTree}
 use Rattle.stm_program.specs.declared.write.Write.{Write}
 use Rattle.stm_program.specs.Writes.{last_write}
+use Rattle.stm_program.specs.Limits.{has_repeat}
 use Rattle.stm_program.proofs.WriteLemmas.{bytes_eq-flip}
 use Rattle.stm_steps.specs.declared.stop.Stop.TheVariants.{Aborted, Faulted, Wants as WantsStop}
 use Rattle.stm_steps.specs.Answer.{Answer}
-use Rattle.stm_steps.specs.Session.{Session, fresh, with_key}
+use Rattle.stm_steps.specs.Session.{Session, fresh}
 use Rattle.stm_steps.specs.Outcome.{Outcome, Gives, Stops}
 use Rattle.stm_meaning.specs.declared.trace_item.TraceItem.{TraceItem}
 use Rattle.stm_meaning.specs.declared.run.End.TheVariants.{Done, Aborted as EndAborted, Faulted as EndFaulted}
 use Rattle.stm_meaning.specs.declared.run.Run.{Run}
 use Rattle.stm_meaning.specs.declared.run.Answered.TheVariants.{Ended, Wants}
-use Rattle.stm_meaning.specs.Meaning.{get_of, get_key, rev_key, run_of, answered, run_block, run_over}
+use Rattle.stm_meaning.specs.Meaning.{get_answered, rev_answered, get_of, get_key, rev_key, run_of, answered, run_block, run_over}
 use Rattle.stm_meaning.proofs.KeepLemmas.{session_of, StepsKeep, kept_by_run}
-use Rattle.stm_compile.specs.Answers.{answer_in, said, look_up}
-use Rattle.stm_attempt.specs.Known.{HaveDistinctKeys, Known, serving}
-use Rattle.stm_attempt.specs.Settled.{run_on, wanted, answer_for, served, taken, settle}
-use Rattle.stm_attempt.proofs.SettleLemmas.{wanted_is_new}
+use Rattle.stm_compile.specs.Answers.{answer_in, answer_now, said, look_up}
+use Rattle.stm_compile.specs.CommitTxn.{reread_keys}
+use Rattle.stm_attempt.specs.Known.{HaveDistinctKeys, Known, known_of, serving}
+use Rattle.stm_attempt.specs.Settled.{run_on, wanted, answer_for, settled}
+use Rattle.stm_attempt.specs.Entering.{is_due, answers_of_all, gone_on}
+use Rattle.stm_attempt.specs.Laws.{BeginsWithList}
+use Rattle.stm_attempt.proofs.SettleLemmas.{wanted_is_new, settled_keeps}
+use Rattle.stm_attempt.proofs.EnteringLemmas.{once-have_distinct, taken_keys, where_it_comes, begins_more, list_begins, reads_begin_with_the_list}
 use Rattle.stm_attempt.proofs.Unread.{found_key, same_bytes}
-use Rattle.stm_world.specs.Task.{Task, answer_at, after_fetch, after_conflict}
-use Rattle.stm_world.specs.Asked.{AskedBehind, AreAsked, keys_read, AnswersAreTheReads}
+use Rattle.stm_world.specs.Task.{Task, answer_at, after_list, after_fetch, after_conflict}
+use Rattle.stm_world.specs.Asked.{AskedBehind, AreAsked, keys_read, keys_first_read, AnswersAreTheReads}
 use Rattle.stm_world.proofs.ReadOrder.{reads_of, OneKeyMore, wanted_is_read}
+use Rattle.stm_world.proofs.FirstReads.{first_none, first_adds, first_stays}
 
 -- ---- one more answer ----
 
@@ -65,26 +72,32 @@ keys_more : (reads : List ReadAnswer) (a : ReadAnswer) → keys_read reads ++ a.
 keys_more [] a = refl
 keys_more (x ∷ reads) a = ap (λ (keys : List (List ℕ)). x.key ∷ keys) (keys_more reads a)
 
-key_joins : (reads : List ReadAnswer) (a : ReadAnswer) → answer_in a.key reads ≡ None → with_key a.key (keys_read reads) ≡ keys_read (reads ++ a ∷ [])
-key_joins reads a none =
-    ap (λ b. cond b (keys_read reads) (keys_read reads ++ a.key ∷ []))
-    (any_key a.key reads ∙ ap (λ (o : Option ReadAnswer). is_some (option_map said o)) none)
-    ∙ keys_more reads a
+-- the keys that a run has read are, behind those of a list, those of the answers
+abbrev IsFirst : List (List ℕ) → List ReadAnswer → List (List ℕ) → Type 0
+IsFirst keys answers reads = keys_first_read keys reads ≡ keys_read answers
 
-key_is_there : (key : List ℕ) (reads : List ReadAnswer) (s : Answer) → look_up reads key ≡ Some s → with_key key (keys_read reads) ≡ keys_read reads
-key_is_there key reads s is =
-    ap (λ b. cond b (keys_read reads) (keys_read reads ++ key ∷ [])) (any_key key reads ∙ ap (λ (o : Option Answer). is_some o) is)
+unknown_among : (keys : List (List ℕ)) (answers : List ReadAnswer) (reads : List (List ℕ)) (key : List ℕ) → IsFirst keys answers reads →
+    answer_in key answers ≡ None → list_any (bytes_eq key) (keys_first_read keys reads) ≡ false
+unknown_among keys answers reads key is none =
+    ap (λ (l : List (List ℕ)). list_any (bytes_eq key) l) is ∙ any_key key answers
+    ∙ ap (λ (o : Option ReadAnswer). is_some (option_map said o)) none
 
-one_key_more : (reads : List ReadAnswer) (a : ReadAnswer) → answer_in a.key reads ≡ None →
-    OneKeyMore (look_up reads) (look_up (reads ++ a ∷ [])) (keys_read reads) (keys_read (reads ++ a ∷ [])) a.key
-one_key_more reads a none =
+known_among : (keys : List (List ℕ)) (answers : List ReadAnswer) (reads : List (List ℕ)) (key : List ℕ) (a : Answer) → IsFirst keys answers reads →
+    look_up answers key ≡ Some a → list_any (bytes_eq key) (keys_first_read keys reads) ≡ true
+known_among keys answers reads key a is found =
+    ap (λ (l : List (List ℕ)). list_any (bytes_eq key) l) is ∙ any_key key answers ∙ ap (λ (o : Option Answer). is_some o) found
+
+one_key_more : (keys : List (List ℕ)) (reads : List ReadAnswer) (a : ReadAnswer) → answer_in a.key reads ≡ None →
+    OneKeyMore (look_up reads) (look_up (reads ++ a ∷ [])) (IsFirst keys reads) (IsFirst keys (reads ++ a ∷ [])) a.key
+one_key_more keys reads a none =
     let last : (s : Answer) × (look_up (reads ++ a ∷ []) a.key ≡ Some s) = last_known reads a in
     record {
       agrees = λ key. still_known key reads a;
       answer = last.0;
       knows = last.1;
-      adds = key_joins reads a none;
-      is_all = λ key. key_is_there key (reads ++ a ∷ []);
+      adds = λ rs is.
+          first_adds keys rs a.key (unknown_among keys reads rs a.key is none) ∙ ap (λ (l : List (List ℕ)). l ++ a.key ∷ []) is ∙ keys_more reads a;
+      is_all = λ key s rs found is. first_stays keys rs key (known_among keys (reads ++ a ∷ []) rs key s is found) ∙ is;
     }
 
 -- ---- runs ----
@@ -104,51 +117,62 @@ ended_reads (Stops (Aborted t) s) run is = let same : run_of (EndAborted t) s �
 ended_reads (Stops (Faulted fault) s) run is = let same : run_of (EndFaulted fault) s ≡ run = cc in ap (λ (r : Run). r.reads) (sym same)
 ended_reads (Stops (WantsStop key) s) run is = absurd (cc)
 
-one_more_read : (program : ProgramTree) (reads : List ReadAnswer) (a : ReadAnswer) → wanted (run_on program reads) ≡ Some a.key →
-    reads_of (run_with program reads) ≡ keys_read reads → reads_of (run_with program (reads ++ a ∷ [])) ≡ keys_read (reads ++ a ∷ [])
+one_more_read : (keys : List (List ℕ)) (program : ProgramTree) (reads : List ReadAnswer) (a : ReadAnswer) → wanted (run_on program reads) ≡ Some a.key →
+    IsFirst keys reads (reads_of (run_with program reads)) → IsFirst keys (reads ++ a ∷ []) (reads_of (run_with program (reads ++ a ∷ [])))
 unfolding run_over
-one_more_read program reads a wants is =
+one_more_read keys program reads a wants is =
     let stopped : (s : Session) × (run_with program reads ≡ Stops (WantsStop a.key) s) = wanting (run_with program reads) a.key wants in
-    wanted_is_read (look_up reads) (look_up (reads ++ a ∷ [])) (keys_read reads) (keys_read (reads ++ a ∷ [])) a.key
-    (one_key_more reads a (wanted_is_new program reads a.key wants)) program.statements stopped.0 stopped.1
-    (sym (ap (λ (o : Outcome (Unit {0})). reads_of o) stopped.1) ∙ is)
+    wanted_is_read (look_up reads) (look_up (reads ++ a ∷ [])) (IsFirst keys reads) (IsFirst keys (reads ++ a ∷ [])) a.key
+    (one_key_more keys reads a (wanted_is_new program reads a.key wants)) program.statements stopped.0 stopped.1
+    (subst (IsFirst keys reads) (ap (λ (o : Outcome (Unit {0})). reads_of o) stopped.1) is)
 
--- a run that knows no key reads none
-get_of-reads : (key : List ℕ) (w : Option Write) (s : Session) → s.reads ≡ [] → (session_of (get_of (look_up []) key w s)).reads ≡ []
-get_of-reads key (Some w) s is = is
-get_of-reads key None s is = is
+-- a run that knows the keys of a list alone reads no other
+get_answered-listed : (keys : List (List ℕ)) (answers : List ReadAnswer) (key : List ℕ) (a : Option Answer) (s : Session) → look_up answers key ≡ a →
+    IsFirst keys answers s.reads → IsFirst keys answers (session_of (get_answered key a s)).reads
+get_answered-listed keys answers key None s found is = is
+get_answered-listed keys answers key (Some a) s found is =
+    first_stays keys s.reads key (known_among keys answers s.reads key a is found) ∙ is
 
-steps_read_none : StepsKeep (look_up []) (λ s. s.reads ≡ [])
+rev_answered-listed : (keys : List (List ℕ)) (answers : List ReadAnswer) (key : List ℕ) (a : Option Answer) (s : Session) → look_up answers key ≡ a →
+    IsFirst keys answers s.reads → IsFirst keys answers (session_of (rev_answered key a s)).reads
+rev_answered-listed keys answers key None s found is = is
+rev_answered-listed keys answers key (Some a) s found is =
+    first_stays keys s.reads key (known_among keys answers s.reads key a is found) ∙ is
+
+get_of-listed : (keys : List (List ℕ)) (answers : List ReadAnswer) (key : List ℕ) (w : Option Write) (s : Session) → IsFirst keys answers s.reads →
+    IsFirst keys answers (session_of (get_of (look_up answers) key w s)).reads
+get_of-listed keys answers key (Some w) s is = is
+get_of-listed keys answers key None s is = get_answered-listed keys answers key (look_up answers key) s refl is
+
+steps_read_listed : (keys : List (List ℕ)) (answers : List ReadAnswer) → StepsKeep (look_up answers) (λ s. IsFirst keys answers s.reads)
 unfolding get_key rev_key
-steps_read_none = record {
+steps_read_listed keys answers = record {
   set = λ v x s is. is;
   turn = λ s is. is;
   emit = λ x s is. is;
   write = λ w s long is. is;
-  get = λ key s long is. get_of-reads key (last_write key s.writes) s is;
-  rev = λ key s long is. is;
+  get = λ key s long is. get_of-listed keys answers key (last_write key s.writes) s is;
+  rev = λ key s long is. rev_answered-listed keys answers key (look_up answers key) s refl is;
 }
 
 same_reads : (o : Outcome (Unit {0})) → reads_of o ≡ (session_of o).reads
 same_reads (Gives x s) = refl
 same_reads (Stops stop s) = refl
 
-none_read : (program : ProgramTree) → reads_of (run_with program []) ≡ []
+listed_read : (keys : List (List ℕ)) (program : ProgramTree) (answers : List ReadAnswer) → keys_read answers ≡ keys →
+    IsFirst keys answers (reads_of (run_with program answers))
 unfolding fresh
-none_read program = same_reads (run_with program []) ∙ kept_by_run (look_up []) (λ s. s.reads ≡ []) steps_read_none program.statements refl
+listed_read keys program answers are =
+    ap (keys_first_read keys) (same_reads (run_with program answers))
+    ∙ kept_by_run (look_up answers) (λ s. IsFirst keys answers s.reads) (steps_read_listed keys answers) program.statements (first_none keys ∙ sym are)
 
-reads_behind : (program : ProgramTree) (before reads : List ReadAnswer) → AskedBehind program before reads →
-    reads_of (run_with program before) ≡ keys_read before → reads_of (run_with program (before ++ reads)) ≡ keys_read (before ++ reads)
-reads_behind program before [] asked is =
-    subst (λ (l : List ReadAnswer). reads_of (run_with program l) ≡ keys_read l) (sym (append-nil before)) is
-reads_behind program before (a ∷ reads) asked is =
-    subst (λ (l : List ReadAnswer). reads_of (run_with program l) ≡ keys_read l) (append_assoc before (a ∷ []) reads)
-    (reads_behind program (before ++ a ∷ []) reads asked.1 (one_more_read program before a asked.0 is))
-
-pub answers_are_the_reads : AnswersAreTheReads
-unfolding run_over
-answers_are_the_reads program reads run asked is =
-    ended_reads (run_with program reads) run is ∙ reads_behind program [] reads asked (none_read program)
+reads_behind : (keys : List (List ℕ)) (program : ProgramTree) (before reads : List ReadAnswer) → AskedBehind program before reads →
+    IsFirst keys before (reads_of (run_with program before)) → IsFirst keys (before ++ reads) (reads_of (run_with program (before ++ reads)))
+reads_behind keys program before [] asked is =
+    subst (λ (l : List ReadAnswer). IsFirst keys l (reads_of (run_with program l))) (sym (append-nil before)) is
+reads_behind keys program before (a ∷ reads) asked is =
+    subst (λ (l : List ReadAnswer). IsFirst keys l (reads_of (run_with program l))) (append_assoc before (a ∷ []) reads)
+    (reads_behind keys program (before ++ a ∷ []) reads asked.1 (one_more_read keys program before a asked.0 is))
 
 -- ---- no key is asked for twice ----
 
@@ -176,9 +200,6 @@ distinct_behind program before (a ∷ reads) asked distinct =
     subst HaveDistinctKeys (append_assoc before (a ∷ []) reads)
     (distinct_behind program (before ++ a ∷ []) reads asked.1 (distinct_more before a distinct (wanted_is_new program before a.key asked.0)))
 
-pub asked_are_distinct : (program : ProgramTree) (reads : List ReadAnswer) → AreAsked program reads → HaveDistinctKeys reads
-asked_are_distinct program reads asked = distinct_behind program [] reads asked tt
-
 -- ---- what an attempt has read was asked for ----
 
 asked_behind : (program : ProgramTree) (before reads : List ReadAnswer) (a : ReadAnswer) → AskedBehind program before reads →
@@ -191,35 +212,172 @@ asked_behind program before (x ∷ reads) a asked wants = (
       (subst (λ (l : List ReadAnswer). wanted (run_on program l) ≡ Some a.key) (sym (append_assoc before (x ∷ []) reads)) wants),
 )
 
-one_more_asked : (program : ProgramTree) (reads : List ReadAnswer) (a : ReadAnswer) → AreAsked program reads →
+-- ---- behind the list
+
+rejoined : (n : ℕ) (reads : List ReadAnswer) → take n reads ++ drop n reads ≡ reads
+rejoined zero reads = refl
+rejoined (suc n) [] = refl
+rejoined (suc n) (x ∷ reads) = ap (λ (l : List ReadAnswer). x ∷ l) (rejoined n reads)
+
+dropped_more : (n : ℕ) (reads : List ReadAnswer) (a : ReadAnswer) → n ≤ length reads → drop n (reads ++ a ∷ []) ≡ drop n reads ++ a ∷ []
+dropped_more zero reads a within = refl
+dropped_more (suc n) [] a within = absurd (omega (arith, within))
+dropped_more (suc n) (x ∷ reads) a within = dropped_more n reads a (omega (arith, within))
+
+-- reads that begin with a list which is not due have all of it
+list_within : (keys : List (List ℕ)) (reads : List ReadAnswer) → BeginsWithList keys reads → is_due keys reads ≡ false → length keys ≤ length reads
+list_within [] [] begins not = omega arith
+list_within (key ∷ keys) [] begins not = absurd (cc)
+list_within keys (a ∷ reads) begins not =
+    let all : List (List ℕ) = map (λ (x : ReadAnswer). x.key) (a ∷ reads) in
+    let same : length all ≡ length (keys ++ begins.others) = ap (λ (l : List (List ℕ)). length l) begins.first in
+    let parts : length (keys ++ begins.others) ≡ length keys + length begins.others = length-append keys begins.others in
+    let count : length all ≡ length (a ∷ reads) = length-map (a ∷ reads) (λ (x : ReadAnswer). x.key) in
+    omega (arith, same, parts, count)
+
+none_behind : (program : ProgramTree) (n : ℕ) → AskedBehind program (take n []) (drop n [])
+none_behind program zero = tt
+none_behind program (suc n) = tt
+
+pub none_asked : (program : ProgramTree) → AreAsked program []
+none_asked program = none_behind program (length program.prefetch)
+
+-- the answers to a list alone
+all_listed : (program : ProgramTree) (answers : List ReadAnswer) → map (λ (a : ReadAnswer). a.key) answers ≡ program.prefetch → AreAsked program answers
+all_listed program answers is =
+    let n : ℕ = length program.prefetch in
+    let count : length answers ≡ n =
+    sym (length-map answers (λ (a : ReadAnswer). a.key)) ∙ ap (λ (l : List (List ℕ)). length l) is in
+    subst (λ (l : List ReadAnswer). AskedBehind program (take n answers) l) (sym (drop_all n answers (omega (arith, count)))) tt
+
+one_more_asked : (program : ProgramTree) (reads : List ReadAnswer) (a : ReadAnswer) → length program.prefetch ≤ length reads → AreAsked program reads →
     wanted (run_on program reads) ≡ Some a.key → AreAsked program (reads ++ a ∷ [])
-one_more_asked program reads a asked wants = asked_behind program [] reads a asked wants
+one_more_asked program reads a within asked wants =
+    let n : ℕ = length program.prefetch in
+    let whole : wanted (run_on program (take n reads ++ drop n reads)) ≡ Some a.key =
+    ap (λ (l : List ReadAnswer). wanted (run_on program l)) (rejoined n reads) ∙ wants in
+    subst (λ (l : List ReadAnswer). AskedBehind program (take n (reads ++ a ∷ [])) l) (sym (dropped_more n reads a within))
+    (subst (λ (l : List ReadAnswer). AskedBehind program l (drop n reads ++ a ∷ [])) (sym (take-append-le n reads (a ∷ []) within))
+    (asked_behind program (take n reads) (drop n reads) a asked whole))
 
 is_for : (o : Option (List ℕ)) (answers : List ReadAnswer) (a : ReadAnswer) → answer_for o answers ≡ Some a → o ≡ Some a.key
 is_for None answers a is = absurd (cc)
 is_for (Some key) answers a is = ap (λ (k : List ℕ). Some k) (sym ((bytes_eq-Decides a.key key).0 (found_key key answers a is)))
 
-taken_asked : (program : ProgramTree) (again : List ReadAnswer → List ReadAnswer) (reads : List ReadAnswer) (o : Option ReadAnswer) →
-    ((more : List ReadAnswer) → AreAsked program more → AreAsked program (again more)) →
-    ((a : ReadAnswer) → o ≡ Some a → wanted (run_on program reads) ≡ Some a.key) → AreAsked program reads → AreAsked program (taken again reads o)
-taken_asked program again reads None goes wants asked = asked
-taken_asked program again reads (Some a) goes wants asked = goes (reads ++ a ∷ []) (one_more_asked program reads a asked (wants a refl))
+abbrev IsAskedOn : ProgramTree → List ReadAnswer → Type 0
+IsAskedOn program reads = (length program.prefetch ≤ length reads) × AreAsked program reads
 
-settle_asked : (n : ℕ) (program : ProgramTree) (prefetched reads : List ReadAnswer) → AreAsked program reads →
-    AreAsked program (settle n program prefetched reads)
-unfolding settle
-settle_asked zero program prefetched reads asked = asked
-settle_asked (suc n) program prefetched reads asked =
-    taken_asked program (settle n program prefetched) reads (served program prefetched reads) (λ more. settle_asked n program prefetched more)
-    (λ a. is_for (wanted (run_on program reads)) (serving reads prefetched) a) asked
+longer : (reads : List ReadAnswer) (a : ReadAnswer) (n : ℕ) → n ≤ length reads → n ≤ length (reads ++ a ∷ [])
+longer reads a n within = let count : length (reads ++ a ∷ []) ≡ length reads + 1 = length-append reads (a ∷ []) in omega (arith, within, count)
+
+settled_asked : (program : ProgramTree) (known : Known) → length program.prefetch ≤ length known.reads → AreAsked program known.reads →
+    AreAsked program (settled program known)
+settled_asked program known within asked =
+    (settled_keeps (IsAskedOn program) program known
+    (λ reads a is before. (
+      longer reads a (length program.prefetch) before.0,
+      one_more_asked program reads a before.0 before.1 (is_for (wanted (run_on program reads)) (serving reads known.prefetched) a is),
+    )) (within, asked)).1
+
+start_asked : (program : ProgramTree) (known : Known) (start : List ReadAnswer) → AreAsked program known.reads →
+    (known.reads ≡ start) ⊎ (answers_of_all program.prefetch known.prefetched ≡ Some start) → AreAsked program start
+start_asked program known start asked (inl same) = subst (AreAsked program) same asked
+start_asked program known start asked (inr is) = all_listed program start (taken_keys program.prefetch known.prefetched start is)
+
+start_listed : (program : ProgramTree) (known : Known) (start : List ReadAnswer) → BeginsWithList program.prefetch known.reads →
+    (known.reads ≡ start) ⊎ (answers_of_all program.prefetch known.prefetched ≡ Some start) → BeginsWithList program.prefetch start
+start_listed program known start begins (inl same) = subst (BeginsWithList program.prefetch) same begins
+start_listed program known start begins (inr is) = list_begins program.prefetch start (taken_keys program.prefetch known.prefetched start is)
+
+-- what was asked for, or is the list, goes on so
+gone_asked : (program : ProgramTree) (known : Known) → BeginsWithList program.prefetch known.reads → AreAsked program known.reads →
+    AreAsked program (gone_on program known)
+gone_asked program known begins asked = elim (where_it_comes program known) [
+  | inl d ↦ subst (AreAsked program) (sym d.stays) asked
+  | inr s ↦ subst (AreAsked program) (sym s.settles)
+      (settled_asked program (known_of s.start known.prefetched)
+      (list_within program.prefetch s.start (start_listed program known s.start begins s.is_start) s.not_due)
+      (start_asked program known s.start asked s.is_start))
+]
+
+-- ---- a fetch, a list and a conflict
+
+pub fetch_listed : (task : Task) (h : History) (key : List ℕ) (r : ℕ) (known : Known) → is_due task.program.prefetch known.reads ≡ false →
+    BeginsWithList task.program.prefetch known.reads → BeginsWithList task.program.prefetch (after_fetch task (answer_at h key r) known).reads
+fetch_listed task h key r known not begins =
+    reads_begin_with_the_list task.program (known_of (known.reads ++ answer_at h key r ∷ []) known.prefetched)
+    (begins_more task.program.prefetch known.reads (answer_at h key r ∷ []) not begins)
 
 pub fetch_asked : (task : Task) (h : History) (key : List ℕ) (r : ℕ) (trace : List TraceItem) (known : Known) →
-    run_on task.program known.reads ≡ Wants key trace → AreAsked task.program known.reads →
+    is_due task.program.prefetch known.reads ≡ false → run_on task.program known.reads ≡ Wants key trace →
+    BeginsWithList task.program.prefetch known.reads → AreAsked task.program known.reads →
     AreAsked task.program (after_fetch task (answer_at h key r) known).reads
-fetch_asked task h key r trace known wants asked =
-    settle_asked (length known.prefetched) task.program known.prefetched (known.reads ++ answer_at h key r ∷ [])
-    (one_more_asked task.program known.reads (answer_at h key r) asked (ap wanted wants))
+fetch_asked task h key r trace known not wants begins asked =
+    gone_asked task.program (known_of (known.reads ++ answer_at h key r ∷ []) known.prefetched)
+    (begins_more task.program.prefetch known.reads (answer_at h key r ∷ []) not begins)
+    (one_more_asked task.program known.reads (answer_at h key r) (list_within task.program.prefetch known.reads begins not) asked (ap wanted wants))
+
+keys_now : (h : History) (keys : List (List ℕ)) → map (λ (a : ReadAnswer). a.key) (map (answer_now h) keys) ≡ keys
+keys_now h [] = refl
+keys_now h (key ∷ keys) = ap (λ (l : List (List ℕ)). key ∷ l) (keys_now h keys)
+
+pub list_listed : (task : Task) (h : History) (known : Known) → BeginsWithList task.program.prefetch (after_list task h known).reads
+list_listed task h known =
+    reads_begin_with_the_list task.program (known_of (map (answer_now h) task.program.prefetch) known.prefetched)
+    (list_begins task.program.prefetch (map (answer_now h) task.program.prefetch) (keys_now h task.program.prefetch))
+
+pub list_asked : (task : Task) (h : History) (known : Known) → AreAsked task.program (after_list task h known).reads
+list_asked task h known =
+    gone_asked task.program (known_of (map (answer_now h) task.program.prefetch) known.prefetched)
+    (list_begins task.program.prefetch (map (answer_now h) task.program.prefetch) (keys_now h task.program.prefetch))
+    (all_listed task.program (map (answer_now h) task.program.prefetch) (keys_now h task.program.prefetch))
+
+pub conflict_listed : (task : Task) (h : History) (known : Known) → BeginsWithList task.program.prefetch (after_conflict task h known).reads
+conflict_listed task h known =
+    reads_begin_with_the_list task.program (known_of [] (map (answer_now h) (reread_keys task.level known.reads))) tt
 
 pub conflict_asked : (task : Task) (h : History) (known : Known) → AreAsked task.program (after_conflict task h known).reads
 conflict_asked task h known =
-    settle_asked (length (after_conflict task h known).prefetched) task.program (after_conflict task h known).prefetched [] tt
+    gone_asked task.program (known_of [] (map (answer_now h) (reread_keys task.level known.reads))) tt (none_asked task.program)
+
+-- ---- no key is read twice
+
+taken_keys_of : (n : ℕ) (reads : List ReadAnswer) → map (λ (a : ReadAnswer). a.key) (take n reads) ≡ take n (map (λ (a : ReadAnswer). a.key) reads)
+taken_keys_of zero reads = refl
+taken_keys_of (suc n) [] = refl
+taken_keys_of (suc n) (x ∷ reads) = ap (λ (l : List (List ℕ)). x.key ∷ l) (taken_keys_of n reads)
+
+front_of : (keys others : List (List ℕ)) → take (length keys) (keys ++ others) ≡ keys
+front_of [] others = refl
+front_of (key ∷ keys) others = ap (λ (l : List (List ℕ)). key ∷ l) (front_of keys others)
+
+pub asked_are_distinct : (program : ProgramTree) (reads : List ReadAnswer) → has_repeat program.prefetch ≡ false → BeginsWithList program.prefetch reads →
+    AreAsked program reads → HaveDistinctKeys reads
+asked_are_distinct program [] once begins asked = tt
+asked_are_distinct program (a ∷ reads) once begins asked =
+    let n : ℕ = length program.prefetch in
+    let all : List ReadAnswer = a ∷ reads in
+    let front : map (λ (x : ReadAnswer). x.key) (take n all) ≡ program.prefetch =
+    taken_keys_of n all ∙ ap (λ (l : List (List ℕ)). take n l) begins.first ∙ front_of program.prefetch begins.others in
+    let distinct : HaveDistinctKeys (take n all) = once-have_distinct (take n all) (ap has_repeat front ∙ once) in
+    subst HaveDistinctKeys (rejoined n all) (distinct_behind program (take n all) (drop n all) asked distinct)
+
+-- ---- what was read is what the run reads
+
+front_keys : (keys : List (List ℕ)) (reads : List ReadAnswer) → BeginsWithList keys reads → is_due keys reads ≡ false →
+    map (λ (a : ReadAnswer). a.key) (take (length keys) reads) ≡ keys
+front_keys [] [] begins not = refl
+front_keys (key ∷ keys) [] begins not = absurd (cc)
+front_keys keys (a ∷ reads) begins not =
+    taken_keys_of (length keys) (a ∷ reads) ∙ ap (λ (l : List (List ℕ)). take (length keys) l) begins.first ∙ front_of keys begins.others
+
+pub answers_are_the_reads : AnswersAreTheReads
+unfolding run_over
+answers_are_the_reads program reads run begins listed asked is =
+    let keys : List (List ℕ) = program.prefetch in
+    let n : ℕ = length keys in
+    let whole : IsFirst keys (take n reads ++ drop n reads) (reads_of (run_with program (take n reads ++ drop n reads))) =
+    reads_behind keys program (take n reads) (drop n reads) asked
+    (listed_read keys program (take n reads) (front_keys keys reads begins listed)) in
+    ap (keys_first_read keys) (ended_reads (run_with program reads) run is)
+    ∙ subst (λ (l : List ReadAnswer). IsFirst keys l (reads_of (run_with program l))) (rejoined n reads) whole

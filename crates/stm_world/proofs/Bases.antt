@@ -1,5 +1,5 @@
 -- What an attempt at a serializable level knows is of one revision, and what any attempt has read was asked for.
-use Rattle.std.proofs.Common.{◌≡◌, ◌≢◌, ℕ, zero, suc, ◌<◌, ◌≤◌, List, [], ◌∷◌, ◌++◌, map, true, refl, ap, subst, arith}
+use Rattle.std.proofs.Common.{◌≡◌, ◌≢◌, ℕ, zero, suc, ◌<◌, ◌≤◌, List, [], ◌∷◌, ◌++◌, map, true, false, refl, ap, subst, arith}
 use Rattle.std.specs.List.{AllByRecursion}
 use Rattle.std.proofs.lemmas.List.Elements.{All-from_recursion}
 use Rattle.stm_history.specs.declared.key_state.ReadAnswer.{ReadAnswer}
@@ -7,12 +7,16 @@ use Rattle.stm_history.specs.Opening.{Opening}
 use Rattle.stm_history.specs.History.{History, now}
 use Rattle.stm_outcome.specs.Commits.{revision_read}
 use Rattle.stm_txn.specs.Standing.{Standing}
+use Rattle.stm_txn.specs.Standing.{Setup}
 use Rattle.stm_compile.specs.Levels.{is_serializable}
 use Rattle.stm_compile.specs.Answers.{answer_now}
 use Rattle.stm_compile.specs.CommitTxn.{reread_keys}
 use Rattle.stm_attempt.specs.Known.{Known}
-use Rattle.stm_attempt.specs.Fetches.{at_of, HaveOneBase}
-use Rattle.stm_attempt.proofs.BaseLemmas.{settling_keeps_the_base, fetching_keeps_the_base}
+use Rattle.stm_attempt.specs.Fetches.{at_of, AllShow, ShowOneRevision, HaveOneBase}
+use Rattle.stm_attempt.specs.Entering.{is_due}
+use Rattle.stm_attempt.specs.Laws.{BeginsWithList}
+use Rattle.stm_attempt.proofs.BaseLemmas.{fetching_keeps_the_base}
+use Rattle.stm_attempt.proofs.EnteringLemmas.{going_on_keeps_the_base}
 use Rattle.stm_entries.specs.declared.entry.Entry.{Entry}
 use Rattle.stm_entries.specs.Replayed.{Replayed, opening, without_moment}
 use Rattle.stm_entries.specs.Replay.{replay}
@@ -21,55 +25,79 @@ use Rattle.stm_entries.proofs.Adding.{replay_only_adds}
 use Rattle.stm_meaning.specs.declared.trace_item.TraceItem.{TraceItem}
 use Rattle.stm_meaning.specs.declared.run.Answered.TheVariants.{Wants}
 use Rattle.stm_attempt.specs.Settled.{run_on}
-use Rattle.stm_world.specs.Task.{Task, answer_at, with_served, after_fetch, after_conflict}
+use Rattle.stm_world.specs.Task.{Task, answer_at, with_served, after_list, after_fetch, after_conflict}
 use Rattle.stm_world.specs.Asked.{AreAsked}
 use Rattle.stm_world.specs.World.{Runner, begin}
-use Rattle.stm_world.proofs.Asked.{fetch_asked, conflict_asked}
+use Rattle.stm_world.proofs.Asked.{none_asked, fetch_listed, fetch_asked, list_listed, list_asked, conflict_listed, conflict_asked}
 
--- the answers that were read have one base, and those that were prefetched show no revision 0
+-- the answers that were read have one base, and those that were prefetched show one revision, and no 0
 abbrev pub HasBase : Known → Type 0
-HasBase known = HaveOneBase known.reads × AllByRecursion (λ (a : ReadAnswer). 1 ≤ a.of_rev) known.prefetched
+HasBase known = HaveOneBase known.reads × AllByRecursion (λ (a : ReadAnswer). 1 ≤ a.of_rev) known.prefetched × ShowOneRevision known.prefetched
 
 -- at the serializable levels, in a world whose store did not open at 0
-abbrev pub IsBased : ℕ → Task → Known → Type 0
-IsBased start task known = 1 ≤ start → is_serializable task.level ≡ true → HasBase known
+abbrev pub IsBased : Setup → Task → Known → Type 0
+IsBased start task known = 1 ≤ start.revision → is_serializable task.level ≡ true → HasBase known
 
 served_base : (task : Task) (known : Known) → HasBase known → HasBase (with_served task known)
-served_base task known based =
-    (settling_keeps_the_base task.program known (All-from_recursion (λ (a : ReadAnswer). 1 ≤ a.of_rev) known.prefetched based.1) based.0, based.1)
+served_base task known based = (
+  going_on_keeps_the_base task.program known (All-from_recursion (λ (a : ReadAnswer). 1 ≤ a.of_rev) known.prefetched based.1) based.2 based.0,
+  based.1,
+  based.2,
+)
 
 rereads_show : (h : History) (keys : List (List ℕ)) → 1 ≤ now h → AllByRecursion (λ (a : ReadAnswer). 1 ≤ a.of_rev) (map (answer_now h) keys)
 rereads_show h [] some = tt
 rereads_show h (key ∷ keys) some = (some, rereads_show h keys some)
+
+-- answers as they are now are of one revision
+all_now : (h : History) (keys : List (List ℕ)) → AllShow (now h) (map (answer_now h) keys)
+all_now h [] = tt
+all_now h (key ∷ keys) = (refl, all_now h keys)
+
+rereads_one : (h : History) (keys : List (List ℕ)) → ShowOneRevision (map (answer_now h) keys)
+rereads_one h [] = tt
+rereads_one h (key ∷ keys) = all_now h keys
+
+now_base : (h : History) (keys : List (List ℕ)) → 1 ≤ now h → HaveOneBase (map (answer_now h) keys)
+now_base h [] some = tt
+now_base h (key ∷ keys) some = (some, all_now h keys)
 
 -- the counter of a world's store does not fall below the revision that it opened at
 added_count : (before after : History) → AddsTo before after → 1 ≤ before.opening.number → 1 ≤ now after
 added_count before after adds some =
     let same : after.opening.number ≡ before.opening.number = ap (λ (o : Opening). o.number) adds.opening in omega arith
 
-pub counter_some : (start : ℕ) (entries : List Entry) (s : Standing) → replay entries (opening start) ≡ without_moment s → 1 ≤ start → 1 ≤ now s.history
+pub counter_some : (start : Setup) (entries : List Entry) (s : Standing) → replay entries (opening start.revision) ≡ without_moment s → 1 ≤ start.revision → 1 ≤ now s.history
 counter_some start entries s replays some =
     subst (λ (r : Replayed). 1 ≤ now r.history) replays
-    (added_count (opening start).history (replay entries (opening start)).history (replay_only_adds entries (opening start)) some)
+    (added_count (opening start.revision).history (replay entries (opening start.revision)).history (replay_only_adds entries (opening start.revision)) some)
 
-fetch_based : (start : ℕ) (task : Task) (h : History) (key : List ℕ) (known : Known) → (1 ≤ start → 1 ≤ now h) → IsBased start task known →
+fetch_based : (start : Setup) (task : Task) (h : History) (key : List ℕ) (known : Known) → (1 ≤ start.revision → 1 ≤ now h) → IsBased start task known →
     IsBased start task (after_fetch task (answer_at h key (revision_read h (at_of task.level known.reads))) known)
 fetch_based start task h key known counter based some serializable =
     let before : HasBase known = based some serializable in
     let a : ReadAnswer = answer_at h key (revision_read h (at_of task.level known.reads)) in
     served_base task (record { reads = known.reads ++ a ∷ []; prefetched = known.prefetched })
-    (fetching_keeps_the_base h task.level known.reads a serializable (counter some) refl before.0, before.1)
+    (fetching_keeps_the_base h task.level known.reads a serializable (counter some) refl before.0, before.1, before.2)
 
-conflict_based : (start : ℕ) (task : Task) (h : History) (known : Known) → (1 ≤ start → 1 ≤ now h) → IsBased start task (after_conflict task h known)
+list_based : (start : Setup) (task : Task) (h : History) (known : Known) → (1 ≤ start.revision → 1 ≤ now h) → IsBased start task known →
+    IsBased start task (after_list task h known)
+list_based start task h known counter based some serializable =
+    let before : HasBase known = based some serializable in
+    served_base task (record { reads = map (answer_now h) task.program.prefetch; prefetched = known.prefetched })
+    (now_base h task.program.prefetch (counter some), before.1, before.2)
+
+conflict_based : (start : Setup) (task : Task) (h : History) (known : Known) → (1 ≤ start.revision → 1 ≤ now h) → IsBased start task (after_conflict task h known)
 conflict_based start task h known counter some serializable =
     served_base task (record { reads = []; prefetched = map (answer_now h) (reread_keys task.level known.reads) })
-    (tt, rereads_show h (reread_keys task.level known.reads) (counter some))
+    (tt, rereads_show h (reread_keys task.level known.reads) (counter some), rereads_one h (reread_keys task.level known.reads))
 
 -- ---- how a run goes on ----
 
--- what a runner has read in its attempt is based and was asked for, and it may send a commit yet
-pub record IsWellRun (start : ℕ) (r : Runner) : Type 0 where
+-- what a runner has read in its attempt is based, begins with its list, and was asked for behind it; and it may send a commit yet
+pub record IsWellRun (start : Setup) (r : Runner) : Type 0 where
   pub based : IsBased start r.task r.known
+  pub listed : BeginsWithList r.task.program.prefetch r.known.reads
   pub asked : AreAsked r.task.program r.known.reads
   pub within : r.failures < r.task.limit
 
@@ -77,19 +105,34 @@ some_limit : (limit : ℕ) → limit ≢ 0 → 0 < limit
 some_limit zero some = absurd (some refl)
 some_limit (suc n) some = omega arith
 
-pub begin_runs : (start : ℕ) (task : Task) → task.limit ≢ 0 → IsWellRun start (begin task)
-begin_runs start task some = record { based = λ opens serializable. (tt, tt); asked = tt; within = some_limit task.limit some }
+pub begin_runs : (start : Setup) (task : Task) → task.limit ≢ 0 → IsWellRun start (begin task)
+begin_runs start task some = record {
+  based = λ opens serializable. (tt, tt, tt);
+  listed = tt;
+  asked = none_asked task.program;
+  within = some_limit task.limit some;
+}
 
-pub fetch_runs : (start : ℕ) (r : Runner) (h : History) (key : List ℕ) (trace : List TraceItem) → (1 ≤ start → 1 ≤ now h) →
-    run_on r.task.program r.known.reads ≡ Wants key trace → IsWellRun start r →
+pub fetch_runs : (start : Setup) (r : Runner) (h : History) (key : List ℕ) (trace : List TraceItem) → (1 ≤ start.revision → 1 ≤ now h) →
+    is_due r.task.program.prefetch r.known.reads ≡ false → run_on r.task.program r.known.reads ≡ Wants key trace → IsWellRun start r →
     IsWellRun start (record r { known = after_fetch r.task (answer_at h key (revision_read h (at_of r.task.level r.known.reads))) r.known })
-fetch_runs start r h key trace counter wants well = record {
+fetch_runs start r h key trace counter not wants well = record {
   based = fetch_based start r.task h key r.known counter well.based;
-  asked = fetch_asked r.task h key (revision_read h (at_of r.task.level r.known.reads)) trace r.known wants well.asked;
+  listed = fetch_listed r.task h key (revision_read h (at_of r.task.level r.known.reads)) r.known not well.listed;
+  asked = fetch_asked r.task h key (revision_read h (at_of r.task.level r.known.reads)) trace r.known not wants well.listed well.asked;
   within = well.within;
 }
 
-pub conflict_runs : (start : ℕ) (task : Task) (failures : ℕ) (h : History) (known : Known) → (1 ≤ start → 1 ≤ now h) → failures < task.limit →
+pub list_runs : (start : Setup) (r : Runner) (h : History) → (1 ≤ start.revision → 1 ≤ now h) → IsWellRun start r →
+    IsWellRun start (record r { known = after_list r.task h r.known })
+list_runs start r h counter well = record {
+  based = list_based start r.task h r.known counter well.based;
+  listed = list_listed r.task h r.known;
+  asked = list_asked r.task h r.known;
+  within = well.within;
+}
+
+pub conflict_runs : (start : Setup) (task : Task) (failures : ℕ) (h : History) (known : Known) → (1 ≤ start.revision → 1 ≤ now h) → failures < task.limit →
     IsWellRun start (record { task = task; failures = failures; known = after_conflict task h known })
 conflict_runs start task failures h known counter left =
-    record { based = conflict_based start task h known counter; asked = conflict_asked task h known; within = left }
+    record { based = conflict_based start task h known counter; listed = conflict_listed task h known; asked = conflict_asked task h known; within = left }

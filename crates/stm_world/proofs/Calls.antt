@@ -15,6 +15,7 @@ use Rattle.stm_outcome.specs.declared.advance.Expired.{Expired}
 use Rattle.stm_outcome.specs.declared.refusal.Refusal.{Refusal}
 use Rattle.stm_outcome.specs.declared.refusal.Refusal.TheVariants.{LeaseNotFound, RevisionsUsedUp, TimeGoesBack}
 use Rattle.stm_outcome.specs.Outcome.{Done, outcome, with_changes, is_used_up}
+use Rattle.stm_outcome.specs.Terms.{most_operations}
 use Rattle.stm_txn.specs.Grants.{grant_refusal_of}
 use Rattle.stm_txn.specs.LeaseKeys.{deletions_of}
 use Rattle.stm_txn.specs.Standing.{Standing, Step, Advance, step_of, transacted, granted, with_lease, kept_alive, without_lease, ended, with_revision, revoked}
@@ -30,9 +31,9 @@ use Rattle.stm_entries.specs.Legal.{AreLegal}
 use Rattle.stm_world.specs.Told.{store_after_call}
 use Rattle.stm_world.specs.World.{if_taken, if_changed, expiries}
 use Rattle.stm_world.proofs.Truth.{Keeps, keeps_same, keeps_changes, keeps_twice}
-use Rattle.stm_world.proofs.Entered.{EntriesFollow, floor_stays, nothing_follows}
+use Rattle.stm_world.proofs.Entered.{GoesOn, EntriesFollow, floor_stays, nothing_follows}
 use Rattle.stm_world.proofs.KeptFor.{kept_by_changes}
-use Rattle.stm_outcome.proofs.Lowering.{floor_only_refuses}
+use Rattle.stm_outcome.proofs.Widening.{wider_terms_take}
 
 -- ---- a transaction ----
 
@@ -43,30 +44,48 @@ same_history h after (c ∷ cs) is still =
     let higher : now after ≡ now (with_changes h (c ∷ cs)) = ap now is in
     absurd (omega arith)
 
-changed_follows : (s : Standing) (txn : Txn) (done : Done) (b : Bool) → outcome (terms_of s) txn ≡ Ok done →
-    nat_lt (now s.history) (now done.history) ≡ b →
-    EntriesFollow s (record s { history = done.history }) (cond b (Foreign txn ∷ []) [])
-changed_follows s txn done b is changed =
+changed_goes_on : (s : Standing) (txn : Txn) (done : Done) → outcome (terms_of s) txn ≡ Ok done → GoesOn s (record s { history = done.history })
+changed_goes_on s txn done is =
     let grown : (changes : List Change) × HasDistinctKeys changes × (done.history ≡ with_changes s.history changes) =
     history_grows (terms_of s) txn done is in
-    let keeps : Keeps s.history done.history = subst (λ (h : History). Keeps s.history h) (sym grown.2) (keeps_changes s.history grown.0) in
-    let kept : HasKept s → HasKept (record s { history = done.history }) =
-    λ k. subst (λ (h : History). HasKept (record s { history = h })) (sym grown.2) (kept_by_changes s grown.0 k) in
-    let replayed : outcome (replay_terms (without_moment s)) txn ≡ Ok done = floor_only_refuses (terms_of s) txn done is in
+    record {
+      keeps = subst (λ (h : History). Keeps s.history h) (sym grown.2) (keeps_changes s.history grown.0);
+      kept = λ k. subst (λ (h : History). HasKept (record s { history = h })) (sym grown.2) (kept_by_changes s grown.0 k);
+      floor = floor_stays s;
+      limit = refl;
+    }
+
+txn_goes_by : (s : Standing) (txn : Txn) (o : Result Done Refusal) → outcome (terms_of s) txn ≡ o → GoesOn s (store_after_call s (step_of s o))
+txn_goes_by s txn (Ok done) is = changed_goes_on s txn done is
+txn_goes_by s txn (Err cause) is = record { keeps = keeps_same s.history; kept = λ k. k; floor = floor_stays s; limit = refl }
+
+pub txn_goes_on : (s : Standing) (txn : Txn) → GoesOn s (store_after_call s (transacted s txn))
+txn_goes_on s txn = txn_goes_by s txn (outcome (terms_of s) txn) refl
+
+changed_follows : (s : Standing) (txn : Txn) (done : Done) (b : Bool) → s.limit ≤ most_operations → outcome (terms_of s) txn ≡ Ok done →
+    nat_lt (now s.history) (now done.history) ≡ b →
+    EntriesFollow s (record s { history = done.history }) (cond b (Foreign txn ∷ []) [])
+changed_follows s txn done b few is changed =
+    let grown : (changes : List Change) × HasDistinctKeys changes × (done.history ≡ with_changes s.history changes) =
+    history_grows (terms_of s) txn done is in
+    let goes : GoesOn s (record s { history = done.history }) = changed_goes_on s txn done is in
+    let replayed : outcome (replay_terms (without_moment s)) txn ≡ Ok done = wider_terms_take (terms_of s) most_operations txn done few is in
     elim b as (λ c. nat_lt (now s.history) (now done.history) ≡ c → EntriesFollow s (record s { history = done.history }) (cond c (Foreign txn ∷ []) [])) [
       | true ↦ λ e. record {
         replays = ap (λ o. with_history (without_moment s) (history_left s.history o)) replayed;
         legal = (record { done = done; taken = replayed; changed = ltb-true (now s.history) (now done.history) e }, tt);
-        keeps = keeps;
-        kept = kept;
-        floor = floor_stays s;
+        keeps = goes.keeps;
+        kept = goes.kept;
+        floor = goes.floor;
+        limit = goes.limit;
       }
       | false ↦ λ e. record {
         replays = ap (λ (h : History). record { history = h; live = s.live }) (same_history s.history done.history grown.0 grown.2 e);
         legal = tt;
-        keeps = keeps;
-        kept = kept;
-        floor = floor_stays s;
+        keeps = goes.keeps;
+        kept = goes.kept;
+        floor = goes.floor;
+        limit = goes.limit;
       }
     ] changed
 
@@ -74,14 +93,15 @@ refused_follows : (s : Standing) (txn : Txn) (b : Bool) → nat_lt (now s.histor
 refused_follows s txn true changed = let higher : now s.history < now s.history = ltb-true (now s.history) (now s.history) changed in absurd (omega arith)
 refused_follows s txn false changed = nothing_follows s
 
-txn_by : (s : Standing) (txn : Txn) (o : Result Done Refusal) → outcome (terms_of s) txn ≡ o →
+txn_by : (s : Standing) (txn : Txn) (o : Result Done Refusal) → s.limit ≤ most_operations → outcome (terms_of s) txn ≡ o →
     EntriesFollow s (store_after_call s (step_of s o)) (if_changed s (store_after_call s (step_of s o)) txn)
-txn_by s txn (Ok done) is = changed_follows s txn done (nat_lt (now s.history) (now done.history)) is refl
-txn_by s txn (Err cause) is = refused_follows s txn (nat_lt (now s.history) (now s.history)) refl
+txn_by s txn (Ok done) few is = changed_follows s txn done (nat_lt (now s.history) (now done.history)) few is refl
+txn_by s txn (Err cause) few is = refused_follows s txn (nat_lt (now s.history) (now s.history)) refl
 
-pub txn_follows : (s : Standing) (txn : Txn) →
+-- in a store that takes no more operations than any
+pub txn_follows : (s : Standing) (txn : Txn) → s.limit ≤ most_operations →
     EntriesFollow s (store_after_call s (transacted s txn)) (if_changed s (store_after_call s (transacted s txn)) txn)
-txn_follows s txn = txn_by s txn (outcome (terms_of s) txn) refl
+txn_follows s txn few = txn_by s txn (outcome (terms_of s) txn) few refl
 
 -- ---- leases ----
 
@@ -100,6 +120,7 @@ grant_by s id ttl None is = record {
   keeps = keeps_same s.history;
   kept = λ k. record { reached = k.reached; watchers = k.watchers };
   floor = floor_stays s;
+  limit = refl;
 }
 grant_by s id ttl (Some cause) is = nothing_follows s
 
@@ -123,6 +144,7 @@ keep_by s id (Some term) is = record {
   keeps = keeps_same s.history;
   kept = λ k. record { reached = k.reached; watchers = k.watchers };
   floor = floor_stays s;
+  limit = refl;
 }
 
 pub keep_follows : (s : Standing) (id : ℕ) →
@@ -148,6 +170,7 @@ revoke_by s id true false is room = record {
   keeps = keeps_changes s.history (deletions_of s.history id);
   kept = kept_without s id;
   floor = floor_stays s;
+  limit = refl;
 }
 
 pub revoke_follows : (s : Standing) (id : ℕ) →
@@ -174,6 +197,7 @@ one_more_expiry s next last id expired live is rest =
           (subst (λ (x : Standing). Keeps s.history x.history) same (keeps_changes s.history (deletions_of s.history id))) rest.keeps;
       kept = λ k. rest.kept (subst HasKept same (kept_without s id k));
       floor = subst (λ (x : Standing). x.floor ≤ last.floor) (sym same) rest.floor;
+      limit = rest.limit ∙ sym (ap (λ (x : Standing). x.limit) same);
     }
 
 -- what a lease that is due makes of the rest of an advance
@@ -220,6 +244,7 @@ at_moment_follows many s moment =
       keeps = e.keeps;
       kept = λ k. e.kept (record { reached = k.reached; watchers = k.watchers });
       floor = e.floor;
+      limit = e.limit;
     }
 
 abbrev pub advance_back : Standing → ℕ → Bool → Advance

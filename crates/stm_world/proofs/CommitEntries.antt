@@ -127,4 +127,5 @@ commit_follows_entry s task reads run done t taken = record {
   keeps = grown_by (terms_of s) (map as_change (latest_writes run.writes)) done taken.applies;
   kept = kept_by_writes s (terms_of s) (map as_change (latest_writes run.writes)) done refl taken.applies;
   floor = floor_stays s;
+  limit = refl;
 }

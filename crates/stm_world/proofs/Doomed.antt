@@ -24,6 +24,7 @@ use Rattle.stm_outcome.specs.Outcome.{Done, is_used_up}
 use Rattle.stm_outcome.specs.Commits.{revision_read, turned_down, effective, is_on_dead_lease}
 use Rattle.stm_outcome.specs.Terms.{Terms}
 use Rattle.stm_txn.specs.Standing.{terms_of}
+use Rattle.stm_txn.specs.Standing.{Setup}
 use Rattle.stm_compile.specs.Answers.{AreTrue}
 use Rattle.stm_compile.specs.Now.{as_change}
 use Rattle.stm_compile.specs.CommitTxn.{reread_keys}
@@ -36,7 +37,7 @@ use Rattle.stm_meaning.specs.declared.run.Answered.TheVariants.{Ended as EndedRu
 use Rattle.stm_world.proofs.Slots.{other_number}
 use Rattle.stm_world.specs.declared.event.WorldEvent.{WorldEvent}
 use Rattle.stm_world.specs.declared.reply.Reply.{Reply}
-use Rattle.stm_world.specs.declared.reply.Reply.TheVariants.{Started, Fetched, Committed, Conflict, GaveUp, Aborted, Faulted, Ended}
+use Rattle.stm_world.specs.declared.reply.Reply.TheVariants.{Started, Prefetched, Fetched, Committed, Conflict, GaveUp, Aborted, Faulted, Ended}
 use Rattle.stm_world.specs.declared.reply.Reply.TheVariants.{Txn as TxnDone, Granted, Kept, Revoked, Advanced, Watching, Batch, Cancelled, Compacted, Lost}
 use Rattle.stm_world.specs.declared.refusal.Denied.{Denied}
 use Rattle.stm_world.specs.Task.{Task}
@@ -78,7 +79,7 @@ commit_fails true terms level reads run o done failed is some = absurd (cc)
 commit_fails false terms level reads run o done failed is some = judged_fails terms level reads run o done failed is some
 
 -- a commit that failed by a conflict, at the number of its runner
-pub real_failure : (start : ℕ) (log : List Line) (id runner : ℕ) (task : Task) (key : List ℕ) (seen now_modified : ℕ) → running id log ≡ Some task →
+pub real_failure : (start : Setup) (log : List Line) (id runner : ℕ) (task : Task) (key : List ℕ) (seen now_modified : ℕ) → running id log ≡ Some task →
     runner ≡ id → IsConflicted (situation start log id task) key seen now_modified →
     IsRealFailure start log (record { runner = runner; key = key; seen = seen; now_modified = now_modified })
 real_failure start log id runner task key seen now_modified runs same c =
@@ -105,13 +106,14 @@ real_failure start log id runner task key seen now_modified runs same c =
       };
     })
 
-reply_is_real : (start : ℕ) (log : List Line) (id : ℕ) (task : Task) (reply : Result Reply Denied) → running id log ≡ Some task →
+reply_is_real : (start : Setup) (log : List Line) (id : ℕ) (task : Task) (reply : Result Reply Denied) → running id log ≡ Some task →
     StepIsRight (situation start log id task) reply → IfFailedIsReal start log (failed_commit reply)
 reply_is_real start log id task (Ok (Conflict runner key seen now)) runs right =
     real_failure start log id runner task key seen now runs right.0 right.2
 reply_is_real start log id task (Ok (GaveUp runner attempts key seen now)) runs right =
     real_failure start log id runner task key seen now runs right.0 right.3
 reply_is_real start log id task (Ok (Started runner)) runs right = tt
+reply_is_real start log id task (Ok (Prefetched runner revision reads)) runs right = tt
 reply_is_real start log id task (Ok (Fetched runner key mod_rev of_rev revision)) runs right = tt
 reply_is_real start log id task (Ok (Committed runner revision attempts output trace answers)) runs right = tt
 reply_is_real start log id task (Ok (Aborted runner text)) runs right = tt
@@ -131,7 +133,7 @@ reply_is_real start log id task (Err refusal) runs right = tt
 
 pub failures_are_conflicts : CommitLaws → FailuresAreConflicts
 failures_are_conflicts laws =
-    of_each_log (λ (start : ℕ) (log : List Line). EachLine (λ older line. IfFailedIsReal start older (failed_commit line.reply)) log)
+    of_each_log (λ (start : Setup) (log : List Line). EachLine (λ older line. IfFailedIsReal start older (failed_commit line.reply)) log)
     (λ start events. each_line start (λ older line. IfFailedIsReal start older (failed_commit line.reply)) laws
     (λ log event reply w f right. by_event start log (λ (e : WorldEvent) (r : Result Reply Denied). IfFailedIsReal start log (failed_commit r))
     (λ e r none. subst (IfFailedIsReal start log) (sym none.no_failure) tt) (λ task. tt)
@@ -158,7 +160,7 @@ alone_at h task (a ∷ reads) run one truth is =
       subst (λ n. run_over (state_as_of h n) task.program.statements ≡ EndedRun run) (sym base) alone,
     )
 
-of_its_state : (start : ℕ) (log : List Line) (id : ℕ) (task : Task) (end : End) (w : World) → Follows start log w → 1 ≤ start →
+of_its_state : (start : Setup) (log : List Line) (id : ℕ) (task : Task) (end : End) (w : World) → Follows start log w → 1 ≤ start.revision →
     running id log ≡ Some task → is_serializable task.level ≡ true → EndsWith (situation start log id task) end →
     IsEndOnOneState (store start log).history task (told start id task log).reads end
 of_its_state start log id task end w f some runs serializable ends =
@@ -179,7 +181,7 @@ of_its_state start log id task end w f some runs serializable ends =
     }
 
 -- an abort or a fault of a runner, at its number
-of_one_state : (start : ℕ) (log : List Line) (id runner : ℕ) (task : Task) (end : End) (w : World) → Follows start log w → 1 ≤ start →
+of_one_state : (start : Setup) (log : List Line) (id runner : ℕ) (task : Task) (end : End) (w : World) → Follows start log w → 1 ≤ start.revision →
     running id log ≡ Some task → runner ≡ id → EndsWith (situation start log id task) end →
     IfStoppedIsReal start log (Some (record { runner = runner; end = end }))
 of_one_state start log id runner task end w f some runs same ends =
@@ -190,13 +192,14 @@ of_one_state start log id runner task end w f some runs same ends =
       of_one_state = λ serializable. of_its_state start log id task end w f some runs serializable ends;
     })
 
-reply_is_of_one_state : (start : ℕ) (log : List Line) (id : ℕ) (task : Task) (reply : Result Reply Denied) (w : World) → Follows start log w → 1 ≤ start →
+reply_is_of_one_state : (start : Setup) (log : List Line) (id : ℕ) (task : Task) (reply : Result Reply Denied) (w : World) → Follows start log w → 1 ≤ start.revision →
     running id log ≡ Some task → StepIsRight (situation start log id task) reply → IfStoppedIsReal start log (stopped reply)
 reply_is_of_one_state start log id task (Ok (Aborted runner text)) w f some runs right =
     of_one_state start log id runner task (AbortedEnd text) w f some runs right.0 right.1
 reply_is_of_one_state start log id task (Ok (Faulted runner fault)) w f some runs right =
     of_one_state start log id runner task (FaultedEnd fault) w f some runs right.0 right.1
 reply_is_of_one_state start log id task (Ok (Started runner)) w f some runs right = tt
+reply_is_of_one_state start log id task (Ok (Prefetched runner revision reads)) w f some runs right = tt
 reply_is_of_one_state start log id task (Ok (Fetched runner key mod_rev of_rev revision)) w f some runs right = tt
 reply_is_of_one_state start log id task (Ok (Committed runner revision attempts output trace answers)) w f some runs right = tt
 reply_is_of_one_state start log id task (Ok (Conflict runner key seen now)) w f some runs right = tt
@@ -216,7 +219,7 @@ reply_is_of_one_state start log id task (Err refusal) w f some runs right = tt
 
 pub stops_are_of_one_state : CommitLaws → StopsAreOfOneState
 stops_are_of_one_state laws =
-    of_each_log (λ (start : ℕ) (log : List Line). 1 ≤ start → EachLine (λ older line. IfStoppedIsReal start older (stopped line.reply)) log)
+    of_each_log (λ (start : Setup) (log : List Line). 1 ≤ start.revision → EachLine (λ older line. IfStoppedIsReal start older (stopped line.reply)) log)
     (λ start events some. each_line start (λ older line. IfStoppedIsReal start older (stopped line.reply)) laws
     (λ log event reply w f right. by_event start log (λ (e : WorldEvent) (r : Result Reply Denied). IfStoppedIsReal start log (stopped r))
     (λ e r none. subst (IfStoppedIsReal start log) (sym none.no_stop) tt) (λ task. tt)

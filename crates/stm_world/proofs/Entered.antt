@@ -7,17 +7,25 @@ use Rattle.stm_entries.specs.Replay.{replay}
 use Rattle.stm_entries.specs.Legal.{AreLegal}
 use Rattle.stm_world.proofs.Truth.{Keeps, keeps_same}
 
--- History and live leases are those that the entries lead to, each legal at its point; what was true stays true; and so does it that nothing
--- which is pending for a watcher that is not lost is below the floor, which goes down nowhere.
+-- What was true stays true; and so does it that nothing which is pending for a watcher that is not lost is below the floor, which goes down
+-- nowhere. The limit of operations stays.
+pub record GoesOn (before after : Standing) : Type 0 where
+  pub keeps : Keeps before.history after.history
+  pub kept : HasKept before → HasKept after
+  pub floor : before.floor ≤ after.floor
+  pub limit : after.limit ≡ before.limit
+
+-- Beside that history and live leases are those that the entries lead to, each legal at its point.
 pub record EntriesFollow (before after : Standing) (more : List Entry) : Type 0 where
   pub replays : replay more (without_moment before) ≡ without_moment after
   pub legal : AreLegal more (without_moment before)
   pub keeps : Keeps before.history after.history
   pub kept : HasKept before → HasKept after
   pub floor : before.floor ≤ after.floor
+  pub limit : after.limit ≡ before.limit
 
 pub floor_stays : (s : Standing) → s.floor ≤ s.floor
 floor_stays s = omega arith
 
 pub nothing_follows : (s : Standing) → EntriesFollow s s []
-nothing_follows s = record { replays = refl; legal = tt; keeps = keeps_same s.history; kept = λ k. k; floor = floor_stays s }
+nothing_follows s = record { replays = refl; legal = tt; keeps = keeps_same s.history; kept = λ k. k; floor = floor_stays s; limit = refl }

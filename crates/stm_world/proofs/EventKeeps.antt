@@ -1,6 +1,7 @@
 -- What an event makes of the store: what was true stays so, what watchers were told goes on, the opening stays, and nothing below the floor
 -- is pending for a watcher that is not lost.
-use Rattle.std.proofs.Common.{◌≡◌, ◌≤◌, ℕ, List, [], ◌∷◌, map, Option, Some, None, Ok, Err, refl, ◌∙◌, arith}
+use Rattle.std.proofs.Common.{◌≡◌, ◌≤◌, ℕ, List, [], ◌∷◌, map, Option, Some, None, Ok, Err, refl, sym, ◌∙◌, subst, arith}
+use Rattle.std.proofs.Math.Nat.{min-le_right}
 use Rattle.std.specs.Prelude.{Result}
 use Rattle.stm_history.specs.declared.key_state.ReadAnswer.{ReadAnswer}
 use Rattle.stm_history.specs.Opening.{opening_at}
@@ -14,7 +15,9 @@ use Rattle.stm_meaning.specs.Meaning.{run_over}
 use Rattle.stm_watch.specs.declared.watched.Watched.TheVariants.{Key, Range}
 use Rattle.stm_outcome.specs.declared.refusal.Refusal.{Refusal as StoreRefusal}
 use Rattle.stm_outcome.specs.Outcome.{Done}
+use Rattle.stm_outcome.specs.Terms.{most_operations}
 use Rattle.stm_txn.specs.Standing.{Standing, HasKept, with_history}
+use Rattle.stm_txn.specs.Standing.{Setup}
 use Rattle.stm_compile.specs.Now.{as_change}
 use Rattle.stm_entries.specs.Replayed.{Replayed, without_moment, replay_terms}
 use Rattle.stm_entries.specs.Alone.{seen_at, applied_run, history_left, left_by, left_by_run}
@@ -29,7 +32,7 @@ use Rattle.stm_world.specs.Log.{Line, begun, with_commit, store_after_step, stor
 use Rattle.stm_world.proofs.Truth.{Keeps, keeps_same}
 use Rattle.stm_world.proofs.CommitEntries.{grown_by, kept_by_writes}
 use Rattle.stm_world.proofs.Entered.{floor_stays}
-use Rattle.stm_world.proofs.Calls.{txn_follows, grant_follows, keep_follows, revoke_follows, advance_follows}
+use Rattle.stm_world.proofs.Calls.{txn_goes_on, grant_follows, keep_follows, revoke_follows, advance_follows}
 use Rattle.stm_world.proofs.WatchCalls.{watch_follows, poll_follows, cancel_follows, compact_follows}
 
 left_keeps : (r : Replayed) (run : Run) (o : Result Done StoreRefusal) → applied_run r run ≡ o → Keeps r.history (history_left r.history o)
@@ -58,7 +61,7 @@ pub event_keeps : (task_of : ℕ → Option Task) (event : WorldEvent) (reply : 
     Keeps s.history (store_after task_of event reply s).history
 event_keeps task_of (Start program level limit) reply s = keeps_same s.history
 event_keeps task_of (Step runner) reply s = step_keeps task_of s reply
-event_keeps task_of (Txn txn) reply s = (txn_follows s txn).keeps
+event_keeps task_of (Txn txn) reply s = (txn_goes_on s txn).keeps
 event_keeps task_of (Grant id ttl) reply s = (grant_follows s id ttl).keeps
 event_keeps task_of (Keep id) reply s = (keep_follows s id).keeps
 event_keeps task_of (Revoke id) reply s = (revoke_follows s id).keeps
@@ -70,7 +73,7 @@ event_keeps task_of (Cancel watcher) reply s = (cancel_follows s watcher).keeps
 event_keeps task_of (Compact revision) reply s = (compact_follows s revision).keeps
 
 -- the history of a log opens as its store did, without a key
-pub store_opens : (start : ℕ) (log : List Line) → (store start log).history.opening ≡ opening_at start
+pub store_opens : (start : Setup) (log : List Line) → (store start log).history.opening ≡ opening_at start.revision
 store_opens start [] = refl
 store_opens start (line ∷ older) =
     (event_keeps (λ id. begun id older) line.event line.reply (store start older)).opening ∙ store_opens start older
@@ -105,7 +108,7 @@ event_kept : (task_of : ℕ → Option Task) (event : WorldEvent) (reply : Resul
     HasKept (store_after task_of event reply s)
 event_kept task_of (Start program level limit) reply s k = k
 event_kept task_of (Step runner) reply s k = step_kept task_of s reply k
-event_kept task_of (Txn txn) reply s k = (txn_follows s txn).kept k
+event_kept task_of (Txn txn) reply s k = (txn_goes_on s txn).kept k
 event_kept task_of (Grant id ttl) reply s k = (grant_follows s id ttl).kept k
 event_kept task_of (Keep id) reply s k = (keep_follows s id).kept k
 event_kept task_of (Revoke id) reply s k = (revoke_follows s id).kept k
@@ -131,7 +134,7 @@ pub event_floor : (task_of : ℕ → Option Task) (event : WorldEvent) (reply : 
     s.floor ≤ (store_after task_of event reply s).floor
 event_floor task_of (Start program level limit) reply s = floor_stays s
 event_floor task_of (Step runner) reply s = step_floor task_of s reply
-event_floor task_of (Txn txn) reply s = (txn_follows s txn).floor
+event_floor task_of (Txn txn) reply s = (txn_goes_on s txn).floor
 event_floor task_of (Grant id ttl) reply s = (grant_follows s id ttl).floor
 event_floor task_of (Keep id) reply s = (keep_follows s id).floor
 event_floor task_of (Revoke id) reply s = (revoke_follows s id).floor
@@ -142,7 +145,39 @@ event_floor task_of (Poll watcher most) reply s = (poll_follows s watcher most).
 event_floor task_of (Cancel watcher) reply s = (cancel_follows s watcher).floor
 event_floor task_of (Compact revision) reply s = (compact_follows s revision).floor
 
+-- ---- the limit stays
+
+commit_limit : (s : Standing) (answers : List ReadAnswer) (o : Option Task) → (with_commit s answers o).limit ≡ s.limit
+commit_limit s answers None = refl
+commit_limit s answers (Some task) = refl
+
+step_limit : (task_of : ℕ → Option Task) (s : Standing) (reply : Result Reply Denied) → (store_after_step task_of s reply).limit ≡ s.limit
+step_limit task_of s (Ok (Committed runner revision attempts output trace answers)) = commit_limit s answers (task_of runner)
+step_limit task_of s (Ok other) = refl
+step_limit task_of s (Err refusal) = refl
+
+event_limit : (task_of : ℕ → Option Task) (event : WorldEvent) (reply : Result Reply Denied) (s : Standing) →
+    (store_after task_of event reply s).limit ≡ s.limit
+event_limit task_of (Start program level limit) reply s = refl
+event_limit task_of (Step runner) reply s = step_limit task_of s reply
+event_limit task_of (Txn txn) reply s = (txn_goes_on s txn).limit
+event_limit task_of (Grant id ttl) reply s = (grant_follows s id ttl).limit
+event_limit task_of (Keep id) reply s = (keep_follows s id).limit
+event_limit task_of (Revoke id) reply s = (revoke_follows s id).limit
+event_limit task_of (Advance moment) reply s = (advance_follows s moment).limit
+event_limit task_of (WatchKey key from) reply s = (watch_follows s (Key key) from).limit
+event_limit task_of (WatchRange first end from) reply s = (watch_follows s (Range first end) from).limit
+event_limit task_of (Poll watcher most) reply s = (poll_follows s watcher most).limit
+event_limit task_of (Cancel watcher) reply s = (cancel_follows s watcher).limit
+event_limit task_of (Compact revision) reply s = (compact_follows s revision).limit
+
+-- the store of a log takes no more operations than any store
+pub store_limit : (start : Setup) (log : List Line) → (store start log).limit ≤ most_operations
+store_limit start [] = min-le_right start.limit most_operations
+store_limit start (line ∷ older) =
+    subst (λ n. n ≤ most_operations) (sym (event_limit (λ id. begun id older) line.event line.reply (store start older))) (store_limit start older)
+
 -- the store of a log has nothing below its floor pending for a watcher that is not lost
-pub store_kept : (start : ℕ) (log : List Line) → HasKept (store start log)
+pub store_kept : (start : Setup) (log : List Line) → HasKept (store start log)
 store_kept start [] = record { reached = omega arith; watchers = tt }
 store_kept start (line ∷ older) = event_kept (λ id. begun id older) line.event line.reply (store start older) (store_kept start older)

@@ -15,10 +15,11 @@ use Rattle.stm_entries.proofs.Replaying.{replay_goes_on}
 use Rattle.stm_world.specs.declared.event.WorldEvent.{WorldEvent}
 use Rattle.stm_world.specs.declared.event.WorldEvent.TheVariants.{Start, Step}
 use Rattle.stm_world.specs.declared.reply.Reply.{Reply}
-use Rattle.stm_world.specs.declared.reply.Reply.TheVariants.{Started, Fetched, Committed, Conflict, GaveUp, Aborted, Faulted, Ended}
+use Rattle.stm_world.specs.declared.reply.Reply.TheVariants.{Started, Prefetched, Fetched, Committed, Conflict, GaveUp, Aborted, Faulted, Ended}
 use Rattle.stm_world.specs.declared.reply.Reply.TheVariants.{Txn as TxnDone, Granted, Kept, Revoked, Advanced, Watching, Batch, Cancelled, Compacted, Lost}
 use Rattle.stm_world.specs.declared.refusal.Denied.{Denied}
-use Rattle.stm_world.specs.Task.{Task, answer_at, after_fetch, after_conflict}
+use Rattle.stm_world.specs.declared.reply.KeyRead.{KeyRead}
+use Rattle.stm_world.specs.Task.{Task, answer_at, after_list, after_fetch, after_conflict}
 use Rattle.stm_world.specs.Log.{Line, is_id, is_over, begun, running, started, failures, store, told, runner_started, runner_ended, runner_in_conflict}
 use Rattle.stm_world.specs.Log.{task_in, entries_told, line_entries}
 use Rattle.stm_world.specs.Right.{IsRight, IsFetch, StepIsRight, situation}
@@ -34,19 +35,20 @@ use Rattle.stm_world.proofs.Logs.{logged, of_each_log}
 use Rattle.stm_world.proofs.Lines.{by_event}
 use Rattle.stm_world.proofs.Doomed.{real_failure}
 use Rattle.stm_world.proofs.LowRevisions.{replay_stays_low}
-use Rattle.stm_world.proofs.MovingOn.{KnowsFrom, fetched_from, conflicted_from, conflict_moves_on}
+use Rattle.stm_world.proofs.MovingOn.{prefetched_from, KnowsFrom, fetched_from, conflicted_from, conflict_moves_on}
+use Rattle.stm_txn.specs.Standing.{Setup}
 
 -- the least revision that the store has after so many failures
-abbrev least : ℕ → List Line → ℕ → ℕ
+abbrev least : Setup → List Line → ℕ → ℕ
 least start log id = since start id log + failed_commits id log
 
 -- the store has reached it, and the attempt of a runner that runs has seen nothing below it
-record HasMovedOn (start : ℕ) (log : List Line) (id : ℕ) : Type 0 where
+record HasMovedOn (start : Setup) (log : List Line) (id : ℕ) : Type 0 where
   counter : (task : Task) → begun id log ≡ Some task → least start log id ≤ now (store start log).history
   known : (task : Task) → running id log ≡ Some task → KnowsFrom (least start log id) (told start id task log)
 
 -- a log and the next one
-record Grows (start : ℕ) (log : List Line) (line : Line) : Type 0 where
+record Grows (start : Setup) (log : List Line) (line : Line) : Type 0 where
   low : now (store start log).history ≤ HIGHEST_REVISION
   grown : now (store start log).history ≤ now (store start (line ∷ log)).history
 
@@ -59,12 +61,12 @@ record IsAboutOthers (id : ℕ) (reply : Result Reply Denied) : Type 0 where
 same_begun : (id : ℕ) (line : Line) (log : List Line) → Untouched id line.reply → begun id (line ∷ log) ≡ begun id log
 same_begun id line log u = ap (λ b. cond b (task_in line.event) (begun id log)) u.not_started
 
-same_least : (start : ℕ) (log : List Line) (line : Line) (id : ℕ) → IsAboutOthers id line.reply → least start (line ∷ log) id ≡ least start log id
+same_least : (start : Setup) (log : List Line) (line : Line) (id : ℕ) → IsAboutOthers id line.reply → least start (line ∷ log) id ≡ least start log id
 same_least start log line id o =
     ap (λ b. cond b (now (store start log).history) (since start id log) + failed_commits id (line ∷ log)) o.untouched.not_started
     ∙ ap (λ b. since start id log + cond b (failed_commits id log + 1) (failed_commits id log)) o.not_failed
 
-others_move_on : (start : ℕ) (log : List Line) (line : Line) (id : ℕ) → Grows start log line → IsAboutOthers id line.reply → HasMovedOn start log id →
+others_move_on : (start : Setup) (log : List Line) (line : Line) (id : ℕ) → Grows start log line → IsAboutOthers id line.reply → HasMovedOn start log id →
     HasMovedOn start (line ∷ log) id
 others_move_on start log line id grows o m = record {
   counter = λ task is.
@@ -92,6 +94,7 @@ failed_by id failed conflicts over (Ok (GaveUp runner attempts key seen now)) on
     let parts = of_both (nat_eq runner id) over none in
     ap (λ b. cond b (failed + 1) failed) parts.0 ∙ on parts.1
 failed_by id failed conflicts over (Ok (Started runner)) on none = on none
+failed_by id failed conflicts over (Ok (Prefetched runner revision reads)) on none = on none
 failed_by id failed conflicts over (Ok (Fetched runner key mod_rev of_rev revision)) on none = on none
 failed_by id failed conflicts over (Ok (Committed runner revision attempts output trace answers)) on none = on (of_both (nat_eq runner id) over none).1
 failed_by id failed conflicts over (Ok (Aborted runner text)) on none = on (of_both (nat_eq runner id) over none).1
@@ -113,7 +116,7 @@ none_failed : (id : ℕ) (log : List Line) → is_over id log ≡ false → fail
 none_failed id [] none = refl
 none_failed id (line ∷ log) none = failed_by id (failed_commits id log) (failures id log) (is_over id log) line.reply (none_failed id log) none
 
-started_moves_on : (start : ℕ) (log : List Line) (task : Task) (id : ℕ) → IsFresh start log id →
+started_moves_on : (start : Setup) (log : List Line) (task : Task) (id : ℕ) → IsFresh start log id →
     Grows start log (record { event = Start task.program task.level task.limit; reply = Ok (Started id) }) →
     HasMovedOn start (with_line (Start task.program task.level task.limit) (Ok (Started id)) log) id
 started_moves_on start log task id fresh grows =
@@ -135,7 +138,7 @@ is_begun : (over : Bool) (o : Option Task) (task : Task) → cond over None o �
 is_begun true o task is = absurd (cc)
 is_begun false o task is = is
 
-fetched_moves_on : (start : ℕ) (log : List Line) (id : ℕ) (task : Task) (key : List ℕ) (mod_rev of_rev revision : ℕ) → running id log ≡ Some task →
+fetched_moves_on : (start : Setup) (log : List Line) (id : ℕ) (task : Task) (key : List ℕ) (mod_rev of_rev revision : ℕ) → running id log ≡ Some task →
     IsFetch (situation start log id task) key mod_rev of_rev revision →
     Grows start log (record { event = Step id; reply = Ok (Fetched id key mod_rev of_rev revision) }) → HasMovedOn start log id →
     HasMovedOn start (with_line (Step id) (Ok (Fetched id key mod_rev of_rev revision)) log) id
@@ -153,8 +156,25 @@ fetched_moves_on start log id task key mod_rev of_rev revision runs fetch grows 
           (fetched_from (least start log id) h task key of_rev (told start id task log) before fetch.shows (m.known task runs)));
     }
 
+prefetched_moves_on : (start : Setup) (log : List Line) (id : ℕ) (task : Task) (revision : ℕ) (reads : List KeyRead) → running id log ≡ Some task →
+    Grows start log (record { event = Step id; reply = Ok (Prefetched id revision reads) }) → HasMovedOn start log id →
+    HasMovedOn start (with_line (Step id) (Ok (Prefetched id revision reads)) log) id
+prefetched_moves_on start log id task revision reads runs grows m =
+    let line : Line = record { event = Step id; reply = Ok (Prefetched id revision reads) } in
+    let h : History = (store start log).history in
+    let before : least start log id ≤ now h = m.counter task (is_begun (is_over id log) (begun id log) task runs) in
+    record {
+      counter = λ other is. before;
+      known = λ other runs_as.
+          let is : task ≡ other = some_is_same task other (sym runs ∙ runs_as) in
+          subst (λ (t : Task). KnowsFrom (least start log id) (told start id t (line ∷ log))) is
+          (subst (KnowsFrom (least start log id))
+          (sym (ap (λ b. cond b (after_list task h (told start id task log)) (told start id task log)) (same_number id)))
+          (prefetched_from (least start log id) h task (told start id task log) before (m.known task runs)));
+    }
+
 -- the store is above what the runner has seen
-failure_moves_on : (start : ℕ) (log : List Line) (id : ℕ) (task : Task) (failed : FailedCommit) → failed.runner ≡ id → running id log ≡ Some task →
+failure_moves_on : (start : Setup) (log : List Line) (id : ℕ) (task : Task) (failed : FailedCommit) → failed.runner ≡ id → running id log ≡ Some task →
     IsRealFailure start log failed → now (store start log).history ≤ HIGHEST_REVISION → HasMovedOn start log id →
     least start log id + 1 ≤ now (store start log).history
 failure_moves_on start log id task failed same runs real low m =
@@ -167,7 +187,7 @@ failure_moves_on start log id task failed same runs real low m =
     conflict_moves_on (least start log id) (store start log).history (told start failed.runner real.task log).reads
     (latest_writes real.run.writes) real.conflict.seen real.conflict.compare.index failed.key (omega arith) knows.0 real.conflict.about real.conflict.changed
 
-conflict_by : (start : ℕ) (log : List Line) (id : ℕ) (task : Task) (key : List ℕ) (seen now_modified : ℕ) → running id log ≡ Some task →
+conflict_by : (start : Setup) (log : List Line) (id : ℕ) (task : Task) (key : List ℕ) (seen now_modified : ℕ) → running id log ≡ Some task →
     least start log id + 1 ≤ now (store start log).history → HasMovedOn start (with_line (Step id) (Ok (Conflict id key seen now_modified)) log) id
 conflict_by start log id task key seen now_modified runs above =
     let line : Line = record { event = Step id; reply = Ok (Conflict id key seen now_modified) } in
@@ -184,7 +204,7 @@ conflict_by start log id task key seen now_modified runs above =
     }
 
 -- a run that is over knows nothing any more
-over_by : (start : ℕ) (log : List Line) (line : Line) (id : ℕ) (task : Task) → is_id id (runner_ended line.reply) ≡ true →
+over_by : (start : Setup) (log : List Line) (line : Line) (id : ℕ) (task : Task) → is_id id (runner_ended line.reply) ≡ true →
     least start (line ∷ log) id ≤ now (store start (line ∷ log)).history → HasMovedOn start (line ∷ log) id
 over_by start log line id task ended reached = record {
   counter = λ other is. reached;
@@ -193,7 +213,7 @@ over_by start log line id task ended reached = record {
       absurd (cc);
 }
 
-gave_up_by : (start : ℕ) (log : List Line) (id : ℕ) (task : Task) (attempts : ℕ) (key : List ℕ) (seen now_modified : ℕ) →
+gave_up_by : (start : Setup) (log : List Line) (id : ℕ) (task : Task) (attempts : ℕ) (key : List ℕ) (seen now_modified : ℕ) →
     least start log id + 1 ≤ now (store start log).history →
     HasMovedOn start (with_line (Step id) (Ok (GaveUp id attempts key seen now_modified)) log) id
 gave_up_by start log id task attempts key seen now_modified above =
@@ -210,7 +230,7 @@ about_others : (id other : ℕ) (reply : Reply) → is_id other (runner_named re
 about_others id other reply named failed = record { untouched = by_reply other reply named; not_failed = failed }
 
 -- a line about one runner
-all_move_on : (start : ℕ) (log : List Line) (line : Line) (id : ℕ) → Grows start log line → ((other : ℕ) → HasMovedOn start log other) →
+all_move_on : (start : Setup) (log : List Line) (line : Line) (id : ℕ) → Grows start log line → ((other : ℕ) → HasMovedOn start log other) →
     ((other : ℕ) → nat_eq id other ≡ false → IsAboutOthers other line.reply) → HasMovedOn start (line ∷ log) id →
     (other : ℕ) → HasMovedOn start (line ∷ log) other
 all_move_on start log line id grows all about own other =
@@ -220,12 +240,12 @@ all_move_on start log line id grows all about own other =
     ] refl
 
 -- what a line with this reply to a runner's step leads to
-abbrev MovesOn : ℕ → List Line → ℕ → Result Reply Denied → Type 0
+abbrev MovesOn : Setup → List Line → ℕ → Result Reply Denied → Type 0
 MovesOn start log id reply =
     Grows start log (record { event = Step id; reply = reply }) → (other : ℕ) → HasMovedOn start (with_line (Step id) reply log) other
 
 -- the end of a run by no failure
-ends_by : (start : ℕ) (log : List Line) (id : ℕ) (task : Task) (reply : Reply) → running id log ≡ Some task → is_id id (runner_ended (Ok reply)) ≡ true →
+ends_by : (start : Setup) (log : List Line) (id : ℕ) (task : Task) (reply : Reply) → running id log ≡ Some task → is_id id (runner_ended (Ok reply)) ≡ true →
     runner_started (Ok reply) ≡ None → failed_commit (Ok reply) ≡ None → HasMovedOn start log id →
     Grows start log (record { event = Step id; reply = Ok reply }) → HasMovedOn start (with_line (Step id) (Ok reply) log) id
 ends_by start log id task reply runs ended not_started not_failed m grows =
@@ -237,8 +257,13 @@ ends_by start log id task reply runs ended not_started not_failed m grows =
     let grown = grows.grown in
     over_by start log line id task ended (omega (arith, same))
 
-step_moves_on : (start : ℕ) (log : List Line) (id : ℕ) (task : Task) (reply : Result Reply Denied) → running id log ≡ Some task →
+step_moves_on : (start : Setup) (log : List Line) (id : ℕ) (task : Task) (reply : Result Reply Denied) → running id log ≡ Some task →
     StepIsRight (situation start log id task) reply → ((other : ℕ) → HasMovedOn start log other) → MovesOn start log id reply
+step_moves_on start log id task (Ok (Prefetched runner revision reads)) runs right all =
+    subst (λ n. MovesOn start log id (Ok (Prefetched n revision reads))) (sym right.0)
+    (λ grows. all_move_on start log (record { event = Step id; reply = Ok (Prefetched id revision reads) }) id grows all
+    (λ other is. about_others id other (Prefetched id revision reads) is refl)
+    (prefetched_moves_on start log id task revision reads runs grows (all id)))
 step_moves_on start log id task (Ok (Fetched runner key mod_rev of_rev revision)) runs right all =
     subst (λ n. MovesOn start log id (Ok (Fetched n key mod_rev of_rev revision))) (sym right.0)
     (λ grows. all_move_on start log (record { event = Step id; reply = Ok (Fetched id key mod_rev of_rev revision) }) id grows all
@@ -291,7 +316,7 @@ step_moves_on start log id task (Ok (Compacted revision)) runs right all = absur
 step_moves_on start log id task (Ok (Lost watcher floor)) runs right all = absurd right
 step_moves_on start log id task (Err refusal) runs right all = absurd right
 
-event_moves_on : (start : ℕ) (log : List Line) (w : World) (event : WorldEvent) (reply : Result Reply Denied) → Follows start log w →
+event_moves_on : (start : Setup) (log : List Line) (w : World) (event : WorldEvent) (reply : Result Reply Denied) → Follows start log w →
     IsRight start log event reply → ((other : ℕ) → HasMovedOn start log other) → Grows start log (record { event = event; reply = reply }) →
     (other : ℕ) → HasMovedOn start (with_line event reply log) other
 event_moves_on start log w event reply f right all =
@@ -306,9 +331,9 @@ event_moves_on start log w event reply f right all =
 
 -- ---- whole runs ----
 
-store_low : (start : ℕ) (log : List Line) (w : World) → Follows start log w → start ≤ HIGHEST_REVISION → now (store start log).history ≤ HIGHEST_REVISION
+store_low : (start : Setup) (log : List Line) (w : World) → Follows start log w → start.revision ≤ HIGHEST_REVISION → now (store start log).history ≤ HIGHEST_REVISION
 store_low start log w f low =
-    subst (λ (r : Replayed). now r.history ≤ HIGHEST_REVISION) f.at.replays (replay_stays_low w.entries (opening start) f.at.legal (omega arith))
+    subst (λ (r : Replayed). now r.history ≤ HIGHEST_REVISION) f.at.replays (replay_stays_low w.entries (opening start.revision) f.at.legal (omega arith))
 
 adds_up : (before after : History) → AddsTo before after → now before ≤ now after
 adds_up before after adds =
@@ -317,22 +342,22 @@ adds_up before after adds =
     ap length adds.revisions ∙ length-append adds.added before.revisions in
     omega (arith, same, count)
 
-store_grows : (start : ℕ) (log : List Line) (w : World) (event : WorldEvent) → Follows start log w → FollowsStep start log event (step event w) →
+store_grows : (start : Setup) (log : List Line) (w : World) (event : WorldEvent) → Follows start log w → FollowsStep start log event (step event w) →
     now (store start log).history ≤ now (store start (with_line event (step event w).reply log)).history
 store_grows start log w event f s =
     let line : Line = record { event = event; reply = (step event w).reply } in
     let earlier : List Entry = entries_told start log in
     let more : List Entry = line_entries start line log in
-    let before : replay earlier (opening start) ≡ without_moment (store start log) =
-    ap (λ (es : List Entry). replay es (opening start)) (sym f.at.told) ∙ f.at.replays in
-    let after : replay (earlier ++ more) (opening start) ≡ without_moment (store start (line ∷ log)) =
-    ap (λ (es : List Entry). replay es (opening start)) (sym s.follows.told) ∙ s.follows.replays in
+    let before : replay earlier (opening start.revision) ≡ without_moment (store start log) =
+    ap (λ (es : List Entry). replay es (opening start.revision)) (sym f.at.told) ∙ f.at.replays in
+    let after : replay (earlier ++ more) (opening start.revision) ≡ without_moment (store start (line ∷ log)) =
+    ap (λ (es : List Entry). replay es (opening start.revision)) (sym s.follows.told) ∙ s.follows.replays in
     let leads : replay more (without_moment (store start log)) ≡ without_moment (store start (line ∷ log)) =
-    ap (replay more) (sym before) ∙ sym (replay_goes_on earlier more (opening start)) ∙ after in
+    ap (replay more) (sym before) ∙ sym (replay_goes_on earlier more (opening start.revision)) ∙ after in
     subst (λ (r : Replayed). now (store start log).history ≤ now r.history) leads
     (adds_up (store start log).history (replay more (without_moment (store start log))).history (replay_only_adds more (without_moment (store start log))))
 
-run_moves_on : (start : ℕ) (events : List WorldEvent) (log : List Line) (w : World) → CommitLaws → start ≤ HIGHEST_REVISION → Follows start log w →
+run_moves_on : (start : Setup) (events : List WorldEvent) (log : List Line) (w : World) → CommitLaws → start.revision ≤ HIGHEST_REVISION → Follows start log w →
     ((other : ℕ) → HasMovedOn start log other) → (other : ℕ) → HasMovedOn start (logged events (replies_to events w) log) other
 run_moves_on start [] log w laws low f all = all
 run_moves_on start (e ∷ es) log w laws low f all =
@@ -343,7 +368,7 @@ run_moves_on start (e ∷ es) log w laws low f all =
 
 pub failures_move_on : CommitLaws → FailuresMoveOn
 failures_move_on laws =
-    of_each_log (λ (start : ℕ) (log : List Line). (id : ℕ) (task : Task) → start ≤ HIGHEST_REVISION → begun id log ≡ Some task →
+    of_each_log (λ (start : Setup) (log : List Line). (id : ℕ) (task : Task) → start.revision ≤ HIGHEST_REVISION → begun id log ≡ Some task →
     since start id log + failed_commits id log ≤ now (store start log).history)
     (λ start events id task low is. (run_moves_on start events [] (opened start) laws low (opened_follows start)
     (λ other. record { counter = λ task is. absurd (cc); known = λ task runs. absurd (cc) }) id).counter task is)

@@ -23,9 +23,10 @@ use Rattle.stm_world.proofs.Bases.{IsWellRun}
 use Rattle.stm_world.proofs.Slots.{equal_numbers, other_number, differ, runner_there, runner_own, runner_other}
 use Rattle.stm_world.proofs.Slots.{count_stays}
 use Rattle.stm_world.proofs.Untouched.{Untouched, IsFresh, same_in_log, fresh_stays}
+use Rattle.stm_txn.specs.Standing.{Setup}
 
 -- these places and entries are what the log tells
-pub record FollowsAt (start : ℕ) (log : List Line) (runners : List Slot) (entries : List Entry) : Type 0 where
+pub record FollowsAt (start : Setup) (log : List Line) (runners : List Slot) (entries : List Entry) : Type 0 where
   pub right : AreRight start log
   pub count : length runners ≡ started log
   pub slots : (id : ℕ) → runner_at id runners ≡ runner_in_log start log id
@@ -33,34 +34,34 @@ pub record FollowsAt (start : ℕ) (log : List Line) (runners : List Slot) (entr
   pub truth : (id : ℕ) (r : Runner) → runner_at id runners ≡ Some r → KnowsTruth (store start log).history r.known
   pub well_run : (id : ℕ) (r : Runner) → runner_at id runners ≡ Some r → IsWellRun start r
   pub told : entries ≡ entries_told start log
-  pub replays : replay entries (opening start) ≡ without_moment (store start log)
-  pub legal : AreLegal entries (opening start)
+  pub replays : replay entries (opening start.revision) ≡ without_moment (store start log)
+  pub legal : AreLegal entries (opening start.revision)
 
 -- a log with one more line
 abbrev pub with_line : WorldEvent → Result Reply Denied → List Line → List Line
 with_line event reply log = record { event = event; reply = reply } ∷ log
 
 -- a world with the store that the log tells of
-abbrev pub world_at : ℕ → List Line → List Slot → List Entry → World
+abbrev pub world_at : Setup → List Line → List Slot → List Entry → World
 world_at start log runners entries = record { standing = store start log; runners = runners; entries = entries }
 
 -- a step leads to a world that follows the log with its line
-pub record FollowsStep (start : ℕ) (log : List Line) (event : WorldEvent) (s : Stepped) : Type 0 where
+pub record FollowsStep (start : Setup) (log : List Line) (event : WorldEvent) (s : Stepped) : Type 0 where
   pub standing : s.next.standing ≡ store start (with_line event s.reply log)
   pub follows : FollowsAt start (with_line event s.reply log) s.next.runners s.next.entries
 
-replays_more : (start : ℕ) (log after : List Line) (runners : List Slot) (entries more : List Entry) → FollowsAt start log runners entries →
-    EntriesFollow (store start log) (store start after) more → replay (entries ++ more) (opening start) ≡ without_moment (store start after)
+replays_more : (start : Setup) (log after : List Line) (runners : List Slot) (entries more : List Entry) → FollowsAt start log runners entries →
+    EntriesFollow (store start log) (store start after) more → replay (entries ++ more) (opening start.revision) ≡ without_moment (store start after)
 replays_more start log after runners entries more f e =
-    replay_goes_on entries more (opening start) ∙ ap (replay more) f.replays ∙ e.replays
+    replay_goes_on entries more (opening start.revision) ∙ ap (replay more) f.replays ∙ e.replays
 
-legal_more : (start : ℕ) (log after : List Line) (runners : List Slot) (entries more : List Entry) → FollowsAt start log runners entries →
-    EntriesFollow (store start log) (store start after) more → AreLegal (entries ++ more) (opening start)
+legal_more : (start : Setup) (log after : List Line) (runners : List Slot) (entries more : List Entry) → FollowsAt start log runners entries →
+    EntriesFollow (store start log) (store start after) more → AreLegal (entries ++ more) (opening start.revision)
 legal_more start log after runners entries more f e =
-    all_legal entries more (opening start) f.legal (subst (AreLegal more) (sym f.replays) e.legal)
+    all_legal entries more (opening start.revision) f.legal (subst (AreLegal more) (sym f.replays) e.legal)
 
 -- the entries with those of one more line
-entries_more : (start : ℕ) (log : List Line) (runners : List Slot) (entries more : List Entry) (line : Line) → FollowsAt start log runners entries →
+entries_more : (start : Setup) (log : List Line) (runners : List Slot) (entries more : List Entry) (line : Line) → FollowsAt start log runners entries →
     more ≡ line_entries start line log → entries ++ more ≡ entries_told start (line ∷ log)
 entries_more start log runners entries more line f is = ap (λ (es : List Entry). es ++ more) f.told ∙ ap (λ (es : List Entry). entries_told start log ++ es) is
 
@@ -69,7 +70,7 @@ same_count : (event : WorldEvent) (reply : Result Reply Denied) (log : List Line
 same_count event reply log none = ap (λ o. cond (is_start o) (started log + 1) (started log)) none
 
 -- an event that is about no runner
-pub no_runner_touched : (start : ℕ) (log : List Line) (runners : List Slot) (entries more : List Entry) (event : WorldEvent)
+pub no_runner_touched : (start : Setup) (log : List Line) (runners : List Slot) (entries more : List Entry) (event : WorldEvent)
     (reply : Result Reply Denied) → FollowsAt start log runners entries → IsRight start log event reply → runner_started reply ≡ None →
     ((id : ℕ) → Untouched id reply) → more ≡ line_entries start (record { event = event; reply = reply }) log →
     EntriesFollow (store start log) (store start (with_line event reply log)) more → FollowsAt start (with_line event reply log) runners (entries ++ more)
@@ -89,7 +90,7 @@ no_runner_touched start log runners entries more event reply f right none untouc
     }
 
 -- an event that changes nothing at all
-pub nothing_touched : (start : ℕ) (log : List Line) (runners : List Slot) (entries : List Entry) (event : WorldEvent) (reply : Result Reply Denied) →
+pub nothing_touched : (start : Setup) (log : List Line) (runners : List Slot) (entries : List Entry) (event : WorldEvent) (reply : Result Reply Denied) →
     FollowsAt start log runners entries → IsRight start log event reply → runner_started reply ≡ None → ((id : ℕ) → Untouched id reply) →
     [] ≡ line_entries start (record { event = event; reply = reply }) log →
     EntriesFollow (store start log) (store start (with_line event reply log)) [] → FollowsAt start (with_line event reply log) runners entries
@@ -98,7 +99,7 @@ nothing_touched start log runners entries event reply f right none untouched ent
     (no_runner_touched start log runners entries [] event reply f right none untouched entered e)
 
 -- a step that leads a runner to another place
-pub slot_touched : (start : ℕ) (log : List Line) (runners : List Slot) (entries more : List Entry) (id : ℕ) (r : Runner) (slot : Slot) (reply : Reply) →
+pub slot_touched : (start : Setup) (log : List Line) (runners : List Slot) (entries more : List Entry) (id : ℕ) (r : Runner) (slot : Slot) (reply : Reply) →
     FollowsAt start log runners entries → runner_at id runners ≡ Some r → IsRight start log (Step id) (Ok reply) → runner_started (Ok reply) ≡ None →
     ((other : ℕ) → nat_eq id other ≡ false → Untouched other (Ok reply)) →
     runner_in_log start (with_line (Step id) (Ok reply) log) id ≡ live_in (Some slot) →

@@ -1,5 +1,5 @@
 -- The headline of a world that has run before.
-use Rattle.std.proofs.Common.{◌≡◌, ℕ, List, [], ◌∷◌, ◌++◌, map, reverse, sym, ◌∙◌, ap, subst}
+use Rattle.std.proofs.Common.{◌≡◌, List, [], ◌∷◌, ◌++◌, map, reverse, sym, ◌∙◌, ap, subst}
 use Rattle.std.proofs.lemmas.List.{reverse-append}
 use Rattle.std.specs.Prelude.{Result}
 use Rattle.stm_entries.specs.Replayed.{without_moment}
@@ -15,14 +15,15 @@ use Rattle.stm_world.proofs.RunnerSteps.{CommitLaws}
 use Rattle.stm_world.proofs.Logs.{logged, events_in, replies_in}
 use Rattle.stm_world.proofs.Headlines.{Follows, step_follows, run_follows, opened_follows}
 use Rattle.stm_world.proofs.OneReply.{one_right}
+use Rattle.stm_txn.specs.Standing.{Setup}
 
 -- a world that follows a log
-record Followed (start : ℕ) (log : List Line) : Type 0 where
+record Followed (start : Setup) (log : List Line) : Type 0 where
   w : World
   follows : Follows start log w
 
 -- a log of right replies is that of a world
-right_log_is_followed : (start : ℕ) (log : List Line) → CommitLaws → AreRight start log → Followed start log
+right_log_is_followed : (start : Setup) (log : List Line) → CommitLaws → AreRight start log → Followed start log
 right_log_is_followed start [] laws right = record { w = opened start; follows = opened_follows start }
 right_log_is_followed start (line ∷ log) laws right =
     let earlier : Followed start log = right_log_is_followed start log laws right.1 in
@@ -37,7 +38,7 @@ right_log_is_followed start (line ∷ log) laws right =
     }
 
 -- a world of which the headline holds follows its log
-holds_follows : (start : ℕ) (before : List WorldEvent) (earlier : List (Result Reply Denied)) (w : World) → CommitLaws →
+holds_follows : (start : Setup) (before : List WorldEvent) (earlier : List (Result Reply Denied)) (w : World) → CommitLaws →
     (holds : Holds start before earlier w) → Follows start holds.log w
 holds_follows start before earlier w laws holds =
     let other : Followed start holds.log = right_log_is_followed start holds.log laws holds.right in

@@ -8,8 +8,10 @@ use Rattle.stm_outcome.specs.declared.advance.Expired.{Expired}
 use Rattle.stm_outcome.specs.declared.refusal.Refusal.{Refusal as StoreRefusal}
 use Rattle.stm_txn.specs.Standing.{Standing, Step as StoreStep, Advance as StoreAdvance, transacted, granted, kept_alive, revoked, advanced}
 use Rattle.stm_txn.specs.Standing.{watched, polled, cancelled, raised}
+use Rattle.stm_txn.specs.Standing.{Setup}
 use Rattle.stm_watch.specs.declared.watched.Watched.TheVariants.{Key, Range}
 use Rattle.stm_compile.specs.Levels.{is_serializable}
+use Rattle.stm_program.specs.Limits.{has_repeat}
 use Rattle.stm_attempt.specs.Known.{HaveDistinctKeys}
 use Rattle.stm_entries.specs.declared.entry.Entry.{Entry}
 use Rattle.stm_entries.specs.declared.entry.Entry.TheVariants.{Grant as GrantEntry, Renew, Revoke as RevokeEntry}
@@ -40,12 +42,13 @@ use Rattle.stm_world.proofs.Untouched.{by_reply}
 use Rattle.stm_world.proofs.Following.{FollowsAt, FollowsStep, with_line, world_at, no_runner_touched, nothing_touched}
 use Rattle.stm_world.proofs.RunnerSteps.{CommitLaws, live_follows}
 use Rattle.stm_world.proofs.Entered.{nothing_follows}
+use Rattle.stm_world.proofs.EventKeeps.{store_limit}
 use Rattle.stm_world.proofs.Calls.{txn_follows, grant_follows, keep_follows, revoke_follows, advance_follows}
 use Rattle.stm_world.proofs.WatchCalls.{poll_told, watch_follows, poll_follows, cancel_follows, compact_follows}
 
 -- ---- starts ----
 
-new_in_log : (start : ℕ) (log : List Line) (id : ℕ) (task : Task) → IsFresh start log id →
+new_in_log : (start : Setup) (log : List Line) (id : ℕ) (task : Task) → IsFresh start log id →
     runner_in_log start (with_line (Start task.program task.level task.limit) (Ok (Started id)) log) id ≡ Some (begin task)
 new_in_log start log id task fresh =
     let after : List Line = with_line (Start task.program task.level task.limit) (Ok (Started id)) log in
@@ -53,15 +56,15 @@ new_in_log start log id task fresh =
     ∙ ap (λ b. option_map (runner_for start after id) (cond b (Some task) (begun id log))) (same_number id)
     ∙ (λ i. Some (record { task = task; failures = fresh.no_failures i; known = fresh.nothing task i }))
 
-nothing_true : (start : ℕ) (log : List Line) (task : Task) (r : Runner) → live_in (Some (Live (begin task))) ≡ Some r →
+nothing_true : (start : Setup) (log : List Line) (task : Task) (r : Runner) → live_in (Some (Live (begin task))) ≡ Some r →
     KnowsTruth (store start log).history r.known
 nothing_true start log task r is = let same : begin task ≡ r = cc in subst (λ (x : Runner). KnowsTruth (store start log).history x.known) same (tt, tt)
 
-begun_runs : (start : ℕ) (task : Task) (r : Runner) → task.limit ≢ 0 → live_in (Some (Live (begin task))) ≡ Some r → IsWellRun start r
+begun_runs : (start : Setup) (task : Task) (r : Runner) → task.limit ≢ 0 → live_in (Some (Live (begin task))) ≡ Some r → IsWellRun start r
 begun_runs start task r some is =
     let same : begin task ≡ r = cc in subst (λ (x : Runner). IsWellRun start x) same (begin_runs start task some)
 
-started_follows : (start : ℕ) (log : List Line) (runners : List Slot) (entries : List Entry) (task : Task) → FollowsAt start log runners entries →
+started_follows : (start : Setup) (log : List Line) (runners : List Slot) (entries : List Entry) (task : Task) → FollowsAt start log runners entries →
     task.limit ≢ 0 →
     FollowsAt start (with_line (Start task.program task.level task.limit) (Ok (Started (length runners + 1))) log) (runners ++ Live (begin task) ∷ []) entries
 started_follows start log runners entries task f some =
@@ -101,7 +104,7 @@ started_follows start log runners entries task f some =
       legal = f.legal;
     }
 
-start_by : (start : ℕ) (log : List Line) (runners : List Slot) (entries : List Entry) (task : Task) (none : Bool) → nat_eq task.limit 0 ≡ none →
+start_by : (start : Setup) (log : List Line) (runners : List Slot) (entries : List Entry) (task : Task) (none : Bool) → nat_eq task.limit 0 ≡ none →
     FollowsAt start log runners entries →
     FollowsStep start log (Start task.program task.level task.limit) (cond none (refused BadLimit (world_at start log runners entries)) (record {
       reply = Ok (Started (length runners + 1));
@@ -116,14 +119,14 @@ start_by start log runners entries task true none f = record {
 start_by start log runners entries task false none f =
     record { standing = refl; follows = started_follows start log runners entries task f (differ task.limit 0 none) }
 
-start_follows : (start : ℕ) (log : List Line) (runners : List Slot) (entries : List Entry) (task : Task) → FollowsAt start log runners entries →
+start_follows : (start : Setup) (log : List Line) (runners : List Slot) (entries : List Entry) (task : Task) → FollowsAt start log runners entries →
     FollowsStep start log (Start task.program task.level task.limit) (start_runner task (world_at start log runners entries))
 unfolding start_runner
 start_follows start log runners entries task f = start_by start log runners entries task (nat_eq task.limit 0) refl f
 
 -- ---- steps ----
 
-runner_by : (start : ℕ) (log : List Line) (runners : List Slot) (entries : List Entry) (id : ℕ) (o : Option Task) → CommitLaws →
+runner_by : (start : Setup) (log : List Line) (runners : List Slot) (entries : List Entry) (id : ℕ) (o : Option Task) → CommitLaws →
     FollowsAt start log runners entries → running id log ≡ o →
     FollowsStep start log (Step id) (step_runner id (option_map (runner_for start log id) o) (world_at start log runners entries))
 runner_by start log runners entries id None laws f runs = record {
@@ -134,7 +137,7 @@ runner_by start log runners entries id None laws f runs = record {
 }
 runner_by start log runners entries id (Some task) laws f runs = live_follows start log runners entries id task laws (record { follows = f; running = runs })
 
-runner_follows : (start : ℕ) (log : List Line) (runners : List Slot) (entries : List Entry) (id : ℕ) → CommitLaws → FollowsAt start log runners entries →
+runner_follows : (start : Setup) (log : List Line) (runners : List Slot) (entries : List Entry) (id : ℕ) → CommitLaws → FollowsAt start log runners entries →
     FollowsStep start log (Step id) (step_runner id (runner_at id runners) (world_at start log runners entries))
 runner_follows start log runners entries id laws f =
     subst (λ (o : Option Runner). FollowsStep start log (Step id) (step_runner id o (world_at start log runners entries))) (sym (f.slots id))
@@ -165,7 +168,7 @@ expiries_told moment expired None = refl
 expiries_told moment expired (Some cause) = refl
 
 -- each event
-pub event_follows : (start : ℕ) (log : List Line) (runners : List Slot) (entries : List Entry) (event : WorldEvent) → CommitLaws →
+pub event_follows : (start : Setup) (log : List Line) (runners : List Slot) (entries : List Entry) (event : WorldEvent) → CommitLaws →
     FollowsAt start log runners entries → FollowsStep start log event (step event (world_at start log runners entries))
 event_follows start log runners entries (Start program level limit) laws f =
     start_follows start log runners entries (record { program = program; level = level; limit = limit }) f
@@ -177,7 +180,7 @@ event_follows start log runners entries (Txn txn) laws f =
       standing = refl;
       follows = no_runner_touched start log runners entries (if_changed s (store_after_call s o) txn) (Txn txn) (reply_to (TxnDone) o) f refl
           (no_number (TxnDone) o (λ x. refl)) (λ id. by_call id (TxnDone) o (λ x. by_reply id (TxnDone x) refl)) refl
-          (txn_follows s txn);
+          (txn_follows s txn (store_limit start log));
     }
 event_follows start log runners entries (Grant lease ttl) laws f =
     let s : Standing = store start log in
@@ -264,23 +267,23 @@ event_follows start log runners entries (Compact revision) laws f =
 -- ---- whole runs ----
 
 -- a world that follows a log
-pub record Follows (start : ℕ) (log : List Line) (w : World) : Type 0 where
+pub record Follows (start : Setup) (log : List Line) (w : World) : Type 0 where
   pub standing : w.standing ≡ store start log
   pub at : FollowsAt start log w.runners w.entries
 
-pub step_follows : (start : ℕ) (log : List Line) (event : WorldEvent) (w : World) → CommitLaws → Follows start log w → FollowsStep start log event (step event w)
+pub step_follows : (start : Setup) (log : List Line) (event : WorldEvent) (w : World) → CommitLaws → Follows start log w → FollowsStep start log event (step event w)
 step_follows start log event w laws f =
     subst (λ (s : Standing). FollowsStep start log event (step event (record { standing = s; runners = w.runners; entries = w.entries }))) (sym f.standing)
     (event_follows start log w.runners w.entries event laws f.at)
 
-pub run_follows : (start : ℕ) (events : List WorldEvent) (log : List Line) (w : World) → CommitLaws → Follows start log w →
+pub run_follows : (start : Setup) (events : List WorldEvent) (log : List Line) (w : World) → CommitLaws → Follows start log w →
     Follows start (logged events (replies_to events w) log) (world_after events w)
 run_follows start [] log w laws f = f
 run_follows start (e ∷ es) log w laws f =
     let s : FollowsStep start log e (step e w) = step_follows start log e w laws f in
     run_follows start es (with_line e (step e w).reply log) (step e w).next laws (record { standing = s.standing; at = s.follows })
 
-pub opened_follows : (start : ℕ) → Follows start [] (opened start)
+pub opened_follows : (start : Setup) → Follows start [] (opened start)
 opened_follows start = record {
   standing = refl;
   at = record {
@@ -313,11 +316,11 @@ headline laws start events =
     }
 
 -- a runner that runs after these events
-record RunsAfter (start : ℕ) (events : List WorldEvent) (r : Runner) : Type 0 where
+record RunsAfter (start : Setup) (events : List WorldEvent) (r : Runner) : Type 0 where
   truth : KnowsTruth (store start (log_of start events)).history r.known
   well_run : IsWellRun start r
 
-runs_after : (start : ℕ) (events : List WorldEvent) (id : ℕ) (task : Task) → CommitLaws →
+runs_after : (start : Setup) (events : List WorldEvent) (id : ℕ) (task : Task) → CommitLaws →
     running id (log_of start events) ≡ Some task → RunsAfter start events (runner_for start (log_of start events) id task)
 runs_after start events id task laws runs =
     let log : List Line = log_of start events in
@@ -330,7 +333,7 @@ runs_after start events id task laws runs =
 -- what an attempt at a serializable level has read is of one state, whatever comes of it
 pub one_state : CommitLaws → OneState
 one_state laws =
-    of_each_log (λ (start : ℕ) (log : List Line). (id : ℕ) (task : Task) → 1 ≤ start → running id log ≡ Some task →
+    of_each_log (λ (start : Setup) (log : List Line). (id : ℕ) (task : Task) → 1 ≤ start.revision → running id log ≡ Some task →
     is_serializable task.level ≡ true → AreOfOneState (store start log).history task (told start id task log).reads)
     (λ start events id task some runs serializable.
     let log : List Line = log_of start events in
@@ -340,7 +343,8 @@ one_state laws =
 -- no attempt reads a key twice
 pub read_once : CommitLaws → ReadOnce
 read_once laws =
-    of_each_log (λ (start : ℕ) (log : List Line). (id : ℕ) (task : Task) → running id log ≡ Some task →
+    of_each_log (λ (start : Setup) (log : List Line). (id : ℕ) (task : Task) → running id log ≡ Some task → has_repeat task.program.prefetch ≡ false →
     HaveDistinctKeys (told start id task log).reads)
-    (λ start events id task runs.
-    asked_are_distinct task.program (told start id task (log_of start events)).reads (runs_after start events id task laws runs).well_run.asked)
+    (λ start events id task runs once.
+    let well = (runs_after start events id task laws runs).well_run in
+    asked_are_distinct task.program (told start id task (log_of start events)).reads once well.listed well.asked)

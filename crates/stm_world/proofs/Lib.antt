@@ -6,6 +6,7 @@ pub mod KeptFor
 pub mod Truth
 pub mod Entered
 pub mod ReadOrder
+pub mod FirstReads
 pub mod Asked
 pub mod OneState
 pub mod Slots
@@ -36,3 +37,4 @@ pub mod Failures
 pub mod Telling
 pub mod WrongFailures
 pub mod WorkedExamples
+pub mod ListExamples

@@ -5,6 +5,7 @@ use Rattle.stm_outcome.specs.declared.advance.Expired.{Expired}
 use Rattle.stm_outcome.specs.declared.refusal.Refusal.{Refusal as StoreRefusal}
 use Rattle.stm_txn.specs.Standing.{Standing, Step as StoreStep, Advance as StoreAdvance, transacted, granted, kept_alive, revoked, advanced}
 use Rattle.stm_txn.specs.Standing.{watched, polled, cancelled, raised}
+use Rattle.stm_txn.specs.Standing.{Setup}
 use Rattle.stm_watch.specs.declared.watched.Watched.TheVariants.{Key, Range}
 use Rattle.stm_world.specs.declared.event.WorldEvent.{WorldEvent}
 use Rattle.stm_world.specs.declared.event.WorldEvent.TheVariants.{Start, Step, Txn, Grant, Keep, Revoke, Advance}
@@ -27,7 +28,7 @@ use Rattle.stm_world.proofs.Logs.{logged}
 use Rattle.stm_world.proofs.Headlines.{Follows, step_follows}
 
 -- what holds of a line that a world's step adds to a log which the world follows holds of each line
-pub each_line : (start : ℕ) (P : List Line → Line → Type 0) → CommitLaws →
+pub each_line : (start : Setup) (P : List Line → Line → Type 0) → CommitLaws →
     ((log : List Line) (event : WorldEvent) (reply : Result Reply Denied) (w : World) → Follows start log w → IsRight start log event reply →
     P log (record { event = event; reply = reply })) →
     (events : List WorldEvent) (log : List Line) (w : World) → Follows start log w → EachLine P log → EachLine P (logged events (replies_to events w) log)
@@ -76,7 +77,7 @@ start_judged count P task nothing begins (Ok reply) right =
     subst (λ (x : Reply). P (Start task.program task.level task.limit) (Ok x)) (sym right.0) begins
 start_judged count P task nothing begins (Err refusal) right = nothing (Err refusal) (nothing_by_refusal refusal)
 
-runner_judged : (start : ℕ) (log : List Line) (id : ℕ) (P : Result Reply Denied → Type 0) (o : Option Task) → running id log ≡ o →
+runner_judged : (start : Setup) (log : List Line) (id : ℕ) (P : Result Reply Denied → Type 0) (o : Option Task) → running id log ≡ o →
     ((reply : Result Reply Denied) → TellsNothing reply → P reply) →
     ((task : Task) (reply : Result Reply Denied) → running id log ≡ Some task → StepIsRight (situation start log id task) reply → P reply) →
     (reply : Result Reply Denied) → RunnerIsRight start log id o reply → P reply
@@ -85,7 +86,7 @@ runner_judged start log id P (Some task) runs nothing stepped reply right = step
 
 -- What holds of a reply that tells nothing of runners, of a start that was taken, and of the step of a runner that runs, holds of each
 -- right reply.
-pub by_event : (start : ℕ) (log : List Line) (P : Judged) → ((event : WorldEvent) (reply : Result Reply Denied) → TellsNothing reply → P event reply) →
+pub by_event : (start : Setup) (log : List Line) (P : Judged) → ((event : WorldEvent) (reply : Result Reply Denied) → TellsNothing reply → P event reply) →
     ((task : Task) → P (Start task.program task.level task.limit) (Ok (Started (started log + 1)))) →
     ((id : ℕ) (task : Task) (reply : Result Reply Denied) → running id log ≡ Some task → StepIsRight (situation start log id task) reply → P (Step id) reply) →
     (event : WorldEvent) (reply : Result Reply Denied) → IsRight start log event reply → P event reply

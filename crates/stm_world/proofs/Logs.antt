@@ -1,5 +1,5 @@
 -- The log of a run: each event with its reply.
-use Rattle.std.proofs.Common.{◌≡◌, ℕ, List, [], ◌∷◌, ◌++◌, map, reverse, length, refl, sym, ◌∙◌, ap}
+use Rattle.std.proofs.Common.{◌≡◌, List, [], ◌∷◌, ◌++◌, map, reverse, length, refl, sym, ◌∙◌, ap}
 use Rattle.std.proofs.lemmas.List.{append-nil, append_assoc, reverse-append, length-map, length-reverse}
 use Rattle.std.specs.Prelude.{Result}
 use Rattle.stm_world.specs.declared.event.WorldEvent.{WorldEvent}
@@ -8,6 +8,7 @@ use Rattle.stm_world.specs.declared.refusal.Denied.{Denied}
 use Rattle.stm_world.specs.Log.{Line, IsLogOf}
 use Rattle.stm_world.specs.World.{World, opened, step, replies_to}
 use Rattle.stm_world.specs.Headline.{OfEachLog}
+use Rattle.stm_txn.specs.Standing.{Setup}
 
 -- a log with these events and their replies after what it has
 abbrev pub logged : List WorldEvent → List (Result Reply Denied) → List Line → List Line
@@ -16,7 +17,7 @@ logged (e ∷ es) [] log = log
 logged (e ∷ es) (reply ∷ replies) log = logged es replies (record { event = e; reply = reply } ∷ log)
 
 -- the log of these events in a world whose store opened at a revision
-abbrev pub log_of : ℕ → List WorldEvent → List Line
+abbrev pub log_of : Setup → List WorldEvent → List Line
 log_of start events = logged events (replies_to events (opened start)) []
 
 abbrev event_in : Line → WorldEvent
@@ -47,11 +48,11 @@ logged_is_log events w = record {
   answered = replies_in events w [] ∙ append-nil (reverse (replies_to events w));
 }
 
-pub log_of_is_log : (start : ℕ) (events : List WorldEvent) → IsLogOf events (replies_to events (opened start)) (log_of start events)
+pub log_of_is_log : (start : Setup) (events : List WorldEvent) → IsLogOf events (replies_to events (opened start)) (log_of start events)
 log_of_is_log start events = logged_is_log events (opened start)
 
 -- what holds of the log of each run
-pub of_each_log : (P : ℕ → List Line → Type 0) → ((start : ℕ) (events : List WorldEvent) → P start (log_of start events)) → OfEachLog P
+pub of_each_log : (P : Setup → List Line → Type 0) → ((start : Setup) (events : List WorldEvent) → P start (log_of start events)) → OfEachLog P
 of_each_log P holds start events = (log_of start events, log_of_is_log start events, holds start events)
 
 -- ---- there is one log, or none ----

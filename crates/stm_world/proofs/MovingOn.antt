@@ -19,7 +19,7 @@ use Rattle.stm_compile.specs.CommitTxn.{first_carried, reread_keys}
 use Rattle.stm_compile.specs.Conflicts.{Seen, seen_by, seen_of_read, seen_of_write, changes_above, IsChangedAbove}
 use Rattle.stm_attempt.specs.Known.{Known}
 use Rattle.stm_attempt.specs.Fetches.{base_of, at_of}
-use Rattle.stm_world.specs.Task.{Task, answer_at, after_fetch, after_conflict}
+use Rattle.stm_world.specs.Task.{Task, answer_at, after_list, after_fetch, after_conflict}
 use Rattle.stm_world.proofs.Served.{one_more, served_all}
 
 -- ---- answers of a revision on ----
@@ -57,11 +57,17 @@ fetched_from lowest h task key of_rev known reached shows knows =
     served_all (IsFrom lowest) task (record { reads = known.reads ++ a ∷ []; prefetched = known.prefetched })
     (one_more (IsFrom lowest) known.reads a knows.0 (from, reached), knows.1)
 
--- ---- a conflict ----
+-- ---- a list and a conflict ----
 
 now_from : (lowest : ℕ) (h : History) (keys : List (List ℕ)) → lowest ≤ now h → AreFrom lowest (map (answer_now h) keys)
 now_from lowest h [] reached = tt
 now_from lowest h (key ∷ keys) reached = ((reached, reached), now_from lowest h keys reached)
+
+pub prefetched_from : (lowest : ℕ) (h : History) (task : Task) (known : Known) → lowest ≤ now h → KnowsFrom lowest known →
+    KnowsFrom lowest (after_list task h known)
+prefetched_from lowest h task known reached knows =
+    served_all (IsFrom lowest) task (record { reads = map (answer_now h) task.program.prefetch; prefetched = known.prefetched })
+    (now_from lowest h task.program.prefetch reached, knows.1)
 
 pub conflicted_from : (lowest : ℕ) (h : History) (task : Task) (known : Known) → lowest ≤ now h → KnowsFrom lowest (after_conflict task h known)
 conflicted_from lowest h task known reached =

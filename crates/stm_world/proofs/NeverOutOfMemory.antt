@@ -29,6 +29,7 @@ use Rattle.stm_outcome.specs.Outcome.{Done, is_used_up}
 use Rattle.stm_outcome.specs.Commits.{is_on_dead_lease, effective}
 use Rattle.stm_txn.specs.Standing.{Standing, Step as StoreStep, watch_step, poll_step, cancel_step, with_floor, floor_step, terms_of}
 use Rattle.stm_txn.specs.Standing.{transacted, granted, kept_alive, revoked, advanced, watched, polled, cancelled, raised}
+use Rattle.stm_txn.specs.Standing.{Setup}
 use Rattle.stm_outcome.specs.Terms.{Terms}
 use Rattle.stm_compile.specs.Now.{as_change}
 use Rattle.stm_compile.specs.Committed.{sends_too_many, conflict_now, judged, committed}
@@ -165,11 +166,11 @@ advance_for : (moment : ℕ) (expired : List Expired) (o : Option Refusal) → N
 advance_for moment expired None never is = absurd (cc)
 advance_for moment expired (Some cause) never is = let same : OutOfMemory ≡ cause = cc in never (sym same)
 
-runner_for_want : (start : ℕ) (log : List Line) (id : ℕ) (o : Option Task) (expired : List Expired) → RunnerIsRight start log id o (wanting expired) → ⊥
+runner_for_want : (start : Setup) (log : List Line) (id : ℕ) (o : Option Task) (expired : List Expired) → RunnerIsRight start log id o (wanting expired) → ⊥
 runner_for_want start log id None expired right = let same : Store OutOfMemory ≡ NoRunner = ap cause_of right in absurd (cc)
 runner_for_want start log id (Some task) expired right = right
 
-refusal : (start : ℕ) (log : List Line) (event : WorldEvent) (expired : List Expired) → IsRight start log event (wanting expired) → ⊥
+refusal : (start : Setup) (log : List Line) (event : WorldEvent) (expired : List Expired) → IsRight start log event (wanting expired) → ⊥
 refusal start log (Start program level limit) expired right = let same : Store OutOfMemory ≡ BadLimit = ap (λ (d : Denied). d.cause) right.0 in absurd (cc)
 refusal start log (Step id) expired right = runner_for_want start log id (running id log) expired right
 refusal start log (Txn txn) expired right = let s : Standing = store start log in call_for TxnDone (transacted s txn) (transacted_never s txn) (ap cause_of right)
@@ -205,9 +206,10 @@ commits_for at c =
 
 refused_for : (at : Situation) → IsRefused at OutOfMemory → ⊥
 refused_for at (inl c) = commits_for at c
-refused_for at (inr (same, behind)) = absurd (cc)
+refused_for at (inr (inl (same, behind))) = absurd (cc)
+refused_for at (inr (inr (same, overfull))) = absurd (cc)
 
-end_for : (start : ℕ) (log : List Line) (id runner : ℕ) (o : Option Task) → RunnerIsRight start log id o (Ok (Ended runner OutOfMemory)) → ⊥
+end_for : (start : Setup) (log : List Line) (id runner : ℕ) (o : Option Task) → RunnerIsRight start log id o (Ok (Ended runner OutOfMemory)) → ⊥
 end_for start log id runner None right = absurd (cc)
 end_for start log id runner (Some task) right = refused_for (situation start log id task) right.1
 

@@ -1,5 +1,5 @@
 -- There is one right reply to an event after a log.
-use Rattle.std.proofs.Common.{◌≡◌, inl, inr, ℕ, ◌+◌, ◌≤◌, List, [], ◌∷◌, map, reverse, Option, Some, None, Ok, Err, Bool, true, false, refl, sym, ◌∙◌, ap, subst, arith}
+use Rattle.std.proofs.Common.{◌≡◌, inl, inr, ℕ, ◌+◌, ◌≤◌, List, [], ◌∷◌, length, map, reverse, Option, Some, None, Ok, Err, Bool, true, false, refl, sym, ◌∙◌, ap, subst, arith}
 use Rattle.std.proofs.lemmas.List.{reverse-reverse}
 use Rattle.std.proofs.lemmas.Bool.{lt-ltb, le-ltb}
 use Rattle.std.specs.Prelude.{nat_lt, slice_get, Result}
@@ -12,25 +12,27 @@ use Rattle.stm_meaning.specs.declared.run.Answered.{Answered}
 use Rattle.stm_meaning.specs.declared.run.Answered.TheVariants.{Ended as EndedRun, Wants}
 use Rattle.stm_outcome.specs.declared.answer.FailedCompare.{FailedCompare}
 use Rattle.stm_outcome.specs.declared.refusal.Refusal.{Refusal as StoreRefusal}
-use Rattle.stm_outcome.specs.declared.refusal.Refusal.TheVariants.{Compacted as CompactedRefusal}
+use Rattle.stm_outcome.specs.declared.refusal.Refusal.TheVariants.{TooManyOps as TooManyOpsRefusal, Compacted as CompactedRefusal}
 use Rattle.stm_outcome.specs.Outcome.{Done}
 use Rattle.stm_outcome.specs.Commits.{revision_read}
 use Rattle.stm_txn.specs.Standing.{terms_of}
+use Rattle.stm_txn.specs.Standing.{Setup}
 use Rattle.stm_outcome.specs.Terms.{is_below_floor}
 use Rattle.stm_compile.specs.Committed.{committed}
 use Rattle.stm_compile.specs.Conflicts.{Seen, seen_by}
 use Rattle.stm_attempt.specs.Settled.{run_on}
+use Rattle.stm_attempt.specs.Entering.{is_due}
 use Rattle.stm_attempt.specs.Fetches.{at_of}
 use Rattle.stm_world.specs.declared.event.WorldEvent.{WorldEvent}
 use Rattle.stm_world.specs.declared.event.WorldEvent.TheVariants.{Start, Step, Txn, Grant, Keep, Revoke, Advance}
 use Rattle.stm_world.specs.declared.event.WorldEvent.TheVariants.{WatchKey, WatchRange, Poll, Cancel, Compact}
 use Rattle.stm_world.specs.declared.reply.Reply.{Reply}
-use Rattle.stm_world.specs.declared.reply.Reply.TheVariants.{Started, Fetched, Committed, Conflict, GaveUp, Aborted, Faulted, Ended}
+use Rattle.stm_world.specs.declared.reply.Reply.TheVariants.{Started, Prefetched, Fetched, Committed, Conflict, GaveUp, Aborted, Faulted, Ended}
 use Rattle.stm_world.specs.declared.reply.Reply.TheVariants.{Txn as TxnDone, Granted, Kept, Revoked, Advanced, Watching, Batch, Cancelled, Compacted, Lost}
 use Rattle.stm_world.specs.declared.refusal.Denied.{Denied}
-use Rattle.stm_world.specs.Task.{Task, answers_told}
+use Rattle.stm_world.specs.Task.{Task, modified_now, answers_told}
 use Rattle.stm_world.specs.Log.{Line, IsLogOf, running, started}
-use Rattle.stm_world.specs.Right.{Situation, Commits, IsConflicted, IsRefused, ReplyIsRight, StepIsRight, RunnerIsRight, StartIsRight, IsRight, AreRight, situation}
+use Rattle.stm_world.specs.Right.{Situation, HasList, Commits, IsConflicted, IsRefused, ReplyIsRight, StepIsRight, RunnerIsRight, StartIsRight, IsRight, AreRight, situation}
 use Rattle.stm_world.specs.World.{seen_in, opened, replies_to}
 use Rattle.stm_world.specs.Headline.{Headline}
 use Rattle.stm_world.specs.OneReply.{OneRightReply}
@@ -67,16 +69,26 @@ abbrev by_run : Situation → Answered → Reply
 by_run at (Wants key trace) = by_base at key (is_below_floor at.store.floor (at_of at.task.level at.reads))
 by_run at (EndedRun run) = by_end at run run.end
 
+-- by whether the list has too many keys
+abbrev by_count : Situation → Bool → Reply
+by_count at true = Ended at.id TooManyOpsRefusal
+by_count at false = Prefetched at.id (now at.store.history) (map (modified_now at.store.history) at.task.program.prefetch)
+
+-- and by whether it is due
+abbrev by_list : Situation → Bool → Reply
+by_list at true = by_count at (nat_lt at.store.limit (length at.task.program.prefetch))
+by_list at false = by_run at (run_on at.task.program at.reads)
+
 abbrev reply_at : Situation → Reply
-reply_at at = by_run at (run_on at.task.program at.reads)
+reply_at at = by_list at (is_due at.task.program.prefetch at.reads)
 
 -- what a commit comes to decides the reply
 by_outcome : (at : Situation) (o : Result Done StoreRefusal) (c : Commits at o) → reply_at at ≡ by_commit at c.run o
-by_outcome at o c = ap (by_run at) c.is_run ∙ ap (by_end at c.run) c.is_done ∙ ap (by_commit at c.run) c.comes_to
+by_outcome at o c = ap (by_list at) c.has_list ∙ ap (by_run at) c.is_run ∙ ap (by_end at c.run) c.is_done ∙ ap (by_commit at c.run) c.comes_to
 
 -- so does the end of a run without a commit
-by_stop : (at : Situation) (run : Run) (end : End) → run_on at.task.program at.reads ≡ EndedRun run → run.end ≡ end → reply_at at ≡ by_end at run end
-by_stop at run end is_run ended = ap (by_run at) is_run ∙ ap (by_end at run) ended
+by_stop : (at : Situation) (run : Run) (end : End) → HasList at → run_on at.task.program at.reads ≡ EndedRun run → run.end ≡ end → reply_at at ≡ by_end at run end
+by_stop at run end listed is_run ended = ap (by_list at) listed ∙ ap (by_run at) is_run ∙ ap (by_end at run) ended
 
 by_conflict : (at : Situation) (key : List ℕ) (seen now_modified : ℕ) (c : IsConflicted at key seen now_modified) (more : Bool) →
     nat_lt (at.failures + 1) at.task.limit ≡ more → reply_at at ≡ by_limit at c.conflict.seen c.failed.mod_rev more
@@ -88,15 +100,22 @@ by_conflict at key seen now_modified c more left =
 -- so does the refusal of what the step asks of the store
 by_refusal : (at : Situation) (cause : StoreRefusal) → IsRefused at cause → reply_at at ≡ Ended at.id cause
 by_refusal at cause (inl c) = by_outcome at (Err cause) c
-by_refusal at cause (inr (same, behind)) =
-    ap (by_run at) behind.wants ∙ ap (by_base at behind.key) behind.compacted ∙ ap (λ (e : StoreRefusal). Ended at.id e) (sym same)
+by_refusal at cause (inr (inr (same, overfull))) =
+    ap (by_list at) overfull.due ∙ ap (by_count at) (lt-ltb at.store.limit (length at.task.program.prefetch) overfull.many)
+    ∙ ap (λ (e : StoreRefusal). Ended at.id e) (sym same)
+by_refusal at cause (inr (inl (same, behind))) =
+    ap (by_list at) behind.has_list ∙ ap (by_run at) behind.wants ∙ ap (by_base at behind.key) behind.compacted ∙ ap (λ (e : StoreRefusal). Ended at.id e) (sym same)
 
 one_reply : (at : Situation) (reply : Reply) → ReplyIsRight at reply → reply ≡ reply_at at
+one_reply at (Prefetched runner revision reads) right =
+    let p = right.1 in
+    let told : Prefetched runner revision reads ≡ by_count at false = (λ i. Prefetched (right.0 i) (p.carries i) (p.shows i)) in
+    told ∙ sym (ap (by_list at) p.due ∙ ap (by_count at) (le-ltb at.store.limit (length at.task.program.prefetch) p.few))
 one_reply at (Fetched runner key mod_rev of_rev revision) right =
     let f = right.1 in
     let told : Fetched runner key mod_rev of_rev revision ≡ fetched_at at key of_rev =
     (λ i. Fetched (right.0 i) key (f.modified i) of_rev (f.carries i)) in
-    told ∙ ap (fetched_at at key) f.shows ∙ sym (ap (by_run at) f.wants ∙ ap (by_base at key) f.readable)
+    told ∙ ap (fetched_at at key) f.shows ∙ sym (ap (by_list at) f.has_list ∙ ap (by_run at) f.wants ∙ ap (by_base at key) f.readable)
 one_reply at (Committed runner revision attempts output trace answers) right =
     let c = right.3 in
     let told : Committed runner revision attempts output trace answers ≡ by_compare at c.commits.run c.done None =
@@ -114,9 +133,9 @@ one_reply at (GaveUp runner attempts key seen now_modified) right =
     (λ i. GaveUp (right.0 i) (right.1 i) (c.about i) (c.was i) (c.is i)) in
     told ∙ sym (by_conflict at key seen now_modified c false (le-ltb (at.failures + 1) at.task.limit reached))
 one_reply at (Aborted runner text) right =
-    ap (λ n. Aborted n text) right.0 ∙ sym (by_stop at right.1.run (AbortedEnd text) right.1.is_run right.1.ended)
+    ap (λ n. Aborted n text) right.0 ∙ sym (by_stop at right.1.run (AbortedEnd text) right.1.has_list right.1.is_run right.1.ended)
 one_reply at (Faulted runner fault) right =
-    ap (λ n. Faulted n fault) right.0 ∙ sym (by_stop at right.1.run (FaultedEnd fault) right.1.is_run right.1.ended)
+    ap (λ n. Faulted n fault) right.0 ∙ sym (by_stop at right.1.run (FaultedEnd fault) right.1.has_list right.1.is_run right.1.ended)
 one_reply at (Ended runner cause) right = ap (λ n. Ended n cause) right.0 ∙ sym (by_refusal at cause right.1)
 one_reply at (Started runner) right = absurd right
 one_reply at (TxnDone answer) right = absurd right
@@ -142,13 +161,13 @@ start_by count limit (Ok a) (Err b) first second = absurd (first.1 second.1)
 start_by count limit (Err a) (Ok b) first second = absurd (second.1 first.1)
 start_by count limit (Err a) (Err b) first second = ap (λ (d : Denied). Err d) (first.0 ∙ sym second.0)
 
-runner_by : (start : ℕ) (log : List Line) (id : ℕ) (o : Option Task) (a b : Result Reply Denied) → RunnerIsRight start log id o a →
+runner_by : (start : Setup) (log : List Line) (id : ℕ) (o : Option Task) (a b : Result Reply Denied) → RunnerIsRight start log id o a →
     RunnerIsRight start log id o b → a ≡ b
 runner_by start log id None a b first second = first ∙ sym second
 runner_by start log id (Some task) a b first second =
     step_by (situation start log id task) a first ∙ sym (step_by (situation start log id task) b second)
 
-pub one_right : (start : ℕ) (log : List Line) (event : WorldEvent) (a b : Result Reply Denied) → IsRight start log event a → IsRight start log event b → a ≡ b
+pub one_right : (start : Setup) (log : List Line) (event : WorldEvent) (a b : Result Reply Denied) → IsRight start log event a → IsRight start log event b → a ≡ b
 one_right start log (Start program level limit) a b first second = start_by (started log) limit a b first second
 one_right start log (Step id) a b first second = runner_by start log id (running id log) a b first second
 one_right start log (Txn txn) a b first second = first ∙ sym second
@@ -165,12 +184,12 @@ one_right start log (Compact revision) a b first second = first ∙ sym second
 -- ---- whole logs ----
 
 -- a line of this event has this reply
-right_line : (start : ℕ) (log : List Line) (event : WorldEvent) (reply : Result Reply Denied) (line : Line) → line.event ≡ event →
+right_line : (start : Setup) (log : List Line) (event : WorldEvent) (reply : Result Reply Denied) (line : Line) → line.event ≡ event →
     IsRight start log event reply → IsRight start log line.event line.reply → reply ≡ line.reply
 right_line start log event reply line same first second =
     one_right start log event reply line.reply first (subst (λ (e : WorldEvent). IsRight start log e line.reply) same second)
 
-same_right : (start : ℕ) (a b : List Line) → AreRight start a → AreRight start b →
+same_right : (start : Setup) (a b : List Line) → AreRight start a → AreRight start b →
     map (λ (line : Line). line.event) a ≡ map (λ (line : Line). line.event) b → a ≡ b
 same_right start [] [] first second events = refl
 same_right start [] (y ∷ b) first second events = absurd (cc)
@@ -182,7 +201,7 @@ same_right start (x ∷ a) (y ∷ b) first second events =
     let reply : x.reply ≡ y.reply = right_line start a x.event x.reply y (sym event) first.0 again in
     (λ i. record { event = event i; reply = reply i } ∷ rest i)
 
-replies_are : Headline → (start : ℕ) (events : List WorldEvent) (replies : List (Result Reply Denied)) (log : List Line) → IsLogOf events replies log →
+replies_are : Headline → (start : Setup) (events : List WorldEvent) (replies : List (Result Reply Denied)) (log : List Line) → IsLogOf events replies log →
     AreRight start log → replies ≡ replies_to events (opened start)
 replies_are headline start events replies log is right =
     let run = headline start events in

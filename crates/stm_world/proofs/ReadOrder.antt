@@ -22,21 +22,21 @@ abbrev pub reads_of : {X : Type 0} → Outcome X → List (List ℕ)
 reads_of (Gives x s) = s.reads
 reads_of (Stops stop s) = s.reads
 
--- One look-up, and another that knows more: what was read before, the key that is wanted then, and what was read after it, which
--- is all that the second look-up knows.
-pub record OneKeyMore (known whole : Lookup) (before after : List (List ℕ)) (next : List ℕ) : Type 0 where
+-- One look-up, and another that knows more: how the reads were before, the key that is wanted then, and how the reads are after it, which
+-- no key that the second look-up knows changes.
+pub record OneKeyMore (known whole : Lookup) (Before After : List (List ℕ) → Type 0) (next : List ℕ) : Type 0 where
   pub agrees : (key : List ℕ) (a : Answer) → known key ≡ Some a → whole key ≡ Some a
   pub answer : Answer
   pub knows : whole next ≡ Some answer
-  pub adds : with_key next before ≡ after
-  pub is_all : (key : List ℕ) (a : Answer) → whole key ≡ Some a → with_key key after ≡ after
+  pub adds : (reads : List (List ℕ)) → Before reads → After (with_key next reads)
+  pub is_all : (key : List ℕ) (a : Answer) (reads : List (List ℕ)) → whole key ≡ Some a → After reads → After (with_key key reads)
 
-module _ (known whole : Lookup) (before after : List (List ℕ)) (next : List ℕ) (more : OneKeyMore known whole before after next) where
+module _ (known whole : Lookup) (Before After : List (List ℕ) → Type 0) (next : List ℕ) (more : OneKeyMore known whole Before After next) where
   -- the second run goes on as the first; where that stops for the key, it has read the key too, and nothing else since
   abbrev StopGoes : {X : Type 0} → Stop → Session → Outcome X → Type 0
   StopGoes (Aborted t) s other = other ≡ Stops (Aborted t) s
   StopGoes (Faulted fault) s other = other ≡ Stops (Faulted fault) s
-  StopGoes (Wants key) s other = key ≡ next → s.reads ≡ before → reads_of other ≡ after
+  StopGoes (Wants key) s other = key ≡ next → Before s.reads → After (reads_of other)
 
   abbrev Goes : {X : Type 0} → Outcome X → Outcome X → Type 0
   Goes (Gives x s) other = other ≡ Gives x s
@@ -44,14 +44,14 @@ module _ (known whole : Lookup) (before after : List (List ℕ)) (next : List �
 
   -- once all is read, nothing new is
   abbrev Stays : {X : Type 0} → (Session → Outcome X) → Type 0
-  Stays g = (s : Session) → s.reads ≡ after → reads_of (g s) ≡ after
+  Stays g = (s : Session) → After s.reads → After (reads_of (g s))
 
   record Beside {X : Type 0} (f g : Session → Outcome X) : Type 0 where
     stays : Stays g
     goes : (s : Session) → Goes (f s) (g s)
 
-  then-stays : {X Y : Type 0} (o : Outcome X) (k : X → Session → Outcome Y) → reads_of o ≡ after → ((x : X) → Stays (k x)) →
-      reads_of (and_then o k) ≡ after
+  then-stays : {X Y : Type 0} (o : Outcome X) (k : X → Session → Outcome Y) → After (reads_of o) → ((x : X) → Stays (k x)) →
+      After (reads_of (and_then o k))
   then-stays (Gives x s) k is stays = stays x s is
   then-stays (Stops stop s) k is stays = is
 
@@ -86,27 +86,27 @@ module _ (known whole : Lookup) (before after : List (List ℕ)) (next : List �
 
   -- ---- look-ups ----
 
-  get_answered-stays : (key : List ℕ) (a : Option Answer) (s : Session) → whole key ≡ a → s.reads ≡ after → reads_of (get_answered key a s) ≡ after
+  get_answered-stays : (key : List ℕ) (a : Option Answer) (s : Session) → whole key ≡ a → After s.reads → After (reads_of (get_answered key a s))
   get_answered-stays key None s found is = is
-  get_answered-stays key (Some a) s found is = ap (with_key key) is ∙ more.is_all key a found
+  get_answered-stays key (Some a) s found is = more.is_all key a s.reads found is
 
-  rev_answered-stays : (key : List ℕ) (a : Option Answer) (s : Session) → whole key ≡ a → s.reads ≡ after → reads_of (rev_answered key a s) ≡ after
+  rev_answered-stays : (key : List ℕ) (a : Option Answer) (s : Session) → whole key ≡ a → After s.reads → After (reads_of (rev_answered key a s))
   rev_answered-stays key None s found is = is
-  rev_answered-stays key (Some a) s found is = ap (with_key key) is ∙ more.is_all key a found
+  rev_answered-stays key (Some a) s found is = more.is_all key a s.reads found is
 
-  get_of-stays : (key : List ℕ) (w : Option Write) (s : Session) → s.reads ≡ after → reads_of (get_of whole key w s) ≡ after
+  get_of-stays : (key : List ℕ) (w : Option Write) (s : Session) → After s.reads → After (reads_of (get_of whole key w s))
   get_of-stays key (Some w) s is = is
   get_of-stays key None s is = get_answered-stays key (whole key) s refl is
 
-  get_answered-next : (key : List ℕ) (s : Session) → key ≡ next → s.reads ≡ before → reads_of (get_answered key (whole key) s) ≡ after
+  get_answered-next : (key : List ℕ) (s : Session) → key ≡ next → Before s.reads → After (reads_of (get_answered key (whole key) s))
   get_answered-next key s same is =
-      ap (λ (a : Option Answer). reads_of (get_answered key a s)) (ap whole same ∙ more.knows)
-      ∙ ap (λ (k : List ℕ). with_key k s.reads) same ∙ ap (with_key next) is ∙ more.adds
+      subst (λ (a : Option Answer). After (reads_of (get_answered key a s))) (sym (ap whole same ∙ more.knows))
+      (subst (λ (k : List ℕ). After (with_key k s.reads)) (sym same) (more.adds s.reads is))
 
-  rev_answered-next : (key : List ℕ) (s : Session) → key ≡ next → s.reads ≡ before → reads_of (rev_answered key (whole key) s) ≡ after
+  rev_answered-next : (key : List ℕ) (s : Session) → key ≡ next → Before s.reads → After (reads_of (rev_answered key (whole key) s))
   rev_answered-next key s same is =
-      ap (λ (a : Option Answer). reads_of (rev_answered key a s)) (ap whole same ∙ more.knows)
-      ∙ ap (λ (k : List ℕ). with_key k s.reads) same ∙ ap (with_key next) is ∙ more.adds
+      subst (λ (a : Option Answer). After (reads_of (rev_answered key a s))) (sym (ap whole same ∙ more.knows))
+      (subst (λ (k : List ℕ). After (with_key k s.reads)) (sym same) (more.adds s.reads is))
 
   get_answered-goes : (key : List ℕ) (a : Option Answer) (s : Session) → known key ≡ a → Goes (get_answered key a s) (get_answered key (whole key) s)
   get_answered-goes key None s found = get_answered-next key s
@@ -190,8 +190,8 @@ module _ (known whole : Lookup) (before after : List (List ℕ)) (next : List �
       beside-then (holds known c) (holds whole c) (unless_true (holds known d)) (unless_true (holds whole d)) (beside-holds c)
       (beside-unless_true (holds known d) (holds whole d) (beside-holds d))
 
-  turn-stays : (b : Bool) (t : Session) (fault : Fault) (s : Session) → t.reads ≡ after → s.reads ≡ after →
-      reads_of {X = Unit {0}} (if b then Gives tt t else Stops (Faulted fault) s) ≡ after
+  turn-stays : (b : Bool) (t : Session) (fault : Fault) (s : Session) → After t.reads → After s.reads →
+      After (reads_of {X = Unit {0}} (if b then Gives tt t else Stops (Faulted fault) s))
   turn-stays true t fault s begun is = begun
   turn-stays false t fault s begun is = is
 
@@ -263,11 +263,11 @@ module _ (known whole : Lookup) (before after : List (List ℕ)) (next : List �
         (beside-statement first) (λ _. beside-block rest)
 
   -- a run that wants the key has read it, and nothing else since, where the key is known
-  next_is_read : (o other : Outcome (Unit {0})) (s : Session) → o ≡ Stops (Wants next) s → s.reads ≡ before → Goes o other → reads_of other ≡ after
+  next_is_read : (o other : Outcome (Unit {0})) (s : Session) → o ≡ Stops (Wants next) s → Before s.reads → Goes o other → After (reads_of other)
   next_is_read o other s is read goes =
       let stopped : Goes (Stops (Wants next) s) other = subst (λ (p : Outcome (Unit {0})). Goes p other) is goes in stopped refl read
 
-  pub wanted_is_read : (program : Block) (s : Session) → run_block known program fresh ≡ Stops (Wants next) s → s.reads ≡ before →
-      reads_of (run_block whole program fresh) ≡ after
+  pub wanted_is_read : (program : Block) (s : Session) → run_block known program fresh ≡ Stops (Wants next) s → Before s.reads →
+      After (reads_of (run_block whole program fresh))
   wanted_is_read program s is read =
       next_is_read (run_block known program fresh) (run_block whole program fresh) s is read ((beside-block program).goes fresh)

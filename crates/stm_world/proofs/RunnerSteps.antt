@@ -1,5 +1,5 @@
 -- The steps of a runner, as the log tells of it.
-use Rattle.std.proofs.Common.{◌≡◌, ℕ, ◌+◌, ◌<◌, ◌≤◌, List, [], ◌∷◌, Option, Some, None, Ok, Err, Bool, true, false, cond, inl, inr, refl, sym}
+use Rattle.std.proofs.Common.{◌≡◌, ℕ, ◌+◌, ◌<◌, ◌≤◌, List, [], ◌∷◌, length, map, Option, Some, None, Ok, Err, Bool, true, false, cond, inl, inr, refl, sym}
 use Rattle.std.proofs.Common.{◌∙◌, ap, subst, arith}
 use Rattle.std.proofs.lemmas.List.{append-nil}
 use Rattle.std.proofs.lemmas.Bool.{ltb-true, ltb-false}
@@ -18,32 +18,35 @@ use Rattle.stm_outcome.specs.declared.refusal.Refusal.{Refusal as StoreRefusal}
 use Rattle.stm_outcome.specs.Outcome.{Done}
 use Rattle.stm_outcome.specs.Commits.{revision_read}
 use Rattle.stm_txn.specs.Standing.{Standing, HasKept, with_history, terms_of}
+use Rattle.stm_txn.specs.Standing.{Setup}
 use Rattle.stm_outcome.specs.Terms.{is_below_floor}
-use Rattle.stm_outcome.specs.declared.refusal.Refusal.TheVariants.{Compacted as CompactedRefusal}
+use Rattle.stm_outcome.specs.declared.refusal.Refusal.TheVariants.{TooManyOps as TooManyOpsRefusal, Compacted as CompactedRefusal}
 use Rattle.stm_compile.specs.Answers.{AreTrue}
 use Rattle.stm_compile.specs.Committed.{committed}
 use Rattle.stm_compile.specs.Conflicts.{Seen, seen_by, IsConflict}
 use Rattle.stm_compile.specs.Laws.{CommitIsTheRunNow, FailedComparesConflict}
 use Rattle.stm_attempt.specs.Known.{Known}
 use Rattle.stm_attempt.specs.Settled.{run_on}
+use Rattle.stm_attempt.specs.Entering.{is_due}
 use Rattle.stm_attempt.specs.Fetches.{at_of}
 use Rattle.stm_entries.specs.declared.entry.Entry.{Entry}
 use Rattle.stm_entries.specs.Replayed.{Replayed, without_moment}
 use Rattle.stm_world.specs.declared.event.WorldEvent.TheVariants.{Step}
 use Rattle.stm_world.specs.declared.reply.Reply.{Reply}
-use Rattle.stm_world.specs.declared.reply.Reply.TheVariants.{Fetched, Committed, Conflict, GaveUp, Aborted, Faulted, Ended}
-use Rattle.stm_world.specs.Task.{Task, answer_at, after_fetch, after_conflict, answers_told}
+use Rattle.stm_world.specs.declared.reply.Reply.TheVariants.{Prefetched, Fetched, Committed, Conflict, GaveUp, Aborted, Faulted, Ended}
+use Rattle.stm_world.specs.declared.reply.KeyRead.{KeyRead}
+use Rattle.stm_world.specs.Task.{Task, answer_at, modified_now, after_list, after_fetch, after_conflict, answers_told}
 use Rattle.stm_world.specs.Log.{Line, begun, is_over, running, failures, is_id, runner_started, runner_ended, store, told, with_commit, commit_entry}
 use Rattle.stm_world.specs.Log.{line_entries}
-use Rattle.stm_world.specs.Right.{IsRight, RunnerIsRight, situation, ReplyIsRight, IsConflicted}
-use Rattle.stm_world.specs.World.{Runner, Slot, Over, Live, live_in, runner_at, with_slot, replied, fetch, entry_of, take_commit}
+use Rattle.stm_world.specs.Right.{IsRight, RunnerIsRight, situation, HasList, ReplyIsRight, IsConflicted}
+use Rattle.stm_world.specs.World.{Runner, Slot, Over, Live, live_in, runner_at, with_slot, replied, fetch, fetch_list, entry_of, take_commit}
 use Rattle.stm_world.specs.World.{seen_in, decided}
 use Rattle.stm_world.specs.World.{commit_told, commit, finish, step_on, step_live}
 use Rattle.stm_world.specs.Sound.{KnowsTruth}
 use Rattle.stm_world.specs.Headline.{runner_for, runner_in_log}
-use Rattle.stm_world.proofs.Truth.{Keeps, keeps_same, fetch_true, conflict_true}
+use Rattle.stm_world.proofs.Truth.{Keeps, keeps_same, prefetch_true, fetch_true, conflict_true}
 use Rattle.stm_world.proofs.Entered.{EntriesFollow, floor_stays}
-use Rattle.stm_world.proofs.Bases.{IsWellRun, counter_some, fetch_runs, conflict_runs}
+use Rattle.stm_world.proofs.Bases.{IsWellRun, counter_some, list_runs, fetch_runs, conflict_runs}
 use Rattle.stm_world.proofs.Asked.{answers_are_the_reads}
 use Rattle.stm_world.proofs.Slots.{same_number}
 use Rattle.stm_world.proofs.Untouched.{runner_named, by_reply}
@@ -52,37 +55,37 @@ use Rattle.stm_world.proofs.CommitCases.{Fails, fails}
 use Rattle.stm_world.proofs.CommitEntries.{Takes, Taken, taken, commit_follows_entry}
 
 -- a runner of a world that follows its log, which the log tells to run this task
-pub record Runs (start : ℕ) (log : List Line) (runners : List Slot) (entries : List Entry) (id : ℕ) (task : Task) : Type 0 where
+pub record Runs (start : Setup) (log : List Line) (runners : List Slot) (entries : List Entry) (id : ℕ) (task : Task) : Type 0 where
   pub follows : FollowsAt start log runners entries
   pub running : running id log ≡ Some task
 
-there : (start : ℕ) (log : List Line) (runners : List Slot) (entries : List Entry) (id : ℕ) (task : Task) → Runs start log runners entries id task →
+there : (start : Setup) (log : List Line) (runners : List Slot) (entries : List Entry) (id : ℕ) (task : Task) → Runs start log runners entries id task →
     runner_at id runners ≡ Some (runner_for start log id task)
 there start log runners entries id task x = x.follows.slots id ∙ ap (option_map (runner_for start log id)) x.running
 
-known_truth : (start : ℕ) (log : List Line) (runners : List Slot) (entries : List Entry) (id : ℕ) (task : Task) → Runs start log runners entries id task →
+known_truth : (start : Setup) (log : List Line) (runners : List Slot) (entries : List Entry) (id : ℕ) (task : Task) → Runs start log runners entries id task →
     KnowsTruth (store start log).history (told start id task log)
 known_truth start log runners entries id task x = x.follows.truth id (runner_for start log id task) (there start log runners entries id task x)
 
-well_run : (start : ℕ) (log : List Line) (runners : List Slot) (entries : List Entry) (id : ℕ) (task : Task) → Runs start log runners entries id task →
+well_run : (start : Setup) (log : List Line) (runners : List Slot) (entries : List Entry) (id : ℕ) (task : Task) → Runs start log runners entries id task →
     IsWellRun start (runner_for start log id task)
 well_run start log runners entries id task x = x.follows.well_run id (runner_for start log id task) (there start log runners entries id task x)
 
-counter : (start : ℕ) (log : List Line) (runners : List Slot) (entries : List Entry) (id : ℕ) (task : Task) → Runs start log runners entries id task →
-    1 ≤ start → 1 ≤ now (store start log).history
+counter : (start : Setup) (log : List Line) (runners : List Slot) (entries : List Entry) (id : ℕ) (task : Task) → Runs start log runners entries id task →
+    1 ≤ start.revision → 1 ≤ now (store start log).history
 counter start log runners entries id task x some = counter_some start entries (store start log) x.follows.replays some
 
-pub reads_truth : (start : ℕ) (log : List Line) (runners : List Slot) (entries : List Entry) (id : ℕ) (task : Task) → Runs start log runners entries id task →
+pub reads_truth : (start : Setup) (log : List Line) (runners : List Slot) (entries : List Entry) (id : ℕ) (task : Task) → Runs start log runners entries id task →
     AreTrue (store start log).history (told start id task log).reads
 reads_truth start log runners entries id task x =
     (known_truth start log runners entries id task x).0
 
-is_right : (start : ℕ) (log : List Line) (id : ℕ) (task : Task) (reply : Reply) → running id log ≡ Some task →
+is_right : (start : Setup) (log : List Line) (id : ℕ) (task : Task) (reply : Reply) → running id log ≡ Some task →
     ReplyIsRight (situation start log id task) reply → IsRight start log (Step id) (Ok reply)
 is_right start log id task reply runs right = subst (λ (o : Option Task). RunnerIsRight start log id o (Ok reply)) (sym runs) right
 
 -- a reply that ends the run
-over_now : (start : ℕ) (log : List Line) (id : ℕ) (reply : Reply) → runner_ended (Ok reply) ≡ Some id →
+over_now : (start : Setup) (log : List Line) (id : ℕ) (reply : Reply) → runner_ended (Ok reply) ≡ Some id →
     runner_in_log start (with_line (Step id) (Ok reply) log) id ≡ None
 over_now start log id reply ended =
     ap (λ b. option_map (runner_for start (with_line (Step id) (Ok reply) log) id)
@@ -90,7 +93,7 @@ over_now start log id reply ended =
     (ap (is_id id) ended ∙ same_number id)
 
 -- a reply that changes nothing of the store
-replied_follows : (start : ℕ) (log : List Line) (runners : List Slot) (entries : List Entry) (id : ℕ) (task : Task) (slot : Slot) (reply : Reply) →
+replied_follows : (start : Setup) (log : List Line) (runners : List Slot) (entries : List Entry) (id : ℕ) (task : Task) (slot : Slot) (reply : Reply) →
     Runs start log runners entries id task → ReplyIsRight (situation start log id task) reply → runner_named reply ≡ Some id →
     runner_started (Ok reply) ≡ None → store start (with_line (Step id) (Ok reply) log) ≡ store start log →
     [] ≡ line_entries start (record { event = Step id; reply = Ok reply }) log →
@@ -113,11 +116,12 @@ replied_follows start log runners entries id task slot reply x right named none 
             keeps = subst (λ (s : Standing). Keeps (store start log).history s.history) (sym same) (keeps_same (store start log).history);
             kept = subst (λ (s : Standing). HasKept (store start log) → HasKept s) (sym same) (λ k. k);
             floor = subst (λ (s : Standing). (store start log).floor ≤ s.floor) (sym same) (floor_stays (store start log));
+            limit = ap (λ (s : Standing). s.limit) same;
           }));
     }
 
 -- a reply that ends the run, and changes nothing of the store
-ended_follows : (start : ℕ) (log : List Line) (runners : List Slot) (entries : List Entry) (id : ℕ) (task : Task) (reply : Reply) →
+ended_follows : (start : Setup) (log : List Line) (runners : List Slot) (entries : List Entry) (id : ℕ) (task : Task) (reply : Reply) →
     Runs start log runners entries id task → ReplyIsRight (situation start log id task) reply → runner_named reply ≡ Some id →
     runner_started (Ok reply) ≡ None → runner_ended (Ok reply) ≡ Some id → store start (with_line (Step id) (Ok reply) log) ≡ store start log →
     [] ≡ line_entries start (record { event = Step id; reply = Ok reply }) log →
@@ -126,9 +130,25 @@ ended_follows start log runners entries id task reply x right named none ended s
     replied_follows start log runners entries id task Over reply x right named none same entered (over_now start log id reply ended) (λ r is. absurd (cc))
     (λ r is. absurd (cc))
 
+-- ---- a list ----
+
+listed_in_log : (start : Setup) (log : List Line) (id : ℕ) (task : Task) (revision : ℕ) (reads : List KeyRead) → running id log ≡ Some task →
+    runner_in_log start (with_line (Step id) (Ok (Prefetched id revision reads)) log) id ≡ Some (record {
+      task = task;
+      failures = failures id log;
+      known = after_list task (store start log).history (told start id task log);
+    })
+listed_in_log start log id task revision reads runs =
+    ap (option_map (runner_for start (with_line (Step id) (Ok (Prefetched id revision reads)) log) id)) runs
+    ∙ ap (λ b. Some (record {
+      task = task;
+      failures = failures id log;
+      known = cond b (after_list task (store start log).history (told start id task log)) (told start id task log);
+    })) (same_number id)
+
 -- ---- a fetch ----
 
-fetched_in_log : (start : ℕ) (log : List Line) (id : ℕ) (task : Task) (key : List ℕ) (mod_rev of_rev revision : ℕ) → running id log ≡ Some task →
+fetched_in_log : (start : Setup) (log : List Line) (id : ℕ) (task : Task) (key : List ℕ) (mod_rev of_rev revision : ℕ) → running id log ≡ Some task →
     runner_in_log start (with_line (Step id) (Ok (Fetched id key mod_rev of_rev revision)) log) id ≡ Some (record {
       task = task;
       failures = failures id log;
@@ -145,13 +165,13 @@ fetched_in_log start log id task key mod_rev of_rev revision runs =
 live_is : (a r : Runner) (P : Runner → Type 0) → live_in (Some (Live a)) ≡ Some r → P a → P r
 live_is a r P is p = let same : a ≡ r = cc in subst P same p
 
-fetch_follows : (start : ℕ) (log : List Line) (runners : List Slot) (entries : List Entry) (id : ℕ) (task : Task) (key : List ℕ) (trace : List TraceItem) →
-    Runs start log runners entries id task → run_on task.program (told start id task log).reads ≡ Wants key trace →
+fetch_follows : (start : Setup) (log : List Line) (runners : List Slot) (entries : List Entry) (id : ℕ) (task : Task) (key : List ℕ) (trace : List TraceItem) →
+    Runs start log runners entries id task → HasList (situation start log id task) → run_on task.program (told start id task log).reads ≡ Wants key trace →
     is_below_floor (store start log).floor (at_of task.level (told start id task log).reads) ≡ false →
     FollowsStep start log (Step id) (fetch id (runner_for start log id task) key
     (revision_read (store start log).history (at_of task.level (told start id task log).reads)) (world_at start log runners entries))
 unfolding fetch
-fetch_follows start log runners entries id task key trace x wants readable =
+fetch_follows start log runners entries id task key trace x listed wants readable =
     let h : History = (store start log).history in
     let reads : List ReadAnswer = (told start id task log).reads in
     let of_rev : ℕ = revision_read h (at_of task.level reads) in
@@ -160,29 +180,55 @@ fetch_follows start log runners entries id task key trace x wants readable =
     replied_follows start log runners entries id task
     (Live (record { task = task; failures = failures id log; known = known }))
     (Fetched id key (mod_of (key_at h key of_rev)) of_rev (now h)) x
-    (refl, record { trace = trace; wants = wants; readable = readable; shows = refl; modified = refl; carries = refl })
+    (refl, record { has_list = listed; trace = trace; wants = wants; readable = readable; shows = refl; modified = refl; carries = refl })
     refl refl refl refl
     (fetched_in_log start log id task key (mod_of (key_at h key of_rev)) of_rev (now h) x.running)
     (λ r is. live_is (record { task = task; failures = failures id log; known = known }) r (λ q. KnowsTruth h q.known) is new)
     (λ r is. live_is (record { task = task; failures = failures id log; known = known }) r (λ q. IsWellRun start q) is
-    (fetch_runs start (runner_for start log id task) h key trace (counter start log runners entries id task x) wants
+    (fetch_runs start (runner_for start log id task) h key trace (counter start log runners entries id task x) listed wants
     (well_run start log runners entries id task x)))
 
+-- the fetch of a list that is due, by whether it has too many keys
+list_follows : (start : Setup) (log : List Line) (runners : List Slot) (entries : List Entry) (id : ℕ) (task : Task) (many : Bool) →
+    Runs start log runners entries id task → is_due task.program.prefetch (told start id task log).reads ≡ true →
+    nat_lt (store start log).limit (length task.program.prefetch) ≡ many →
+    FollowsStep start log (Step id) (cond many (replied (Ended id TooManyOpsRefusal) id Over (world_at start log runners entries))
+    (replied (Prefetched id (now (store start log).history) (map (modified_now (store start log).history) task.program.prefetch)) id
+    (Live (record { task = task; failures = failures id log; known = after_list task (store start log).history (told start id task log) }))
+    (world_at start log runners entries)))
+list_follows start log runners entries id task true x due is =
+    ended_follows start log runners entries id task (Ended id TooManyOpsRefusal) x
+    (refl, inr (inr (refl, record { due = due; many = ltb-true (store start log).limit (length task.program.prefetch) is }))) refl refl refl refl refl
+list_follows start log runners entries id task false x due is =
+    let h : History = (store start log).history in
+    let reads : List KeyRead = map (modified_now h) task.program.prefetch in
+    let known : Known = after_list task h (told start id task log) in
+    let new : KnowsTruth h known = prefetch_true h task (told start id task log) (known_truth start log runners entries id task x) in
+    replied_follows start log runners entries id task
+    (Live (record { task = task; failures = failures id log; known = known }))
+    (Prefetched id (now h) reads) x
+    (refl, record { due = due; few = ltb-false (store start log).limit (length task.program.prefetch) is; shows = refl; carries = refl })
+    refl refl refl refl
+    (listed_in_log start log id task (now h) reads x.running)
+    (λ r is. live_is (record { task = task; failures = failures id log; known = known }) r (λ q. KnowsTruth h q.known) is new)
+    (λ r is. live_is (record { task = task; failures = failures id log; known = known }) r (λ q. IsWellRun start q) is
+    (list_runs start (runner_for start log id task) h (counter start log runners entries id task x) (well_run start log runners entries id task x)))
+
 -- by whether the base is compacted
-base_follows : (start : ℕ) (log : List Line) (runners : List Slot) (entries : List Entry) (id : ℕ) (task : Task) (key : List ℕ) (trace : List TraceItem)
-    (below : Bool) → Runs start log runners entries id task → run_on task.program (told start id task log).reads ≡ Wants key trace →
+base_follows : (start : Setup) (log : List Line) (runners : List Slot) (entries : List Entry) (id : ℕ) (task : Task) (key : List ℕ) (trace : List TraceItem)
+    (below : Bool) → Runs start log runners entries id task → HasList (situation start log id task) → run_on task.program (told start id task log).reads ≡ Wants key trace →
     is_below_floor (store start log).floor (at_of task.level (told start id task log).reads) ≡ below →
     FollowsStep start log (Step id) (cond below (replied (Ended id CompactedRefusal) id Over (world_at start log runners entries))
     (fetch id (runner_for start log id task) key
     (revision_read (store start log).history (at_of task.level (told start id task log).reads)) (world_at start log runners entries)))
-base_follows start log runners entries id task key trace true x wants is =
+base_follows start log runners entries id task key trace true x listed wants is =
     ended_follows start log runners entries id task (Ended id CompactedRefusal) x
-    (refl, inr (refl, record { key = key; trace = trace; wants = wants; compacted = is })) refl refl refl refl refl
-base_follows start log runners entries id task key trace false x wants is = fetch_follows start log runners entries id task key trace x wants is
+    (refl, inr (inl (refl, record { has_list = listed; key = key; trace = trace; wants = wants; compacted = is }))) refl refl refl refl refl
+base_follows start log runners entries id task key trace false x listed wants is = fetch_follows start log runners entries id task key trace x listed wants is
 
 -- ---- a commit that failed ----
 
-conflict_in_log : (start : ℕ) (log : List Line) (id : ℕ) (task : Task) (key : List ℕ) (seen modified : ℕ) → running id log ≡ Some task →
+conflict_in_log : (start : Setup) (log : List Line) (id : ℕ) (task : Task) (key : List ℕ) (seen modified : ℕ) → running id log ≡ Some task →
     runner_in_log start (with_line (Step id) (Ok (Conflict id key seen modified)) log) id ≡ Some (record {
       task = task;
       failures = failures id log + 1;
@@ -196,7 +242,7 @@ conflict_in_log start log id task key seen modified runs =
       known = cond b (after_conflict task (store start log).history (told start id task log)) (told start id task log);
     })) (same_number id)
 
-failed_by : (start : ℕ) (log : List Line) (runners : List Slot) (entries : List Entry) (id : ℕ) (task : Task) (seen : Seen) (modified : ℕ) (more : Bool) →
+failed_by : (start : Setup) (log : List Line) (runners : List Slot) (entries : List Entry) (id : ℕ) (task : Task) (seen : Seen) (modified : ℕ) (more : Bool) →
     nat_lt (failures id log + 1) task.limit ≡ more → Runs start log runners entries id task →
     IsConflicted (situation start log id task) seen.key seen.mod_rev modified →
     FollowsStep start log (Step id) (cond more
@@ -228,14 +274,14 @@ begun_by : (b : Bool) (o : Option Task) (task : Task) → cond b None o ≡ Some
 begun_by true o task is = absurd (cc)
 begun_by false o task is = is
 
-taken_follows : (start : ℕ) (log : List Line) (runners : List Slot) (entries : List Entry) (id : ℕ) (task : Task) (run : Run) (done : Done) →
+taken_follows : (start : Setup) (log : List Line) (runners : List Slot) (entries : List Entry) (id : ℕ) (task : Task) (run : Run) (done : Done) →
     CommitIsTheRunNow →
-    Runs start log runners entries id task → run_on task.program (told start id task log).reads ≡ EndedRun run → run.end ≡ DoneEnd →
+    Runs start log runners entries id task → HasList (situation start log id task) → run_on task.program (told start id task log).reads ≡ EndedRun run → run.end ≡ DoneEnd →
     committed (terms_of (store start log)) task.level (told start id task log).reads run ≡ Ok done →
     done.answer.failed ≡ None →
     FollowsStep start log (Step id) (take_commit id (runner_for start log id task) (told start id task log).reads run done
     (world_at start log runners entries))
-taken_follows start log runners entries id task run done law x is_run is_done is none =
+taken_follows start log runners entries id task run done law x listed is_run is_done is none =
     let s : Standing = store start log in
     let reads : List ReadAnswer = (told start id task log).reads in
     let takes : Takes s task reads run done =
@@ -261,14 +307,14 @@ taken_follows start log runners entries id task run done law x is_run is_done is
             within,
             record {
               done = done;
-              commits = record { run = run; is_run = is_run; is_done = is_done; comes_to = is };
+              commits = record { has_list = listed; run = run; is_run = is_run; is_done = is_done; comes_to = is };
               succeeds = none;
               is_alone = came.alone;
               emits = refl;
               sees = refl;
               reached = refl;
               told = refl;
-              in_order = answers_are_the_reads task.program reads run well.asked is_run;
+              in_order = answers_are_the_reads task.program reads run well.listed listed well.asked is_run;
             },
           ))
           refl (λ other ne. by_reply other reply ne) (over_now start log id reply refl) (λ r impossible. absurd (cc)) (λ r impossible. absurd (cc))
@@ -278,15 +324,15 @@ taken_follows start log runners entries id task run done law x is_run is_done is
 
 -- ---- the commit ----
 
-conflicted : (start : ℕ) (log : List Line) (runners : List Slot) (entries : List Entry) (id : ℕ) (task : Task) (run : Run) (done : Done)
-    (failed : FailedCompare) → FailedComparesConflict → Runs start log runners entries id task →
+conflicted : (start : Setup) (log : List Line) (runners : List Slot) (entries : List Entry) (id : ℕ) (task : Task) (run : Run) (done : Done)
+    (failed : FailedCompare) → FailedComparesConflict → Runs start log runners entries id task → HasList (situation start log id task) →
     run_on task.program (told start id task log).reads ≡ EndedRun run → run.end ≡ DoneEnd →
     committed (terms_of (store start log)) task.level (told start id task log).reads run ≡ Ok done →
     done.answer.failed ≡ Some failed →
     IsConflicted (situation start log id task)
     (seen_in (slice_get (seen_by (told start id task log).reads (latest_writes run.writes)) failed.index)).key
     (seen_in (slice_get (seen_by (told start id task log).reads (latest_writes run.writes)) failed.index)).mod_rev failed.mod_rev
-conflicted start log runners entries id task run done failed law x is_run is_done is some =
+conflicted start log runners entries id task run done failed law x listed is_run is_done is some =
     let s : Standing = store start log in
     let reads : List ReadAnswer = (told start id task log).reads in
     let failure : Fails s.history task.level reads run failed done = fails (terms_of s) task.level reads run failed done is some in
@@ -294,7 +340,7 @@ conflicted start log runners entries id task run done failed law x is_run is_don
     law s.history task.level reads (latest_writes run.writes) failed (reads_truth start log runners entries id task x) failure.conflict in
     record {
       done = done;
-      commits = record { run = run; is_run = is_run; is_done = is_done; comes_to = is };
+      commits = record { has_list = listed; run = run; is_run = is_run; is_done = is_done; comes_to = is };
       failed = failed;
       fails = some;
       unchanged = failure.unchanged;
@@ -309,68 +355,79 @@ pub record CommitLaws : Type 0 where
   pub run_now : CommitIsTheRunNow
   pub conflicts : FailedComparesConflict
 
-decided_follows : (start : ℕ) (log : List Line) (runners : List Slot) (entries : List Entry) (id : ℕ) (task : Task) (run : Run) (done : Done)
-    (o : Option FailedCompare) → CommitLaws → Runs start log runners entries id task →
+decided_follows : (start : Setup) (log : List Line) (runners : List Slot) (entries : List Entry) (id : ℕ) (task : Task) (run : Run) (done : Done)
+    (o : Option FailedCompare) → CommitLaws → Runs start log runners entries id task → HasList (situation start log id task) →
     run_on task.program (told start id task log).reads ≡ EndedRun run → run.end ≡ DoneEnd →
     committed (terms_of (store start log)) task.level (told start id task log).reads run ≡ Ok done →
     done.answer.failed ≡ o →
     FollowsStep start log (Step id) (decided id (runner_for start log id task) (told start id task log).reads run done o
     (world_at start log runners entries))
-decided_follows start log runners entries id task run done None laws x is_run is_done is found =
-    taken_follows start log runners entries id task run done laws.run_now x is_run is_done is found
-decided_follows start log runners entries id task run done (Some failed) laws x is_run is_done is found =
+decided_follows start log runners entries id task run done None laws x listed is_run is_done is found =
+    taken_follows start log runners entries id task run done laws.run_now x listed is_run is_done is found
+decided_follows start log runners entries id task run done (Some failed) laws x listed is_run is_done is found =
     failed_by start log runners entries id task
     (seen_in (slice_get (seen_by (told start id task log).reads (latest_writes run.writes)) failed.index)) failed.mod_rev
     (nat_lt (failures id log + 1) task.limit) refl x
-    (conflicted start log runners entries id task run done failed laws.conflicts x is_run is_done is found)
+    (conflicted start log runners entries id task run done failed laws.conflicts x listed is_run is_done is found)
 
-commit_follows : (start : ℕ) (log : List Line) (runners : List Slot) (entries : List Entry) (id : ℕ) (task : Task) (run : Run) (o : Result Done StoreRefusal) →
-    CommitLaws → Runs start log runners entries id task →
+commit_follows : (start : Setup) (log : List Line) (runners : List Slot) (entries : List Entry) (id : ℕ) (task : Task) (run : Run) (o : Result Done StoreRefusal) →
+    CommitLaws → Runs start log runners entries id task → HasList (situation start log id task) →
     run_on task.program (told start id task log).reads ≡ EndedRun run → run.end ≡ DoneEnd →
     committed (terms_of (store start log)) task.level (told start id task log).reads run ≡ o →
     FollowsStep start log (Step id) (commit_told id (runner_for start log id task) (told start id task log).reads run o
     (world_at start log runners entries))
-commit_follows start log runners entries id task run (Ok done) laws x is_run is_done is =
-    decided_follows start log runners entries id task run done done.answer.failed laws x is_run is_done is refl
-commit_follows start log runners entries id task run (Err cause) laws x is_run is_done is =
+commit_follows start log runners entries id task run (Ok done) laws x listed is_run is_done is =
+    decided_follows start log runners entries id task run done done.answer.failed laws x listed is_run is_done is refl
+commit_follows start log runners entries id task run (Err cause) laws x listed is_run is_done is =
     ended_follows start log runners entries id task (Ended id cause) x
-    (refl, inl (record { run = run; is_run = is_run; is_done = is_done; comes_to = is })) refl refl refl refl refl
+    (refl, inl (record { has_list = listed; run = run; is_run = is_run; is_done = is_done; comes_to = is })) refl refl refl refl refl
 
-done_follows : (start : ℕ) (log : List Line) (runners : List Slot) (entries : List Entry) (id : ℕ) (task : Task) (run : Run) →
-    CommitLaws → Runs start log runners entries id task →
+done_follows : (start : Setup) (log : List Line) (runners : List Slot) (entries : List Entry) (id : ℕ) (task : Task) (run : Run) →
+    CommitLaws → Runs start log runners entries id task → HasList (situation start log id task) →
     run_on task.program (told start id task log).reads ≡ EndedRun run → run.end ≡ DoneEnd →
     FollowsStep start log (Step id) (commit id (runner_for start log id task) (told start id task log).reads run
     (world_at start log runners entries))
 unfolding commit
-done_follows start log runners entries id task run laws x is_run is_done =
+done_follows start log runners entries id task run laws x listed is_run is_done =
     commit_follows start log runners entries id task run
     (committed (terms_of (store start log)) task.level (told start id task log).reads run)
-    laws x is_run is_done refl
+    laws x listed is_run is_done refl
 
-end_follows : (start : ℕ) (log : List Line) (runners : List Slot) (entries : List Entry) (id : ℕ) (task : Task) (run : Run) (end : End) →
-    CommitLaws → Runs start log runners entries id task →
+end_follows : (start : Setup) (log : List Line) (runners : List Slot) (entries : List Entry) (id : ℕ) (task : Task) (run : Run) (end : End) →
+    CommitLaws → Runs start log runners entries id task → HasList (situation start log id task) →
     run_on task.program (told start id task log).reads ≡ EndedRun run → run.end ≡ end →
     FollowsStep start log (Step id) (finish id (runner_for start log id task) (told start id task log).reads run end
     (world_at start log runners entries))
-end_follows start log runners entries id task run DoneEnd laws x is_run ended = done_follows start log runners entries id task run laws x is_run ended
-end_follows start log runners entries id task run (AbortedEnd text) laws x is_run ended =
-    ended_follows start log runners entries id task (Aborted id text) x (refl, record { run = run; is_run = is_run; ended = ended }) refl refl refl refl refl
-end_follows start log runners entries id task run (FaultedEnd fault) laws x is_run ended =
-    ended_follows start log runners entries id task (Faulted id fault) x (refl, record { run = run; is_run = is_run; ended = ended }) refl refl refl refl refl
+end_follows start log runners entries id task run DoneEnd laws x listed is_run ended = done_follows start log runners entries id task run laws x listed is_run ended
+end_follows start log runners entries id task run (AbortedEnd text) laws x listed is_run ended =
+    ended_follows start log runners entries id task (Aborted id text) x (refl, record { has_list = listed; run = run; is_run = is_run; ended = ended }) refl refl refl refl refl
+end_follows start log runners entries id task run (FaultedEnd fault) laws x listed is_run ended =
+    ended_follows start log runners entries id task (Faulted id fault) x (refl, record { has_list = listed; run = run; is_run = is_run; ended = ended }) refl refl refl refl refl
 
-answered_follows : (start : ℕ) (log : List Line) (runners : List Slot) (entries : List Entry) (id : ℕ) (task : Task) (answered : Answered) →
-    CommitLaws → Runs start log runners entries id task → run_on task.program (told start id task log).reads ≡ answered →
+answered_follows : (start : Setup) (log : List Line) (runners : List Slot) (entries : List Entry) (id : ℕ) (task : Task) (answered : Answered) →
+    CommitLaws → Runs start log runners entries id task → HasList (situation start log id task) → run_on task.program (told start id task log).reads ≡ answered →
     FollowsStep start log (Step id) (step_on id (runner_for start log id task) (told start id task log).reads answered
     (world_at start log runners entries))
-answered_follows start log runners entries id task (Wants key trace) laws x is =
+answered_follows start log runners entries id task (Wants key trace) laws x listed is =
     base_follows start log runners entries id task key trace
-    (is_below_floor (store start log).floor (at_of task.level (told start id task log).reads)) x is refl
-answered_follows start log runners entries id task (EndedRun run) laws x is = end_follows start log runners entries id task run run.end laws x is refl
+    (is_below_floor (store start log).floor (at_of task.level (told start id task log).reads)) x listed is refl
+answered_follows start log runners entries id task (EndedRun run) laws x listed is = end_follows start log runners entries id task run run.end laws x listed is refl
+
+-- by whether the list is due
+list_or_run : (start : Setup) (log : List Line) (runners : List Slot) (entries : List Entry) (id : ℕ) (task : Task) (due : Bool) →
+    CommitLaws → Runs start log runners entries id task → is_due task.program.prefetch (told start id task log).reads ≡ due →
+    FollowsStep start log (Step id) (cond due (fetch_list id (runner_for start log id task) (world_at start log runners entries))
+    (step_on id (runner_for start log id task) (told start id task log).reads (run_on task.program (told start id task log).reads)
+    (world_at start log runners entries)))
+list_or_run start log runners entries id task true laws x is =
+    list_follows start log runners entries id task (nat_lt (store start log).limit (length task.program.prefetch)) x is refl
+list_or_run start log runners entries id task false laws x is =
+    answered_follows start log runners entries id task (run_on task.program (told start id task log).reads) laws x is refl
 
 -- a step of a runner that runs
-pub live_follows : (start : ℕ) (log : List Line) (runners : List Slot) (entries : List Entry) (id : ℕ) (task : Task) →
+pub live_follows : (start : Setup) (log : List Line) (runners : List Slot) (entries : List Entry) (id : ℕ) (task : Task) →
     CommitLaws → Runs start log runners entries id task →
     FollowsStep start log (Step id) (step_live id (runner_for start log id task) (world_at start log runners entries))
 unfolding step_live
 live_follows start log runners entries id task laws x =
-    answered_follows start log runners entries id task (run_on task.program (told start id task log).reads) laws x refl
+    list_or_run start log runners entries id task (is_due task.program.prefetch (told start id task log).reads) laws x refl

@@ -1,5 +1,5 @@
 -- What holds of each answer that an attempt knows holds of those that it takes.
-use Rattle.std.proofs.Common.{◌≡◌, ℕ, zero, suc, List, [], ◌∷◌, ◌++◌, length, filter, Option, Some, None, Bool, true, false, cond, refl, subst}
+use Rattle.std.proofs.Common.{◌≡◌, ◌⊎◌, inl, inr, ℕ, zero, suc, List, [], ◌∷◌, ◌++◌, length, filter, Option, Some, None, Bool, true, false, cond, refl, sym, subst}
 use Rattle.std.specs.Prelude.{bytes_eq}
 use Rattle.std.specs.List.{AllByRecursion}
 use Rattle.stm_history.specs.declared.key_state.ReadAnswer.{ReadAnswer}
@@ -7,6 +7,8 @@ use Rattle.stm_program.specs.Syntax.{ProgramTree}
 use Rattle.stm_compile.specs.Answers.{answer_in}
 use Rattle.stm_attempt.specs.Known.{Known, serving, is_of_base}
 use Rattle.stm_attempt.specs.Settled.{run_on, wanted, answer_for, served, taken, settle}
+use Rattle.stm_attempt.specs.Entering.{answers_of_all, gone_on}
+use Rattle.stm_attempt.proofs.EnteringLemmas.{taken_are, where_it_comes}
 use Rattle.stm_world.specs.Task.{Task, with_served}
 
 -- it holds of each answer that was read, and of each that was prefetched
@@ -56,6 +58,17 @@ settled_all P (suc n) program prefetched reads p all =
     taken_all P (settle n program prefetched) reads (served program prefetched reads) (λ more. settled_all P n program prefetched more p)
     (λ a. answered_all P (wanted (run_on program reads)) (serving reads prefetched) a (filtered_all P (is_of_base reads) prefetched p)) all
 
+start_all : (P : ReadAnswer → Type 0) (program : ProgramTree) (known : Known) (start : List ReadAnswer) → KnowsAll P known →
+    (known.reads ≡ start) ⊎ (answers_of_all program.prefetch known.prefetched ≡ Some start) → AllByRecursion P start
+start_all P program known start knows (inl same) = subst (AllByRecursion P) same knows.0
+start_all P program known start knows (inr is) = taken_are P program.prefetch known.prefetched start knows.1 is
+
+gone_all : (P : ReadAnswer → Type 0) (program : ProgramTree) (known : Known) → KnowsAll P known → AllByRecursion P (gone_on program known)
+gone_all P program known knows = elim (where_it_comes program known) [
+  | inl d ↦ subst (AllByRecursion P) (sym d.stays) knows.0
+  | inr s ↦ subst (AllByRecursion P) (sym s.settles)
+      (settled_all P (length known.prefetched) program known.prefetched s.start knows.1 (start_all P program known s.start knows s.is_start))
+]
+
 pub served_all : (P : ReadAnswer → Type 0) (task : Task) (known : Known) → KnowsAll P known → KnowsAll P (with_served task known)
-served_all P task known knows =
-    (settled_all P (length known.prefetched) task.program known.prefetched known.reads knows.1 knows.0, knows.1)
+served_all P task known knows = (gone_all P task.program known knows, knows.1)

@@ -1,5 +1,5 @@
 -- A world stays sound from step to step.
-use Rattle.std.proofs.Common.{◌≡◌, ℕ, ◌+◌, ◌<◌, ◌≤◌, List, [], ◌∷◌, ◌++◌, length, Option, Some, None, Bool, true, false, cond, refl, sym, ◌∙◌, ap, subst}
+use Rattle.std.proofs.Common.{◌≡◌, ℕ, ◌+◌, ◌<◌, ◌≤◌, List, [], ◌∷◌, ◌++◌, length, map, Option, Some, None, Bool, true, false, cond, refl, sym, ◌∙◌, ap, subst}
 use Rattle.std.proofs.lemmas.List.{append-nil}
 use Rattle.std.specs.Prelude.{nat_eq, nat_lt, slice_get, Result, Ok, Err}
 use Rattle.stm_history.specs.declared.key_state.ReadAnswer.{ReadAnswer}
@@ -17,14 +17,15 @@ use Rattle.stm_outcome.specs.Outcome.{Done}
 use Rattle.stm_outcome.specs.Commits.{revision_read}
 use Rattle.stm_txn.specs.Standing.{Standing, with_history, transacted, granted, kept_alive, revoked, advanced, Advance as StoreAdvance}
 use Rattle.stm_txn.specs.Standing.{watched, polled, cancelled, raised}
-use Rattle.stm_outcome.specs.Terms.{is_below_floor}
-use Rattle.stm_outcome.specs.declared.refusal.Refusal.TheVariants.{Compacted as CompactedRefusal}
+use Rattle.stm_outcome.specs.Terms.{most_operations, is_below_floor}
+use Rattle.stm_outcome.specs.declared.refusal.Refusal.TheVariants.{TooManyOps as TooManyOpsRefusal, Compacted as CompactedRefusal}
 use Rattle.stm_txn.specs.Standing.{terms_of}
 use Rattle.stm_watch.specs.declared.watched.Watched.TheVariants.{Key, Range}
 use Rattle.stm_compile.specs.Committed.{committed}
 use Rattle.stm_compile.specs.Conflicts.{Seen, seen_by}
 use Rattle.stm_compile.specs.Laws.{CommitIsTheRunNow}
 use Rattle.stm_attempt.specs.Settled.{run_on}
+use Rattle.stm_attempt.specs.Entering.{is_due}
 use Rattle.stm_attempt.specs.Fetches.{at_of}
 use Rattle.stm_entries.specs.declared.entry.Entry.{Entry}
 use Rattle.stm_entries.specs.declared.entry.Entry.TheVariants.{Grant as GrantEntry, Renew, Revoke as RevokeEntry}
@@ -37,15 +38,15 @@ use Rattle.stm_world.specs.declared.event.WorldEvent.{WorldEvent}
 use Rattle.stm_world.specs.declared.event.WorldEvent.TheVariants.{Start, Step, Txn, Grant, Keep, Revoke, Advance}
 use Rattle.stm_world.specs.declared.event.WorldEvent.TheVariants.{WatchKey, WatchRange, Poll, Cancel, Compact}
 use Rattle.stm_world.specs.declared.reply.Reply.{Reply}
-use Rattle.stm_world.specs.declared.reply.Reply.TheVariants.{Started, Fetched, Conflict, GaveUp, Aborted, Faulted, Ended}
+use Rattle.stm_world.specs.declared.reply.Reply.TheVariants.{Started, Prefetched, Fetched, Conflict, GaveUp, Aborted, Faulted, Ended}
 use Rattle.stm_world.specs.declared.refusal.Refusal.TheVariants.{BadLimit}
 use Rattle.stm_world.specs.Told.{store_after_call, store_after_poll}
-use Rattle.stm_world.specs.Task.{Task, answer_at, after_fetch, after_conflict}
-use Rattle.stm_world.specs.World.{World, Runner, Slot, Over, Live, live_in, runner_at, with_slot, refused, replied, begin, start_runner, fetch, entry_of}
+use Rattle.stm_world.specs.Task.{Task, answer_at, modified_now, after_list, after_fetch, after_conflict}
+use Rattle.stm_world.specs.World.{World, Runner, Slot, Over, Live, live_in, runner_at, with_slot, refused, replied, begin, start_runner, fetch, fetch_list, entry_of}
 use Rattle.stm_world.specs.World.{take_commit, seen_in, decided, commit_told, commit, finish, step_on, step_live, step_runner, if_taken, if_changed}
 use Rattle.stm_world.specs.World.{expiries, step}
 use Rattle.stm_world.specs.Sound.{KnowsTruth, IsSound}
-use Rattle.stm_world.proofs.Truth.{known_stays, fetch_true, conflict_true}
+use Rattle.stm_world.proofs.Truth.{known_stays, prefetch_true, fetch_true, conflict_true}
 use Rattle.stm_world.proofs.Entered.{EntriesFollow, nothing_follows}
 use Rattle.stm_world.proofs.Calls.{txn_follows, grant_follows, keep_follows, revoke_follows, advance_follows}
 use Rattle.stm_world.proofs.WatchCalls.{watch_follows, poll_follows, cancel_follows, compact_follows}
@@ -79,6 +80,7 @@ sound_with w runners after more sound e truth =
       legal = subst (λ n. AreLegal entries (opening n)) same legal;
       truth = truth;
       kept = e.kept sound.kept;
+      limit = subst (λ n. n ≤ most_operations) (sym e.limit) sound.limit;
     }
 
 -- an event that is about no runner
@@ -136,6 +138,7 @@ begun_sound w task sound =
       replays = sound.replays;
       legal = sound.legal;
       kept = sound.kept;
+      limit = sound.limit;
       truth = λ other x at. elim (nat_eq id other) as (λ b. nat_eq id other ≡ b → KnowsTruth w.standing.history x.known) [
         | true ↦ λ is. new_truth w.standing.history task x
             (sym (runner_new w.runners slot) ∙ subst (λ n. runner_at n (w.runners ++ slot ∷ []) ≡ Some x) (sym (equal_numbers id other is)) at)
@@ -230,9 +233,24 @@ answered_sound w id r (Wants key trace) law sound found is =
     base_sound w id r key (is_below_floor w.standing.floor (at_of r.task.level r.known.reads)) sound found
 answered_sound w id r (EndedRun run) law sound found is = finish_sound w id r run run.end law sound found is refl
 
+list_sound : (w : World) (id : ℕ) (r : Runner) (many : Bool) → IsSound w → runner_at id w.runners ≡ Some r →
+    IsSound (cond many (replied (Ended id TooManyOpsRefusal) id Over w)
+    (replied (Prefetched id (now w.standing.history) (map (modified_now w.standing.history) r.task.program.prefetch)) id
+    (Live (record r { known = after_list r.task w.standing.history r.known })) w)).next
+list_sound w id r true sound found = ended_sound w id r (Ended id TooManyOpsRefusal) sound found
+list_sound w id r false sound found =
+    known_sound w id r (record r { known = after_list r.task w.standing.history r.known })
+    (Prefetched id (now w.standing.history) (map (modified_now w.standing.history) r.task.program.prefetch)) sound found
+    (prefetch_true w.standing.history r.task r.known (sound.truth id r found))
+
+list_or_run-sound : (w : World) (id : ℕ) (r : Runner) (due : Bool) → CommitIsTheRunNow → IsSound w → runner_at id w.runners ≡ Some r →
+    IsSound (cond due (fetch_list id r w) (step_on id r r.known.reads (run_on r.task.program r.known.reads) w)).next
+list_or_run-sound w id r true law sound found = list_sound w id r (nat_lt w.standing.limit (length r.task.program.prefetch)) sound found
+list_or_run-sound w id r false law sound found = answered_sound w id r (run_on r.task.program r.known.reads) law sound found refl
+
 live_sound : (w : World) (id : ℕ) (r : Runner) → CommitIsTheRunNow → IsSound w → runner_at id w.runners ≡ Some r → IsSound (step_live id r w).next
 unfolding step_live
-live_sound w id r law sound found = answered_sound w id r (run_on r.task.program r.known.reads) law sound found refl
+live_sound w id r law sound found = list_or_run-sound w id r (is_due r.task.program.prefetch r.known.reads) law sound found
 
 runner_by : (w : World) (id : ℕ) (o : Option Runner) → CommitIsTheRunNow → IsSound w → runner_at id w.runners ≡ o → IsSound (step_runner id o w).next
 runner_by w id None law sound found = sound
@@ -246,7 +264,7 @@ event_sound (Step id) w law sound = runner_by w id (runner_at id w.runners) law 
 event_sound (Txn txn) w law sound =
     let s : Standing = w.standing in
     let next : Standing = store_after_call s (transacted s txn) in
-    call_sound w next (if_changed s next txn) sound (txn_follows s txn)
+    call_sound w next (if_changed s next txn) sound (txn_follows s txn sound.limit)
 event_sound (Grant lease ttl) w law sound =
     let s : Standing = w.standing in
     let o = granted s lease ttl in

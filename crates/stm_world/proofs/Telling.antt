@@ -28,6 +28,7 @@ use Rattle.stm_outcome.specs.Outcome.{Done, outcome, is_used_up}
 use Rattle.stm_txn.specs.LeaseKeys.{deletions_of}
 use Rattle.stm_txn.specs.Standing.{Standing, Step as StoreStep, step_of, ended, expire_up_to, at_moment, with_watchers, terms_of}
 use Rattle.stm_txn.specs.Standing.{watch_step, poll_step, cancel_step, with_floor, floor_step, IsKeptFor}
+use Rattle.stm_txn.specs.Standing.{Setup}
 use Rattle.stm_txn.proofs.Ending.{ended_is}
 use Rattle.stm_world.specs.declared.event.WorldEvent.{WorldEvent}
 use Rattle.stm_world.specs.declared.event.WorldEvent.TheVariants.{Start, Step, Txn, Grant, Keep, Revoke, Advance}
@@ -107,14 +108,14 @@ record IsQuiet (s : Standing) (id : ℕ) (event : WorldEvent) (reply : Result Re
   kept : gives_up id event reply ≡ false
 
 -- a watcher that stands so began by the log, and was told all
-record IsBegun (start : ℕ) (log : List Line) (id : ℕ) (w : Watching) : Type 0 where
+record IsBegun (start : Setup) (log : List Line) (id : ℕ) (w : Watching) : Type 0 where
   begun : Watching
   is_begun : watching start id log ≡ Some begun
   tells : HasTold (store start log).history (events_to id log) begun w
   because : IsLostFor (store start log).history (store start log).floor begun w
 
 -- what the log tells of a number, by what stands there
-abbrev IsTold : ℕ → List Line → ℕ → Option Watching → Type 0
+abbrev IsTold : Setup → List Line → ℕ → Option Watching → Type 0
 IsTold start log id None = watching start id log ≡ None
 IsTold start log id (Some w) = IsBegun start log id w
 
@@ -123,7 +124,7 @@ record IsNew (log : List Line) (id : ℕ) : Type 0 where
   nothing : events_to id log ≡ []
   kept : is_given_up id log ≡ false
 
-record AreTold (start : ℕ) (log : List Line) : Type 0 where
+record AreTold (start : Setup) (log : List Line) : Type 0 where
   fresh : (id : ℕ) → length (store start log).watchers < id → IsNew log id
   each : (id : ℕ) → IsTold start log id (watcher_at id (store start log).watchers)
 
@@ -135,13 +136,13 @@ cause_stays s after begun w keeps up because lost = elim (because lost) [
   | inr below ↦ inr (lost_under s.floor after.floor (first_pending after.history w) up (keeps.lost s.floor w below))
 ]
 
-same_watching : (start : ℕ) (log : List Line) (event : WorldEvent) (reply : Result Reply Denied) (id : ℕ) →
+same_watching : (start : Setup) (log : List Line) (event : WorldEvent) (reply : Result Reply Denied) (id : ℕ) →
     IsQuiet (store start log) id event reply → watching start id (with_line event reply log) ≡ watching start id log
 same_watching start log event reply id q =
     ap (λ b. cond (b || is_given_up id log) None (or_earlier (made_by id (store start log) event reply) (begun_watching start id log))) q.kept
     ∙ ap (λ (o : Option Watching). cond (is_given_up id log) None (or_earlier o (begun_watching start id log))) q.made
 
-same_told : (start : ℕ) (log : List Line) (event : WorldEvent) (reply : Result Reply Denied) (id : ℕ) (o : Option Watching) →
+same_told : (start : Setup) (log : List Line) (event : WorldEvent) (reply : Result Reply Denied) (id : ℕ) (o : Option Watching) →
     IsQuiet (store start log) id event reply → IsTold start log id o → IsTold start (with_line event reply log) id o
 same_told start log event reply id None q is = same_watching start log event reply id q ∙ is
 same_told start log event reply id (Some w) q is =
@@ -167,7 +168,7 @@ still_new log event reply id told kept new = record {
 }
 
 -- a line that is about no watcher
-quiet : (start : ℕ) (log : List Line) (event : WorldEvent) (reply : Result Reply Denied) → AreTold start log →
+quiet : (start : Setup) (log : List Line) (event : WorldEvent) (reply : Result Reply Denied) → AreTold start log →
     ((id : ℕ) → IsQuiet (store start log) id event reply) →
     (store start (with_line event reply log)).watchers ≡ (store start log).watchers → AreTold start (with_line event reply log)
 quiet start log event reply are q stays = record {
@@ -243,7 +244,7 @@ watcher_other id other ws o some ne =
 -- ---- a watch
 
 -- a line that makes a watcher
-watcher_begins : (start : ℕ) (log : List Line) (event : WorldEvent) (reply : Result Reply Denied) (w : Watching) → AreTold start log →
+watcher_begins : (start : Setup) (log : List Line) (event : WorldEvent) (reply : Result Reply Denied) (w : Watching) → AreTold start log →
     ((id : ℕ) → told_by id event reply ≡ []) → ((id : ℕ) → gives_up id event reply ≡ false) →
     ((id : ℕ) → made_by id (store start log) event reply
     ≡ cond (nat_eq (length (store start log).watchers + 1) id) (Some w) None) →
@@ -295,7 +296,7 @@ abbrev watch_of : Standing → Watched → ℕ → Bool → Result (WatchStep �
 watch_of s keys from empty =
     cond empty (Err EmptyKey) (Ok (record { answer = length s.watchers + 1; next = s.watchers ++ Some (watching_from s.history s.floor keys from) ∷ [] }))
 
-watch_by : (start : ℕ) (log : List Line) (event : WorldEvent) (reply : Result Reply Denied) (keys : Watched) (from : ℕ) (empty : Bool) →
+watch_by : (start : Setup) (log : List Line) (event : WorldEvent) (reply : Result Reply Denied) (keys : Watched) (from : ℕ) (empty : Bool) →
     AreTold start log → ((id : ℕ) → told_by id event reply ≡ []) → ((id : ℕ) → gives_up id event reply ≡ false) →
     ((id : ℕ) → made_by id (store start log) event reply ≡ made id (watching_from (store start log).history (store start log).floor keys from) reply) →
     reply ≡ reply_to WatchingReply (watch_step (store start log) (watch_of (store start log) keys from empty)) →
@@ -316,7 +317,7 @@ watch_by start log event reply keys from false are told kept made_so right leave
 -- ---- a watcher that is given up
 
 -- a line that gives a watcher up
-watcher_goes : (start : ℕ) (log : List Line) (event : WorldEvent) (reply : Result Reply Denied) (id : ℕ) (w : Watching) → AreTold start log →
+watcher_goes : (start : Setup) (log : List Line) (event : WorldEvent) (reply : Result Reply Denied) (id : ℕ) (w : Watching) → AreTold start log →
     watcher_at id (store start log).watchers ≡ Some w → ((other : ℕ) → told_by other event reply ≡ []) →
     ((other : ℕ) → made_by other (store start log) event reply ≡ None) → ((other : ℕ) → gives_up other event reply ≡ nat_eq id other) →
     (store start (with_line event reply log)).watchers ≡ slice_set (store start log).watchers (id - 1) None → AreTold start (with_line event reply log)
@@ -350,7 +351,7 @@ watcher_goes start log event reply id w are found told made up stands =
           ] refl);
     }
 
-cancel_by : (start : ℕ) (log : List Line) (reply : Result Reply Denied) (id : ℕ) (o : Option Watching) → AreTold start log →
+cancel_by : (start : Setup) (log : List Line) (reply : Result Reply Denied) (id : ℕ) (o : Option Watching) → AreTold start log →
     watcher_at id (store start log).watchers ≡ o → reply ≡ reply_to (λ _. Cancelled id) (cancel_step (store start log) id o) →
     store start (with_line (Cancel id) reply log) ≡ store_after_call (store start log) (cancel_step (store start log) id o) →
     AreTold start (with_line (Cancel id) reply log)
@@ -376,7 +377,7 @@ nothing_either_way true = refl
 nothing_either_way false = refl
 
 -- the watcher that is polled
-polled_told : (start : ℕ) (log : List Line) (reply : Result Reply Denied) (id most : ℕ) (w : Watching) → IsBegun start log id w → w.lost ≡ false →
+polled_told : (start : Setup) (log : List Line) (reply : Result Reply Denied) (id most : ℕ) (w : Watching) → IsBegun start log id w → w.lost ≡ false →
     reply ≡ Ok (batch_reply id (batch_of most (store start log).history w)) →
     (store start (with_line (Poll id most) reply log)).history ≡ (store start log).history →
     IsBegun start (with_line (Poll id most) reply log) id (after_poll most (store start log).history w)
@@ -396,7 +397,7 @@ polled_told start log reply id most w is not_lost right history =
     }
 
 -- a poll of a watcher that is not there
-none_polled : (start : ℕ) (log : List Line) (reply : Result Reply Denied) (id most : ℕ) → AreTold start log →
+none_polled : (start : Setup) (log : List Line) (reply : Result Reply Denied) (id most : ℕ) → AreTold start log →
     watcher_at id (store start log).watchers ≡ None → events_in reply ≡ [] → watcher_given_up reply ≡ None →
     (store start (with_line (Poll id most) reply log)).watchers
     ≡ cond (is_one_lost (watcher_at id (store start log).watchers)) (without_watcher id (store start log).watchers) (store start log).watchers →
@@ -411,7 +412,7 @@ none_polled start log reply id most are found nothing stays leaves =
     })
     (leaves ∙ ap (λ (o : Option Watching). cond (is_one_lost o) (without_watcher id ws) ws) found)
 
-poll_by : (start : ℕ) (log : List Line) (reply : Result Reply Denied) (id most : ℕ) (w : Watching) (lost : Bool) → AreTold start log →
+poll_by : (start : Setup) (log : List Line) (reply : Result Reply Denied) (id most : ℕ) (w : Watching) (lost : Bool) → AreTold start log →
     watcher_at id (store start log).watchers ≡ Some w → w.lost ≡ lost → reply ≡ poll_reply id (store start log).floor (poll_of (store start log) id most w lost) →
     store start (with_line (Poll id most) reply log) ≡ store_after_poll id (store start log) (poll_of (store start log) id most w lost) →
     AreTold start (with_line (Poll id most) reply log)
@@ -459,7 +460,7 @@ poll_by start log reply id most w false are found is right leaves =
     }
 
 -- by what stands at the watcher's place
-polled_by : (start : ℕ) (log : List Line) (reply : Result Reply Denied) (id most : ℕ) (o : Option Watching) → AreTold start log →
+polled_by : (start : Setup) (log : List Line) (reply : Result Reply Denied) (id most : ℕ) (o : Option Watching) → AreTold start log →
     watcher_at id (store start log).watchers ≡ o →
     reply ≡ poll_reply id (store start log).floor (poll_step (store start log) (poll_found (store start log).history id most (store start log).watchers o)) →
     store start (with_line (Poll id most) reply log)
@@ -476,7 +477,7 @@ lost_by P true by_it lost earlier here = earlier refl
 lost_by P false by_it lost earlier here = here lost
 
 -- a watcher may be lost by it, but what it was told and what is pending stay
-compacted_told : (start : ℕ) (log : List Line) (id : ℕ) (h : History) (floor : ℕ) (o : Option Watching) → (store start log).history ≡ h →
+compacted_told : (start : Setup) (log : List Line) (id : ℕ) (h : History) (floor : ℕ) (o : Option Watching) → (store start log).history ≡ h →
     (store start log).floor ≡ floor → IsTold start log id o → IsTold start log id (option_map (compacted_one h floor) o)
 compacted_told start log id h floor None history floor_is is = is
 compacted_told start log id h floor (Some w) history floor_is is =
@@ -506,7 +507,7 @@ watcher_compacted h floor ws id = by (nat_eq id 0)
     by true = refl
     by false = place_compacted h floor ws (id - 1)
 
-compact_by : (start : ℕ) (log : List Line) (reply : Result Reply Denied) (revision : ℕ) (again future : Bool) → AreTold start log →
+compact_by : (start : Setup) (log : List Line) (reply : Result Reply Denied) (revision : ℕ) (again future : Bool) → AreTold start log →
     store start (with_line (Compact revision) reply log) ≡ store_after_call (store start log)
     (floor_step (cond again (Some CompactedRefusal) (cond future (Some FutureRevision) None)) (with_floor (store start log) revision)) →
     AreTold start (with_line (Compact revision) reply log)
@@ -535,7 +536,7 @@ compact_by start log reply revision false false are leaves =
 
 -- ---- every line
 
-told_more : (start : ℕ) (log : List Line) (event : WorldEvent) (reply : Result Reply Denied) → IsRight start log event reply → AreTold start log →
+told_more : (start : Setup) (log : List Line) (event : WorldEvent) (reply : Result Reply Denied) → IsRight start log event reply → AreTold start log →
     AreTold start (with_line event reply log)
 told_more start log (Start program level limit) reply right are =
     quiet start log (Start program level limit) reply are (λ id. record { told = refl; made = refl; kept = refl }) refl
@@ -581,14 +582,14 @@ none_there id = elim (nat_eq id 0) as (λ b. cond b None (slice_index_or [] (id 
   | false ↦ refl
 ]
 
-are_told : (start : ℕ) (log : List Line) → AreRight start log → AreTold start log
+are_told : (start : Setup) (log : List Line) → AreRight start log → AreTold start log
 are_told start [] right = record {
   fresh = λ id above. record { nothing = refl; kept = refl };
   each = λ id. subst (IsTold start [] id) (sym (none_there id)) refl;
 }
 are_told start (line ∷ log) right = told_more start log line.event line.reply right.0 (are_told start log right.1)
 
-told_so : (start : ℕ) (log : List Line) (id : ℕ) (o : Option Watching) → watcher_at id (store start log).watchers ≡ o → IsTold start log id o →
+told_so : (start : Setup) (log : List Line) (id : ℕ) (o : Option Watching) → watcher_at id (store start log).watchers ≡ o → IsTold start log id o →
     IsToldSo start log id (watching start id log)
 told_so start log id None found is = subst (IsToldSo start log id) (sym is) found
 told_so start log id (Some w) found is =

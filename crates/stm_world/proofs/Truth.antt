@@ -1,5 +1,5 @@
 -- Answers that are true, and stay so.
-use Rattle.std.proofs.Common.{◌≡◌, ℕ, ◌≤◌, zero, suc, List, [], ◌∷◌, ◌++◌, length, map, filter, Option, Some, None, Bool, true, false, cond, refl, ◌∙◌}
+use Rattle.std.proofs.Common.{◌≡◌, ◌⊎◌, inl, inr, ℕ, ◌≤◌, zero, suc, List, [], ◌∷◌, ◌++◌, length, map, filter, Option, Some, None, Bool, true, false, cond, refl, sym, ◌∙◌}
 use Rattle.std.proofs.Common.{subst, arith}
 use Rattle.std.specs.Prelude.{nat_eq, bytes_eq}
 use Rattle.stm_history.specs.declared.change.Change.{Change}
@@ -15,8 +15,10 @@ use Rattle.stm_compile.specs.CommitTxn.{reread_keys}
 use Rattle.stm_compile.proofs.AgreeLemmas.{true_answers_stay, now_are_true}
 use Rattle.stm_attempt.specs.Known.{Known, serving, is_of_base}
 use Rattle.stm_attempt.specs.Settled.{run_on, wanted, answer_for, served, taken, settle}
+use Rattle.stm_attempt.specs.Entering.{answers_of_all, gone_on}
 use Rattle.stm_attempt.specs.Fetches.{base_of, at_of}
-use Rattle.stm_world.specs.Task.{Task, answer_at, with_served, after_fetch, after_conflict}
+use Rattle.stm_attempt.proofs.EnteringLemmas.{taken_first, where_it_comes}
+use Rattle.stm_world.specs.Task.{Task, answer_at, with_served, after_list, after_fetch, after_conflict}
 use Rattle.stm_world.specs.Sound.{KnowsTruth}
 use Rattle.stm_watch.specs.Watching.{Watching}
 use Rattle.stm_watch.specs.Places.{is_lost}
@@ -100,9 +102,29 @@ settle_true h (suc n) program prefetched reads p t =
     taken_true h (settle n program prefetched) reads (served program prefetched reads) (λ more. settle_true h n program prefetched more p)
     (λ a. answer_for_true h (wanted (run_on program reads)) (serving reads prefetched) a (filter_true h (is_of_base reads) prefetched p)) t
 
--- what an attempt knows is true, and so it is with what serves among its reads
+-- what is taken for a list is true
+list_true : (h : History) (keys : List (List ℕ)) (prefetched answers : List ReadAnswer) → AreTrue h prefetched → answers_of_all keys prefetched ≡ Some answers →
+    AreTrue h answers
+list_true h [] prefetched answers t is = let none : answers ≡ [] = cc in subst (AreTrue h) (sym none) tt
+list_true h (key ∷ keys) prefetched answers t is =
+    let parts = taken_first (answer_in key prefetched) (answers_of_all keys prefetched) answers is in
+    subst (AreTrue h) (sym parts.4) (found_true h key prefetched parts.0 t parts.2, list_true h keys prefetched parts.1 t parts.3)
+
+start_true : (h : History) (program : ProgramTree) (known : Known) (start : List ReadAnswer) → KnowsTruth h known →
+    (known.reads ≡ start) ⊎ (answers_of_all program.prefetch known.prefetched ≡ Some start) → AreTrue h start
+start_true h program known start t (inl same) = subst (AreTrue h) same t.0
+start_true h program known start t (inr is) = list_true h program.prefetch known.prefetched start t.1 is
+
+gone_true : (h : History) (program : ProgramTree) (known : Known) → KnowsTruth h known → AreTrue h (gone_on program known)
+gone_true h program known t = elim (where_it_comes program known) [
+  | inl d ↦ subst (AreTrue h) (sym d.stays) t.0
+  | inr s ↦ subst (AreTrue h) (sym s.settles)
+      (settle_true h (length known.prefetched) program known.prefetched s.start t.1 (start_true h program known s.start t s.is_start))
+]
+
+-- what an attempt knows is true, and so it is with its list and with what serves among its reads
 pub served_true : (h : History) (task : Task) (known : Known) → KnowsTruth h known → KnowsTruth h (with_served task known)
-served_true h task known t = (settle_true h (length known.prefetched) task.program known.prefetched known.reads t.1 t.0, t.1)
+served_true h task known t = (gone_true h task.program known t, t.1)
 
 -- ---- answers to reads ----
 
@@ -140,6 +162,12 @@ fetch_true h task key known t =
       one_more_true h known.reads a t.0 (answer_true h key of_rev (fetch_reached h task.level known.reads t.0)),
       t.1,
     )
+
+-- and with the answers to a list
+pub prefetch_true : (h : History) (task : Task) (known : Known) → KnowsTruth h known → KnowsTruth h (after_list task h known)
+prefetch_true h task known t =
+    served_true h task (record { reads = map (answer_now h) task.program.prefetch; prefetched = known.prefetched })
+    (now_are_true h task.program.prefetch, t.1)
 
 pub conflict_true : (h : History) (task : Task) (known : Known) → KnowsTruth h (after_conflict task h known)
 conflict_true h task known =

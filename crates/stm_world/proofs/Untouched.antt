@@ -5,13 +5,14 @@ use Rattle.stm_history.specs.History.{History}
 use Rattle.stm_outcome.specs.declared.advance.Expired.{Expired}
 use Rattle.stm_outcome.specs.declared.refusal.Refusal.{Refusal as StoreRefusal}
 use Rattle.stm_txn.specs.Standing.{Step as StoreStep}
+use Rattle.stm_txn.specs.Standing.{Setup}
 use Rattle.stm_attempt.specs.Known.{Known}
 use Rattle.stm_world.specs.declared.reply.Reply.{Reply}
-use Rattle.stm_world.specs.declared.reply.Reply.TheVariants.{Started, Fetched, Committed, Conflict, GaveUp, Aborted, Faulted, Ended}
+use Rattle.stm_world.specs.declared.reply.Reply.TheVariants.{Started, Prefetched, Fetched, Committed, Conflict, GaveUp, Aborted, Faulted, Ended}
 use Rattle.stm_world.specs.declared.reply.Reply.TheVariants.{Txn as TxnDone, Granted, Kept, Revoked, Advanced, Watching, Batch, Cancelled, Compacted, Lost}
 use Rattle.stm_world.specs.declared.refusal.Denied.{Denied}
 use Rattle.stm_world.specs.Told.{reply_to, advance_reply}
-use Rattle.stm_world.specs.Task.{Task, nothing_known, answer_at, after_fetch, after_conflict}
+use Rattle.stm_world.specs.Task.{Task, nothing_known, answer_at, after_list, after_fetch, after_conflict}
 use Rattle.stm_world.specs.Log.{Line, begun, is_over, running, failures, is_id, task_in, store, told, known_after}
 use Rattle.stm_world.specs.Log.{runner_started, runner_ended, runner_in_conflict}
 use Rattle.stm_world.specs.World.{Runner}
@@ -31,11 +32,11 @@ same_running id line log u =
 pub same_failures : (id : ℕ) (line : Line) (log : List Line) → Untouched id line.reply → failures id (line ∷ log) ≡ failures id log
 same_failures id line log u = ap (λ b. cond b (failures id log + 1) (failures id log)) u.no_conflict
 
-pub same_told : (start id : ℕ) (task : Task) (line : Line) (log : List Line) → Untouched id line.reply →
+pub same_told : (start : Setup) (id : ℕ) (task : Task) (line : Line) (log : List Line) → Untouched id line.reply →
     told start id task (line ∷ log) ≡ told start id task log
 same_told start id task line log u = u.known task (store start log).history (told start id task log)
 
-same_runner_for : (start id : ℕ) (task : Task) (line : Line) (log : List Line) → Untouched id line.reply →
+same_runner_for : (start : Setup) (id : ℕ) (task : Task) (line : Line) (log : List Line) → Untouched id line.reply →
     runner_for start (line ∷ log) id task ≡ runner_for start log id task
 same_runner_for start id task line log u = λ i. record { task = task; failures = same_failures id line log u i; known = same_told start id task line log u i }
 
@@ -43,7 +44,7 @@ map_alike : (f g : Task → Runner) (o : Option Task) → ((task : Task) → f t
 map_alike f g None alike = refl
 map_alike f g (Some task) alike = ap (λ (r : Runner). Some r) (alike task)
 
-pub same_in_log : (start id : ℕ) (line : Line) (log : List Line) → Untouched id line.reply →
+pub same_in_log : (start : Setup) (id : ℕ) (line : Line) (log : List Line) → Untouched id line.reply →
     runner_in_log start (line ∷ log) id ≡ runner_in_log start log id
 same_in_log start id line log u =
     ap (option_map (runner_for start (line ∷ log) id)) (same_running id line log u)
@@ -52,16 +53,16 @@ same_in_log start id line log u =
 -- ---- numbers that were not given ----
 
 -- the log tells nothing of a number
-pub record IsFresh (start : ℕ) (log : List Line) (id : ℕ) : Type 0 where
+pub record IsFresh (start : Setup) (log : List Line) (id : ℕ) : Type 0 where
   pub not_begun : begun id log ≡ None
   pub not_over : is_over id log ≡ false
   pub no_failures : failures id log ≡ 0
   pub nothing : (task : Task) → told start id task log ≡ nothing_known
 
-pub none_told : (start id : ℕ) → IsFresh start [] id
+pub none_told : (start : Setup) (id : ℕ) → IsFresh start [] id
 none_told start id = record { not_begun = refl; not_over = refl; no_failures = refl; nothing = λ task. refl }
 
-pub fresh_stays : (start id : ℕ) (line : Line) (log : List Line) → Untouched id line.reply → IsFresh start log id → IsFresh start (line ∷ log) id
+pub fresh_stays : (start : Setup) (id : ℕ) (line : Line) (log : List Line) → Untouched id line.reply → IsFresh start log id → IsFresh start (line ∷ log) id
 fresh_stays start id line log u fresh = record {
   not_begun = ap (λ b. cond b (task_in line.event) (begun id log)) u.not_started ∙ fresh.not_begun;
   not_over = ap (λ b. b || is_over id log) u.not_ended ∙ fresh.not_over;
@@ -86,6 +87,7 @@ by_advance id moment expired (Some cause) = record { not_started = refl; not_end
 -- the runner of whose step, or start, a reply tells
 abbrev pub runner_named : Reply → Option ℕ
 runner_named (Started runner) = Some runner
+runner_named (Prefetched runner revision reads) = Some runner
 runner_named (Fetched runner key mod_rev of_rev revision) = Some runner
 runner_named (Committed runner revision attempts output trace answers) = Some runner
 runner_named (Conflict runner key seen now) = Some runner
@@ -98,6 +100,12 @@ runner_named other = None
 -- a reply that names one runner, or none, is not about another
 pub by_reply : (id : ℕ) (reply : Reply) → is_id id (runner_named reply) ≡ false → Untouched id (Ok reply)
 by_reply id (Started runner) other = record { not_started = other; not_ended = refl; no_conflict = refl; known = λ task h k. refl }
+by_reply id (Prefetched runner revision reads) other = record {
+  not_started = refl;
+  not_ended = refl;
+  no_conflict = refl;
+  known = λ task h k. ap (λ b. cond b (after_list task h k) k) other;
+}
 by_reply id (Fetched runner key mod_rev of_rev revision) other = record {
   not_started = refl;
   not_ended = refl;

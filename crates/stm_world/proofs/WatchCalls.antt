@@ -53,6 +53,7 @@ watchers_follow s ws kept =
       keeps = keeps_same s.history;
       kept = λ k. record { reached = k.reached; watchers = kept k };
       floor = floor_stays s;
+      limit = refl;
     }
 
 abbrev watch_of : Standing → Watched → ℕ → WatchStep ℕ
@@ -109,6 +110,7 @@ compact_by s revision false false above is = record {
     watchers = kept_by_compaction s.history revision s.watchers;
   };
   floor = let up : s.floor < revision = leb-false revision s.floor above in let higher : s.floor ≤ revision = omega arith in higher;
+  limit = refl;
 }
 
 pub compact_follows : (s : Standing) (revision : ℕ) → EntriesFollow s (store_after_call s (raised s revision)) []

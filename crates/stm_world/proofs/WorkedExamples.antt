@@ -42,6 +42,7 @@ use Rattle.stm_world.specs.declared.refusal.Refusal.TheVariants.{Store}
 use Rattle.stm_world.specs.Told.{denied}
 use Rattle.stm_world.specs.Task.{Task}
 use Rattle.stm_world.specs.Log.{Line, IsLogOf, store}
+use Rattle.stm_txn.specs.Standing.{at_revision}
 use Rattle.stm_world.specs.World.{World, opened, start_runner, fetch, commit, step_live, step, world_after, replies_to}
 use Rattle.stm_world.specs.Doomed.{FailedCommit, IsRealFailure, IsRealStop, since, failed_commits}
 use Rattle.stm_world.specs.Appended.{HasAppended}
@@ -61,7 +62,7 @@ puts ops = Txn (record { compares = []; success = ops; failure = [] })
 
 -- the reply to an event after these
 abbrev reply_after : List WorldEvent → WorldEvent → Result Reply Denied
-reply_after before event = (step event (world_after before (opened 1))).reply
+reply_after before event = (step event (world_after before (opened (at_revision 1)))).reply
 
 abbrev first_put : ℕ → KeyState
 first_put revision = record { value = codes "1"; create_rev = revision; mod_rev = revision; version = 1; lease = 0 }
@@ -170,21 +171,21 @@ abbrev both_seen : List ℕ → List TraceItem
 both_seen value = seen.Get (codes "x") value ∷ seen.Get (codes "y") value ∷ []
 
 -- at serializable the sixth reply is a conflict over x, seen at 2 and now at 3, and the attempt after it commits
-conflict_is_told : replies_to (raced Serializable 2 ++ Step 1 ∷ []) (opened 1)
+conflict_is_told : replies_to (raced Serializable 2 ++ Step 1 ∷ []) (opened (at_revision 1))
     ≡ both_are_put 2 ∷ Ok (Started 1) ∷ Ok (Fetched 1 (codes "x") 2 2 2) ∷ both_are_put 3 ∷ Ok (Fetched 1 (codes "y") 2 2 3)
     ∷ Ok (Conflict 1 (codes "x") 2 3) ∷ Ok (Committed 1 3 2 (NumberValue (pos 1) ∷ []) (both_seen (codes "2")) []) ∷ []
 unfolding start_runner fetch commit step_live settle run_over run_block evaluate key_in num_of written_number arithmetic computed get_key last_write latest_writes fresh
 conflict_is_told = refl
 
 -- where it may send one commit it gives up over the same key
-gives_up : replies_to (raced Serializable 1) (opened 1)
+gives_up : replies_to (raced Serializable 1) (opened (at_revision 1))
     ≡ both_are_put 2 ∷ Ok (Started 1) ∷ Ok (Fetched 1 (codes "x") 2 2 2) ∷ both_are_put 3 ∷ Ok (Fetched 1 (codes "y") 2 2 3)
     ∷ Ok (GaveUp 1 1 (codes "x") 2 3) ∷ []
 unfolding start_runner fetch commit step_live settle run_over run_block evaluate key_in num_of written_number arithmetic computed get_key last_write latest_writes fresh
 gives_up = refl
 
 -- at repeatable reads the second read is of the later revision, and the torn read divides by 0: the laws say nothing of it
-torn_read_faults : replies_to (raced RepeatableReads 1) (opened 1)
+torn_read_faults : replies_to (raced RepeatableReads 1) (opened (at_revision 1))
     ≡ both_are_put 2 ∷ Ok (Started 1) ∷ Ok (Fetched 1 (codes "x") 2 2 2) ∷ both_are_put 3 ∷ Ok (Fetched 1 (codes "y") 3 3 3)
     ∷ Ok (Faulted 1 ZeroDivisor) ∷ []
 unfolding start_runner fetch commit step_live settle run_over run_block evaluate key_in num_of written_number arithmetic computed get_key last_write latest_writes fresh
@@ -201,13 +202,13 @@ abbrev overwritten : Level → List WorldEvent
 overwritten level = both_put (codes "1") ∷ Start (copy_to (codes "y")) level 1 ∷ Step 1 ∷ puts (put (codes "y") ∷ []) ∷ Step 1 ∷ []
 
 -- at serializable snapshot a key that is written alone is in conflict, too: x was read at 2, and y is put at 3
-written_key_conflicts : replies_to (overwritten SerializableSnapshot) (opened 1)
+written_key_conflicts : replies_to (overwritten SerializableSnapshot) (opened (at_revision 1))
     ≡ both_are_put 2 ∷ Ok (Started 1) ∷ Ok (Fetched 1 (codes "x") 2 2 2) ∷ one_is_put 3 ∷ Ok (GaveUp 1 1 (codes "y") 2 3) ∷ []
 unfolding start_runner fetch commit step_live settle run_over run_block evaluate key_in put_of get_key last_write latest_writes fresh
 written_key_conflicts = refl
 
 -- at serializable it is not compared
-written_key_commits : replies_to (overwritten Serializable) (opened 1)
+written_key_commits : replies_to (overwritten Serializable) (opened (at_revision 1))
     ≡ both_are_put 2 ∷ Ok (Started 1) ∷ Ok (Fetched 1 (codes "x") 2 2 2) ∷ one_is_put 3
     ∷ Ok (Committed 1 4 1 [] (seen.Get (codes "x") (codes "1") ∷ []) []) ∷ []
 unfolding start_runner fetch commit step_live settle run_over run_block evaluate key_in put_of get_key last_write latest_writes fresh
@@ -237,7 +238,7 @@ quotient_run = record {
 abbrev over_x : FailedCommit
 over_x = record { runner = 1; key = codes "x"; seen = 2; now_modified = 3 }
 
-conflict_is_real : IsRealFailure 1 (two_reads Serializable 2 2) over_x
+conflict_is_real : IsRealFailure (at_revision 1) (two_reads Serializable 2 2) over_x
 unfolding settle run_over run_block evaluate key_in num_of written_number arithmetic computed get_key last_write latest_writes fresh
 conflict_is_real = record {
   task = record { program = quotient; level = Serializable; limit = 2 };
@@ -263,11 +264,11 @@ conflict_is_real = record {
 abbrev failed_once : List Line
 failed_once = line (Step 1) (Ok (Conflict 1 (codes "x") 2 3)) ∷ two_reads Serializable 2 2
 
-failed_once_is_told : log_of 1 (raced Serializable 2) ≡ failed_once
+failed_once_is_told : log_of (at_revision 1) (raced Serializable 2) ≡ failed_once
 unfolding start_runner fetch commit step_live settle run_over run_block evaluate key_in num_of written_number arithmetic computed get_key last_write latest_writes fresh
 failed_once_is_told = refl
 
-one_failure : (since 1 1 failed_once ≡ 2) × (failed_commits 1 failed_once ≡ 1) × (now (store 1 failed_once).history ≡ 3)
+one_failure : (since (at_revision 1) 1 failed_once ≡ 2) × (failed_commits 1 failed_once ≡ 1) × (now (store (at_revision 1) failed_once).history ≡ 3)
 one_failure = (refl, refl, refl)
 
 -- a give-up counts, too
@@ -275,7 +276,7 @@ one_give_up : failed_commits 1 (line (Step 1) (Ok (GaveUp 1 1 (codes "x") 2 3)) 
 one_give_up = refl
 
 -- a change of another key leaves room
-with_room : now (store 1 (line (puts (put (codes "z") ∷ [])) (one_is_put 4) ∷ failed_once)).history ≡ 4
+with_room : now (store (at_revision 1) (line (puts (put (codes "z") ∷ [])) (one_is_put 4) ∷ failed_once)).history ≡ 4
 with_room = refl
 
 -- ---- an abort of an earlier state
@@ -292,7 +293,7 @@ before_abort =
     ∷ line (Start abort_with_x Serializable 1) (Ok (Started 1)) ∷ line (both_put (codes "1")) (both_are_put 2) ∷ []
 
 earlier_abort_is_told :
-    log_of 1 (both_put (codes "1") ∷ Start abort_with_x Serializable 1 ∷ Step 1 ∷ both_put (codes "2") ∷ Step 1 ∷ [])
+    log_of (at_revision 1) (both_put (codes "1") ∷ Start abort_with_x Serializable 1 ∷ Step 1 ∷ both_put (codes "2") ∷ Step 1 ∷ [])
     ≡ line (Step 1) (Ok (Aborted 1 (codes "1"))) ∷ before_abort
 unfolding start_runner fetch commit step_live settle run_over run_block evaluate key_in text_in get_key last_write fresh
 earlier_abort_is_told = refl
@@ -302,7 +303,7 @@ abort_run value =
     record { end = AbortedEnd value; output = []; trace = seen.Get (codes "x") value ∷ []; writes = []; reads = codes "x" ∷ [] }
 
 -- alone on the current state it would abort with another text
-other_text_now : run_over (state_now (store 1 before_abort).history) abort_with_x.statements ≡ EndedRun (abort_run (codes "2"))
+other_text_now : run_over (state_now (store (at_revision 1) before_abort).history) abort_with_x.statements ≡ EndedRun (abort_run (codes "2"))
 unfolding run_over run_block evaluate key_in text_in get_key last_write fresh
 other_text_now = refl
 
@@ -312,7 +313,7 @@ one_of_two = omega arith
 two_of_three : 2 ≤ 3
 two_of_three = omega arith
 
-earlier_abort_is_real : IsRealStop 1 before_abort (record { runner = 1; end = AbortedEnd (codes "1") })
+earlier_abort_is_real : IsRealStop (at_revision 1) before_abort (record { runner = 1; end = AbortedEnd (codes "1") })
 unfolding settle run_over run_block evaluate key_in text_in get_key last_write fresh
 earlier_abort_is_real = record {
   task = abort_task;
@@ -337,17 +338,17 @@ abbrev wrong : WrongFailures
 wrong = wrong_failures (failures_move_on (record { run_now = commit_is_the_run_now; conflicts = failed_compares_conflict }))
 
 -- a conflict over a key that was never read
-unread_key : IsRealFailure 1 (two_reads Serializable 2 2) (record { runner = 1; key = codes "z"; seen = 0; now_modified = 3 }) → ⊥
+unread_key : IsRealFailure (at_revision 1) (two_reads Serializable 2 2) (record { runner = 1; key = codes "z"; seen = 0; now_modified = 3 }) → ⊥
 unfolding settle run_over run_block evaluate key_in num_of written_number arithmetic computed get_key last_write fresh
 unread_key =
-    wrong.never_read 1 (two_reads Serializable 2 2) (record { program = quotient; level = Serializable; limit = 2 })
+    wrong.never_read (at_revision 1) (two_reads Serializable 2 2) (record { program = quotient; level = Serializable; limit = 2 })
     (record { runner = 1; key = codes "z"; seen = 0; now_modified = 3 }) refl (λ same. cc) refl
 
 -- the fault of a torn read, told at serializable
-torn_read : IsRealStop 1 (two_reads Serializable 2 3) (record { runner = 1; end = FaultedEnd ZeroDivisor }) → ⊥
+torn_read : IsRealStop (at_revision 1) (two_reads Serializable 2 3) (record { runner = 1; end = FaultedEnd ZeroDivisor }) → ⊥
 unfolding settle run_over run_block evaluate key_in num_of written_number arithmetic computed get_key last_write fresh
 torn_read =
-    wrong.torn_read 1 (two_reads Serializable 2 3) (record { program = quotient; level = Serializable; limit = 2 })
+    wrong.torn_read (at_revision 1) (two_reads Serializable 2 3) (record { program = quotient; level = Serializable; limit = 2 })
     (record { runner = 1; end = FaultedEnd ZeroDivisor }) (codes "x") (codes "y")
     (record { key = codes "x"; kv = Some (first_put 2); of_rev = 2; revision = 2 })
     (record { key = codes "y"; kv = Some (record { value = codes "2"; create_rev = 2; mod_rev = 3; version = 2; lease = 0 }); of_rev = 3; revision = 3 })
@@ -355,11 +356,11 @@ torn_read =
 
 -- the commit after the conflict, told as a second one
 second_conflict : (events : List WorldEvent) →
-    IsLogOf events (replies_to events (opened 1)) (line (Step 1) (Ok (Conflict 1 (codes "x") 2 3)) ∷ failed_once) → ⊥
+    IsLogOf events (replies_to events (opened (at_revision 1))) (line (Step 1) (Ok (Conflict 1 (codes "x") 2 3)) ∷ failed_once) → ⊥
 second_conflict events =
     let low : 1 ≤ HIGHEST_REVISION = omega arith in
     let below : 3 < 2 + 2 = omega arith in
-    wrong.more_failures_than_growth 1 events (line (Step 1) (Ok (Conflict 1 (codes "x") 2 3)) ∷ failed_once) 1
+    wrong.more_failures_than_growth (at_revision 1) events (line (Step 1) (Ok (Conflict 1 (codes "x") 2 3)) ∷ failed_once) 1
     (record { program = quotient; level = Serializable; limit = 2 }) low refl below
 
 -- ---- entries are appended to those of a world that has run before
@@ -368,7 +369,7 @@ abbrev copy : ProgramTree
 copy = copy_to (codes "z")
 
 abbrev with_x : World
-with_x = world_after (puts (put (codes "x") ∷ []) ∷ []) (opened 1)
+with_x = world_after (puts (put (codes "x") ∷ []) ∷ []) (opened (at_revision 1))
 
 abbrev copied : World
 copied = world_after (Start copy Serializable 1 ∷ Step 1 ∷ Step 1 ∷ []) with_x

@@ -11,13 +11,16 @@ use Rattle.stm_meaning.specs.declared.run.Run.{Run}
 use Rattle.stm_meaning.specs.declared.run.Answered.TheVariants.{Ended as EndedRun, Wants}
 use Rattle.stm_meaning.specs.declared.trace_item.TraceItem.{TraceItem}
 use Rattle.stm_attempt.specs.Settled.{run_on}
+use Rattle.stm_attempt.specs.Entering.{is_due}
+use Rattle.std.proofs.lemmas.List.{length-map}
+use Rattle.stm_world.specs.declared.reply.KeyRead.{KeyRead}
 use Rattle.stm_attempt.specs.Fetches.{at_of}
 use Rattle.stm_history.specs.History.{now}
 use Rattle.stm_world.specs.declared.event.WorldEvent.{WorldEvent}
 use Rattle.stm_world.specs.declared.event.WorldEvent.TheVariants.{Start, Step, Txn, Grant, Keep, Revoke, Advance}
 use Rattle.stm_world.specs.declared.event.WorldEvent.TheVariants.{WatchKey, WatchRange, Poll, Cancel, Compact}
 use Rattle.stm_world.specs.declared.reply.Reply.{Reply}
-use Rattle.stm_world.specs.declared.reply.Reply.TheVariants.{Started, Fetched, Committed, Conflict, GaveUp, Aborted, Faulted, Ended}
+use Rattle.stm_world.specs.declared.reply.Reply.TheVariants.{Started, Prefetched, Fetched, Committed, Conflict, GaveUp, Aborted, Faulted, Ended}
 use Rattle.stm_world.specs.declared.reply.Reply.TheVariants.{Txn as TxnDone, Granted, Kept, Revoked, Advanced, Watching as WatchingReply, Batch, Cancelled, Compacted, Lost}
 use Rattle.stm_world.specs.declared.refusal.Denied.{Denied}
 use Rattle.stm_world.specs.declared.refusal.Refusal.TheVariants.{NoRunner}
@@ -27,6 +30,7 @@ use Rattle.stm_outcome.specs.declared.refusal.Refusal.TheVariants.{Compacted as 
 use Rattle.stm_outcome.specs.Terms.{is_below_floor}
 use Rattle.stm_watch.specs.declared.refusal.PollRefusal.TheVariants.{Compacted as LostToPoll}
 use Rattle.stm_txn.specs.Standing.{Standing, Step as StoreStep, transacted, granted, kept_alive, revoked, advanced, watched, poll_step, polled, cancelled, with_floor, floor_step, raised}
+use Rattle.stm_txn.specs.Standing.{Setup}
 use Rattle.stm_keys.specs.declared.event.Event.{Event}
 use Rattle.stm_watch.specs.declared.told.Told.{Told}
 use Rattle.stm_watch.specs.declared.watched.Watched.TheVariants.{Key, Range}
@@ -34,20 +38,20 @@ use Rattle.stm_watch.specs.Watching.{Watching}
 use Rattle.stm_watch.specs.Pending.{pending, events_told, batch_of, after_poll}
 use Rattle.stm_watch.specs.Calls.{watcher_at, poll_found}
 use Rattle.stm_world.specs.Told.{denied, reply_to, advance_reply, poll_reply}
-use Rattle.stm_world.specs.Task.{Task}
+use Rattle.stm_world.specs.Task.{Task, modified_now}
 use Rattle.stm_world.specs.Log.{Line, begun, running, started, is_start, runner_started, is_id, task_in, store, told}
-use Rattle.stm_world.specs.Right.{IsRight, AreRight, RunnerIsRight, Situation, ReplyIsRight, EndsWith, IsRefused, situation}
+use Rattle.stm_world.specs.Right.{IsRight, AreRight, RunnerIsRight, Situation, HasList, ReplyIsRight, EndsWith, IsRefused, situation}
 use Rattle.stm_world.specs.World.{World}
 use Rattle.stm_world.specs.Headline.{Holds}
 use Rattle.stm_world.specs.WrongLogs.{WrongLogs, runner_told}
 use Rattle.stm_world.proofs.Logs.{as_many}
 use Rattle.stm_world.proofs.WatchCalls.{poll_told}
 
-causeless_refusal : (start : ℕ) (log : List Line) (id : ℕ) (task : Task) (refusal : Denied) → running id log ≡ Some task
+causeless_refusal : (start : Setup) (log : List Line) (id : ℕ) (task : Task) (refusal : Denied) → running id log ≡ Some task
     → IsRight start log (Step id) (Err refusal) → ⊥
 causeless_refusal start log id task refusal runs right = subst (λ (o : Option Task). RunnerIsRight start log id o (Err refusal)) runs right
 
-step_of_none : (start : ℕ) (log : List Line) (id : ℕ) (reply : Reply) → running id log ≡ None → IsRight start log (Step id) (Ok reply) → ⊥
+step_of_none : (start : Setup) (log : List Line) (id : ℕ) (reply : Reply) → running id log ≡ None → IsRight start log (Step id) (Ok reply) → ⊥
 step_of_none start log id reply none right =
     let same : Ok reply ≡ denied NoRunner = subst (λ (o : Option Task). RunnerIsRight start log id o (Ok reply)) none right in absurd (cc)
 
@@ -70,14 +74,14 @@ step_gives_none : (at : Situation) (reply : Reply) → ReplyIsRight at reply →
 step_gives_none at (Started runner) right = absurd right
 step_gives_none at other right = refl
 
-runner_gives_none : (start : ℕ) (log : List Line) (id : ℕ) (o : Option Task) (reply : Result Reply Denied) → RunnerIsRight start log id o reply →
+runner_gives_none : (start : Setup) (log : List Line) (id : ℕ) (o : Option Task) (reply : Result Reply Denied) → RunnerIsRight start log id o reply →
     runner_started reply ≡ None
 runner_gives_none start log id None reply right = ap runner_started right
 runner_gives_none start log id (Some task) (Ok reply) right = step_gives_none (situation start log id task) reply right
 runner_gives_none start log id (Some task) (Err refusal) right = refl
 
 -- a start that is right gives the number after those that were given
-pub given_next : (start : ℕ) (log : List Line) (event : WorldEvent) (reply : Result Reply Denied) (id : ℕ) → IsRight start log event reply →
+pub given_next : (start : Setup) (log : List Line) (event : WorldEvent) (reply : Result Reply Denied) (id : ℕ) → IsRight start log event reply →
     runner_started reply ≡ Some id → id ≡ started log + 1
 given_next start log (Start program level limit) (Ok reply) id right named =
     let next : Some id ≡ Some (started log + 1) = sym named ∙ ap (λ (r : Reply). runner_started (Ok r)) right.0 in cc
@@ -119,13 +123,13 @@ begun_by id count (Some runner) here rest task next earlier is =
     begun_here id runner count (nat_eq runner id) here rest task refl (next runner refl) earlier is
 
 -- a runner that was started has one of the numbers that were given
-pub begun_is_started : (start : ℕ) (log : List Line) (id : ℕ) (task : Task) → AreRight start log → begun id log ≡ Some task → id ≤ started log
+pub begun_is_started : (start : Setup) (log : List Line) (id : ℕ) (task : Task) → AreRight start log → begun id log ≡ Some task → id ≤ started log
 begun_is_started start [] id task right is = absurd (cc)
 begun_is_started start (line ∷ older) id task right is =
     begun_by id (started older) (runner_started line.reply) (task_in line.event) (begun id older) task
     (λ runner. given_next start older line.event line.reply runner right.0) (begun_is_started start older id task right.1) is
 
-number_given_twice : (start : ℕ) (log : List Line) (id : ℕ) (task : Task) (program : ProgramTree) (level : Level) (limit : ℕ)
+number_given_twice : (start : Setup) (log : List Line) (id : ℕ) (task : Task) (program : ProgramTree) (level : Level) (limit : ℕ)
     → AreRight start log → begun id log ≡ Some task → IsRight start log (Start program level limit) (Ok (Started id)) → ⊥
 number_given_twice start log id task program level limit right is again =
     let known : id ≤ started log = begun_is_started start log id task right is in
@@ -136,6 +140,7 @@ number_given_twice start log id task program level limit right is again =
 
 another : (at : Situation) (reply : Reply) (runner : ℕ) → runner_told reply ≡ Some runner → ReplyIsRight at reply → runner ≡ at.id
 another at (Started r) runner named right = absurd right
+another at (Prefetched r revision reads) runner named right = let same : r ≡ runner = cc in sym same ∙ right.0
 another at (Fetched r key mod_rev of_rev revision) runner named right = let same : r ≡ runner = cc in sym same ∙ right.0
 another at (Committed r revision attempts output trace answers) runner named right = let same : r ≡ runner = cc in sym same ∙ right.0
 another at (Conflict r key seen now) runner named right = let same : r ≡ runner = cc in sym same ∙ right.0
@@ -154,12 +159,12 @@ another at (Cancelled watcher) runner named right = absurd right
 another at (Compacted revision) runner named right = absurd right
 another at (Lost watcher floor) runner named right = absurd right
 
-another_by : (start : ℕ) (log : List Line) (id runner : ℕ) (o : Option Task) (reply : Reply) → runner_told reply ≡ Some runner → runner ≢ id
+another_by : (start : Setup) (log : List Line) (id runner : ℕ) (o : Option Task) (reply : Reply) → runner_told reply ≡ Some runner → runner ≢ id
     → RunnerIsRight start log id o (Ok reply) → ⊥
 another_by start log id runner None reply named other right = absurd (cc)
 another_by start log id runner (Some task) reply named other right = other (another (situation start log id task) reply runner named right)
 
-another_runner : (start : ℕ) (log : List Line) (id runner : ℕ) (reply : Reply) → runner_told reply ≡ Some runner → runner ≢ id
+another_runner : (start : Setup) (log : List Line) (id runner : ℕ) (reply : Reply) → runner_told reply ≡ Some runner → runner ≢ id
     → IsRight start log (Step id) (Ok reply) → ⊥
 another_runner start log id runner reply named other right = another_by start log id runner (running id log) reply named other right
 
@@ -170,7 +175,7 @@ not_aborted at run text is_run done ends =
     let same : run ≡ ends.run = cc in
     let both : DoneEnd ≡ AbortedEnd text = sym done ∙ ap (λ (r : Run). r.end) same ∙ ends.ended in absurd (cc)
 
-another_abort : (start : ℕ) (log : List Line) (id : ℕ) (task : Task) (run : Run) (text : List ℕ) → running id log ≡ Some task
+another_abort : (start : Setup) (log : List Line) (id : ℕ) (task : Task) (run : Run) (text : List ℕ) → running id log ≡ Some task
     → run_on task.program (told start id task log).reads ≡ EndedRun run → run.end ≡ DoneEnd
     → IsRight start log (Step id) (Ok (Aborted id text)) → ⊥
 another_abort start log id task run text runs is_run done right =
@@ -198,12 +203,12 @@ none_refused : (s : Standing) (id most : ℕ) (w : Watching) (refusal : Denied) 
 none_refused s id most w refusal true told = absurd (cc)
 none_refused s id most w refusal false told = absurd (cc)
 
-refused_poll : (start : ℕ) (log : List Line) (id most : ℕ) (w : Watching) (refusal : Denied) → watcher_at id (store start log).watchers ≡ Some w
+refused_poll : (start : Setup) (log : List Line) (id most : ℕ) (w : Watching) (refusal : Denied) → watcher_at id (store start log).watchers ≡ Some w
     → IsRight start log (Poll id most) (Err refusal) → ⊥
 refused_poll start log id most w refusal there right =
     none_refused (store start log) id most w refusal w.lost (there_told (store start log) id most w (Err refusal) there right)
 
-poll_of_none : (start : ℕ) (log : List Line) (id most : ℕ) (reply : Reply) → watcher_at id (store start log).watchers ≡ None
+poll_of_none : (start : Setup) (log : List Line) (id most : ℕ) (reply : Reply) → watcher_at id (store start log).watchers ≡ None
     → IsRight start log (Poll id most) (Ok reply) → ⊥
 poll_of_none start log id most reply none right =
     let told : Ok reply ≡ told_of (store start log) id most None =
@@ -231,21 +236,21 @@ nothing_told s id most upto w event events false none told =
     let nothing : event ∷ events ≡ [] = same ∙ ap (λ (ts : List Told). events_told (take most ts)) none ∙ ap events_told (none_taken most) in
     absurd (cc)
 
-event_not_pending : (start : ℕ) (log : List Line) (id most upto : ℕ) (w : Watching) (event : Event) (events : List Event)
+event_not_pending : (start : Setup) (log : List Line) (id most upto : ℕ) (w : Watching) (event : Event) (events : List Event)
     → watcher_at id (store start log).watchers ≡ Some w → pending (store start log).history w ≡ []
     → IsRight start log (Poll id most) (Ok (Batch id upto (event ∷ events))) → ⊥
 event_not_pending start log id most upto w event events there none right =
     nothing_told (store start log) id most upto w event events w.lost none
     (there_told (store start log) id most w (Ok (Batch id upto (event ∷ events))) there right)
 
-batch_of_lost : (start : ℕ) (log : List Line) (id most watcher upto : ℕ) (w : Watching) (events : List Event)
+batch_of_lost : (start : Setup) (log : List Line) (id most watcher upto : ℕ) (w : Watching) (events : List Event)
     → watcher_at id (store start log).watchers ≡ Some w → w.lost ≡ true → IsRight start log (Poll id most) (Ok (Batch watcher upto events)) → ⊥
 batch_of_lost start log id most watcher upto w events there lost right =
     let s : Standing = store start log in
     let told : Ok (Batch watcher upto events) ≡ told_if s id most w true =
     there_told s id most w (Ok (Batch watcher upto events)) there right ∙ ap (told_if s id most w) lost in absurd (cc)
 
-not_lost : (start : ℕ) (log : List Line) (id most watcher floor : ℕ) (w : Watching) → watcher_at id (store start log).watchers ≡ Some w
+not_lost : (start : Setup) (log : List Line) (id most watcher floor : ℕ) (w : Watching) → watcher_at id (store start log).watchers ≡ Some w
     → w.lost ≡ false → IsRight start log (Poll id most) (Ok (Lost watcher floor)) → ⊥
 not_lost start log id most watcher floor w there kept right =
     let s : Standing = store start log in
@@ -254,27 +259,31 @@ not_lost start log id most watcher floor w there kept right =
 
 -- ---- compactions ----
 
-fetch_below : (start : ℕ) (log : List Line) (id : ℕ) (task : Task) (key : List ℕ) (mod_rev of_rev revision : ℕ) → running id log ≡ Some task
+fetch_below : (start : Setup) (log : List Line) (id : ℕ) (task : Task) (key : List ℕ) (mod_rev of_rev revision : ℕ) → running id log ≡ Some task
     → is_below_floor (store start log).floor (at_of task.level (told start id task log).reads) ≡ true
     → IsRight start log (Step id) (Ok (Fetched id key mod_rev of_rev revision)) → ⊥
 fetch_below start log id task key mod_rev of_rev revision runs below right =
     let fetch = (subst (λ (o : Option Task). RunnerIsRight start log id o (Ok (Fetched id key mod_rev of_rev revision))) runs right).1 in
     let both : true ≡ false = sym below ∙ fetch.readable in absurd (cc)
 
-not_refused : (at : Situation) (key : List ℕ) (trace : List TraceItem) (cause : StoreRefusal) → run_on at.task.program at.reads ≡ Wants key trace
+not_refused : (at : Situation) (key : List ℕ) (trace : List TraceItem) (cause : StoreRefusal) → HasList at → run_on at.task.program at.reads ≡ Wants key trace
     → is_below_floor at.store.floor (at_of at.task.level at.reads) ≡ false → IsRefused at cause → ⊥
-not_refused at key trace cause wants above (inl c) = let both : Wants key trace ≡ EndedRun c.run = sym wants ∙ c.is_run in absurd (cc)
-not_refused at key trace cause wants above (inr (same, behind)) = let both : true ≡ false = sym behind.compacted ∙ above in absurd (cc)
+not_refused at key trace cause listed wants above (inl c) = let both : Wants key trace ≡ EndedRun c.run = sym wants ∙ c.is_run in absurd (cc)
+not_refused at key trace cause listed wants above (inr (inl (same, behind))) =
+    let both : true ≡ false = sym behind.compacted ∙ above in absurd (cc)
+not_refused at key trace cause listed wants above (inr (inr (same, overfull))) =
+    let both : true ≡ false = sym overfull.due ∙ listed in absurd (cc)
 
-refused_fetch : (start : ℕ) (log : List Line) (id : ℕ) (task : Task) (key : List ℕ) (trace : List TraceItem) (cause : StoreRefusal)
-    → running id log ≡ Some task → run_on task.program (told start id task log).reads ≡ Wants key trace
+refused_fetch : (start : Setup) (log : List Line) (id : ℕ) (task : Task) (key : List ℕ) (trace : List TraceItem) (cause : StoreRefusal)
+    → running id log ≡ Some task → is_due task.program.prefetch (told start id task log).reads ≡ false
+    → run_on task.program (told start id task log).reads ≡ Wants key trace
     → is_below_floor (store start log).floor (at_of task.level (told start id task log).reads) ≡ false
     → IsRight start log (Step id) (Ok (Ended id cause)) → ⊥
-refused_fetch start log id task key trace cause runs wants above right =
-    not_refused (situation start log id task) key trace cause wants above
+refused_fetch start log id task key trace cause runs listed wants above right =
+    not_refused (situation start log id task) key trace cause listed wants above
     (subst (λ (o : Option Task). RunnerIsRight start log id o (Ok (Ended id cause))) runs right).1
 
-compacted_again : (start : ℕ) (log : List Line) (revision at : ℕ) → revision ≤ (store start log).floor
+compacted_again : (start : Setup) (log : List Line) (revision at : ℕ) → revision ≤ (store start log).floor
     → IsRight start log (Compact revision) (Ok (Compacted at)) → ⊥
 compacted_again start log revision at low right =
     let s : Standing = store start log in
@@ -284,9 +293,39 @@ compacted_again start log revision at low right =
     (le-leb revision s.floor low) in
     absurd (cc)
 
+-- ---- lists ----
+
+is_listed : (start : Setup) (log : List Line) (id : ℕ) (task : Task) (reply : Reply) → running id log ≡ Some task → IsRight start log (Step id) (Ok reply) →
+    ReplyIsRight (situation start log id task) reply
+is_listed start log id task reply runs right = subst (λ (o : Option Task). RunnerIsRight start log id o (Ok reply)) runs right
+
+list_again : (start : Setup) (log : List Line) (id : ℕ) (task : Task) (revision : ℕ) (reads : List KeyRead) → running id log ≡ Some task
+    → is_due task.program.prefetch (told start id task log).reads ≡ false → IsRight start log (Step id) (Ok (Prefetched id revision reads)) → ⊥
+list_again start log id task revision reads runs listed right =
+    let list = (is_listed start log id task (Prefetched id revision reads) runs right).1 in
+    let both : true ≡ false = sym list.due ∙ listed in absurd (cc)
+
+part_of_list : (start : Setup) (log : List Line) (id : ℕ) (task : Task) (revision : ℕ) (reads : List KeyRead) → running id log ≡ Some task
+    → length reads ≢ length task.program.prefetch → IsRight start log (Step id) (Ok (Prefetched id revision reads)) → ⊥
+part_of_list start log id task revision reads runs other right =
+    let list = (is_listed start log id task (Prefetched id revision reads) runs right).1 in
+    other (ap (λ (l : List KeyRead). length l) list.shows ∙ length-map task.program.prefetch (modified_now (store start log).history))
+
+read_before_list : (start : Setup) (log : List Line) (id : ℕ) (task : Task) (key : List ℕ) (mod_rev of_rev revision : ℕ) → running id log ≡ Some task
+    → is_due task.program.prefetch (told start id task log).reads ≡ true → IsRight start log (Step id) (Ok (Fetched id key mod_rev of_rev revision)) → ⊥
+read_before_list start log id task key mod_rev of_rev revision runs due right =
+    let fetch = (is_listed start log id task (Fetched id key mod_rev of_rev revision) runs right).1 in
+    let both : true ≡ false = sym due ∙ fetch.has_list in absurd (cc)
+
+abort_before_list : (start : Setup) (log : List Line) (id : ℕ) (task : Task) (text : List ℕ) → running id log ≡ Some task
+    → is_due task.program.prefetch (told start id task log).reads ≡ true → IsRight start log (Step id) (Ok (Aborted id text)) → ⊥
+abort_before_list start log id task text runs due right =
+    let ends = (is_listed start log id task (Aborted id text) runs right).1 in
+    let both : true ≡ false = sym due ∙ ends.has_list in absurd (cc)
+
 -- ---- events without a reply ----
 
-no_answer : (start : ℕ) (event : WorldEvent) (events : List WorldEvent) (w : World) → Holds start (event ∷ events) [] w → ⊥
+no_answer : (start : Setup) (event : WorldEvent) (events : List WorldEvent) (w : World) → Holds start (event ∷ events) [] w → ⊥
 no_answer start event events w holds =
     let none : 0 ≡ suc (length events) = as_many (event ∷ events) [] holds.log holds.is_log in omega (arith, none)
 
@@ -309,5 +348,9 @@ wrong_logs = record {
   not_lost = not_lost;
   fetch_below = fetch_below;
   refused_fetch = refused_fetch;
+  list_again = list_again;
+  part_of_list = part_of_list;
+  read_before_list = read_before_list;
+  abort_before_list = abort_before_list;
   compacted_again = compacted_again;
 }

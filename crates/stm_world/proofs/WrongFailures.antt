@@ -42,10 +42,10 @@ use Rattle.stm_entries.specs.declared.entry.Entry.{Entry}
 use Rattle.stm_entries.specs.Replayed.{without_moment}
 use Rattle.stm_entries.specs.Replay.{replay}
 use Rattle.stm_world.specs.declared.reply.Reply.{Reply}
-use Rattle.stm_world.specs.declared.reply.Reply.TheVariants.{Started, Fetched, Committed, Conflict, GaveUp, Aborted, Faulted, Ended}
+use Rattle.stm_world.specs.declared.reply.Reply.TheVariants.{Started, Prefetched, Fetched, Committed, Conflict, GaveUp, Aborted, Faulted, Ended}
 use Rattle.stm_world.specs.declared.reply.Reply.TheVariants.{Txn as TxnDone, Granted, Kept, Revoked, Advanced, Watching, Batch, Cancelled, Compacted, Lost}
 use Rattle.stm_world.specs.declared.refusal.Denied.{Denied}
-use Rattle.stm_world.specs.Task.{Task, answer_at, after_fetch, after_conflict}
+use Rattle.stm_world.specs.Task.{Task, answer_at, after_list, after_fetch, after_conflict}
 use Rattle.stm_world.specs.Log.{Line, begun, running, store, known_after, told}
 use Rattle.stm_world.specs.Doomed.{FailedCommit, NamesAConflict, IsRealFailure, Stopped, IsEndOnOneState, IsRealStop, since, failed_commits}
 use Rattle.stm_world.specs.Doomed.{FailuresMoveOn}
@@ -56,6 +56,7 @@ use Rattle.stm_world.proofs.Logs.{one_log}
 use Rattle.stm_world.proofs.OneState.{all_show}
 use Rattle.stm_world.proofs.Served.{KnowsAll, one_more, found_all, served_all}
 use Rattle.stm_world.proofs.MovingOn.{both_seen, seen_at_index, above_all}
+use Rattle.stm_txn.specs.Standing.{Setup}
 
 -- ---- what was read was modified at most at the revision that it shows ----
 
@@ -98,6 +99,10 @@ small_by false next known all was = was
 
 known_small : (number id : ℕ) (task : Task) (h : History) (reply : Result Reply Denied) (known : Known) → h.opening ≡ opening_at number →
     KnowsAll IsSmall known → KnowsAll IsSmall (known_after id task h reply known)
+known_small number id task h (Ok (Prefetched runner revision reads)) known opens all =
+    let keys : List (List ℕ) = task.program.prefetch in
+    small_by (nat_eq runner id) (after_list task h known) known
+    (served_all IsSmall task (record { reads = map (answer_now h) keys; prefetched = known.prefetched }) (rereads_small h keys, all.1)) all
 known_small number id task h (Ok (Fetched runner key mod_rev of_rev revision)) known opens all =
     let a : ReadAnswer = answer_at h key of_rev in
     small_by (nat_eq runner id) (after_fetch task a known) known
@@ -125,10 +130,10 @@ known_small number id task h (Ok (Compacted revision)) known opens all = all
 known_small number id task h (Ok (Lost watcher floor)) known opens all = all
 known_small number id task h (Err refusal) known opens all = all
 
-told_small : (start id : ℕ) (task : Task) (log : List Line) → KnowsAll IsSmall (told start id task log)
+told_small : (start : Setup) (id : ℕ) (task : Task) (log : List Line) → KnowsAll IsSmall (told start id task log)
 told_small start id task [] = (tt, tt)
 told_small start id task (line ∷ older) =
-    known_small start id task (store start older).history line.reply (told start id task older) (store_opens start older) (told_small start id task older)
+    known_small start.revision id task (store start older).history line.reply (told start id task older) (store_opens start older) (told_small start id task older)
 
 -- so is what a compare is about
 
@@ -305,13 +310,13 @@ touched h ReadCommitted reads writes failed seen fails about = absurd (cc)
 -- ---- failed commits ----
 
 -- a failed commit of a runner with this task
-record Fails (start : ℕ) (log : List Line) (failed : FailedCommit) (task : Task) : Type 0 where
+record Fails (start : Setup) (log : List Line) (failed : FailedCommit) (task : Task) : Type 0 where
   run : Run
   is_run : run_on task.program (reads_of start log failed.runner task) ≡ EndedRun run
   is_done : run.end ≡ DoneEnd
   conflict : NamesAConflict (store start log).history task.level (reads_of start log failed.runner task) (latest_writes run.writes) failed
 
-fails_as : (start : ℕ) (log : List Line) (failed : FailedCommit) (task : Task) → running failed.runner log ≡ Some task → IsRealFailure start log failed →
+fails_as : (start : Setup) (log : List Line) (failed : FailedCommit) (task : Task) → running failed.runner log ≡ Some task → IsRealFailure start log failed →
     Fails start log failed task
 fails_as start log failed task runs real =
     subst (Fails start log failed) (same_Some real.task task (sym real.runs ∙ runs))
@@ -320,16 +325,16 @@ fails_as start log failed task runs real =
 one_run : (a b : Run) → EndedRun a ≡ EndedRun b → a ≡ b
 one_run a b same = cc
 
-failure_of_none : (start : ℕ) (log : List Line) (failed : FailedCommit) → running failed.runner log ≡ None → IsRealFailure start log failed → ⊥
+failure_of_none : (start : Setup) (log : List Line) (failed : FailedCommit) → running failed.runner log ≡ None → IsRealFailure start log failed → ⊥
 failure_of_none start log failed none real = let both : None ≡ Some real.task = sym none ∙ real.runs in absurd (cc)
 
-not_done : (start : ℕ) (log : List Line) (task : Task) (failed : FailedCommit) (run : Run) → running failed.runner log ≡ Some task →
+not_done : (start : Setup) (log : List Line) (task : Task) (failed : FailedCommit) (run : Run) → running failed.runner log ≡ Some task →
     run_on task.program (reads_of start log failed.runner task) ≡ EndedRun run → run.end ≢ DoneEnd → IsRealFailure start log failed → ⊥
 not_done start log task failed run runs is other real =
     let f : Fails start log failed task = fails_as start log failed task runs real in
     other (ap (λ (r : Run). r.end) (one_run run f.run (sym is ∙ f.is_run)) ∙ f.is_done)
 
-still_wants : (start : ℕ) (log : List Line) (task : Task) (failed : FailedCommit) (key : List ℕ) (trace : List TraceItem) →
+still_wants : (start : Setup) (log : List Line) (task : Task) (failed : FailedCommit) (key : List ℕ) (trace : List TraceItem) →
     running failed.runner log ≡ Some task → run_on task.program (reads_of start log failed.runner task) ≡ Wants key trace →
     IsRealFailure start log failed → ⊥
 still_wants start log task failed key trace runs wants real =
@@ -344,7 +349,7 @@ none_at h level reads writes compare is fails =
     subst (λ (l : Level). conflict_now h l reads writes ≡ Some compare) is fails in
     absurd (cc)
 
-not_compared : (start : ℕ) (log : List Line) (task : Task) (failed : FailedCommit) → running failed.runner log ≡ Some task →
+not_compared : (start : Setup) (log : List Line) (task : Task) (failed : FailedCommit) → running failed.runner log ≡ Some task →
     task.level ≡ ReadCommitted → IsRealFailure start log failed → ⊥
 not_compared start log task failed runs level real =
     let f : Fails start log failed task = fails_as start log failed task runs real in
@@ -357,7 +362,7 @@ unread h reads key seen same none of =
     let no : is_some (answer_in key reads) ≡ false = ap (λ (o : Option ReadAnswer). is_some o) none in
     absurd (cc)
 
-never_read : (start : ℕ) (log : List Line) (task : Task) (failed : FailedCommit) → running failed.runner log ≡ Some task →
+never_read : (start : Setup) (log : List Line) (task : Task) (failed : FailedCommit) → running failed.runner log ≡ Some task →
     task.level ≢ SerializableSnapshot → answer_in failed.key (reads_of start log failed.runner task) ≡ None → IsRealFailure start log failed → ⊥
 never_read start log task failed runs level none real =
     let f : Fails start log failed task = fails_as start log failed task runs real in
@@ -374,7 +379,7 @@ untouched h reads writes key seen same none unwritten (inr of) =
     ap is_some (sym (latest_writes-last writes key)) ∙ ap (λ (k : List ℕ). is_written k (latest_writes writes)) same ∙ of.was_written in
     absurd (cc)
 
-never_touched : (start : ℕ) (log : List Line) (task : Task) (failed : FailedCommit) (run : Run) → running failed.runner log ≡ Some task →
+never_touched : (start : Setup) (log : List Line) (task : Task) (failed : FailedCommit) (run : Run) → running failed.runner log ≡ Some task →
     run_on task.program (reads_of start log failed.runner task) ≡ EndedRun run → answer_in failed.key (reads_of start log failed.runner task) ≡ None →
     is_written failed.key run.writes ≡ false → IsRealFailure start log failed → ⊥
 never_touched start log task failed run runs is none unwritten real =
@@ -390,7 +395,7 @@ other_number : (h : History) (reads : List ReadAnswer) (writes : List Write) (se
 other_number h reads writes seen (inl of) = of.differs
 other_number h reads writes seen (inr of) = of.differs
 
-as_it_was : (start : ℕ) (log : List Line) (failed : FailedCommit) → failed.now_modified ≡ failed.seen → IsRealFailure start log failed → ⊥
+as_it_was : (start : Setup) (log : List Line) (failed : FailedCommit) → failed.now_modified ≡ failed.seen → IsRealFailure start log failed → ⊥
 as_it_was start log failed equal real =
     let h : History = (store start log).history in
     let reads : List ReadAnswer = reads_of start log failed.runner real.task in
@@ -399,7 +404,7 @@ as_it_was start log failed equal real =
     other_number h reads writes c.seen (touched h real.task.level reads writes c.compare c.seen c.fails c.about)
     (ap (λ (k : List ℕ). mod_of (key_now h k)) (sym c.key) ∙ sym c.is ∙ equal ∙ c.was)
 
-not_above : (start : ℕ) (log : List Line) (failed : FailedCommit) → 0 < failed.now_modified → failed.now_modified ≤ failed.seen →
+not_above : (start : Setup) (log : List Line) (failed : FailedCommit) → 0 < failed.now_modified → failed.now_modified ≤ failed.seen →
     IsRealFailure start log failed → ⊥
 not_above start log failed present below real =
     let h : History = (store start log).history in
@@ -417,11 +422,11 @@ not_above start log failed present below real =
 
 -- ---- ends ----
 
-stop_of_none : (start : ℕ) (log : List Line) (stopped : Stopped) → running stopped.runner log ≡ None → IsRealStop start log stopped → ⊥
+stop_of_none : (start : Setup) (log : List Line) (stopped : Stopped) → running stopped.runner log ≡ None → IsRealStop start log stopped → ⊥
 stop_of_none start log stopped none real = let both : None ≡ Some real.task = sym none ∙ real.runs in absurd (cc)
 
 -- the end of a runner with this task at a serializable level
-ends_as : (start : ℕ) (log : List Line) (stopped : Stopped) (task : Task) → running stopped.runner log ≡ Some task → is_serializable task.level ≡ true →
+ends_as : (start : Setup) (log : List Line) (stopped : Stopped) (task : Task) → running stopped.runner log ≡ Some task → is_serializable task.level ≡ true →
     IsRealStop start log stopped → IsEndOnOneState (store start log).history task (reads_of start log stopped.runner task) stopped.end
 ends_as start log stopped task runs serializable real =
     let same : real.task ≡ task = same_Some real.task task (sym real.runs ∙ runs) in
@@ -433,7 +438,7 @@ shows_base [] key a one found = absurd (cc)
 shows_base (first ∷ rest) key a one found =
     found_all (λ (b : ReadAnswer). b.of_rev ≡ first.of_rev) key (first ∷ rest) a (refl, all_show first.of_rev rest one.1) found
 
-torn_read : (start : ℕ) (log : List Line) (task : Task) (stopped : Stopped) (key other : List ℕ) (a b : ReadAnswer) →
+torn_read : (start : Setup) (log : List Line) (task : Task) (stopped : Stopped) (key other : List ℕ) (a b : ReadAnswer) →
     running stopped.runner log ≡ Some task → is_serializable task.level ≡ true → answer_in key (reads_of start log stopped.runner task) ≡ Some a →
     answer_in other (reads_of start log stopped.runner task) ≡ Some b → a.of_rev ≢ b.of_rev → IsRealStop start log stopped → ⊥
 torn_read start log task stopped key other a b runs serializable one two differ real =
@@ -441,7 +446,7 @@ torn_read start log task stopped key other a b runs serializable one two differ 
     let reads : List ReadAnswer = reads_of start log stopped.runner task in
     differ (shows_base reads key a e.state.one_revision one ∙ sym (shows_base reads other b e.state.one_revision two))
 
-another_end : (start : ℕ) (log : List Line) (task : Task) (stopped : Stopped) (run : Run) → running stopped.runner log ≡ Some task →
+another_end : (start : Setup) (log : List Line) (task : Task) (stopped : Stopped) (run : Run) → running stopped.runner log ≡ Some task →
     is_serializable task.level ≡ true →
     run_over (state_as_of (store start log).history (revision_read (store start log).history (base_of (reads_of start log stopped.runner task))))
     task.program.statements ≡ EndedRun run → run.end ≢ stopped.end → IsRealStop start log stopped → ⊥

@@ -1,27 +1,40 @@
--- The answers that an attempt has read are those that its program asked for, in that order.
+-- The answers that an attempt has read are those of its program's list, and behind them those that the program asked for, in that order.
 --
 -- The Go package `concurrency`, "STM": a read of a key that was not read before is one fetch.
-use Rattle.std.specs.Prelude.{◌≡◌, ℕ, List, [], ◌∷◌, ◌++◌, map, Some}
+use Rattle.std.specs.Prelude.{◌≡◌, ℕ, Bool, false, bytes_eq, not, List, [], ◌∷◌, ◌++◌, length, map, filter, take, drop, Some}
+use Rattle.std.specs.List.{list_any}
 use Rattle.stm_history.specs.declared.key_state.ReadAnswer.{ReadAnswer}
 use Rattle.stm_program.specs.Syntax.{ProgramTree}
 use Rattle.stm_meaning.specs.declared.run.Run.{Run}
 use Rattle.stm_meaning.specs.declared.run.Answered.TheVariants.{Ended}
 use Rattle.stm_attempt.specs.Settled.{run_on, wanted}
+use Rattle.stm_attempt.specs.Entering.{is_due}
+use Rattle.stm_attempt.specs.Laws.{BeginsWithList}
 
 -- each of the answers behind these was added when the program's run wanted its key
 abbrev pub AskedBehind : ProgramTree → List ReadAnswer → List ReadAnswer → Type 0
 AskedBehind program before [] = Unit {0}
 AskedBehind program before (a ∷ reads) = (wanted (run_on program before) ≡ Some a.key) × AskedBehind program (before ++ a ∷ []) reads
 
--- each answer was added when the program's run wanted its key
+-- each answer behind those of the list was added when the program's run wanted its key
 abbrev pub AreAsked : ProgramTree → List ReadAnswer → Type 0
-AreAsked program reads = AskedBehind program [] reads
+AreAsked program reads =
+    let count : ℕ = length program.prefetch in AskedBehind program (take count reads) (drop count reads)
+
+abbrev pub is_other : List (List ℕ) → List ℕ → Bool
+is_other keys key = not (list_any (bytes_eq key) keys)
+
+-- The keys in the order in which an attempt first reads them: those of its list, then the others that its run reads.
+abbrev pub keys_first_read : List (List ℕ) → List (List ℕ) → List (List ℕ)
+keys_first_read [] reads = reads
+keys_first_read (key ∷ keys) reads = (key ∷ keys) ++ filter (is_other (key ∷ keys)) reads
 
 abbrev pub keys_read : List ReadAnswer → List (List ℕ)
 keys_read reads = map (λ a. a.key) reads
 
--- Where a run ends on answers that were asked for, their keys are the keys that it reads, in the order of its first reads.
+-- Where a run ends on answers that begin with the list and of which the others were asked for, their keys are those of the list and the others that
+-- the run reads, in the order of its first reads.
 abbrev pub AnswersAreTheReads : Type 0
 AnswersAreTheReads =
-    (program : ProgramTree) (reads : List ReadAnswer) (run : Run) → AreAsked program reads → run_on program reads ≡ Ended run
-    → run.reads ≡ keys_read reads
+    (program : ProgramTree) (reads : List ReadAnswer) (run : Run) → BeginsWithList program.prefetch reads → is_due program.prefetch reads ≡ false
+    → AreAsked program reads → run_on program reads ≡ Ended run → keys_first_read program.prefetch run.reads ≡ keys_read reads

@@ -29,6 +29,7 @@ use Rattle.stm_world.specs.declared.refusal.Denied.{Denied}
 use Rattle.stm_world.specs.Task.{Task}
 use Rattle.stm_world.specs.Log.{Line, is_id, runner_started, begun, running, store, told}
 use Rattle.stm_world.specs.Headline.{OfEachLog, AreOfOneState}
+use Rattle.stm_txn.specs.Standing.{Setup}
 
 -- a property of every line of a log, which may look at the lines before it
 abbrev pub EachLine : (List Line → Line → Type 0) → List Line → Type 0
@@ -64,7 +65,7 @@ pub record NamesAConflict (h : History) (level : Level) (reads : List ReadAnswer
 
 -- The commit of a runner that runs after these lines and whose program is done on what it has read, which failed by a conflict with the
 -- store that the lines lead to.
-pub record IsRealFailure (start : ℕ) (log : List Line) (failed : FailedCommit) : Type 0 where
+pub record IsRealFailure (start : Setup) (log : List Line) (failed : FailedCommit) : Type 0 where
   pub task : Task
   pub runs : running failed.runner log ≡ Some task
   pub run : Run
@@ -72,14 +73,14 @@ pub record IsRealFailure (start : ℕ) (log : List Line) (failed : FailedCommit)
   pub is_done : run.end ≡ DoneEnd
   pub conflict : NamesAConflict (store start log).history task.level (told start failed.runner task log).reads (latest_writes run.writes) failed
 
-abbrev pub IfFailedIsReal : ℕ → List Line → Option FailedCommit → Type 0
+abbrev pub IfFailedIsReal : Setup → List Line → Option FailedCommit → Type 0
 IfFailedIsReal start log None = Unit {0}
 IfFailedIsReal start log (Some failed) = IsRealFailure start log failed
 
 -- Over every list of events, each conflict and each give-up that is told is a real one.
 abbrev pub FailuresAreConflicts : Type 0
 FailuresAreConflicts =
-    OfEachLog (λ (start : ℕ) (log : List Line). EachLine (λ older line. IfFailedIsReal start older (failed_commit line.reply)) log)
+    OfEachLog (λ (start : Setup) (log : List Line). EachLine (λ older line. IfFailedIsReal start older (failed_commit line.reply)) log)
 
 -- ---- aborts and faults ----
 
@@ -104,13 +105,13 @@ pub record IsEndOnOneState (h : History) (task : Task) (reads : List ReadAnswer)
   pub ends : run.end ≡ end
 
 -- an end of a runner that runs after these lines: at a serializable level it is that on one state
-pub record IsRealStop (start : ℕ) (log : List Line) (stopped : Stopped) : Type 0 where
+pub record IsRealStop (start : Setup) (log : List Line) (stopped : Stopped) : Type 0 where
   pub task : Task
   pub runs : running stopped.runner log ≡ Some task
   pub of_one_state : is_serializable task.level ≡ true →
       IsEndOnOneState (store start log).history task (told start stopped.runner task log).reads stopped.end
 
-abbrev pub IfStoppedIsReal : ℕ → List Line → Option Stopped → Type 0
+abbrev pub IfStoppedIsReal : Setup → List Line → Option Stopped → Type 0
 IfStoppedIsReal start log None = Unit {0}
 IfStoppedIsReal start log (Some stopped) = IsRealStop start log stopped
 
@@ -118,12 +119,12 @@ IfStoppedIsReal start log (Some stopped) = IsRealStop start log stopped
 -- the state at one revision of the store, of which all that the attempt has read is true: also where the store has moved on since.
 abbrev pub StopsAreOfOneState : Type 0
 StopsAreOfOneState =
-    OfEachLog (λ (start : ℕ) (log : List Line). 1 ≤ start → EachLine (λ older line. IfStoppedIsReal start older (stopped line.reply)) log)
+    OfEachLog (λ (start : Setup) (log : List Line). 1 ≤ start.revision → EachLine (λ older line. IfStoppedIsReal start older (stopped line.reply)) log)
 
 -- ---- how far the store has moved on ----
 
 -- the store's revision when the runner got its number
-abbrev pub since : ℕ → ℕ → List Line → ℕ
+abbrev pub since : Setup → ℕ → List Line → ℕ
 since start id [] = 0
 since start id (line ∷ older) = if is_id id (runner_started line.reply) then now (store start older).history else since start id older
 
@@ -141,5 +142,5 @@ failed_commits id (line ∷ older) =
 -- A store does not open above the highest revision.
 abbrev pub FailuresMoveOn : Type 0
 FailuresMoveOn =
-    OfEachLog (λ (start : ℕ) (log : List Line). (id : ℕ) (task : Task) → start ≤ HIGHEST_REVISION → begun id log ≡ Some task
+    OfEachLog (λ (start : Setup) (log : List Line). (id : ℕ) (task : Task) → start.revision ≤ HIGHEST_REVISION → begun id log ≡ Some task
     → since start id log + failed_commits id log ≤ now (store start log).history)

@@ -1,11 +1,12 @@
 -- The headline: over every list of events, in any interleaving of any number of runners.
-use Rattle.std.specs.Prelude.{◌≡◌, ℕ, ◌≤◌, true, List, ◌++◌, length, Option, option_map, Some, Result}
+use Rattle.std.specs.Prelude.{◌≡◌, ℕ, ◌≤◌, true, false, List, ◌++◌, length, Option, option_map, Some, Result}
 use Rattle.stm_history.specs.declared.key_state.ReadAnswer.{ReadAnswer}
 use Rattle.stm_history.specs.History.{History}
 use Rattle.stm_meaning.specs.Laws.{IsContinuedBy}
 use Rattle.stm_meaning.specs.Meaning.{run_over}
 use Rattle.stm_compile.specs.Levels.{is_serializable}
 use Rattle.stm_compile.specs.Answers.{AreTrue, state_as_of}
+use Rattle.stm_program.specs.Limits.{has_repeat}
 use Rattle.stm_attempt.specs.Known.{HaveDistinctKeys}
 use Rattle.stm_attempt.specs.Settled.{run_on}
 use Rattle.stm_attempt.specs.Fetches.{base_of, HaveOneBase}
@@ -19,18 +20,19 @@ use Rattle.stm_world.specs.Task.{Task}
 use Rattle.stm_world.specs.Log.{Line, IsLogOf, running, started, failures, store, entries_told, told}
 use Rattle.stm_world.specs.Right.{AreRight}
 use Rattle.stm_world.specs.World.{World, Runner, runner_at, opened, world_after, replies_to}
+use Rattle.stm_txn.specs.Standing.{Setup}
 
 -- a runner with this task, as a log tells of it
-abbrev pub runner_for : ℕ → List Line → ℕ → Task → Runner
+abbrev pub runner_for : Setup → List Line → ℕ → Task → Runner
 runner_for start log id task = record { task = task; failures = failures id log; known = told start id task log }
 
 -- the runner with this number that runs, as a log tells of it
-abbrev pub runner_in_log : ℕ → List Line → ℕ → Option Runner
+abbrev pub runner_in_log : Setup → List Line → ℕ → Option Runner
 runner_in_log start log id = option_map (runner_for start log id) (running id log)
 
 -- Each of these events has its reply, and nothing else was replied; each reply is right after the lines before it; store, runners and
 -- entries are what the log says; and the entries replay to the store, each legal at its point.
-pub record Holds (start : ℕ) (events : List WorldEvent) (replies : List (Result Reply Denied)) (w : World) : Type 0 where
+pub record Holds (start : Setup) (events : List WorldEvent) (replies : List (Result Reply Denied)) (w : World) : Type 0 where
   pub log : List Line
   pub is_log : IsLogOf events replies log
   pub right : AreRight start log
@@ -38,23 +40,23 @@ pub record Holds (start : ℕ) (events : List WorldEvent) (replies : List (Resul
   pub count : length w.runners ≡ started log
   pub runners : (id : ℕ) → runner_at id w.runners ≡ runner_in_log start log id
   pub entries : w.entries ≡ entries_told start log
-  pub replays : replay w.entries (opening start) ≡ without_moment w.standing
-  pub legal : AreLegal w.entries (opening start)
+  pub replays : replay w.entries (opening start.revision) ≡ without_moment w.standing
+  pub legal : AreLegal w.entries (opening start.revision)
 
 abbrev pub Headline : Type 0
-Headline = (start : ℕ) (events : List WorldEvent) → Holds start events (replies_to events (opened start)) (world_after events (opened start))
+Headline = (start : Setup) (events : List WorldEvent) → Holds start events (replies_to events (opened start)) (world_after events (opened start))
 
 -- The same of a world that has run before: where it holds of what the world was asked and has replied so far, it holds with these events
 -- and their replies behind.
 abbrev pub HeadlineGoesOn : Type 0
 HeadlineGoesOn =
-    (start : ℕ) (before events : List WorldEvent) (earlier : List (Result Reply Denied)) (w : World) → Holds start before earlier w
+    (start : Setup) (before events : List WorldEvent) (earlier : List (Result Reply Denied)) (w : World) → Holds start before earlier w
     → Holds start (before ++ events) (earlier ++ replies_to events w) (world_after events w)
 
--- A property of the log of every run: from every opening revision, every list of events has a log with the replies of the world, and
+-- A property of the log of every run: from every opening, every list of events has a log with the replies of the world, and
 -- the log has the property.
-abbrev pub OfEachLog : (ℕ → List Line → Type 0) → Type 0
-OfEachLog P = (start : ℕ) (events : List WorldEvent) → (log : List Line) × IsLogOf events (replies_to events (opened start)) log × P start log
+abbrev pub OfEachLog : (Setup → List Line → Type 0) → Type 0
+OfEachLog P = (start : Setup) (events : List WorldEvent) → (log : List Line) × IsLogOf events (replies_to events (opened start)) log × P start log
 
 -- What was read is true and of one revision. The run on it is continued by the program's run on the state at that revision: an
 -- abort or a fault is that run's end, and what was seen is the beginning of what that run sees.
@@ -66,10 +68,11 @@ pub record AreOfOneState (h : History) (task : Task) (reads : List ReadAnswer) :
 -- What an attempt at a serializable level has read is of one state, also where its commit will fail.
 abbrev pub OneState : Type 0
 OneState =
-    OfEachLog (λ (start : ℕ) (log : List Line). (id : ℕ) (task : Task) → 1 ≤ start → running id log ≡ Some task → is_serializable task.level ≡ true
+    OfEachLog (λ (start : Setup) (log : List Line). (id : ℕ) (task : Task) → 1 ≤ start.revision → running id log ≡ Some task → is_serializable task.level ≡ true
     → AreOfOneState (store start log).history task (told start id task log).reads)
 
 -- No attempt reads a key twice.
 abbrev pub ReadOnce : Type 0
 ReadOnce =
-    OfEachLog (λ (start : ℕ) (log : List Line). (id : ℕ) (task : Task) → running id log ≡ Some task → HaveDistinctKeys (told start id task log).reads)
+    OfEachLog (λ (start : Setup) (log : List Line). (id : ℕ) (task : Task) → running id log ≡ Some task → has_repeat task.program.prefetch ≡ false
+    → HaveDistinctKeys (told start id task log).reads)

@@ -10,6 +10,7 @@ use Rattle.stm_meaning.specs.declared.trace_item.TraceItem.{TraceItem}
 use Rattle.stm_meaning.specs.Meaning.{run_over}
 use Rattle.stm_outcome.specs.declared.advance.Expired.{Expired}
 use Rattle.stm_txn.specs.Standing.{Standing, opening, with_history, transacted, granted, kept_alive, revoked, advanced, watched, polled, cancelled, raised}
+use Rattle.stm_txn.specs.Standing.{Setup}
 use Rattle.stm_watch.specs.declared.watched.Watched.TheVariants.{Key, Range}
 use Rattle.stm_attempt.specs.Known.{Known}
 use Rattle.stm_entries.specs.declared.entry.Entry.{Entry}
@@ -20,10 +21,10 @@ use Rattle.stm_world.specs.declared.event.WorldEvent.{WorldEvent}
 use Rattle.stm_world.specs.declared.event.WorldEvent.TheVariants.{Start, Step, Txn, Grant, Keep, Revoke, Advance}
 use Rattle.stm_world.specs.declared.event.WorldEvent.TheVariants.{WatchKey, WatchRange, Poll, Cancel, Compact}
 use Rattle.stm_world.specs.declared.reply.Reply.{Reply}
-use Rattle.stm_world.specs.declared.reply.Reply.TheVariants.{Started, Fetched, Committed, Conflict, GaveUp, Aborted, Faulted, Ended, Advanced}
+use Rattle.stm_world.specs.declared.reply.Reply.TheVariants.{Started, Prefetched, Fetched, Committed, Conflict, GaveUp, Aborted, Faulted, Ended, Advanced}
 use Rattle.stm_world.specs.declared.refusal.Denied.{Denied}
 use Rattle.stm_world.specs.Told.{store_after_call, store_after_poll}
-use Rattle.stm_world.specs.Task.{Task, nothing_known, answer_at, after_fetch, after_conflict}
+use Rattle.stm_world.specs.Task.{Task, nothing_known, answer_at, after_list, after_fetch, after_conflict}
 
 -- an event and the reply to it
 pub record Line : Type 0 where
@@ -122,8 +123,8 @@ store_after task_of (Poll watcher most) reply s = store_after_poll watcher s (po
 store_after task_of (Cancel watcher) reply s = store_after_call s (cancelled s watcher)
 store_after task_of (Compact revision) reply s = store_after_call s (raised s revision)
 
--- the store, which opened at a revision, after a log
-abbrev pub store : ℕ → List Line → Standing
+-- the store, which opened so, after a log
+abbrev pub store : Setup → List Line → Standing
 store start [] = opening start
 store start (line ∷ older) = store_after (λ id. begun id older) line.event line.reply (store start older)
 
@@ -167,25 +168,27 @@ entries_of task_of before after (Cancel watcher) reply = []
 entries_of task_of before after (Compact revision) reply = []
 
 -- what a line adds to the entries
-abbrev pub line_entries : ℕ → Line → List Line → List Entry
+abbrev pub line_entries : Setup → Line → List Line → List Entry
 line_entries start line older =
     entries_of (λ id. begun id older) (store start older) (store start (line ∷ older)) line.event line.reply
 
 -- the entries of a log, the oldest first
-abbrev pub entries_told : ℕ → List Line → List Entry
+abbrev pub entries_told : Setup → List Line → List Entry
 entries_told start [] = []
 entries_told start (line ∷ older) = entries_told start older ++ line_entries start line older
 
 -- ---- what a runner knows ----
 
--- a fetched line adds the key as it was at the revision that is told; a conflict begins a new attempt
+-- a prefetched line adds the keys of the list as they are; a fetched line the key as it was at the revision that is told; a conflict begins a new
+-- attempt
 abbrev pub known_after : ℕ → Task → History → Result Reply Denied → Known → Known
+known_after id task h (Ok (Prefetched runner revision reads)) known = if nat_eq runner id then after_list task h known else known
 known_after id task h (Ok (Fetched runner key mod_rev of_rev revision)) known =
     if nat_eq runner id then after_fetch task (answer_at h key of_rev) known else known
 known_after id task h (Ok (Conflict runner key seen now)) known = if nat_eq runner id then after_conflict task h known else known
 known_after id task h other known = known
 
 -- what a runner with this task was told in its attempt
-abbrev pub told : ℕ → ℕ → Task → List Line → Known
+abbrev pub told : Setup → ℕ → Task → List Line → Known
 told start id task [] = nothing_known
 told start id task (line ∷ older) = known_after id task (store start older).history line.reply (told start id task older)

@@ -8,6 +8,7 @@ use Rattle.stm_outcome.specs.declared.txn.Txn.{Txn}
 use Rattle.stm_outcome.specs.declared.advance.Expired.{Expired}
 use Rattle.stm_outcome.specs.declared.refusal.Refusal.TheVariants.{OutOfMemory}
 use Rattle.stm_txn.specs.Standing.{Standing, transacted, granted, kept_alive, revoked, advanced, watched, polled, cancelled, raised}
+use Rattle.stm_txn.specs.Standing.{Setup}
 use Rattle.stm_outcome.specs.Terms.{Terms}
 use Rattle.stm_compile.specs.Committed.{committed}
 use Rattle.stm_world.specs.declared.event.WorldEvent.{WorldEvent}
@@ -31,6 +32,6 @@ pub record NeverOutOfMemory : Type 0 where
   -- no commit of a run
   pub commit : (terms : Terms) (level : Level) (reads : List ReadAnswer) (run : Run) → committed terms level reads run ≢ Err OutOfMemory
   -- so no right reply refuses an event for want of memory, or ends a run by it
-  pub refusal : (start : ℕ) (log : List Line) (event : WorldEvent) (expired : List Expired)
+  pub refusal : (start : Setup) (log : List Line) (event : WorldEvent) (expired : List Expired)
       → IsRight start log event (Err (record { cause = Store OutOfMemory; expired = expired })) → ⊥
-  pub end : (start : ℕ) (log : List Line) (id runner : ℕ) → IsRight start log (Step id) (Ok (Ended runner OutOfMemory)) → ⊥
+  pub end : (start : Setup) (log : List Line) (id runner : ℕ) → IsRight start log (Step id) (Ok (Ended runner OutOfMemory)) → ⊥

@@ -2,7 +2,7 @@
 --
 -- The Go package `concurrency`, "STM" and "Isolation", and etcd's API reference, "Transaction", "Lease", "Watch" and "Compaction".
 -- Nothing here knows how a world makes its replies: a line is judged by the lines before it.
-use Rattle.std.specs.Prelude.{◌≡◌, ◌≢◌, ◌⊎◌, ℕ, ◌+◌, ◌<◌, ◌≤◌, true, false, List, [], ◌∷◌, Option, Some, None, Result, Ok, Err}
+use Rattle.std.specs.Prelude.{◌≡◌, ◌≢◌, ◌⊎◌, ℕ, ◌+◌, ◌<◌, ◌≤◌, true, false, List, [], ◌∷◌, length, map, Option, Some, None, Result, Ok, Err}
 use Rattle.stm_history.specs.declared.key_state.ReadAnswer.{ReadAnswer}
 use Rattle.stm_history.specs.History.{now, key_at, mod_of}
 use Rattle.stm_program.specs.Writes.{latest_writes}
@@ -15,28 +15,31 @@ use Rattle.stm_meaning.specs.declared.run.Answered.TheVariants.{Ended as EndedRu
 use Rattle.stm_meaning.specs.Meaning.{run_over}
 use Rattle.stm_outcome.specs.declared.answer.FailedCompare.{FailedCompare}
 use Rattle.stm_outcome.specs.declared.refusal.Refusal.{Refusal as StoreRefusal}
-use Rattle.stm_outcome.specs.declared.refusal.Refusal.TheVariants.{Compacted as CompactedRefusal}
+use Rattle.stm_outcome.specs.declared.refusal.Refusal.TheVariants.{TooManyOps as TooManyOpsRefusal, Compacted as CompactedRefusal}
 use Rattle.stm_outcome.specs.Outcome.{Done}
 use Rattle.stm_outcome.specs.Commits.{revision_read}
 use Rattle.stm_txn.specs.Standing.{Standing, transacted, granted, kept_alive, revoked, advanced, watched, polled, cancelled, raised, terms_of}
+use Rattle.stm_txn.specs.Standing.{Setup}
 use Rattle.stm_outcome.specs.Terms.{is_below_floor}
 use Rattle.stm_watch.specs.declared.watched.Watched.TheVariants.{Key, Range}
 use Rattle.stm_compile.specs.Committed.{committed}
 use Rattle.stm_compile.specs.Conflicts.{IsConflict}
 use Rattle.stm_attempt.specs.Settled.{run_on}
+use Rattle.stm_attempt.specs.Entering.{is_due}
 use Rattle.stm_attempt.specs.Fetches.{at_of}
 use Rattle.stm_entries.specs.Alone.{seen_at}
 use Rattle.stm_world.specs.declared.event.WorldEvent.{WorldEvent}
 use Rattle.stm_world.specs.declared.event.WorldEvent.TheVariants.{Start, Step, Txn, Grant, Keep, Revoke, Advance}
 use Rattle.stm_world.specs.declared.event.WorldEvent.TheVariants.{WatchKey, WatchRange, Poll, Cancel, Compact}
 use Rattle.stm_world.specs.declared.reply.Reply.{Reply}
-use Rattle.stm_world.specs.declared.reply.Reply.TheVariants.{Started, Fetched, Committed, Conflict, GaveUp, Aborted, Faulted, Ended}
+use Rattle.stm_world.specs.declared.reply.Reply.TheVariants.{Started, Prefetched, Fetched, Committed, Conflict, GaveUp, Aborted, Faulted, Ended}
 use Rattle.stm_world.specs.declared.reply.Reply.TheVariants.{Txn as TxnDone, Granted, Kept, Revoked, Watching, Cancelled, Compacted}
+use Rattle.stm_world.specs.declared.reply.KeyRead.{KeyRead}
 use Rattle.stm_world.specs.declared.refusal.Refusal.TheVariants.{BadLimit, NoRunner}
 use Rattle.stm_world.specs.declared.refusal.Denied.{Denied}
 use Rattle.stm_world.specs.Told.{denied, reply_to, advance_reply, poll_reply}
-use Rattle.stm_world.specs.Task.{Task, answers_told}
-use Rattle.stm_world.specs.Asked.{keys_read}
+use Rattle.stm_world.specs.Task.{Task, modified_now, answers_told}
+use Rattle.stm_world.specs.Asked.{keys_read, keys_first_read}
 use Rattle.stm_world.specs.Log.{Line, running, started, failures, store, told}
 
 -- Where a runner stands: its number, its task, what it has read in its attempt (with the prefetched answers that it took), the
@@ -48,9 +51,26 @@ pub record Situation : Type 0 where
   pub failures : ℕ
   pub store : Standing
 
+-- The list is not read yet. All keys of it are fetched as they are now, in its order, which the store takes. What is told is true.
+pub record IsPrefetch (at : Situation) (revision : ℕ) (reads : List KeyRead) : Type 0 where
+  pub due : is_due at.task.program.prefetch at.reads ≡ true
+  pub few : length at.task.program.prefetch ≤ at.store.limit
+  pub shows : reads ≡ map (modified_now at.store.history) at.task.program.prefetch
+  pub carries : revision ≡ now at.store.history
+
+-- the list is not read yet, and has more keys than the store takes operations
+pub record IsOverfull (at : Situation) : Type 0 where
+  pub due : is_due at.task.program.prefetch at.reads ≡ true
+  pub many : at.store.limit < length at.task.program.prefetch
+
+-- the list is read, or there is none
+abbrev pub HasList : Situation → Type 0
+HasList at = is_due at.task.program.prefetch at.reads ≡ false
+
 -- The program wants a key, which is fetched at the revision of its level: the base at the serializable levels, where something
 -- was read, else the current one. The base is not compacted. What is told is true.
 pub record IsFetch (at : Situation) (key : List ℕ) (mod_rev of_rev revision : ℕ) : Type 0 where
+  pub has_list : HasList at
   pub trace : List TraceItem
   pub wants : run_on at.task.program at.reads ≡ Wants key trace
   pub readable : is_below_floor at.store.floor (at_of at.task.level at.reads) ≡ false
@@ -60,6 +80,7 @@ pub record IsFetch (at : Situation) (key : List ℕ) (mod_rev of_rev revision : 
 
 -- the program wants a key, and its base is compacted
 pub record IsBehind (at : Situation) : Type 0 where
+  pub has_list : HasList at
   pub key : List ℕ
   pub trace : List TraceItem
   pub wants : run_on at.task.program at.reads ≡ Wants key trace
@@ -67,20 +88,22 @@ pub record IsBehind (at : Situation) : Type 0 where
 
 -- the program came to this end on what it read
 pub record EndsWith (at : Situation) (end : End) : Type 0 where
+  pub has_list : HasList at
   pub run : Run
   pub is_run : run_on at.task.program at.reads ≡ EndedRun run
   pub ended : run.end ≡ end
 
 -- The program is done on what it read, and this is what its commit comes to.
 pub record Commits (at : Situation) (outcome : Result Done StoreRefusal) : Type 0 where
+  pub has_list : HasList at
   pub run : Run
   pub is_run : run_on at.task.program at.reads ≡ EndedRun run
   pub is_done : run.end ≡ DoneEnd
   pub comes_to : committed (terms_of at.store) at.task.level at.reads run ≡ outcome
 
 -- A commit that succeeds: at a comparing level output and trace are those of the program run alone on the state of this
--- moment, at ReadCommitted those of its run on what it read, which is told. What it read are the keys that the run reads, in the
--- order of its first reads.
+-- moment, at ReadCommitted those of its run on what it read, which is told. What it read are the keys of its list, and then the others that
+-- the run reads, in the order of its first reads.
 pub record IsCommitted (at : Situation) (revision : ℕ) (output : List Value) (trace : List TraceItem) (answers : List ReadAnswer) : Type 0 where
   pub done : Done
   pub commits : Commits at (Ok done)
@@ -90,7 +113,7 @@ pub record IsCommitted (at : Situation) (revision : ℕ) (output : List Value) (
   pub sees : trace ≡ commits.run.trace
   pub reached : revision ≡ now done.history
   pub told : answers ≡ answers_told at.task.level at.reads
-  pub in_order : commits.run.reads ≡ keys_read at.reads
+  pub in_order : keys_first_read at.task.program.prefetch commits.run.reads ≡ keys_read at.reads
 
 -- A commit that fails changes nothing: a compare failed, it is about this key, and it is a conflict.
 pub record IsConflicted (at : Situation) (key : List ℕ) (seen now_modified : ℕ) : Type 0 where
@@ -104,13 +127,15 @@ pub record IsConflicted (at : Situation) (key : List ℕ) (seen now_modified : �
   pub was : seen ≡ conflict.seen.mod_rev
   pub is : now_modified ≡ failed.mod_rev
 
--- The store refuses what the step asks of it: the commit of a program that is done, or, as compacted, a fetch at the base of the attempt.
+-- The store refuses what the step asks of it: the commit of a program that is done, or, as compacted, a fetch at the base of the attempt, or, as too
+-- many operations, the fetch of the list.
 abbrev pub IsRefused : Situation → StoreRefusal → Type 0
-IsRefused at cause = Commits at (Err cause) ⊎ ((cause ≡ CompactedRefusal) × IsBehind at)
+IsRefused at cause = Commits at (Err cause) ⊎ ((cause ≡ CompactedRefusal) × IsBehind at) ⊎ ((cause ≡ TooManyOpsRefusal) × IsOverfull at)
 
 -- A reply to the step of a runner that runs. It tells of this runner; no run sends more commits than it may, and it gives up exactly at the
 -- last of them.
 abbrev pub ReplyIsRight : Situation → Reply → Type 0
+ReplyIsRight at (Prefetched runner revision reads) = (runner ≡ at.id) × IsPrefetch at revision reads
 ReplyIsRight at (Fetched runner key mod_rev of_rev revision) = (runner ≡ at.id) × IsFetch at key mod_rev of_rev revision
 ReplyIsRight at (Committed runner revision attempts output trace answers) =
     (runner ≡ at.id) × (attempts ≡ at.failures + 1) × (attempts ≤ at.task.limit) × IsCommitted at revision output trace answers
@@ -128,7 +153,7 @@ StepIsRight at (Ok reply) = ReplyIsRight at reply
 StepIsRight at (Err refusal) = ⊥
 
 -- where a runner stands after a log
-abbrev pub situation : ℕ → List Line → ℕ → Task → Situation
+abbrev pub situation : Setup → List Line → ℕ → Task → Situation
 situation start log id task = record {
   id = id;
   task = task;
@@ -138,7 +163,7 @@ situation start log id task = record {
 }
 
 -- a step is refused exactly where the runner was not started or its run is over
-abbrev pub RunnerIsRight : ℕ → List Line → ℕ → Option Task → Result Reply Denied → Type 0
+abbrev pub RunnerIsRight : Setup → List Line → ℕ → Option Task → Result Reply Denied → Type 0
 RunnerIsRight start log id None reply = reply ≡ denied NoRunner
 RunnerIsRight start log id (Some task) reply = StepIsRight (situation start log id task) reply
 
@@ -147,8 +172,8 @@ abbrev pub StartIsRight : ℕ → ℕ → Result Reply Denied → Type 0
 StartIsRight count limit (Ok reply) = (reply ≡ Started (count + 1)) × (limit ≢ 0)
 StartIsRight count limit (Err refusal) = (refusal ≡ record { cause = BadLimit; expired = [] }) × (limit ≡ 0)
 
--- the reply to an event after a log, in a world whose store opened at a revision
-abbrev pub IsRight : ℕ → List Line → WorldEvent → Result Reply Denied → Type 0
+-- the reply to an event after a log, in a world whose store opened so
+abbrev pub IsRight : Setup → List Line → WorldEvent → Result Reply Denied → Type 0
 IsRight start log (Start program level limit) reply = StartIsRight (started log) limit reply
 IsRight start log (Step id) reply = RunnerIsRight start log id (running id log) reply
 IsRight start log (Txn txn) reply = reply ≡ reply_to TxnDone (transacted (store start log) txn)
@@ -164,6 +189,6 @@ IsRight start log (Cancel watcher) reply = reply ≡ reply_to (λ _. Cancelled w
 IsRight start log (Compact revision) reply = reply ≡ reply_to (λ _. Compacted revision) (raised (store start log) revision)
 
 -- each line of a log is right after the lines before it
-abbrev pub AreRight : ℕ → List Line → Type 0
+abbrev pub AreRight : Setup → List Line → Type 0
 AreRight start [] = Unit {0}
 AreRight start (line ∷ older) = IsRight start older line.event line.reply × AreRight start older

@@ -6,7 +6,9 @@ use Rattle.std.specs.Prelude.{◌≡◌, ◌≤◌, ℕ, List, ◌++◌, Option,
 use Rattle.stm_history.specs.History.{History, now}
 use Rattle.stm_outcome.specs.declared.advance.Expired.{Expired}
 use Rattle.stm_outcome.specs.declared.refusal.Refusal.{Refusal as StoreRefusal}
+use Rattle.stm_outcome.specs.Terms.{most_operations}
 use Rattle.stm_txn.specs.Standing.{Standing, HasKept, at_moment, expire_up_to}
+use Rattle.stm_txn.specs.Standing.{Setup}
 use Rattle.stm_compile.specs.Answers.{AreTrue}
 use Rattle.stm_attempt.specs.Known.{Known}
 use Rattle.stm_attempt.specs.Fetches.{at_of}
@@ -22,12 +24,13 @@ KnowsTruth h known = AreTrue h known.reads × AreTrue h known.prefetched
 
 -- The entries replay from the opening of the store to the store, each legal at its point, and each runner that has not ended
 -- knows the truth. The floor is a revision that the store has reached, if it was ever compacted, and nothing below it is pending for a
--- watcher that is not lost.
+-- watcher that is not lost. The store takes no more operations than any store.
 pub record IsSound (w : World) : Type 0 where
   pub replays : replay w.entries (opening w.standing.history.opening.number) ≡ without_moment w.standing
   pub legal : AreLegal w.entries (opening w.standing.history.opening.number)
   pub truth : (id : ℕ) (r : Runner) → runner_at id w.runners ≡ Some r → KnowsTruth w.standing.history r.known
   pub kept : HasKept w.standing
+  pub limit : w.standing.limit ≤ most_operations
 
 -- a world whose store came to this by expiries
 abbrev pub after_expiries : World → Standing → List Expired → World
@@ -36,7 +39,7 @@ after_expiries w left expired = record { standing = left; runners = w.runners; e
 -- A world opens sound, each step keeps it so, and an advance does that was cut short after some expiries. In a sound world the
 -- revision that a runner's next fetch names is reached.
 pub record WorldsAreSound : Type 0 where
-  pub opens : (start : ℕ) → IsSound (opened start)
+  pub opens : (start : Setup) → IsSound (opened start)
   pub steps : (event : WorldEvent) (w : World) → IsSound w → IsSound (step event w).next
   pub expires : (w : World) (moment many : ℕ) (expired : List Expired) (left : Standing) (cause : Option StoreRefusal) → IsSound w
       → expire_up_to many (at_moment w.standing moment) ≡ record { expired = expired; leaves = left; cause = cause }

@@ -12,6 +12,7 @@ use Rattle.stm_watch.specs.Places.{is_lost}
 use Rattle.stm_watch.specs.Pending.{watching_from, pending, first_pending, events_told}
 use Rattle.stm_watch.specs.Calls.{watcher_at}
 use Rattle.stm_txn.specs.Standing.{Standing, IsKeptFor}
+use Rattle.stm_txn.specs.Standing.{Setup}
 use Rattle.stm_world.specs.declared.event.WorldEvent.{WorldEvent}
 use Rattle.stm_world.specs.declared.event.WorldEvent.TheVariants.{WatchKey, WatchRange, Poll, Cancel}
 use Rattle.stm_world.specs.declared.reply.Reply.{Reply}
@@ -39,7 +40,7 @@ or_earlier None earlier = earlier
 or_earlier (Some w) earlier = Some w
 
 -- how a watcher began
-abbrev pub begun_watching : ℕ → ℕ → List Line → Option Watching
+abbrev pub begun_watching : Setup → ℕ → List Line → Option Watching
 begun_watching start id [] = None
 begun_watching start id (line ∷ older) =
     or_earlier (made_by id (store start older) line.event line.reply) (begun_watching start id older)
@@ -61,7 +62,7 @@ is_given_up id [] = false
 is_given_up id (line ∷ older) = gives_up id line.event line.reply || is_given_up id older
 
 -- how a watcher began that was not given up
-abbrev pub watching : ℕ → ℕ → List Line → Option Watching
+abbrev pub watching : Setup → ℕ → List Line → Option Watching
 watching start id log = if is_given_up id log then None else begun_watching start id log
 
 -- the events that a reply tells
@@ -86,7 +87,7 @@ IsLostFor h floor begun w = w.lost ≡ true → (begun.lost ≡ true) ⊎ (is_lo
 -- A watcher that began so stands in the store; and what it was told, followed by what is pending for it, is what would be pending
 -- for it had it never been polled: each event that it watches from its start on, once, in order. Nothing that is pending for it is
 -- compacted, unless it is lost; and it is lost for no other cause.
-pub record IsToldAll (start : ℕ) (log : List Line) (id : ℕ) (begun : Watching) : Type 0 where
+pub record IsToldAll (start : Setup) (log : List Line) (id : ℕ) (begun : Watching) : Type 0 where
   pub w : Watching
   pub stands : watcher_at id (store start log).watchers ≡ Some w
   pub same : w.watched ≡ begun.watched
@@ -95,10 +96,10 @@ pub record IsToldAll (start : ℕ) (log : List Line) (id : ℕ) (begun : Watchin
   pub because : IsLostFor (store start log).history (store start log).floor begun w
 
 -- a watcher is there exactly where it began and was not given up, and it is told all
-abbrev pub IsToldSo : ℕ → List Line → ℕ → Option Watching → Type 0
+abbrev pub IsToldSo : Setup → List Line → ℕ → Option Watching → Type 0
 IsToldSo start log id None = watcher_at id (store start log).watchers ≡ None
 IsToldSo start log id (Some begun) = IsToldAll start log id begun
 
 -- Every watcher is told all.
 abbrev pub WatchersAreTold : Type 0
-WatchersAreTold = OfEachLog (λ (start : ℕ) (log : List Line). (id : ℕ) → IsToldSo start log id (watching start id log))
+WatchersAreTold = OfEachLog (λ (start : Setup) (log : List Line). (id : ℕ) → IsToldSo start log id (watching start id log))

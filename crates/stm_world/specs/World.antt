@@ -1,7 +1,7 @@
 -- The world's step: from a world and one event to the reply and the next world.
 --
--- The Go package `concurrency`, "STM", for a runner's step: it makes at most one transaction, the fetch of the key that its
--- program wants or its commit. etcd's API reference, "Transaction", "Lease", "Watch" and "Compaction", for the other events, each of
+-- The Go package `concurrency`, "STM", for a runner's step: it makes at most one transaction, the fetch of its program's list or of the key
+-- that the program wants, or its commit. etcd's API reference, "Transaction", "Lease", "Watch" and "Compaction", for the other events, each of
 -- which is one call of the store.
 --
 -- The history of a world is whole: a compaction drops nothing of it, but what is below the store's floor can't be read any more, and
@@ -20,17 +20,19 @@ use Rattle.stm_outcome.specs.declared.txn.Txn.{Txn as StoreTxn}
 use Rattle.stm_outcome.specs.declared.advance.Expired.{Expired}
 use Rattle.stm_outcome.specs.declared.answer.FailedCompare.{FailedCompare}
 use Rattle.stm_outcome.specs.declared.refusal.Refusal.{Refusal as StoreRefusal}
-use Rattle.stm_outcome.specs.declared.refusal.Refusal.TheVariants.{Compacted as CompactedRefusal}
+use Rattle.stm_outcome.specs.declared.refusal.Refusal.TheVariants.{TooManyOps as TooManyOpsRefusal, Compacted as CompactedRefusal}
 use Rattle.stm_outcome.specs.Outcome.{Done}
 use Rattle.stm_outcome.specs.Commits.{revision_read}
 use Rattle.stm_txn.specs.Standing.{Standing, opening, with_history, transacted, granted, kept_alive, revoked, advanced, watched, polled, cancelled}
 use Rattle.stm_txn.specs.Standing.{terms_of, raised}
+use Rattle.stm_txn.specs.Standing.{Setup}
 use Rattle.stm_outcome.specs.Terms.{is_below_floor}
 use Rattle.stm_watch.specs.declared.watched.Watched.TheVariants.{Key, Range}
 use Rattle.stm_compile.specs.Committed.{committed}
 use Rattle.stm_compile.specs.Conflicts.{Seen, seen_by}
 use Rattle.stm_attempt.specs.Known.{Known}
 use Rattle.stm_attempt.specs.Settled.{run_on}
+use Rattle.stm_attempt.specs.Entering.{is_due}
 use Rattle.stm_attempt.specs.Fetches.{at_of}
 use Rattle.stm_entries.specs.declared.entry.Entry.{Entry}
 use Rattle.stm_entries.specs.declared.entry.Entry.TheVariants.{Program, Foreign, Grant as GrantEntry, Renew, Revoke as RevokeEntry, Expire}
@@ -38,13 +40,13 @@ use Rattle.stm_world.specs.declared.event.WorldEvent.{WorldEvent}
 use Rattle.stm_world.specs.declared.event.WorldEvent.TheVariants.{Start, Step, Txn, Grant, Keep, Revoke, Advance}
 use Rattle.stm_world.specs.declared.event.WorldEvent.TheVariants.{WatchKey, WatchRange, Poll, Cancel, Compact}
 use Rattle.stm_world.specs.declared.reply.Reply.{Reply}
-use Rattle.stm_world.specs.declared.reply.Reply.TheVariants.{Started, Fetched, Committed, Conflict, GaveUp, Aborted, Faulted, Ended}
+use Rattle.stm_world.specs.declared.reply.Reply.TheVariants.{Started, Prefetched, Fetched, Committed, Conflict, GaveUp, Aborted, Faulted, Ended}
 use Rattle.stm_world.specs.declared.reply.Reply.TheVariants.{Txn as TxnDone, Granted, Kept, Revoked, Watching, Cancelled, Compacted}
 use Rattle.stm_world.specs.declared.refusal.Refusal.{Refusal}
 use Rattle.stm_world.specs.declared.refusal.Refusal.TheVariants.{BadLimit, NoRunner}
 use Rattle.stm_world.specs.declared.refusal.Denied.{Denied}
 use Rattle.stm_world.specs.Told.{denied, reply_to, store_after_call, advance_reply, poll_reply, store_after_poll}
-use Rattle.stm_world.specs.Task.{Task, nothing_known, answer_at, after_fetch, after_conflict, answers_told}
+use Rattle.stm_world.specs.Task.{Task, nothing_known, answer_at, modified_now, after_list, after_fetch, after_conflict, answers_told}
 
 -- a runner whose run goes on: its task, the commits of it that failed, and what it knows in its attempt
 pub record Runner : Type 0 where
@@ -63,8 +65,8 @@ pub record World : Type 0 where
   pub runners : List Slot
   pub entries : List Entry
 
--- a world whose store opens at a revision
-abbrev pub opened : ℕ → World
+-- a world whose store opens so
+abbrev pub opened : Setup → World
 opened start = record { standing = opening start; runners = []; entries = [] }
 
 pub record Stepped : Type 0 where
@@ -122,6 +124,14 @@ fetch_at id r key base w =
     if is_below_floor w.standing.floor base then replied (Ended id CompactedRefusal) id Over w
     else fetch id r key (revision_read w.standing.history base) w
 
+-- A fetch of all keys of the list, as they are now. The store refuses one of more keys than it takes operations, which ends the run.
+abbrev pub fetch_list : ℕ → Runner → World → Stepped
+fetch_list id r w =
+    let h = w.standing.history in
+    let keys = r.task.program.prefetch in
+    if nat_lt w.standing.limit (length keys) then replied (Ended id TooManyOpsRefusal) id Over w
+    else replied (Prefetched id (now h) (map (modified_now h) keys)) id (Live (record r { known = after_list r.task h r.known })) w
+
 -- the entry of a commit
 abbrev pub entry_of : Task → List ReadAnswer → Run → ℕ → Entry
 entry_of task reads run revision = Program task.program task.level (answers_told task.level reads) run.output run.trace revision
@@ -174,9 +184,11 @@ abbrev pub step_on : ℕ → Runner → List ReadAnswer → Answered → World �
 step_on id r reads (Wants key trace) w = fetch_at id r key (at_of r.task.level reads) w
 step_on id r reads (EndedRun run) w = finish id r reads run run.end w
 
--- one step of a runner: its program is evaluated on what it has read, the prefetched answers that served among it
+-- One step of a runner: its list is fetched, where that is due, else its program is evaluated on what it has read, the prefetched answers that served
+-- among it.
 unfoldable pub step_live : ℕ → Runner → World → Stepped
-step_live id r w = step_on id r r.known.reads (run_on r.task.program r.known.reads) w
+step_live id r w =
+    if is_due r.task.program.prefetch r.known.reads then fetch_list id r w else step_on id r r.known.reads (run_on r.task.program r.known.reads) w
 
 abbrev pub step_runner : ℕ → Option Runner → World → Stepped
 step_runner id None w = refused NoRunner w

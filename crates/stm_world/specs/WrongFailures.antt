@@ -24,49 +24,50 @@ use Rattle.stm_world.specs.Log.{Line, IsLogOf, begun, running, store, told}
 use Rattle.stm_world.specs.World.{World, opened, replies_to}
 use Rattle.stm_world.specs.Doomed.{FailedCommit, IsRealFailure, Stopped, IsRealStop, since, failed_commits}
 use Rattle.stm_world.specs.Appended.{HasAppended}
+use Rattle.stm_txn.specs.Standing.{Setup}
 
 -- what a runner with a task has read in its attempt
-abbrev pub reads_of : ℕ → List Line → ℕ → Task → List ReadAnswer
+abbrev pub reads_of : Setup → List Line → ℕ → Task → List ReadAnswer
 reads_of start log id task = (told start id task log).reads
 
 -- failures and ends after a log that are none
 pub record WrongFailures : Type 0 where
   -- a failed commit of a runner that was not started, or has ended
-  pub failure_of_none : (start : ℕ) (log : List Line) (failed : FailedCommit) → running failed.runner log ≡ None → IsRealFailure start log failed → ⊥
+  pub failure_of_none : (start : Setup) (log : List Line) (failed : FailedCommit) → running failed.runner log ≡ None → IsRealFailure start log failed → ⊥
   -- a failed commit of a program that has aborted, or was ended by a fault
-  pub not_done : (start : ℕ) (log : List Line) (task : Task) (failed : FailedCommit) (run : Run) → running failed.runner log ≡ Some task
+  pub not_done : (start : Setup) (log : List Line) (task : Task) (failed : FailedCommit) (run : Run) → running failed.runner log ≡ Some task
       → run_on task.program (reads_of start log failed.runner task) ≡ Ended run → run.end ≢ Done → IsRealFailure start log failed → ⊥
   -- a failed commit of a program that still wants a key
-  pub still_wants : (start : ℕ) (log : List Line) (task : Task) (failed : FailedCommit) (key : List ℕ) (trace : List TraceItem)
+  pub still_wants : (start : Setup) (log : List Line) (task : Task) (failed : FailedCommit) (key : List ℕ) (trace : List TraceItem)
       → running failed.runner log ≡ Some task → run_on task.program (reads_of start log failed.runner task) ≡ Wants key trace
       → IsRealFailure start log failed → ⊥
   -- a failed commit at ReadCommitted, where nothing is compared
-  pub not_compared : (start : ℕ) (log : List Line) (task : Task) (failed : FailedCommit) → running failed.runner log ≡ Some task
+  pub not_compared : (start : Setup) (log : List Line) (task : Task) (failed : FailedCommit) → running failed.runner log ≡ Some task
       → task.level ≡ ReadCommitted → IsRealFailure start log failed → ⊥
   -- a conflict over a key that was never read, at a level that compares nothing else
-  pub never_read : (start : ℕ) (log : List Line) (task : Task) (failed : FailedCommit) → running failed.runner log ≡ Some task
+  pub never_read : (start : Setup) (log : List Line) (task : Task) (failed : FailedCommit) → running failed.runner log ≡ Some task
       → task.level ≢ SerializableSnapshot → answer_in failed.key (reads_of start log failed.runner task) ≡ None → IsRealFailure start log failed → ⊥
   -- a conflict over a key that was neither read nor written
-  pub never_touched : (start : ℕ) (log : List Line) (task : Task) (failed : FailedCommit) (run : Run) → running failed.runner log ≡ Some task
+  pub never_touched : (start : Setup) (log : List Line) (task : Task) (failed : FailedCommit) (run : Run) → running failed.runner log ≡ Some task
       → run_on task.program (reads_of start log failed.runner task) ≡ Ended run → answer_in failed.key (reads_of start log failed.runner task) ≡ None
       → is_written failed.key run.writes ≡ false → IsRealFailure start log failed → ⊥
   -- a conflict over a key that is as it was seen
-  pub as_it_was : (start : ℕ) (log : List Line) (failed : FailedCommit) → failed.now_modified ≡ failed.seen → IsRealFailure start log failed → ⊥
+  pub as_it_was : (start : Setup) (log : List Line) (failed : FailedCommit) → failed.now_modified ≡ failed.seen → IsRealFailure start log failed → ⊥
   -- a conflict over a key that is present, and was modified below what was seen of it
-  pub not_above : (start : ℕ) (log : List Line) (failed : FailedCommit) → 0 < failed.now_modified → failed.now_modified ≤ failed.seen
+  pub not_above : (start : Setup) (log : List Line) (failed : FailedCommit) → 0 < failed.now_modified → failed.now_modified ≤ failed.seen
       → IsRealFailure start log failed → ⊥
   -- more failures of a run than revisions since its start
-  pub more_failures_than_growth : (start : ℕ) (events : List WorldEvent) (log : List Line) (id : ℕ) (task : Task) → start ≤ HIGHEST_REVISION
+  pub more_failures_than_growth : (start : Setup) (events : List WorldEvent) (log : List Line) (id : ℕ) (task : Task) → start.revision ≤ HIGHEST_REVISION
       → begun id log ≡ Some task → now (store start log).history < since start id log + failed_commits id log
       → IsLogOf events (replies_to events (opened start)) log → ⊥
   -- an abort or a fault of a runner that was not started, or has ended
-  pub stop_of_none : (start : ℕ) (log : List Line) (stopped : Stopped) → running stopped.runner log ≡ None → IsRealStop start log stopped → ⊥
+  pub stop_of_none : (start : Setup) (log : List Line) (stopped : Stopped) → running stopped.runner log ≡ None → IsRealStop start log stopped → ⊥
   -- an abort or a fault, at a serializable level, on answers that show two revisions
-  pub torn_read : (start : ℕ) (log : List Line) (task : Task) (stopped : Stopped) (key other : List ℕ) (a b : ReadAnswer)
+  pub torn_read : (start : Setup) (log : List Line) (task : Task) (stopped : Stopped) (key other : List ℕ) (a b : ReadAnswer)
       → running stopped.runner log ≡ Some task → is_serializable task.level ≡ true → answer_in key (reads_of start log stopped.runner task) ≡ Some a
       → answer_in other (reads_of start log stopped.runner task) ≡ Some b → a.of_rev ≢ b.of_rev → IsRealStop start log stopped → ⊥
   -- an abort or a fault, at a serializable level, to which the program alone on the state at that revision does not come
-  pub another_end : (start : ℕ) (log : List Line) (task : Task) (stopped : Stopped) (run : Run) → running stopped.runner log ≡ Some task
+  pub another_end : (start : Setup) (log : List Line) (task : Task) (stopped : Stopped) (run : Run) → running stopped.runner log ≡ Some task
       → is_serializable task.level ≡ true
       → run_over (state_as_of (store start log).history (revision_read (store start log).history (base_of (reads_of start log stopped.runner task))))
       task.program.statements ≡ Ended run → run.end ≢ stopped.end → IsRealStop start log stopped → ⊥

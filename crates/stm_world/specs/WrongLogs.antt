@@ -13,20 +13,24 @@ use Rattle.stm_watch.specs.Watching.{Watching}
 use Rattle.stm_watch.specs.Pending.{pending}
 use Rattle.stm_watch.specs.Calls.{watcher_at}
 use Rattle.stm_attempt.specs.Settled.{run_on}
+use Rattle.stm_attempt.specs.Entering.{is_due}
 use Rattle.stm_attempt.specs.Fetches.{at_of}
 use Rattle.stm_world.specs.declared.event.WorldEvent.{WorldEvent}
 use Rattle.stm_world.specs.declared.event.WorldEvent.TheVariants.{Start, Step, Poll, Compact}
 use Rattle.stm_world.specs.declared.reply.Reply.{Reply}
-use Rattle.stm_world.specs.declared.reply.Reply.TheVariants.{Started, Fetched, Committed, Conflict, GaveUp, Aborted, Faulted, Ended as EndedReply, Batch, Compacted, Lost}
+use Rattle.stm_world.specs.declared.reply.Reply.TheVariants.{Started, Prefetched, Fetched, Committed, Conflict, GaveUp, Aborted, Faulted, Ended as EndedReply, Batch, Compacted, Lost}
+use Rattle.stm_world.specs.declared.reply.KeyRead.{KeyRead}
 use Rattle.stm_world.specs.declared.refusal.Denied.{Denied}
 use Rattle.stm_world.specs.Task.{Task}
 use Rattle.stm_world.specs.Log.{Line, begun, running, store, told}
 use Rattle.stm_world.specs.Right.{IsRight, AreRight}
 use Rattle.stm_world.specs.World.{World}
 use Rattle.stm_world.specs.Headline.{Holds}
+use Rattle.stm_txn.specs.Standing.{Setup}
 
 -- the runner of whose step a reply tells
 abbrev pub runner_told : Reply → Option ℕ
+runner_told (Prefetched runner revision reads) = Some runner
 runner_told (Fetched runner key mod_rev of_rev revision) = Some runner
 runner_told (Committed runner revision attempts output trace answers) = Some runner
 runner_told (Conflict runner key seen now) = Some runner
@@ -38,56 +42,70 @@ runner_told other = None
 
 pub record WrongLogs : Type 0 where
   -- a world that answers no event, whatever it has come to
-  pub no_answer : (start : ℕ) (event : WorldEvent) (events : List WorldEvent) (w : World) → Holds start (event ∷ events) [] w → ⊥
+  pub no_answer : (start : Setup) (event : WorldEvent) (events : List WorldEvent) (w : World) → Holds start (event ∷ events) [] w → ⊥
   -- a world that stops answering before the last event, or answers what was not asked
-  pub not_each_answered : (start : ℕ) (events : List WorldEvent) (replies : List (Result Reply Denied)) (w : World) → length replies ≢ length events
+  pub not_each_answered : (start : Setup) (events : List WorldEvent) (replies : List (Result Reply Denied)) (w : World) → length replies ≢ length events
       → Holds start events replies w → ⊥
   -- a runner that runs is not refused a step, for NoRunner or anything else
-  pub causeless_refusal : (start : ℕ) (log : List Line) (id : ℕ) (task : Task) (refusal : Denied) → running id log ≡ Some task
+  pub causeless_refusal : (start : Setup) (log : List Line) (id : ℕ) (task : Task) (refusal : Denied) → running id log ≡ Some task
       → IsRight start log (Step id) (Err refusal) → ⊥
   -- a start that may send a commit is not refused
-  pub refused_start : (start : ℕ) (log : List Line) (program : ProgramTree) (level : Level) (limit : ℕ) (refusal : Denied) → limit ≢ 0
+  pub refused_start : (start : Setup) (log : List Line) (program : ProgramTree) (level : Level) (limit : ℕ) (refusal : Denied) → limit ≢ 0
       → IsRight start log (Start program level limit) (Err refusal) → ⊥
   -- a number that a start was given is given to no other
-  pub number_given_twice : (start : ℕ) (log : List Line) (id : ℕ) (task : Task) (program : ProgramTree) (level : Level) (limit : ℕ)
+  pub number_given_twice : (start : Setup) (log : List Line) (id : ℕ) (task : Task) (program : ProgramTree) (level : Level) (limit : ℕ)
       → AreRight start log → begun id log ≡ Some task → IsRight start log (Start program level limit) (Ok (Started id)) → ⊥
   -- a runner that was not started, or has ended, has no step
-  pub step_of_none : (start : ℕ) (log : List Line) (id : ℕ) (reply : Reply) → running id log ≡ None → IsRight start log (Step id) (Ok reply) → ⊥
+  pub step_of_none : (start : Setup) (log : List Line) (id : ℕ) (reply : Reply) → running id log ≡ None → IsRight start log (Step id) (Ok reply) → ⊥
   -- a step of a runner is told of no other runner
-  pub another_runner : (start : ℕ) (log : List Line) (id runner : ℕ) (reply : Reply) → runner_told reply ≡ Some runner → runner ≢ id
+  pub another_runner : (start : Setup) (log : List Line) (id runner : ℕ) (reply : Reply) → runner_told reply ≡ Some runner → runner ≢ id
       → IsRight start log (Step id) (Ok reply) → ⊥
   -- a program that is done on what it was told has not aborted
-  pub another_abort : (start : ℕ) (log : List Line) (id : ℕ) (task : Task) (run : Run) (text : List ℕ) → running id log ≡ Some task
+  pub another_abort : (start : Setup) (log : List Line) (id : ℕ) (task : Task) (run : Run) (text : List ℕ) → running id log ≡ Some task
       → run_on task.program (told start id task log).reads ≡ Ended run → run.end ≡ Done
       → IsRight start log (Step id) (Ok (Aborted id text)) → ⊥
   -- a watcher that is there is not refused a poll, for NoWatcher or anything else
-  pub refused_poll : (start : ℕ) (log : List Line) (id most : ℕ) (w : Watching) (refusal : Denied)
+  pub refused_poll : (start : Setup) (log : List Line) (id most : ℕ) (w : Watching) (refusal : Denied)
       → watcher_at id (store start log).watchers ≡ Some w → IsRight start log (Poll id most) (Err refusal) → ⊥
   -- a watcher that was not made, or was cancelled, has no batch
-  pub poll_of_none : (start : ℕ) (log : List Line) (id most : ℕ) (reply : Reply) → watcher_at id (store start log).watchers ≡ None
+  pub poll_of_none : (start : Setup) (log : List Line) (id most : ℕ) (reply : Reply) → watcher_at id (store start log).watchers ≡ None
       → IsRight start log (Poll id most) (Ok reply) → ⊥
   -- a poll of a watcher is told of no other watcher
-  pub another_watcher : (start : ℕ) (log : List Line) (id most watcher upto : ℕ) (events : List Event) → watcher ≢ id
+  pub another_watcher : (start : Setup) (log : List Line) (id most watcher upto : ℕ) (events : List Event) → watcher ≢ id
       → IsRight start log (Poll id most) (Ok (Batch watcher upto events)) → ⊥
   -- where no events are pending, none is told
-  pub event_not_pending : (start : ℕ) (log : List Line) (id most upto : ℕ) (w : Watching) (event : Event) (events : List Event)
+  pub event_not_pending : (start : Setup) (log : List Line) (id most upto : ℕ) (w : Watching) (event : Event) (events : List Event)
       → watcher_at id (store start log).watchers ≡ Some w → pending (store start log).history w ≡ []
       → IsRight start log (Poll id most) (Ok (Batch id upto (event ∷ events))) → ⊥
   -- a watcher that is lost is told so: it does not pass over what was compacted
-  pub batch_of_lost : (start : ℕ) (log : List Line) (id most watcher upto : ℕ) (w : Watching) (events : List Event)
+  pub batch_of_lost : (start : Setup) (log : List Line) (id most watcher upto : ℕ) (w : Watching) (events : List Event)
       → watcher_at id (store start log).watchers ≡ Some w → w.lost ≡ true → IsRight start log (Poll id most) (Ok (Batch watcher upto events)) → ⊥
   -- and no other is
-  pub not_lost : (start : ℕ) (log : List Line) (id most watcher floor : ℕ) (w : Watching) → watcher_at id (store start log).watchers ≡ Some w
+  pub not_lost : (start : Setup) (log : List Line) (id most watcher floor : ℕ) (w : Watching) → watcher_at id (store start log).watchers ≡ Some w
       → w.lost ≡ false → IsRight start log (Poll id most) (Ok (Lost watcher floor)) → ⊥
   -- at a base that is compacted nothing is fetched
-  pub fetch_below : (start : ℕ) (log : List Line) (id : ℕ) (task : Task) (key : List ℕ) (mod_rev of_rev revision : ℕ) → running id log ≡ Some task
+  pub fetch_below : (start : Setup) (log : List Line) (id : ℕ) (task : Task) (key : List ℕ) (mod_rev of_rev revision : ℕ) → running id log ≡ Some task
       → is_below_floor (store start log).floor (at_of task.level (told start id task log).reads) ≡ true
       → IsRight start log (Step id) (Ok (Fetched id key mod_rev of_rev revision)) → ⊥
   -- at one that is not, the store refuses no fetch
-  pub refused_fetch : (start : ℕ) (log : List Line) (id : ℕ) (task : Task) (key : List ℕ) (trace : List TraceItem) (cause : StoreRefusal)
-      → running id log ≡ Some task → run_on task.program (told start id task log).reads ≡ Wants key trace
+  pub refused_fetch : (start : Setup) (log : List Line) (id : ℕ) (task : Task) (key : List ℕ) (trace : List TraceItem) (cause : StoreRefusal)
+      → running id log ≡ Some task → is_due task.program.prefetch (told start id task log).reads ≡ false
+      → run_on task.program (told start id task log).reads ≡ Wants key trace
       → is_below_floor (store start log).floor (at_of task.level (told start id task log).reads) ≡ false
       → IsRight start log (Step id) (Ok (EndedReply id cause)) → ⊥
+  -- a list that is read is not fetched again
+  pub list_again : (start : Setup) (log : List Line) (id : ℕ) (task : Task) (revision : ℕ) (reads : List KeyRead) → running id log ≡ Some task
+      → is_due task.program.prefetch (told start id task log).reads ≡ false → IsRight start log (Step id) (Ok (Prefetched id revision reads)) → ⊥
+  -- nor is a part of it told as the list
+  pub part_of_list : (start : Setup) (log : List Line) (id : ℕ) (task : Task) (revision : ℕ) (reads : List KeyRead) → running id log ≡ Some task
+      → length reads ≢ length task.program.prefetch → IsRight start log (Step id) (Ok (Prefetched id revision reads)) → ⊥
+  -- before its list is read, a program has no other read
+  pub read_before_list : (start : Setup) (log : List Line) (id : ℕ) (task : Task) (key : List ℕ) (mod_rev of_rev revision : ℕ) → running id log ≡ Some task
+      → is_due task.program.prefetch (told start id task log).reads ≡ true
+      → IsRight start log (Step id) (Ok (Fetched id key mod_rev of_rev revision)) → ⊥
+  -- and it does not abort
+  pub abort_before_list : (start : Setup) (log : List Line) (id : ℕ) (task : Task) (text : List ℕ) → running id log ≡ Some task
+      → is_due task.program.prefetch (told start id task log).reads ≡ true → IsRight start log (Step id) (Ok (Aborted id text)) → ⊥
   -- no compaction goes back
-  pub compacted_again : (start : ℕ) (log : List Line) (revision at : ℕ) → revision ≤ (store start log).floor
+  pub compacted_again : (start : Setup) (log : List Line) (revision at : ℕ) → revision ≤ (store start log).floor
       → IsRight start log (Compact revision) (Ok (Compacted at)) → ⊥

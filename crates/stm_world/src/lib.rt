@@ -12,7 +12,7 @@ mod reply;
 
 pub use event::WorldEvent;
 pub use refusal::{Denied, Refusal};
-pub use reply::Reply;
+pub use reply::{KeyRead, Reply};
 pub use stm_entries::Entry;
 pub use stm_history::{ReadAnswer, Sequence, Text};
 pub use stm_keys::Event;

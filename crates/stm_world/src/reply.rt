@@ -4,12 +4,28 @@ use stm_keys::Event;
 use stm_meaning::{Fault, TraceItem, Value};
 use stm_txn::{Expired, Refusal, TxnAnswer};
 
+/// A key that was read, and its modification revision: 0 where it is absent.
+#[derive(Clone, Debug, Drop)]
+pub struct KeyRead {
+    /// The key.
+    pub key: Text,
+    /// Its modification revision.
+    pub mod_rev: u64,
+}
+
 /// The reply to an event that was taken.
 #[derive(Debug, Drop)]
 pub enum Reply {
     /// A runner was started.
     Started {
         runner: u64,
+    },
+    /// A step fetched the keys of the program's list, in the list's order: the revision that all of them show, and the modification revision of
+    /// each.
+    Prefetched {
+        runner: u64,
+        revision: u64,
+        reads: Sequence<KeyRead>,
     },
     /// A step fetched a key: its modification revision (0 where it is absent), the revision that the
     /// answer shows, and the one that it carries.

@@ -49,7 +49,7 @@ struct Holding {
     answered: AtomicBool,
     /// A sign that was waited for never came.
     serial: AtomicBool,
-    /// How many keys job 0 has fetched.
+    /// How often job 0 has fetched a key or a list.
     fetches: AtomicU64,
 }
 
@@ -277,6 +277,12 @@ const READ_Q: &str = r#"[["put","p",["get","q"],0]]"#;
 
 const EXTEND_P: &str = r#"[["put","p",["cat",["get","p"],"x"],0]]"#;
 
+const LISTED_P: &str = r#"[["prefetch",["p"]],["put","p","1",0]]"#;
+
+const LISTED_Q: &str = r#"[["prefetch",["q"]],["put","q","1",0]]"#;
+
+const LISTED_READS: &str = r#"[["prefetch",["q","r"]],["put","p",["get","q"],0]]"#;
+
 const PUT_BOTH: &str = r#"[["put","a","1",0],["put","b","1",0]]"#;
 
 const READ_BOTH: &str = r#"[["abort",["cat",["get","a"],["get","b"]]]]"#;
@@ -295,6 +301,74 @@ fn one_worker_runs_one_job_after_another(rt: HostRuntime) -> Result<(), Fail> {
     let expected =
         "serial: 2 committed, revision 3, p is 1, 0 fetched, 1 attempts, commit 0 at 2; ";
     is_told(&rt, rt.alloc(), &holding, (PUT_P, PUT_Q), 1, 1, expected)
+}
+
+// Each job has a list of one key, which is fetched before its commit.
+#[test]
+fn two_workers_with_lists_are_at_work_at_once(rt: HostRuntime) -> Result<(), Fail> {
+    let holding = Holding::new(Place::Commit, MANY_TURNS);
+    let expected =
+        "at once: 2 committed, revision 3, p is 1, 1 fetched, 1 attempts, commit 1 at 3; ";
+    is_told(
+        &rt,
+        rt.alloc(),
+        &holding,
+        (LISTED_P, LISTED_Q),
+        1,
+        2,
+        expected,
+    )
+}
+
+#[test]
+fn one_worker_runs_one_job_with_a_list_after_another(rt: HostRuntime) -> Result<(), Fail> {
+    let holding = Holding::new(Place::Commit, FEW_TURNS);
+    let expected =
+        "serial: 2 committed, revision 3, p is 1, 1 fetched, 1 attempts, commit 0 at 2; ";
+    is_told(
+        &rt,
+        rt.alloc(),
+        &holding,
+        (LISTED_P, LISTED_Q),
+        1,
+        1,
+        expected,
+    )
+}
+
+// No lock is held before the fetch of a list, which is one fetch for all its keys. Job 0 reads what job 1 put.
+#[test]
+fn no_lock_is_held_before_the_fetch_of_a_list(rt: HostRuntime) -> Result<(), Fail> {
+    let holding = Holding::new(Place::Fetch, MANY_TURNS);
+    let expected =
+        "at once: 2 committed, revision 3, p is 1, 1 fetched, 1 attempts, commit 1 at 3; ";
+    is_told(
+        &rt,
+        rt.alloc(),
+        &holding,
+        (LISTED_READS, PUT_Q),
+        1,
+        2,
+        expected,
+    )
+}
+
+// Job 1 puts a key of the list of job 0 before that sends its commit. The next attempt has the list from the answers that came with the failed
+// commit, so it is fetched once.
+#[test]
+fn a_list_is_taken_from_the_answers_of_a_failed_commit(rt: HostRuntime) -> Result<(), Fail> {
+    let holding = Holding::new(Place::CommitOnceBothStand, MANY_TURNS);
+    let expected =
+        "at once: 2 committed, revision 3, p is 1, 1 fetched, 2 attempts, commit 1 at 3; ";
+    is_told(
+        &rt,
+        rt.alloc(),
+        &holding,
+        (LISTED_READS, PUT_Q),
+        2,
+        2,
+        expected,
+    )
 }
 
 // Job 0 is about to fetch while job 1 commits, so no lock is held there. It reads what job 1 put.

@@ -1,5 +1,5 @@
 //! Reading statements and blocks.
-ghost use Rattle.std.specs.Prelude.{◌≡◌};
+ghost use Rattle.std.specs.Prelude.{◌≡◌, ◌≤◌};
 ghost use Rattle.serde_json.specs.View.{view, items_view};
 ghost use Rattle.stm_program.specs.BlockView.{block_of};
 ghost use Rattle.stm_json.specs.Elements.{one_of, two_of, three_of, four_of, worded};
@@ -65,24 +65,27 @@ pub(crate) fn statements(
     ensures { Tells (λ x. (block_of x.0.items, x.1)) result (block_by (statement_at levels) room (view value.now)) }
 {
     match value.as_array() {
-        Some(values) => statement_list(alloc, values.as_slice(), levels, room),
+        Some(values) => statement_list(alloc, values.as_slice(), 0, levels, room),
         None => Err(fault(alloc, Cause::Shape)),
     }
 }
 
+/// Statements, of which the first one is the element of an array at this index.
 #[cycle(read_statements)]
-fn statement_list(
+pub(crate) fn statement_list(
     alloc: Global,
     values: &[Value],
+    first: usize,
     levels: usize,
     room: usize,
 ) -> Result<(Vec<Stmt>, usize), ReadError>
-    ensures { Tells (λ x. (block_of x.0.items, x.1)) result (statements_from (statement_at levels) 0 room (items_view values.now)) }
+    requires { first ≤ 1 }
+    ensures { Tells (λ x. (block_of x.0.items, x.1)) result (statements_from (statement_at levels) first room (items_view values.now)) }
 {
     let mut statements = Vec::new(alloc);
     let mut left = room;
     for (index, value) in values.iter().enumerate() {
-        let (statement, rest) = statement_part(alloc, index, value, levels, left)?;
+        let (statement, rest) = statement_part(alloc, index + first, value, levels, left)?;
         statements.push(statement)?;
         left = rest;
     }

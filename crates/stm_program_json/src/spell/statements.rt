@@ -1,10 +1,10 @@
 //! Writing statements and blocks.
-ghost use Rattle.std.specs.Prelude.{◌≡◌, codes, IfOk};
+ghost use Rattle.std.specs.Prelude.{◌≡◌, codes, map, IfOk};
 ghost use Rattle.serde_json.specs.Data.{array};
 ghost use Rattle.serde_json.specs.View.{view};
 ghost use Rattle.stm_program.specs.BlockView.{block_of};
 ghost use Rattle.stm_program.specs.Syntax as tree;
-ghost use Rattle.stm_program_json.specs.Writing.{written_statement, written_block};
+ghost use Rattle.stm_program_json.specs.Writing.{items_after, written_statement, written_statements, written_block};
 
 use crate::spell::arrays::{four_parts, one_part, three_parts, two_parts};
 use crate::spell::expressions::{condition_value, expression_value};
@@ -93,7 +93,19 @@ fn block_value(alloc: Global, block: &Block) -> Result<Value, AllocError>
 pub(crate) fn statements_value(alloc: Global, statements: &[Stmt]) -> Result<Value, AllocError>
     ensures { IfOk result (λ v. view v ≡ written_block (block_of statements.now)) }
 {
-    let mut values = Vec::new(alloc);
+    statements_behind(alloc, Vec::new(alloc), statements)
+}
+
+/// The array of these values, and of statements behind them.
+#[cycle(write_statements)]
+pub(crate) fn statements_behind(
+    alloc: Global,
+    before: Vec<Value>,
+    statements: &[Stmt],
+) -> Result<Value, AllocError>
+    ensures { IfOk result (λ v. view v ≡ array (items_after (map view before.items) (written_statements (block_of statements.now)))) }
+{
+    let mut values = before;
     for statement in statements {
         let value = statement_value(alloc, statement)?;
         values.push(value)?;

@@ -28,7 +28,7 @@ returns-in-Ok-clause-next c =
     let n = c.args.number in
     let l = c.args.line.now in
     led_where c.is_txn.result (txn_line n c.in-Ok.answer) l (txn_entries (now s.history) c.args.txn.now) s next s.moment c.is_txn.ensures
-    (txn_led n s next c.args.txn.now c.in-Ok.answer c.in-Ok.ensures.step)
+    (txn_led n s next c.args.txn.now c.in-Ok.answer c.limit-few.ensures.few c.in-Ok.ensures.step)
 
 pub returns-in-Err-clause-right : goal.returns-in-Err-clause-right
 returns-in-Err-clause-right c =

@@ -22,7 +22,7 @@ returns-in-Ok-clause-answer c =
     let s : Standing = c.args.store.now.standing in
     let is : c.revision-counter.result ≡ now s.history = c.revision-counter.ensures.value ∙ ap now c.keys.ensures.history in
     let reached : c.args.seen ≤ now s.history = omega (arith, is, c.if-counter-seen.false) in
-    tells_read s c.args.seen c.args.key.now c.args.at c.in-Ok.answer reached c.in-Ok.ensures.told
+    tells_read s c.args.seen c.args.key.now c.args.at c.in-Ok.answer c.limit-takes_one.ensures.some reached c.in-Ok.ensures.told
 
 pub returns-in-Ok-clause-seen : goal.returns-in-Ok-clause-seen
 returns-in-Ok-clause-seen c =
@@ -35,4 +35,4 @@ returns-in-Err-clause-answer c =
     let s : Standing = c.args.store.now.standing in
     let is : c.revision-counter.result ≡ now s.history = c.revision-counter.ensures.value ∙ ap now c.keys.ensures.history in
     let reached : c.args.seen ≤ now s.history = omega (arith, is, c.if-counter-seen.false) in
-    tells_read_refused s c.args.seen c.args.key.now c.args.at c.in-Err.cause reached c.in-Err.ensures.told
+    tells_read_refused s c.args.seen c.args.key.now c.args.at c.in-Err.cause c.limit-takes_one.ensures.some reached c.in-Err.ensures.told

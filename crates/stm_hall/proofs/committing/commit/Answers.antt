@@ -1,5 +1,4 @@
 use Rattle.std.proofs.Common.{◌∙◌, List, map, sym, ap, subst}
-use Rattle.stm_history.specs.History.{History}
 use Rattle.stm_txn.specs.Standing.{Standing}
 use Rattle.stm_entries.specs.declared.entry.Entry.{Entry}
 use Rattle.stm_compile.specs.Now.{as_change}
@@ -12,9 +11,7 @@ use Rattle.stm_hall.proofs.committing.commit.Goals as goal
 -- nothing turns it down
 pub make-requires-clause-clear : goal.make-requires-clause-clear
 make-requires-clause-clear c =
-    let h : History = c.args.store.now.standing.history in
-    ap (cause_of h) c.into_parts-ready.ensures.ready
-    ∙ ap (λ (x : History). cause_of x c.args.prepared) (sym c.keys.ensures.history)
+    ap (cause_of c.args.store.now.standing) c.into_parts-ready.ensures.ready
     ∙ sym c.find_cause.ensures.cause
     ∙ c.in-None.is
 
@@ -34,9 +31,7 @@ returns-in-None-clause-verdict c =
 -- a cause was found
 pub turn_down-told-requires : goal.turn_down-told-requires
 turn_down-told-requires c =
-    let h : History = c.args.store.now.standing.history in
-    ap (cause_of h) c.attempt.ensures
-    ∙ ap (λ (x : History). cause_of x c.args.prepared) (sym c.keys.ensures.history)
+    ap (cause_of c.args.store.now.standing) c.attempt.ensures
     ∙ sym c.find_cause.ensures.cause
     ∙ c.in-Some.is
 

@@ -1,10 +1,9 @@
-use Rattle.std.proofs.Common.{◌≡◌, None, sym, ◌∙◌, ap, subst}
+use Rattle.std.proofs.Common.{◌≤◌, length, sym, ◌∙◌, ap, subst}
 use Rattle.stm_history.specs.History.{key_now}
 use Rattle.stm_program.specs.declared.level.Level.{Level}
-use Rattle.stm_outcome.specs.Checks.{fault_of}
 use Rattle.stm_outcome.specs.Compares.{first_failed}
 use Rattle.stm_outcome.specs.Terms.{most_operations}
-use Rattle.stm_compile.specs.CommitTxn.{compares_of, commit_of}
+use Rattle.stm_compile.specs.CommitTxn.{compares_of}
 use Rattle.stm_attempt.specs.ReadyRun.{ReadyRun}
 use Rattle.stm_hall.specs.Verdicts.{txn_of}
 use Rattle.stm_hall.proofs.WholeFaults.{few_compares}
@@ -14,8 +13,8 @@ use Rattle.stm_hall.proofs.conflicts.find_conflict.Goals as goal
 pub find_either-requires : goal.find_either-requires
 find_either-requires c =
     few_compares most_operations c.ready.inside.answers c.ready.inside.writes
-    (subst (λ (l : Level). fault_of most_operations (commit_of l c.ready.inside.answers c.ready.inside.writes) ≡ None) c.in-SerializableSnapshot.is
-    (subst (λ (r : ReadyRun). fault_of most_operations (txn_of r) ≡ None) (sym c.ready.view_is) c.requires))
+    (subst (λ (l : Level). length (compares_of l c.ready.inside.answers c.ready.inside.writes) ≤ most_operations) c.in-SerializableSnapshot.is
+    (subst (λ (r : ReadyRun). length (txn_of r).compares ≤ most_operations) (sym c.ready.view_is) c.requires))
 
 pub returns-in-SerializableSnapshot : goal.returns-in-SerializableSnapshot
 returns-in-SerializableSnapshot c =

@@ -6,6 +6,6 @@ use Rattle.stm_hall.proofs.prepared.prepare.Goals as goal
 pub invariant_of-result : goal.invariant_of-result
 invariant_of-result c = record {
   run = subst IsRunOnItsAnswers c.ready.view_is c.ready.invariant;
-  wrong = c.find_fault-fault.ensures;
+  names = c.names_empty_key-has_empty.ensures;
   written = c.in-Ok.ensures ∙ ap (λ (r : ReadyRun). map as_change r.writes) c.ready.view_is;
 }

@@ -1,13 +1,41 @@
-use Rattle.std.proofs.Common.{◌≡◌, ◌≤◌, List, ℕ, Ok, sym, ◌∙◌, ap, subst}
+use Rattle.std.proofs.Common.{◌≡◌, ◌≤◌, List, ℕ, Some, Ok, sym, ◌∙◌, ap, subst}
 use Rattle.stm_history.specs.History.{now}
+use Rattle.stm_outcome.specs.Commits.{AreNamed as KeysAreNamed}
 use Rattle.stm_txn.specs.Standing.{Standing}
-use Rattle.stm_attempt.specs.declared.next.Next.TheVariants.{Fetch, Ready, Aborted, Faulted}
-use Rattle.stm_calls.specs.Fetched.{fetch_told}
+use Rattle.stm_attempt.specs.declared.next.Next.TheVariants.{FetchAll, Fetch, Ready, Aborted, Faulted}
+use Rattle.stm_attempt.specs.Next.{list_asked}
+use Rattle.stm_calls.specs.Fetched.{fetch_told, fetch_all_told}
 use Rattle.stm_world.specs.World.{Runner}
 use Rattle.stm_retry.specs.RunnerView.{next_for}
-use Rattle.stm_retry.specs.RunnerTells.{workplace, after_told_fetch}
-use Rattle.stm_retry.proofs.StepLemmas.{is_wanting, wanted_is_named, fetch_leaves, ready_leaves, has_aborted, has_faulted, end_leaves}
+use Rattle.stm_retry.specs.RunnerTells.{workplace, after_told_fetch, told_of_list, after_told_list}
+use Rattle.stm_retry.proofs.StepLemmas.{is_listing, list_leaves, is_wanting, wanted_is_named, fetch_leaves, ready_leaves, has_aborted, has_faulted, end_leaves}
 use Rattle.stm_retry.proofs.runner_steps.step_live.Goals as goal
+
+pub fetch_list-requires-clause-asked : goal.fetch_list-requires-clause-asked
+fetch_list-requires-clause-asked c =
+    c.in_ok-next.ensures.list ∙ ap list_asked c.in-FetchAll.is ∙ ap (λ (l : List (List ℕ)). Some l) (sym c.as_slice.ensures)
+
+pub fetch_list-requires-clause-named : goal.fetch_list-requires-clause-named
+fetch_list-requires-clause-named c =
+    let r : Runner = c.args.runner.now.runner in
+    let told : next_for r ≡ FetchAll c.in-FetchAll.keys _ = sym c.in_ok-next.ensures.next ∙ c.in-FetchAll.is in
+    subst KeysAreNamed
+    (ap (λ (q : Runner). q.task.program.prefetch) c.in_ok-next.ensures.same ∙ (is_listing r c.in-FetchAll.keys _ told).keys_are ∙ sym c.as_slice.ensures)
+    c.in_ok-next.ensures.keys
+
+pub returns-in_ok-told-in-FetchAll : goal.returns-in_ok-told-in-FetchAll
+returns-in_ok-told-in-FetchAll c =
+    let r : Runner = c.args.runner.now.runner in
+    let s : Standing = c.args.store.now.standing in
+    let keys : List (List ℕ) = c.in-FetchAll.keys in
+    let told : next_for r ≡ FetchAll keys _ = sym c.in_ok-next.ensures.next ∙ c.in-FetchAll.is in
+    list_leaves c.args.id r c.fetch_list.new.runner.runner s c.fetch_list.new.store.standing c.args.entries.now.items keys
+    c.in_ok-told-in-FetchAll.told (is_listing r keys _ told)
+    (c.in_ok-told-in-FetchAll.ensures.told ∙ ap (λ (l : List (List ℕ)). told_of_list c.args.id (now s.history) (fetch_all_told s l)) c.as_slice.ensures)
+    (c.in_ok-told-in-FetchAll.ensures.ok
+    ∙ ap (λ (l : List (List ℕ)). after_told_list (fetch_all_told s l) c.advance.new.self.runner) c.as_slice.ensures
+    ∙ ap (after_told_list (fetch_all_told s keys)) c.in_ok-next.ensures.same)
+    c.in_ok-told-in-FetchAll.ensures.store
 
 pub fetch-requires-clause-named : goal.fetch-requires-clause-named
 fetch-requires-clause-named c =

@@ -1,10 +1,11 @@
 use Rattle.std.proofs.lemmas.Result.{IfOk-weaker, IfErr-weaker}
+use Rattle.stm_texts.specs.Opens.{as_setup}
 use Rattle.stm_threading.proofs.running.run_once.Goals as goal
 
 pub returns-in-Ok-clause-shows : goal.returns-in-Ok-clause-shows
 returns-in-Ok-clause-shows g c =
-    IfOk-weaker c.text_on.result _ _ (λ text printed. printed c.args.start c.args.calls.now c.in-Ok.ensures) c.text_on.ensures.shows
+    IfOk-weaker c.text_on.result _ _ (λ text printed. printed (as_setup c.args.opening) c.args.calls.now c.in-Ok.ensures) c.text_on.ensures.shows
 
 pub returns-in-Ok-clause-fault : goal.returns-in-Ok-clause-fault
 returns-in-Ok-clause-fault g c =
-    IfErr-weaker c.text_on.result _ _ (λ fault told. told c.args.start c.args.calls.now c.in-Ok.ensures) c.text_on.ensures.fault
+    IfErr-weaker c.text_on.result _ _ (λ fault told. told (as_setup c.args.opening) c.args.calls.now c.in-Ok.ensures) c.text_on.ensures.fault

@@ -22,21 +22,21 @@ statement-returns t c =
 pub statement_list-returns-in_err-statement : goal.statement_list-returns-in_err-statement
 statement_list-returns-in_err-statement t c =
     let p = err_from_is_err_and c.from_residual.result c.from_residual.ensures.1 in
-    rw (p.1, p.2) (ends c.in_err-statement.field-0.0 (statement_at c.args.levels) c.loop-index.statements.items c.args.values.now c.loop-index.index
+    rw (p.1, p.2) (ends c.in_err-statement.field-0.0 (statement_at c.args.levels) c.loop-index.statements.items c.args.values.now c.args.first c.loop-index.index
     c.loop-index.left c.index-values-index.result
-    (statements_from (statement_at c.args.levels) 0 c.args.room (items_view c.args.values.now)) c.loop-index-test.true c.index-values-index.is
+    (statements_from (statement_at c.args.levels) c.args.first c.args.room (items_view c.args.values.now)) c.loop-index-test.true c.index-values-index.is
     c.in_err-statement.ensures c.loop-index.invariant)
 
 pub statement_list-loop-index-preserved : goal.statement_list-loop-index-preserved
 statement_list-loop-index-preserved t c =
     rw c.in_ok-push.ensures.items
-    (goes_on (statement_at c.args.levels) c.loop-index.statements.items c.args.values.now c.loop-index.index c.loop-index.left c.in_ok-statement.rest
+    (goes_on (statement_at c.args.levels) c.loop-index.statements.items c.args.values.now c.args.first c.loop-index.index c.loop-index.left c.in_ok-statement.rest
     c.index-values-index.result c.in_ok-statement.statement
-    (statements_from (statement_at c.args.levels) 0 c.args.room (items_view c.args.values.now)) c.loop-index-test.true c.index-values-index.is
+    (statements_from (statement_at c.args.levels) c.args.first c.args.room (items_view c.args.values.now)) c.loop-index-test.true c.index-values-index.is
     c.in_ok-statement.ensures c.loop-index.invariant)
 
 pub statement_list-returns : goal.statement_list-returns
 statement_list-returns t c =
-    is_done (statement_at c.args.levels) c.loop-index.statements.items c.args.values.now c.loop-index.index c.loop-index.left
-    (statements_from (statement_at c.args.levels) 0 c.args.room (items_view c.args.values.now)) (drop_all c.loop-index.index c.args.values.now (omega arith))
+    is_done (statement_at c.args.levels) c.loop-index.statements.items c.args.values.now c.args.first c.loop-index.index c.loop-index.left
+    (statements_from (statement_at c.args.levels) c.args.first c.args.room (items_view c.args.values.now)) (drop_all c.loop-index.index c.args.values.now (omega arith))
     c.loop-index.invariant

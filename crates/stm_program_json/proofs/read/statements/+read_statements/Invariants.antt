@@ -34,5 +34,5 @@ decreases-statement_array l = 8 * l.levels + 7
 -- the statements so far, and then what is read of the rest
 abbrev pub invariant-statement_list-loop-index : goal.invariant-statement_list-loop-index
 invariant-statement_list-loop-index l =
-    with_front l.statements.items (statements_from (statement_at l.fn.levels) l.index l.left (items_view (drop l.index l.values)))
-    ≡ statements_from (statement_at l.fn.levels) 0 l.fn.room (items_view l.values)
+    with_front l.statements.items (statements_from (statement_at l.fn.levels) (l.index + l.fn.first) l.left (items_view (drop l.index l.values)))
+    ≡ statements_from (statement_at l.fn.levels) l.fn.first l.fn.room (items_view l.values)

@@ -2,6 +2,7 @@ use Rattle.std.proofs.Common.{◌≡◌, ◌∙◌, ap, refl}
 use Rattle.stm_attempt.specs.AttemptState.{AttemptState, advanced}
 use Rattle.stm_world.specs.Task.{Task}
 use Rattle.stm_retry.specs.RunnerView.{RunnerView, view_of, task_of, AreNamed, IsRunner}
+use Rattle.stm_attempt.proofs.EnteringLemmas.{list_named}
 use Rattle.stm_retry.proofs.RunnerLemmas.{kept_by, advanced_runner, advanced_is_runner, named_runner}
 use Rattle.stm_retry.proofs.runner.Runner.advance.Goals as goal
 
@@ -29,3 +30,6 @@ returns-clause-named c =
     kept_by c.advance.result (λ a. AreNamed (view_of task failures a).runner.known.reads) old (advanced task.program old) c.advance.new.self
     c.advance.ensures.ok c.advance.ensures.err (named_runner task failures old c.self.invariant)
     (named_runner task failures (advanced task.program old) (advanced_is_runner task failures old c.self.invariant))
+
+pub returns-clause-keys : goal.returns-clause-keys
+returns-clause-keys c = list_named c.self.inside.program c.prefetch.ensures.fits

@@ -10,5 +10,5 @@ invariant_of-result c =
 pub returns : goal.returns
 returns c =
     store_copied c.self.inside.keys c.in-Ok-copy.keys c.self.inside.leases c.in-Ok.leases c.self.inside.watchers c.in_ok-watchers.watchers
-    c.in-Ok-copy.ensures c.in-Ok.ensures c.in_ok-watchers.ensures c.self.inside.moment
+    c.in-Ok-copy.ensures c.in-Ok.ensures c.in_ok-watchers.ensures c.self.inside.limit c.self.inside.moment
     ∙ c.self.view_is

@@ -29,9 +29,9 @@ returns-in-Ok-clause-step c =
     let keys : Contents = c.self.inside.keys in
     let above : keys.floor < c.args.revision = above_floor _ Compacted keys.floor c.args.revision c.in-Ok.ensures.compacted in
     let reached : c.args.revision ≤ now keys.history = has_come _ FutureRevision (now keys.history) c.args.revision c.in-Ok.ensures.future in
-    let next : Standing = (store_of c.raise_floor.new.self c.self.inside.leases c.self.inside.moment c.compacted.new.self).standing in
+    let next : Standing = (store_of c.self.inside.limit c.raise_floor.new.self c.self.inside.leases c.self.inside.moment c.compacted.new.self).standing in
     subst (λ (v : StoreView). raised v.standing c.args.revision ≡ done next) c.self.view_is
-    (raised_told keys c.raise_floor.new.self c.self.inside.leases c.self.inside.moment c.self.inside.watchers c.compacted.new.self c.args.revision above reached
+    (raised_told c.self.inside.limit keys c.raise_floor.new.self c.self.inside.leases c.self.inside.moment c.self.inside.watchers c.compacted.new.self c.args.revision above reached
     (c.compacted.ensures.watchings keys.history c.self.invariant.2) c.in-Ok.ensures.ok)
 
 pub returns-in-Ok-clause-present : goal.returns-in-Ok-clause-present

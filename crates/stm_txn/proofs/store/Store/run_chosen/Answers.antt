@@ -19,5 +19,5 @@ returns-clause-step c =
     came c.args.self.now.standing c.run.new.self.standing c.args.txn.now c.find_failed-failed.result c.choose.result.now c.run.result c.requires
     (sym (c.find_failed-failed.ensures ∙ ap (first_failed (key_now c.self.inside.keys.history) 0) c.as_slice.ensures
     ∙ ap (λ (s : StoreView). first_failed (key_now s.standing.history) 0 c.args.txn.now.compares) c.self.view_is))
-    (sym c.choose.ensures) c.run.ensures.ok c.run.ensures.refused c.run.ensures.floor c.run.ensures.live c.run.ensures.moment
-    c.run.ensures.watchers
+    (sym c.choose.ensures) c.run.ensures.ok c.run.ensures.refused c.run.ensures.floor c.run.ensures.limit c.run.ensures.live
+    c.run.ensures.moment c.run.ensures.watchers

@@ -11,6 +11,7 @@ returns-clause-refused c =
     let s : Standing = record {
       history = c.self.inside.keys.history;
       floor = c.self.inside.keys.floor;
+      limit = c.self.inside.limit;
       live = c.self.inside.leases.live;
       moment = c.self.inside.moment;
       watchers = watchings c.self.inside.watchers;

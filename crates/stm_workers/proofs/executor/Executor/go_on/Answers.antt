@@ -1,12 +1,13 @@
-use Rattle.stm_workers.proofs.NextLemmas.{aborted_is_not_done, faulted_is_not_done, ready_is_of, advanced_is_of, supplied_is_of, waits_for}
+use Rattle.stm_workers.proofs.NextLemmas.{aborted_is_not_done, faulted_is_not_done, ready_is_of, advanced_is_of, supplied_is_of, all_supplied_is_of, waits_for, waits_for_list, list_is_named}
 use Rattle.stm_workers.proofs.NextLemmas.{aborted_is_run, faulted_is_run, reads_taken}
-use Rattle.std.proofs.Common.{List, Some, inl, inr, refl, ap, sym, ◌∙◌}
+use Rattle.std.proofs.Common.{◌≡◌, ◌⊎◌, ℕ, List, Some, inl, inr, refl, ap, subst, sym, ◌∙◌}
 use Rattle.stm_history.specs.declared.key_state.ReadAnswer.{ReadAnswer}
 use Rattle.std.proofs.lemmas.Result.{err_from_is_err_and}
-use Rattle.stm_attempt.specs.AttemptState.{AttemptState, supplied}
+use Rattle.stm_attempt.specs.AttemptState.{AttemptState, supplied, supplied_all}
 use Rattle.stm_workers.specs.declared.stop.Stop.TheVariants.{OutOfMemory}
-use Rattle.stm_workers.specs.Attempts.{state_of}
-use Rattle.stm_workers.proofs.AttemptLemmas.{told_out, fetch_stops}
+use Rattle.stm_outcome.specs.Commits.{AreNamed}
+use Rattle.stm_workers.specs.Attempts.{state_of, AreAnswered, AreUnanswered}
+use Rattle.stm_workers.proofs.AttemptLemmas.{told_out, fetch_stops, list_stops}
 use Rattle.stm_workers.proofs.executor.Executor.go_on.Goals as goal
 
 pub advance-requires : goal.advance-requires
@@ -39,7 +40,7 @@ returns-in_ok-supply-in-Fetch-clause-attempt g c =
 -- ---- a fetch
 
 pub returns-in_ok-supply-in-Fetch-clause-fetch : goal.returns-in_ok-supply-in-Fetch-clause-fetch
-returns-in_ok-supply-in-Fetch-clause-fetch g c = λ none. record {
+returns-in_ok-supply-in-Fetch-clause-fetch g c = λ none. inl (record {
   key = c.in-Fetch.key;
   at = c.in-Fetch.at;
   wants = sym c.in_ok-next.ensures.next ∙ c.in-Fetch.is;
@@ -48,7 +49,37 @@ returns-in_ok-supply-in-Fetch-clause-fetch g c = λ none. record {
   goes_on = c.in_ok-supply-in-Fetch.ensures.ok
       ∙ ap (λ (a : AttemptState). supplied c.in_ok-answer-in-Fetch.answer a) c.in_ok-next.ensures.ok;
   sees = c.in_ok-answer-in-Fetch.ensures.seen.1;
-}
+})
+
+-- ---- a list
+
+pub ask_all-asked-requires : goal.ask_all-asked-requires
+ask_all-asked-requires g c =
+    subst AreNamed (sym c.as_slice.ensures)
+    (list_is_named c.args.job.now.program c.args.attempt.now.level c.args.attempt.now.known c.in-FetchAll.keys _ c.prefetch.ensures.fits
+    (sym c.in_ok-next.ensures.next ∙ c.in-FetchAll.is))
+
+pub supply_all-requires-clause-asked : goal.supply_all-requires-clause-asked
+supply_all-requires-clause-asked g c =
+    waits_for_list c.advance.new.self c.in_ok-next.next c.in-FetchAll.keys _ c.in_ok-answers-in-FetchAll.answers.items c.in_ok-next.ensures.list
+    c.in-FetchAll.is (c.in_ok-answers-in-FetchAll.ensures.keys ∙ c.as_slice.ensures)
+
+pub returns-in_ok-supply_all-in-FetchAll-clause-attempt : goal.returns-in_ok-supply_all-in-FetchAll-clause-attempt
+returns-in_ok-supply_all-in-FetchAll-clause-attempt g c =
+    all_supplied_is_of c.args.job.now c.in_ok-answers-in-FetchAll.answers.items c.advance.new.self _ c.in_ok-supply_all-in-FetchAll.ensures.ok
+    (advanced_is_of c.args.job.now _ _ c.in_ok-next.ensures.ok c.requires)
+
+pub returns-in_ok-supply_all-in-FetchAll-clause-fetch : goal.returns-in_ok-supply_all-in-FetchAll-clause-fetch
+returns-in_ok-supply_all-in-FetchAll-clause-fetch g c = λ none. inr (record {
+  keys = c.in-FetchAll.keys;
+  at = _;
+  wants = sym c.in_ok-next.ensures.next ∙ c.in-FetchAll.is;
+  answers = c.in_ok-answers-in-FetchAll.answers.items;
+  answered = subst (λ (l : List (List ℕ)). AreAnswered c.args.seen.now l c.in_ok-answers-in-FetchAll.answers.items c.ask_all-asked.new.seen) c.as_slice.ensures
+      c.in_ok-answers-in-FetchAll.ensures.answered;
+  goes_on = c.in_ok-supply_all-in-FetchAll.ensures.ok
+      ∙ ap (λ (a : AttemptState). supplied_all c.in_ok-answers-in-FetchAll.answers.items a) c.in_ok-next.ensures.ok;
+})
 
 pub returns-in-Ready-clause-fetch : goal.returns-in-Ready-clause-fetch
 returns-in-Ready-clause-fetch g c = λ none. absurd (cc)
@@ -99,3 +130,17 @@ pub returns-in_err-supply-in-Fetch-clause-stops : goal.returns-in_err-supply-in-
 returns-in_err-supply-in-Fetch-clause-stops g c =
     let exit = err_from_is_err_and c.from_residual-in_err-supply-in-Fetch.result c.from_residual-in_err-supply-in-Fetch.ensures.1 in
     told_out c.from_residual-in_err-supply-in-Fetch.result _ exit.0 OutOfMemory exit.1 exit.2 (inl refl)
+
+pub returns-in_err-answers-in-FetchAll-clause-stops : goal.returns-in_err-answers-in-FetchAll-clause-stops
+returns-in_err-answers-in-FetchAll-clause-stops g c =
+    let exit = err_from_is_err_and c.from_residual-in_err-answers-in-FetchAll.result c.from_residual-in_err-answers-in-FetchAll.ensures.1 in
+    told_out c.from_residual-in_err-answers-in-FetchAll.result _ exit.0 c.in_err-answers-in-FetchAll.field-0.0 exit.1 exit.2
+    (list_stops c.args.job.now (state_of c.args.attempt.now c.args.seen.now) c.in-FetchAll.keys _ _ _ (sym c.in_ok-next.ensures.next ∙ c.in-FetchAll.is)
+    (subst (λ (l : List (List ℕ)). (c.in_err-answers-in-FetchAll.field-0.0 ≡ OutOfMemory) ⊎ AreUnanswered c.args.seen.now l c.in_err-answers-in-FetchAll.field-0.0)
+    c.as_slice.ensures c.in_err-answers-in-FetchAll.ensures.refused)
+    c.in_err-answers-in-FetchAll.ensures.stopped)
+
+pub returns-in_err-supply_all-in-FetchAll-clause-stops : goal.returns-in_err-supply_all-in-FetchAll-clause-stops
+returns-in_err-supply_all-in-FetchAll-clause-stops g c =
+    let exit = err_from_is_err_and c.from_residual-in_err-supply_all-in-FetchAll.result c.from_residual-in_err-supply_all-in-FetchAll.ensures.1 in
+    told_out c.from_residual-in_err-supply_all-in-FetchAll.result _ exit.0 OutOfMemory exit.1 exit.2 (inl refl)

@@ -1,0 +1,137 @@
+-- The list of a program: its limits, its copies, and when two programs are the same.
+use Rattle.std.proofs.Common.{◌≡◌, ℕ, ◌≤◌, ◌-◌, Bool, true, false, not, List, [], ◌∷◌, ◌++◌, length, map, take, drop, get_or, String, refl, sym, ap, ◌∙◌, ◌↔◌, IsTrue, arith}
+use Rattle.std.specs.Prelude.{◌&&◌, ◌||◌, nat_lt, bytes_eq, string_bytes}
+use Rattle.std.specs.List.{AllZip, IsDistinct, AllByRecursion, list_any, each_same}
+use Rattle.std.proofs.lemmas.List.{take_rest}
+use Rattle.std.proofs.lemmas.Bool.{le-ltb, ltb-false}
+use Rattle.stm_program.specs.declared.limits.TheConstants.{MAX_PREFETCH}
+use Rattle.stm_program.specs.Syntax.{Statement, ProgramTree}
+use Rattle.stm_program.specs.BlockView.{block_of}
+use Rattle.stm_program.specs.Limits.{is_no_key, has_repeat, ListFits, fits_with}
+use Rattle.stm_program.proofs.WriteLemmas.{bytes_eq-flip, bytes_eq-same}
+
+-- ---- the limits
+
+-- what a list within the limits has none of
+pub record ListParts (keys : List (List ℕ)) : Type 0 where
+  pub few : length keys ≤ MAX_PREFETCH
+  pub named : list_any is_no_key keys ≡ false
+  pub once : has_repeat keys ≡ false
+
+no_parts : (many unnamed repeated : Bool) → (not many && not unnamed && not repeated) ≡ true → (many ≡ false) × (unnamed ≡ false) × (repeated ≡ false)
+no_parts true unnamed repeated h = absurd (cc)
+no_parts false true repeated h = absurd (cc)
+no_parts false false true h = absurd (cc)
+no_parts false false false h = (refl, refl, refl)
+
+pub list_parts : (keys : List (List ℕ)) → ListFits keys → ListParts keys
+list_parts keys fits =
+    let parts = no_parts (nat_lt MAX_PREFETCH (length keys)) (list_any is_no_key keys) (has_repeat keys) fits in
+    record { few = ltb-false MAX_PREFETCH (length keys) parts.0; named = parts.1; once = parts.2 }
+
+all_parts : (many unnamed repeated : Bool) → many ≡ false → unnamed ≡ false → repeated ≡ false → (not many && not unnamed && not repeated) ≡ true
+all_parts many unnamed repeated first second third =
+    ap (λ b. not b && not unnamed && not repeated) first ∙ ap (λ b. not b && not repeated) second ∙ ap not third
+
+pub list_whole : (keys : List (List ℕ)) → ListParts keys → ListFits keys
+list_whole keys parts =
+    all_parts (nat_lt MAX_PREFETCH (length keys)) (list_any is_no_key keys) (has_repeat keys) (le-ltb MAX_PREFETCH (length keys) parts.few) parts.named parts.once
+
+-- the statements of a program fit, whatever its list is
+pub statements_fit : (keys : List (List ℕ)) (rest : Type 0) → fits_with keys rest → rest
+statements_fit [] rest h = h
+statements_fit (key ∷ keys) rest h = h.1
+
+-- a program with a list that fits
+pub fits_behind : (keys : List (List ℕ)) (rest : Type 0) → ListFits keys → rest → fits_with keys rest
+fits_behind [] rest list h = h
+fits_behind (key ∷ keys) rest list h = (list, h)
+
+-- the empty list fits
+pub list_of_program : (keys : List (List ℕ)) (rest : Type 0) → fits_with keys rest → ListFits keys
+list_of_program [] rest h = refl
+list_of_program (key ∷ keys) rest h = h.0
+
+-- ---- distinct keys
+
+neither : (b c : Bool) → (b || c) ≡ false → (b ≡ false) × (c ≡ false)
+neither true c h = absurd (cc)
+neither false c h = (refl, h)
+
+apart : (key : List ℕ) (later : List (List ℕ)) → list_any (bytes_eq key) later ≡ false → AllByRecursion (λ other. bytes_eq key other ≡ false) later
+apart key [] none = tt
+apart key (other ∷ later) none =
+    let parts = neither (bytes_eq key other) (list_any (bytes_eq key) later) none in (parts.0, apart key later parts.1)
+
+pub once-distinct : (keys : List (List ℕ)) → has_repeat keys ≡ false → IsDistinct bytes_eq keys
+unfolding IsDistinct
+once-distinct [] once = tt
+once-distinct (key ∷ later) once =
+    let parts = neither (list_any (bytes_eq key) later) (has_repeat later) once in (apart key later parts.0, once-distinct later parts.1)
+
+-- a key more, which is none of those before it
+neither_of : (b c : Bool) → b ≡ false → c ≡ false → (b || c) ≡ false
+neither_of b c first second = ap (λ x. x || c) first ∙ second
+
+none-push : (key new : List ℕ) (later : List (List ℕ)) → list_any (bytes_eq key) later ≡ false → bytes_eq key new ≡ false
+    → list_any (bytes_eq key) (later ++ new ∷ []) ≡ false
+none-push key new [] none other = neither_of (bytes_eq key new) false other refl
+none-push key new (x ∷ later) none other =
+    let parts = neither (bytes_eq key x) (list_any (bytes_eq key) later) none in
+    neither_of (bytes_eq key x) (list_any (bytes_eq key) (later ++ new ∷ [])) parts.0 (none-push key new later parts.1 other)
+
+pub once-push : (key : List ℕ) (keys : List (List ℕ)) → list_any (bytes_eq key) keys ≡ false → has_repeat keys ≡ false → has_repeat (keys ++ key ∷ []) ≡ false
+once-push key [] new once = refl
+once-push key (k ∷ later) new once =
+    let none = neither (bytes_eq key k) (list_any (bytes_eq key) later) new in
+    let parts = neither (list_any (bytes_eq k) later) (has_repeat later) once in
+    neither_of (list_any (bytes_eq k) (later ++ key ∷ [])) (has_repeat (later ++ key ∷ []))
+    (none-push k key later parts.0 (bytes_eq-flip k key ∙ none.0)) (once-push key later none.1 parts.1)
+
+pub named-push : (key : List ℕ) (keys : List (List ℕ)) → is_no_key key ≡ false → list_any is_no_key keys ≡ false → list_any is_no_key (keys ++ key ∷ []) ≡ false
+named-push key [] new named = neither_of (is_no_key key) false new refl
+named-push key (k ∷ later) new named =
+    let parts = neither (is_no_key k) (list_any is_no_key later) named in
+    neither_of (is_no_key k) (list_any is_no_key (later ++ key ∷ [])) parts.0 (named-push key later new parts.1)
+
+-- ---- copies, and equal programs
+
+abbrev pub tree_of : {A : Type 0} → List (String A) → List Statement → ProgramTree
+tree_of keys statements = record { statements = block_of statements; prefetch = map string_bytes keys }
+
+pub keys_copied : {A : Type 0} (es fs : List (String A)) → AllZip (λ e f. string_bytes f ≡ string_bytes e) es fs → map string_bytes fs ≡ map string_bytes es
+keys_copied [] [] p = refl
+keys_copied [] (f ∷ fs) p = absurd p
+keys_copied (e ∷ es) [] p = absurd p
+keys_copied (e ∷ es) (f ∷ fs) p = λ i. p.0 i ∷ keys_copied es fs p.1 i
+
+-- a copy of a program
+pub program_copied : {A : Type 0} (keys copies : List (String A)) (statements others : List Statement)
+    → AllZip (λ e f. string_bytes f ≡ string_bytes e) keys copies → AllZip (λ s t. t ≡ s) statements others
+    → tree_of copies others ≡ tree_of keys statements
+program_copied keys copies statements others lists same =
+    λ i. record { statements = block_of (each_same statements others same i); prefetch = keys_copied keys copies lists i }
+
+-- two lists of which the first keys are the same are the same where the others are
+pub same_keys : {A : Type 0} (ls rs : List (String A)) (f g : String A) (first other : List ℕ) (same : Bool) → 1 ≤ length ls → 1 ≤ length rs
+    → f ≡ get_or ls 0 f → g ≡ get_or rs 0 g → first ≡ string_bytes f → other ≡ string_bytes g → bytes_eq first other ≡ true
+    → IsTrue same ↔ (map string_bytes (take (length ls - 1) (drop 1 ls)) ≡ map string_bytes (take (length rs - 1) (drop 1 rs)))
+    → IsTrue same ↔ (map string_bytes ls ≡ map string_bytes rs)
+same_keys [] rs f g first other same some others is is_other bytes other_bytes equal rest = absurd (omega arith)
+same_keys (l ∷ ls) [] f g first other same some others is is_other bytes other_bytes equal rest = absurd (omega arith)
+same_keys (l ∷ ls) (r ∷ rs) f g first other same some others is is_other bytes other_bytes equal rest =
+    let one : string_bytes l ≡ string_bytes r =
+    ap string_bytes (sym is) ∙ sym bytes ∙ bytes_eq-same first other equal ∙ other_bytes ∙ ap string_bytes is_other in
+    let left : map string_bytes (take (length (l ∷ ls) - 1) (drop 1 (l ∷ ls))) ≡ map string_bytes ls = ap (map string_bytes) (take_rest (l ∷ ls) 1) in
+    let right : map string_bytes (take (length (r ∷ rs) - 1) (drop 1 (r ∷ rs))) ≡ map string_bytes rs = ap (map string_bytes) (take_rest (r ∷ rs) 1) in
+    (λ holds. let tails : map string_bytes ls ≡ map string_bytes rs = sym left ∙ rest.0 holds ∙ right in λ i. one i ∷ tails i,
+      λ e. rest.1 (left ∙ ap (drop 1) e ∙ sym right))
+
+-- programs of the same list are the same where their statements are
+pub same_behind : (b : Bool) (p q : ProgramTree) → p.prefetch ≡ q.prefetch → IsTrue b ↔ (p.statements ≡ q.statements) → IsTrue b ↔ (p ≡ q)
+same_behind b p q lists exact =
+    (λ holds. let s : p.statements ≡ q.statements = exact.0 holds in λ i. record { statements = s i; prefetch = lists i }, λ e. exact.1 (ap (λ (r : ProgramTree). r.statements) e))
+
+-- and those of two lists are not
+pub never_same : (p q : ProgramTree) → (p.prefetch ≡ q.prefetch → ⊥) → IsTrue false ↔ (p ≡ q)
+never_same p q lists = (λ holds. absurd (cc), λ e. absurd (lists (ap (λ (r : ProgramTree). r.prefetch) e)))

@@ -20,16 +20,18 @@ any_split test (x ∷ xs) ys none =
     let rest = any_split test xs ys parts.1 in
     (none_of_two (test x) (list_any test xs) parts.0 rest.0, rest.1)
 
+any_by : (test : List ℕ → Bool) (x : List ℕ) (xs ys : List (List ℕ)) (b : Bool) → test x ≡ b
+    → (list_any test (xs ++ ys) ≡ true → (list_any test xs ≡ true) ⊎ (list_any test ys ≡ true)) → (b || list_any test (xs ++ ys)) ≡ true
+    → (list_any test (x ∷ xs) ≡ true) ⊎ (list_any test ys ≡ true)
+any_by test x xs ys true here rest any = inl (ap (λ c. c || list_any test xs) here)
+any_by test x xs ys false here rest any = elim (rest any) [
+  | inl there ↦ inl (ap (λ c. c || list_any test xs) here ∙ there)
+  | inr behind ↦ inr behind
+]
+
 any_in : (test : List ℕ → Bool) (xs ys : List (List ℕ)) → list_any test (xs ++ ys) ≡ true → (list_any test xs ≡ true) ⊎ (list_any test ys ≡ true)
 any_in test [] ys is = inr is
-any_in test (x ∷ xs) ys is = by (test x) refl is
-  where
-    by : (b : Bool) → test x ≡ b → (b || list_any test (xs ++ ys)) ≡ true → (list_any test (x ∷ xs) ≡ true) ⊎ (list_any test ys ≡ true)
-    by true here any = inl (ap (λ c. c || list_any test xs) here)
-    by false here any = elim (any_in test xs ys any) [
-      | inl there ↦ inl (ap (λ c. c || list_any test xs) here ∙ there)
-      | inr behind ↦ inr behind
-    ]
+any_in test (x ∷ xs) ys is = any_by test x xs ys (test x) refl (any_in test xs ys) is
 
 -- ---- filters
 

@@ -69,7 +69,7 @@ pub fn stops_are_of_one_state()
     ensures { StopsAreOfOneState }
 {}
 
-/// No attempt reads a key twice, at any level.
+/// No attempt reads a key twice, at any level, where its program's list has no key twice, as that of every program that fits.
 pub fn keys_are_read_once()
     ensures { ReadOnce }
 {}
@@ -79,8 +79,8 @@ pub fn keys_are_read_once()
 /// number is given twice; a runner's step is answered with another runner's reply; a program that is done is
 /// told to have aborted; a poll of a watcher that is there is refused, or one of a watcher that is not there
 /// is answered; a poll tells another watcher's batch, or an event where none is pending; a watcher that is lost is told a batch, or one
-/// that is not is told to be lost; a step fetches at a base that is compacted, or the store refuses one that is not; a compaction at or
-/// below the floor is taken.
+/// that is not is told to be lost; a step fetches at a base that is compacted, or the store refuses one that is not; a list is fetched again or
+/// in part, or a program reads or aborts before its list is read; a compaction at or below the floor is taken.
 pub fn wrong_logs_are_none()
     ensures { WrongLogs }
 {}
@@ -123,8 +123,8 @@ pub fn wrong_runs_are_none()
     ensures { WrongRuns }
 {}
 
-/// Where a program's run ends on answers each of which was added when the run wanted its key, the keys of the
-/// answers are the keys that the run reads, in the order of its first reads.
+/// Where a program's run ends on answers to its list, and behind them answers each of which was added when the run wanted its key, the keys
+/// of the answers are those of the list and then the others that the run reads, in the order of its first reads.
 ///
 /// The answers that a commit was made on are such, and the headline says so of each.
 pub fn answers_are_the_reads()

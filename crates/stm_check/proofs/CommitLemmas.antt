@@ -1,9 +1,10 @@
 -- The run that the line of a commit stands for, and the store that it leads to.
-use Rattle.std.proofs.Common.{◌≡◌, ◌≢◌, ◌↔◌, ℕ, ◌+◌, ◌<◌, ◌≤◌, length, drop, get_or, Bool, true, false, cond, List, [], ◌∷◌, ◌++◌, filter, map, Option, Some, None, Ok, Err}
+use Rattle.std.proofs.Common.{◌≡◌, ◌≢◌, ◌↔◌, ℕ, ◌+◌, ◌<◌, ◌≤◌, length, take, drop, get_or, Bool, true, false, List, [], ◌∷◌, ◌++◌, append_assoc, map, Option, Some, None, Ok, Err}
 use Rattle.std.proofs.Common.{refl, sym, ◌∙◌, ap, subst}
-use Rattle.std.proofs.lemmas.List.{drop_all}
+use Rattle.std.proofs.lemmas.List.{drop_all, take_all, take_more}
+use Rattle.std.proofs.lemmas.List.Elements.{filter-append}
 use Rattle.std.proofs.lemmas.Option.{same_Some}
-use Rattle.std.specs.Prelude.{Result, IsTrue, IfOk, OnOk, MatchOption}
+use Rattle.std.specs.Prelude.{Result, IsTrue, IfOk, OnOk, MatchOption, filter}
 use Rattle.std.specs.declared.alloc.AllocError.{AllocError}
 use Rattle.stm_history.specs.declared.change.Change.{Change}
 use Rattle.stm_program.specs.Writes.{latest_writes}
@@ -306,22 +307,35 @@ all_others : (keys : List (List ℕ)) → filter (is_other []) keys ≡ keys
 all_others [] = refl
 all_others (key ∷ keys) = ap (λ (l : List (List ℕ)). key ∷ l) (all_others keys)
 
-pub first_read : (listed reads : List (List ℕ)) → listed ++ filter (is_other listed) reads ≡ keys_first_read listed reads
+first_read : (listed reads : List (List ℕ)) → listed ++ filter (is_other listed) reads ≡ keys_first_read listed reads
 first_read [] reads = all_others reads
 first_read (key ∷ listed) reads = refl
 
 -- one key more that the run looked up
-filter_more : (P : List ℕ → Bool) (keys : List (List ℕ)) (key : List ℕ) →
-    filter P (keys ++ key ∷ []) ≡ filter P keys ++ cond (P key) (key ∷ []) []
-filter_more P [] key = by (P key)
-  where
-    by : (b : Bool) → cond b (key ∷ []) [] ≡ cond b (key ∷ []) []
-    by b = refl
-filter_more P (k ∷ keys) key = by (P k)
-  where
-    by : (b : Bool) → cond b (k ∷ filter P (keys ++ key ∷ [])) (filter P (keys ++ key ∷ [])) ≡ cond b (k ∷ filter P keys) (filter P keys) ++ cond (P key) (key ∷ []) []
-    by true = ap (λ (l : List (List ℕ)). k ∷ l) (filter_more P keys key)
-    by false = filter_more P keys key
+pub other_more : (P : List ℕ → Bool) (front keys longer reads : List (List ℕ)) (i : ℕ) (key : List ℕ) → i < length reads → key ≡ get_or reads i key →
+    longer ≡ keys ++ filter P (key ∷ []) → keys ≡ front ++ filter P (take i reads) → longer ≡ front ++ filter P (take (i + 1) reads)
+other_more P front keys longer reads i key within is more so_far =
+    let others : filter P (take i reads) ++ filter P (key ∷ []) ≡ filter P (take (i + 1) reads) =
+    sym (filter-append P (take i reads) (key ∷ []))
+    ∙ ap (λ (k : List ℕ). filter P (take i reads ++ k ∷ [])) is
+    ∙ ap (λ (l : List (List ℕ)). filter P l) (sym (take_more reads i key within)) in
+    more ∙ ap (λ (l : List (List ℕ)). l ++ filter P (key ∷ [])) so_far
+    ∙ append_assoc front (filter P (take i reads)) (filter P (key ∷ []))
+    ∙ ap (λ (l : List (List ℕ)). front ++ l) others
+
+-- all of them
+pub others_end : (P : List ℕ → Bool) (front keys reads : List (List ℕ)) (i : ℕ) → length reads ≤ i → keys ≡ front ++ filter P (take i reads) →
+    keys ≡ front ++ filter P reads
+others_end P front keys reads i end so_far = so_far ∙ ap (λ (l : List (List ℕ)). front ++ filter P l) (take_all i reads end)
+
+-- all keys that are read first
+pub first_reads : (listed texts looked reads front keys : List (List ℕ)) → front ≡ listed → texts ≡ listed → looked ≡ reads →
+    keys ≡ front ++ filter (is_other texts) looked → keys ≡ keys_first_read listed reads
+first_reads listed texts looked reads front keys fronts same are all =
+    all ∙ ap (λ (l : List (List ℕ)). l ++ filter (is_other texts) looked) fronts
+    ∙ ap (λ (l : List (List ℕ)). listed ++ filter (is_other l) looked) same
+    ∙ ap (λ (l : List (List ℕ)). listed ++ filter (is_other listed) l) are
+    ∙ first_read listed reads
 
 -- ---- the keys of answers, one after another
 

@@ -1,5 +1,5 @@
 //! Whether a line tells the commit that the replay of a runner's program is.
-ghost use Rattle.std.specs.Prelude.{◌≡◌, ◌≢◌, ◌↔◌, ◌+◌, ◌≤◌, [], ◌∷◌, true, false, map, None, Some, IsTrue, IfOk, OnOk, MatchOption};
+ghost use Rattle.std.specs.Prelude.{◌≡◌, ◌≢◌, ◌↔◌, ◌+◌, ◌≤◌, [], ◌∷◌, ◌++◌, true, false, map, filter, string_bytes, None, Some, IsTrue, IfOk, OnOk, MatchOption};
 ghost use Rattle.stm_outcome.specs.declared.refusal.Refusal.TheVariants.{OutOfMemory};
 ghost use Rattle.stm_compile.specs.Answers.{look_up};
 ghost use Rattle.stm_compile.specs.Now.{as_change};
@@ -9,7 +9,7 @@ ghost use Rattle.stm_compile.specs.Levels.{is_comparing};
 ghost use Rattle.stm_entries.specs.Alone.{applied_run};
 ghost use Rattle.stm_entries.specs.Replayed.{without_moment};
 ghost use Rattle.stm_entries.specs.declared.entry.Entry.TheVariants.{Program as ProgramEntry};
-ghost use Rattle.stm_world.specs.Asked.{keys_first_read};
+ghost use Rattle.stm_world.specs.Asked.{is_other, keys_first_read};
 ghost use Rattle.stm_check.specs.Point.{reads_in, led_by};
 ghost use Rattle.stm_check.specs.Replays.{keys_told, IsRightCommit};
 ghost use Rattle.stm_check.specs.Runs.{run_in, IsRunOn, IsFound, revision_reached, with_writes};
@@ -103,19 +103,49 @@ fn run_now(
     Ok(ended_run(answered))
 }
 
-/// The keys in the order in which an attempt of a program first reads them: those of its list, and then the others that its run looked up.
-fn first_reads(alloc: Global, program: &Program, run: &Run) -> Result<Sequence<Text>, AllocError>
-    ensures { IfOk result (λ keys. keys ≡ keys_first_read program.now.prefetch run.now.reads) }
+/// The keys of a program's list.
+fn list_of(alloc: Global, program: &Program) -> Result<Sequence<Text>, AllocError>
+    ensures { IfOk result (λ keys. keys ≡ program.now.prefetch) }
 {
     let mut keys = Sequence::new(alloc);
     for key in program.prefetch() {
         keys.push(Text::copy_of(alloc, key.as_str())?)?;
     }
-    for read in run.reads.as_slice() {
-        if !is_listed(read.as_str(), program.prefetch()) {
-            keys.push(read.clone()?)?;
-        }
+    Ok(keys)
+}
+
+/// Adds a key behind others, where a list has it not.
+fn add_other(keys: &mut Sequence<Text>, listed: &[String], read: &Text) -> Result<(), AllocError>
+    ensures { OnOk result (keys.new ≡ keys.old ++ filter (is_other (map string_bytes listed.now)) (read.now ∷ [])) }
+{
+    if is_listed(read.as_str(), listed) {
+        return Ok(());
     }
+    let key = read.clone()?;
+    keys.push(key)?;
+    Ok(())
+}
+
+/// Adds those of these keys that a list has not.
+fn add_others(
+    keys: &mut Sequence<Text>,
+    listed: &[String],
+    reads: &[Text],
+) -> Result<(), AllocError>
+    ensures { OnOk result (keys.new ≡ keys.old ++ filter (is_other (map string_bytes listed.now)) reads.now) }
+{
+    for read in reads {
+        add_other(keys, listed, read)?;
+    }
+    Ok(())
+}
+
+/// The keys in the order in which an attempt of a program first reads them: those of its list, and then the others that its run looked up.
+fn first_reads(alloc: Global, program: &Program, run: &Run) -> Result<Sequence<Text>, AllocError>
+    ensures { IfOk result (λ keys. keys ≡ keys_first_read program.now.prefetch run.now.reads) }
+{
+    let mut keys = list_of(alloc, program)?;
+    add_others(&mut keys, program.prefetch(), run.reads.as_slice())?;
     Ok(keys)
 }
 

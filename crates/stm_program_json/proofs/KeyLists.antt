@@ -1,14 +1,19 @@
 -- The list of a program as it is read, and as it is spelled.
-use Rattle.std.proofs.Common.{◌≡◌, ℕ, ◌+◌, ◌<◌, ◌≤◌, Bool, true, false, cond, List, [], ◌∷◌, ◌++◌, length, Option, Some, None, Ok, refl, sym, ap, subst, ◌∙◌, arith, ltb, ltb-true, lt-ltb, append_assoc, codes}
+use Rattle.std.proofs.Common.{◌≡◌, ℕ, ◌+◌, ◌-◌, ◌<◌, ◌≤◌, Bool, true, false, cond, List, [], ◌∷◌, ◌++◌, length, take, drop, get_or, Option, Some, None, Ok, Err, refl, sym, ap, subst, ◌∙◌, arith, ltb, ltb-true, lt-ltb, append_assoc, codes}
 use Rattle.std.specs.Prelude.{◌||◌, nat_eq, nat_lt, bytes_eq}
 use Rattle.std.specs.List.{list_any}
 use Rattle.std.proofs.lemmas.Bool.{le-ltb, ltb-false}
-use Rattle.std.proofs.lemmas.List.{append-nil}
+use Rattle.std.proofs.lemmas.List.{append-nil, take_rest}
 use Rattle.std.proofs.lemmas.Slice.Eq.{bytes_eq-Decides}
 use Rattle.serde_json.specs.Data.{Data, null, boolean, number, string, array, object, Items, no_items, item}
 use Rattle.serde_json.specs.Find.{as_str, as_array}
+use Rattle.serde_json.specs.View.{view, items_view}
+use Rattle.serde_json.specs.declared.value.Value.{Value}
 use Rattle.stm_json.specs.declared.cause.Cause.TheVariants.{Shape, TooLong, TooMany}
+use Rattle.stm_json.specs.declared.read_error.ReadError.{ReadError}
+use Rattle.stm_json.specs.declared.read_error.ReadError.TheVariants as error
 use Rattle.stm_json.specs.Outcome.{Outcome, bad, ◌>>=◌, within}
+use Rattle.stm_json.specs.Tells.{TellsFault}
 use Rattle.stm_json.specs.Elements.{worded, one_of}
 use Rattle.stm_json.specs.Parts.{same, spelled}
 use Rattle.stm_json.proofs.ElementLemmas.{worded-is, one_of-is}
@@ -114,6 +119,39 @@ keys_sound earlier (item d ds) keys parts h =
       spelled = (ds, ap (λ (x : Data). item x ds) one.spelled, more.spelled);
       parts = more.parts;
     }
+
+-- ---- the keys of an array as a function reads them: a key, and then the others
+
+pub no_keys : (earlier : List (List ℕ)) (vs : List Value) → length vs ≡ 0 → keys_from earlier (items_view vs) ≡ Ok earlier
+unfolding keys_from
+no_keys earlier [] none = refl
+no_keys earlier (v ∷ vs) none = absurd (omega arith)
+
+-- what is read of the first element
+first_read : (earlier : List (List ℕ)) (v w : Value) (n : ℕ) (o : Outcome (List ℕ)) → v ≡ w → n ≡ length earlier → within n (key_at earlier (view v)) ≡ o
+    → within (length earlier) (key_at earlier (view w)) ≡ o
+first_read earlier v w n o is count read =
+    ap (λ (m : ℕ). within m (key_at earlier (view w))) (sym count) ∙ ap (λ (x : Value). within n (key_at earlier (view x))) (sym is) ∙ read
+
+pub key_faulted : (e : ReadError) (earlier : List (List ℕ)) (vs : List Value) (v : Value) (n : ℕ) → 1 ≤ length vs → v ≡ get_or vs 0 v → n ≡ length earlier
+    → TellsFault e (within n (key_at earlier (view v))) → TellsFault e (keys_from earlier (items_view vs))
+unfolding keys_from
+key_faulted e earlier [] v n some is count fault = absurd (omega arith)
+key_faulted error.OutOfMemory earlier (w ∷ vs) v n some is count fault = tt
+key_faulted (error.Bad f) earlier (w ∷ vs) v n some is count fault =
+    let here : within (length earlier) (key_at earlier (view w)) ≡ Err f = first_read earlier v w n (Err f) is count fault in rw here refl
+
+pub key_more : (earlier longer : List (List ℕ)) (vs : List Value) (v : Value) (key : List ℕ) (n : ℕ) → 1 ≤ length vs → v ≡ get_or vs 0 v → n ≡ length earlier
+    → within n (key_at earlier (view v)) ≡ Ok key → longer ≡ earlier ++ key ∷ []
+    → keys_from longer (items_view (take (length vs - 1) (drop 1 vs))) ≡ keys_from earlier (items_view vs)
+unfolding keys_from
+key_more earlier longer [] v key n some is count read pushed = absurd (omega arith)
+key_more earlier longer (w ∷ vs) v key n some is count read pushed =
+    let here : within (length earlier) (key_at earlier (view w)) ≡ Ok key = first_read earlier v w n (Ok key) is count read in
+    let step : keys_from earlier (items_view (w ∷ vs)) ≡ keys_from (earlier ++ key ∷ []) (items_view vs) = rw here refl in
+    ap (λ (ws : List Value). keys_from longer (items_view ws)) (take_rest (w ∷ vs) 1)
+    ∙ ap (λ (ks : List (List ℕ)). keys_from ks (items_view vs)) pushed
+    ∙ sym step
 
 -- what a list within the limits says of a key in it
 none_before : (key : List ℕ) (earlier later : List (List ℕ)) → has_repeat (earlier ++ key ∷ later) ≡ false → list_any (bytes_eq key) earlier ≡ false

@@ -1,6 +1,7 @@
 -- Writing statements one after the other, as a loop does.
-use Rattle.std.proofs.Common.{◌≡◌, ℕ, zero, suc, ◌+◌, ◌<◌, ◌≤◌, List, [], ◌∷◌, ◌++◌, length, drop, get_or, map, refl, sym, ap, ◌∙◌, arith, add-one, codes}
-use Rattle.std.proofs.lemmas.List.{drop_all, map_push}
+use Rattle.std.proofs.Common.{◌≡◌, ℕ, zero, suc, ◌+◌, ◌-◌, ◌<◌, ◌≤◌, List, [], ◌∷◌, ◌++◌, length, take, drop, get_or, map, String, refl, sym, ap, ◌∙◌, arith, add-one, codes}
+use Rattle.std.specs.Prelude.{string_bytes}
+use Rattle.std.proofs.lemmas.List.{drop_all, map_push, take_rest}
 use Rattle.std.proofs.Math.Seq.{drop-cons}
 use Rattle.serde_json.specs.Data.{Data, string, array, Items, no_items, item}
 use Rattle.stm_json.specs.Parts.{spelled}
@@ -43,13 +44,29 @@ is_done vs ss i total h so_far =
 pub keys_end : (vs : List Value) → items_view vs ≡ items_after (map view vs) no_items
 keys_end vs = sym (items_after-none (map view vs))
 
-pub keys_more : (vs ws : List Value) (v : Value) (key : List ℕ) (keys : List (List ℕ)) (out : Items) → ws ≡ vs ++ v ∷ [] → view v ≡ string key
+keys_more : (vs ws : List Value) (v : Value) (key : List ℕ) (keys : List (List ℕ)) (out : Items) → ws ≡ vs ++ v ∷ [] → view v ≡ string key
     → out ≡ items_after (map view ws) (written_keys keys) → out ≡ items_after (map view vs) (written_keys (key ∷ keys))
 keys_more vs ws v key keys out pushed is others =
     others ∙ ap (λ (xs : List Value). items_after (map view xs) (written_keys keys)) pushed
     ∙ ap (λ (xs : List Data). items_after xs (written_keys keys)) (map_push view vs v)
     ∙ items_after-snoc (map view vs) (view v) (written_keys keys)
     ∙ ap (λ (d : Data). items_after (map view vs) (item d (written_keys keys))) is
+
+-- the first of some texts, and the others
+first_text : {A : Type 0} (keys : List (String A)) (key : String A) → 1 ≤ length keys → key ≡ get_or keys 0 key
+    → map string_bytes keys ≡ string_bytes key ∷ map string_bytes (take (length keys - 1) (drop 1 keys))
+first_text [] key some is = absurd (omega arith)
+first_text (k ∷ keys) key some is =
+    ap (λ (l : String _). string_bytes l ∷ map string_bytes keys) (sym is)
+    ∙ ap (λ (ks : List (String _)). string_bytes key ∷ map string_bytes ks) (sym (take_rest (k ∷ keys) 1))
+
+pub texts_more : {A : Type 0} (vs ws : List Value) (v : Value) (keys : List (String A)) (key : String A) (text : List ℕ) (out : Items) → 1 ≤ length keys
+    → key ≡ get_or keys 0 key → text ≡ string_bytes key → ws ≡ vs ++ v ∷ [] → view v ≡ string text
+    → out ≡ items_after (map view ws) (written_keys (map string_bytes (take (length keys - 1) (drop 1 keys))))
+    → out ≡ items_after (map view vs) (written_keys (map string_bytes keys))
+texts_more vs ws v keys key text out some first told pushed is others =
+    keys_more vs ws v (string_bytes key) (map string_bytes (take (length keys - 1) (drop 1 keys))) out pushed (is ∙ ap string told) others
+    ∙ ap (λ (ks : List (List ℕ)). items_after (map view vs) (written_keys ks)) (sym (first_text keys key some first))
 
 -- a list that has keys stands before the statements
 pub list_first : (keys : List (List ℕ)) (d : Data) (ds : Items) → 0 < length keys → d ≡ spelled (codes "prefetch") (array (written_keys keys) ∷ [])

@@ -142,7 +142,7 @@ event_named-means : (n : Data) (w : List ℕ) (o : Option EventWord) (ds : Items
 event_named-means n w None ds l is h = cc
 event_named-means n w (Some k) ds l is h =
     let are : AreTexts event_text event_words =
-    (refl, (refl, (refl, (refl, (refl, (refl, (refl, (refl, (refl, (refl, (refl, (refl, (refl, (refl, (refl, (refl, (refl, (refl, (refl, tt))))))))))))))))))) in
+    (refl, (refl, (refl, (refl, (refl, (refl, (refl, (refl, (refl, (refl, (refl, (refl, (refl, (refl, (refl, (refl, (refl, (refl, (refl, (refl, tt)))))))))))))))))))) in
     let e : w ≡ event_text k = named-is event_text event_words w k are is in
     subst (λ (v : List ℕ). SpellsLine (numbered_array n v ds) l) (sym e) (event_line_means n k ds l h)
 

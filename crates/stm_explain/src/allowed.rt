@@ -127,7 +127,7 @@ pub(crate) fn described(part: Part) -> &'static str {
     match part {
         Part::Scenario => "an array of events",
         Part::Event => "an event, which is an array that begins with a word,",
-        Part::Beginning => "[\"begin\",REVISION]",
+        Part::Beginning => "[\"begin\",REVISION] or [\"begin\",REVISION,OPERATIONS]",
         Part::Opening => "a whole number from 1 to 9223372036854775806",
         Part::MostOperations => "a whole number from 1 to 128",
         Part::Level => "a level",

@@ -1,5 +1,6 @@
 -- The place of a fault begins with the index of a statement, of which a program has no more than it may have nodes.
 use Rattle.std.proofs.Common.{◌≡◌, ◌∙◌, ◌×◌, ℕ, zero, suc, ◌+◌, ◌<◌, ◌≤◌, Bool, true, false, nat_lt, List, ◌∷◌, Option, None, Some, refl, sym, ap, subst, arith}
+use Rattle.std.specs.Prelude.{IfSome}
 use Rattle.std.proofs.lemmas.Bool.{ltb-true, ltb-false}
 use Rattle.std.proofs.lemmas.Option.{same_Some}
 use Rattle.stm_program.specs.declared.limits.TheConstants.{MAX_DEPTH, MAX_NODES}
@@ -75,8 +76,13 @@ by_outcome look b found fits (Stops (Faulted fault) s) ran is =
     subst (λ (site : Site). BeginsBelow MAX_NODES site.place) at (placed look b fresh s (Faulted fault) fits (sites_are_first look b fresh (Faulted fault) s ran))
 
 -- the place of a fault that was found in a program
-pub begins_below : (look : Lookup) (p : ProgramTree) (found : FoundFault) → Fits p → fault_of look p.statements ≡ Some found →
+begins_below : (look : Lookup) (p : ProgramTree) (found : FoundFault) → Fits p → fault_of look p.statements ≡ Some found →
     BeginsBelow MAX_NODES found.site.place
 begins_below look p found fits is =
     let block : BlockFits MAX_DEPTH MAX_NODES p.statements = statements_fit p.prefetch (BlockFits MAX_DEPTH MAX_NODES p.statements) fits in
     by_outcome look p.statements found block.nodes (run_block look p.statements fresh) refl is
+
+pub found_below : (look : Lookup) (p : ProgramTree) (found : Option FoundFault) → Fits p → found ≡ fault_of look p.statements →
+    IfSome found (λ (fault : FoundFault). BeginsBelow MAX_NODES fault.site.place)
+found_below look p None fits is = tt
+found_below look p (Some found) fits is = begins_below look p found fits (sym is)

@@ -1,5 +1,5 @@
 //! Where a fault stands in a text of JSON, and what is said of it.
-ghost use Rattle.std.specs.Prelude.{◌≡◌, ◌≤◌, ◌++◌, [], ◌∷◌, Some as SomeOf, codes, slice_get, IfOk, OnOk, string_bytes};
+ghost use Rattle.std.specs.Prelude.{◌≡◌, ◌≤◌, ◌++◌, [], ◌∷◌, Some as SomeOf, codes, slice_get, IfOk, IfSome, OnOk, string_bytes};
 ghost use Rattle.serde_json.specs.View.{view};
 ghost use Rattle.stm_json.specs.Outcome.{step};
 ghost use Rattle.stm_program.specs.declared.limits.TheConstants.{MAX_NODES};
@@ -11,6 +11,7 @@ use crate::reasons::reason;
 use crate::runs::{Explained, StartedRun, run_at};
 use serde_json::Value as Json;
 use std::alloc::{AllocError, Global};
+use stm_program::Program;
 use stm_program_json::first_statement;
 use stm_sites::{FoundFault, find_fault};
 use stm_steps::{Fault, Lookup};
@@ -68,6 +69,21 @@ fn more_of(alloc: Global, steps: &[usize], found: &FoundFault) -> Result<String,
     let more = words_of(alloc, steps, reason.as_str());
     drop(reason);
     more
+}
+
+/// The fault by which the run of a program over a look-up ends, if there is one. Its place begins with the index of a statement, of which a program
+/// has no more than it may have nodes.
+pub(crate) fn fault_in_program<L: Lookup>(
+    alloc: Global,
+    program: &Program,
+    lookup: &L,
+) -> Result<Option<FoundFault>, AllocError>
+    ensures found { IfOk result (λ found. found ≡ fault_of (L.answers lookup.now) program.now.statements) }
+    ensures few { IfOk result (λ found. IfSome found (λ fault. BeginsBelow MAX_NODES fault.site.place)) }
+{
+    // The program is within its limits.
+    program.statements();
+    find_fault(alloc, program, lookup)
 }
 
 /// Adds the indices of a place in the statements of a program, of which the first is the element with this index.
@@ -179,7 +195,7 @@ fn place_in_run<L: Lookup>(
 ) -> Result<Place, AllocError>
     ensures { IfOk result (λ place. IsMore (view scenario.now) run.now.element fault (fault_of (L.answers lookup.now) run.now.program.now.statements) (string_bytes place.more)) }
 {
-    let found = find_fault(alloc, run.program, lookup)?;
+    let found = fault_in_program(alloc, run.program, lookup)?;
     let place = match &found {
         Some(found) => place_where_same(alloc, scenario, run.element, fault, found),
         None => place_of_element(alloc, run.element),

@@ -12,7 +12,7 @@ ghost use Rattle.stm_faulted_runs.specs.Places.{BeginsBelow};
 ghost use Rattle.stm_faulted_runs.specs.Rules.{IsRuleLine, ExplainsProgram, ExplainsOver, ExplainsRule, rule_head, left_by};
 
 use crate::lines::words_of;
-use crate::places::place_of_fault;
+use crate::places::{fault_in_program, place_of_fault};
 use crate::scripts::Named;
 use serde_json::Value as Json;
 use std::alloc::{AllocError, Global};
@@ -21,7 +21,7 @@ use stm_json::ReadError;
 use stm_program::Program;
 use stm_program_json::{first_statement, read_program};
 use stm_retry::{State, World, WorldEvent};
-use stm_sites::{FoundFault, find_fault};
+use stm_sites::FoundFault;
 use stm_steps::Fault;
 use stm_texts::{Scenario, opens_with, read_scenario};
 
@@ -61,7 +61,7 @@ fn explained_with(
     requires { first ≤ 1 }
     ensures { IfOk result (λ line. ExplainsProgram rule.now.name.now rule.now.text.now first (state_answers state.now) (OkOf program.now) (string_bytes line)) }
 {
-    let found = find_fault(alloc, program, state)?;
+    let found = fault_in_program(alloc, program, state)?;
     let line = match &found {
         Some(found) => fault_line(alloc, rule, first, found),
         None => Ok(String::new(alloc)),

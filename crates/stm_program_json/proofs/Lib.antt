@@ -10,6 +10,7 @@ pub mod ExpressionComplete
 pub mod ConditionComplete
 pub mod StatementComplete
 pub mod WrittenLemmas
+pub mod NoFloats
 pub mod WriteLoop
 pub mod ReaderMarks
 pub mod TableMarks

@@ -1,3 +1,2 @@
-pub mod NoFloats
 pub mod NumberLemmas
 pub mod WorkedExamples

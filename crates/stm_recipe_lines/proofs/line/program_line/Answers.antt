@@ -2,7 +2,7 @@ use Rattle.std.proofs.Common.{◌∙◌, ap}
 use Rattle.std.proofs.lemmas.Result.{IfOk-weaker}
 use Rattle.serde_json.specs.Written.{has_float}
 use Rattle.stm_recipe_lines.specs.Lines.{line_text}
-use Rattle.stm_recipe_lines.proofs.NoFloats.{program-no_float}
+use Rattle.stm_program_json.proofs.NoFloats.{program-no_float}
 use Rattle.stm_recipe_lines.proofs.line.program_line.Goals as goal
 
 pub json_line-line-requires : goal.json_line-line-requires

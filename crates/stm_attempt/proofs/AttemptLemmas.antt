@@ -196,6 +196,13 @@ pub awaits_list : (old : AttemptState) (before : Option ProgramTree) (level : Le
     seen_as before level reads prefetched ≡ old → list_awaited old ≡ Some keys → (program : ProgramTree) × (before ≡ Some program) × (program.prefetch ≡ keys)
 awaits_list old before level reads prefetched keys view asked = list_at before level reads prefetched keys (ap list_awaited view ∙ asked)
 
+pub awaits_none : (old : AttemptState) (before : Option ProgramTree) (level : Level) (reads prefetched : List ReadAnswer) (keys : List (List ℕ)) →
+    seen_as before level reads prefetched ≡ old → list_awaited old ≡ Some keys → before ≡ None → ⊥
+awaits_none old before level reads prefetched keys view asked none =
+    let w = awaits_list old before level reads prefetched keys view asked in
+    let both : None ≡ Some w.0 = sym none ∙ w.1 in
+    absurd (cc both)
+
 pub all_supplied_is : (old : AttemptState) (before : Option ProgramTree) (level : Level) (reads prefetched more answers : List ReadAnswer) (count : ℕ) →
     seen_as before level reads prefetched ≡ old → more ≡ answers → count ≡ length more →
     seen_as before level (take count more) prefetched ≡ supplied_all answers old

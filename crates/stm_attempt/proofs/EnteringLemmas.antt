@@ -53,6 +53,11 @@ due_is_nothing [] reads due = absurd (cc)
 due_is_nothing (key ∷ keys) [] due = refl
 due_is_nothing (key ∷ keys) (a ∷ reads) due = absurd (cc)
 
+-- whether it is due, by the keys that the code has at hand
+pub due_as : (listed keys : List (List ℕ)) (reads : List ReadAnswer) (told b : Bool) → told ≡ is_due keys reads → keys ≡ listed → told ≡ b
+    → is_due listed reads ≡ b
+due_as listed keys reads told b is same holds = ap (λ (ks : List (List ℕ)). is_due ks reads) (sym same) ∙ sym is ∙ holds
+
 -- ---- what is taken for a list
 
 pub taken_first : (one : Option ReadAnswer) (rest : Option (List ReadAnswer)) (answers : List ReadAnswer) → with_first one rest ≡ Some answers

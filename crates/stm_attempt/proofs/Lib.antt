@@ -3,6 +3,7 @@ pub mod SettleLemmas
 pub mod BaseLemmas
 pub mod DistinctLemmas
 pub mod EnteringLemmas
+pub mod TakingLemmas
 pub mod NextLemmas
 pub mod ProgressLemmas
 pub mod AttemptLemmas

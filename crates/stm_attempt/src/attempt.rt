@@ -244,10 +244,11 @@ impl Attempt {
         ensures ok { OnOk result (self.new ≡ supplied_all answers.items self.old) }
         ensures err { OnErr result (self.new ≡ self.old) }
     {
-        // No key of a list stands twice.
-        if let Some(program) = &self.program {
-            program.prefetch();
-        }
+        let Some(program) = &self.program else {
+            unreachable!();
+        };
+        // No key of its list stands twice.
+        program.prefetch();
         let reads = set_of(self.alloc, Sequence::of(answers))?;
         self.told = reads.len();
         drop(mem::replace(&mut self.reads, reads));

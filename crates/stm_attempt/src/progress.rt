@@ -321,5 +321,6 @@ pub(crate) fn go_on(
         let keys = list_of(alloc, program)?;
         return Ok(Next::FetchAll { keys, at: 0 });
     }
-    go_behind(alloc, program, level, prefetched, reads, progress)
+    let next = go_behind(alloc, program, level, prefetched, reads, progress)?;
+    Ok(next)
 }

@@ -3,8 +3,10 @@ use Rattle.std.proofs.Common.{◌≡◌, ◌⊎◌, inl, inr, ℕ, ◌<◌, Bool
 use Rattle.std.specs.Prelude.{◌||◌, nat_eq, nat_lt, IfErr, Result}
 use Rattle.std.specs.List.{list_any}
 use Rattle.std.proofs.lemmas.Bool.{ne_eqb, le-ltb}
+use Rattle.stm_history.specs.declared.key_state.KeyState.{KeyState}
 use Rattle.stm_history.specs.declared.key_state.ReadAnswer.{ReadAnswer}
 use Rattle.stm_history.specs.History.{History, now}
+use Rattle.stm_history.proofs.HistoryLaws.{last_revision_is_now}
 use Rattle.stm_outcome.specs.declared.txn.Op.{Op}
 use Rattle.stm_outcome.specs.declared.txn.Txn.{Txn}
 use Rattle.stm_outcome.specs.declared.answer.OpAnswer.{OpAnswer}
@@ -82,7 +84,10 @@ reached terms (key ∷ keys) = (omega arith, refl, reached terms keys)
 
 shown_now : (h : History) (keys : List (List ℕ)) → map (shown h) (reads_now keys) ≡ map (λ a. GetAnswer a) (map (answer_now h) keys)
 shown_now h [] = refl
-shown_now h (key ∷ keys) = ap (λ (later : List OpAnswer). GetAnswer (answer_now h key) ∷ later) (shown_now h keys)
+shown_now h (key ∷ keys) =
+    ap (λ (kv : Option KeyState). GetAnswer (record { key = key; kv = kv; of_rev = now h; revision = now h }) ∷ map (shown h) (reads_now keys))
+    (last_revision_is_now h key (now h) (omega arith))
+    ∙ ap (λ (later : List OpAnswer). GetAnswer (answer_now h key) ∷ later) (shown_now h keys)
 
 -- in any store
 pub all_come : (terms : Terms) (keys : List (List ℕ)) → AreNamed keys → nat_lt terms.limit (length keys) ≡ false

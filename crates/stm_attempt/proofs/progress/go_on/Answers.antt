@@ -1,6 +1,43 @@
-use Rattle.std.proofs.Common.{◌∙◌, sym}
+use Rattle.std.proofs.Common.{◌∙◌, sym, ap}
+use Rattle.std.specs.Prelude.{ℕ, List}
+use Rattle.stm_attempt.specs.declared.next.Next.TheVariants.{FetchAll}
+use Rattle.stm_attempt.specs.Known.{known_of}
 use Rattle.stm_attempt.proofs.EnteringLemmas.{due_next, behind_next, behind_reads, behind_gone, extends_further}
 use Rattle.stm_attempt.proofs.progress.go_on.Goals as goal
 
 pub returns-in_ok-keys-then-due-clause-reads : goal.returns-in_ok-keys-then-due-clause-reads
 returns-in_ok-keys-then-due-clause-reads c = sym (c.in_ok-due.ensures.stays c.if-due.true)
+
+pub returns-in_ok-keys-then-due-clause-next : goal.returns-in_ok-keys-then-due-clause-next
+returns-in_ok-keys-then-due-clause-next c =
+    ap (λ (keys : List (List ℕ)). FetchAll keys 0) c.in_ok-keys.ensures
+    ∙ due_next c.args.program.now c.args.level (known_of c.args.reads.now c.args.prefetched.now) c.enter.new.reads
+    (c.in_ok-due.ensures.stays c.if-due.true) (c.in_ok-due.ensures.due ∙ c.if-due.true)
+
+pub returns-in_err-next-clause-settles : goal.returns-in_err-next-clause-settles
+returns-in_err-next-clause-settles c =
+    behind_gone c.args.program.now c.args.reads.now c.enter.new.reads c.args.prefetched.now c.go_behind.new.reads c.enter.ensures.gone
+    (c.in_ok-due.ensures.due ∙ c.if-due.false) c.go_behind.ensures.extends c.go_behind.ensures.settles
+
+pub returns-in_err-next-clause-extends : goal.returns-in_err-next-clause-extends
+returns-in_err-next-clause-extends c =
+    extends_further c.args.reads.now c.enter.new.reads c.go_behind.new.reads c.enter.ensures.extends c.go_behind.ensures.extends
+
+pub returns-clause-settles : goal.returns-clause-settles
+returns-clause-settles c =
+    behind_gone c.args.program.now c.args.reads.now c.enter.new.reads c.args.prefetched.now c.go_behind.new.reads c.enter.ensures.gone
+    (c.in_ok-due.ensures.due ∙ c.if-due.false) c.go_behind.ensures.extends c.go_behind.ensures.settles
+
+pub returns-clause-extends : goal.returns-clause-extends
+returns-clause-extends c =
+    extends_further c.args.reads.now c.enter.new.reads c.go_behind.new.reads c.enter.ensures.extends c.go_behind.ensures.extends
+
+pub returns-clause-reads : goal.returns-clause-reads
+returns-clause-reads c =
+    behind_reads c.args.program.now c.args.reads.now c.enter.new.reads c.args.prefetched.now c.go_behind.new.reads c.enter.ensures.gone
+    (c.in_ok-due.ensures.due ∙ c.if-due.false) c.in_ok-next.ensures.reads
+
+pub returns-clause-next : goal.returns-clause-next
+returns-clause-next c =
+    behind_next c.args.program.now c.args.level c.args.reads.now c.enter.new.reads c.args.prefetched.now c.in_ok-next.next c.enter.ensures.gone
+    (c.in_ok-due.ensures.due ∙ c.if-due.false) c.in_ok-next.ensures.next

@@ -1,9 +1,9 @@
 -- The list of a program as it is read, and as it is spelled.
-use Rattle.std.proofs.Common.{◌≡◌, ℕ, ◌+◌, ◌-◌, ◌<◌, ◌≤◌, Bool, true, false, cond, List, [], ◌∷◌, ◌++◌, length, take, drop, get_or, Option, Some, None, Ok, Err, refl, sym, ap, subst, ◌∙◌, arith, ltb, ltb-true, lt-ltb, append_assoc, codes}
-use Rattle.std.specs.Prelude.{◌||◌, nat_eq, nat_lt, bytes_eq}
+use Rattle.std.proofs.Common.{◌≡◌, ℕ, ◌+◌, ◌-◌, ◌<◌, ◌≤◌, Bool, true, false, cond, List, [], ◌∷◌, ◌++◌, length, map, take, drop, get_or, String, Option, Some, None, Ok, Err, refl, sym, ap, subst, ◌∙◌, arith, ltb, ltb-true, lt-ltb, append_assoc, codes}
+use Rattle.std.specs.Prelude.{◌||◌, nat_eq, nat_lt, bytes_eq, string_bytes}
 use Rattle.std.specs.List.{list_any}
 use Rattle.std.proofs.lemmas.Bool.{le-ltb, ltb-false}
-use Rattle.std.proofs.lemmas.List.{append-nil, take_rest}
+use Rattle.std.proofs.lemmas.List.{append-nil, length-map, map_push, take_rest}
 use Rattle.std.proofs.lemmas.Slice.Eq.{bytes_eq-Decides}
 use Rattle.serde_json.specs.Data.{Data, null, boolean, number, string, array, object, Items, no_items, item}
 use Rattle.serde_json.specs.Find.{as_str, as_array}
@@ -133,7 +133,7 @@ first_read : (earlier : List (List ℕ)) (v w : Value) (n : ℕ) (o : Outcome (L
 first_read earlier v w n o is count read =
     ap (λ (m : ℕ). within m (key_at earlier (view w))) (sym count) ∙ ap (λ (x : Value). within n (key_at earlier (view x))) (sym is) ∙ read
 
-pub key_faulted : (e : ReadError) (earlier : List (List ℕ)) (vs : List Value) (v : Value) (n : ℕ) → 1 ≤ length vs → v ≡ get_or vs 0 v → n ≡ length earlier
+key_faulted : (e : ReadError) (earlier : List (List ℕ)) (vs : List Value) (v : Value) (n : ℕ) → 1 ≤ length vs → v ≡ get_or vs 0 v → n ≡ length earlier
     → TellsFault e (within n (key_at earlier (view v))) → TellsFault e (keys_from earlier (items_view vs))
 unfolding keys_from
 key_faulted e earlier [] v n some is count fault = absurd (omega arith)
@@ -141,7 +141,7 @@ key_faulted error.OutOfMemory earlier (w ∷ vs) v n some is count fault = tt
 key_faulted (error.Bad f) earlier (w ∷ vs) v n some is count fault =
     let here : within (length earlier) (key_at earlier (view w)) ≡ Err f = first_read earlier v w n (Err f) is count fault in rw here refl
 
-pub key_more : (earlier longer : List (List ℕ)) (vs : List Value) (v : Value) (key : List ℕ) (n : ℕ) → 1 ≤ length vs → v ≡ get_or vs 0 v → n ≡ length earlier
+key_more : (earlier longer : List (List ℕ)) (vs : List Value) (v : Value) (key : List ℕ) (n : ℕ) → 1 ≤ length vs → v ≡ get_or vs 0 v → n ≡ length earlier
     → within n (key_at earlier (view v)) ≡ Ok key → longer ≡ earlier ++ key ∷ []
     → keys_from longer (items_view (take (length vs - 1) (drop 1 vs))) ≡ keys_from earlier (items_view vs)
 unfolding keys_from
@@ -152,6 +152,24 @@ key_more earlier longer (w ∷ vs) v key n some is count read pushed =
     ap (λ (ws : List Value). keys_from longer (items_view ws)) (take_rest (w ∷ vs) 1)
     ∙ ap (λ (ks : List (List ℕ)). keys_from ks (items_view vs)) pushed
     ∙ sym step
+
+counted : {A : Type 0} (texts items : List (String A)) → texts ≡ items → length texts ≡ length (map string_bytes items)
+counted texts items same = ap (λ (ts : List (String _)). length ts) same ∙ sym (length-map items string_bytes)
+
+-- the same of keys as texts
+pub text_faulted : {A : Type 0} (e : ReadError) (texts items : List (String A)) (vs : List Value) (v : Value) → texts ≡ items → 1 ≤ length vs → v ≡ get_or vs 0 v
+    → TellsFault e (within (length texts) (key_at (map string_bytes texts) (view v))) → TellsFault e (keys_from (map string_bytes items) (items_view vs))
+text_faulted e texts items vs v same some is fault =
+    key_faulted e (map string_bytes items) vs v (length texts) some is (counted texts items same)
+    (subst (λ (ts : List (String _)). TellsFault e (within (length texts) (key_at (map string_bytes ts) (view v)))) same fault)
+
+pub text_more : {A : Type 0} (texts items longer : List (String A)) (vs : List Value) (v : Value) (key : String A) → texts ≡ items → 1 ≤ length vs
+    → v ≡ get_or vs 0 v → within (length texts) (key_at (map string_bytes texts) (view v)) ≡ Ok (string_bytes key) → longer ≡ items ++ key ∷ []
+    → keys_from (map string_bytes longer) (items_view (take (length vs - 1) (drop 1 vs))) ≡ keys_from (map string_bytes items) (items_view vs)
+text_more texts items longer vs v key same some is read pushed =
+    key_more (map string_bytes items) (map string_bytes longer) vs v (string_bytes key) (length texts) some is (counted texts items same)
+    (ap (λ (ts : List (String _)). within (length texts) (key_at (map string_bytes ts) (view v))) (sym same) ∙ read)
+    (ap (λ (ts : List (String _)). map string_bytes ts) pushed ∙ map_push string_bytes items key)
 
 -- what a list within the limits says of a key in it
 none_before : (key : List ℕ) (earlier later : List (List ℕ)) → has_repeat (earlier ++ key ∷ later) ≡ false → list_any (bytes_eq key) earlier ≡ false

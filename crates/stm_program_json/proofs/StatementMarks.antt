@@ -172,7 +172,7 @@ alone_fault : (all : Items) → first_of_marks MAX_NODES (marks_of_steps 1 [] 0 
     ≡ fault_of (statements_from (statement_at MAX_DEPTH) 0 MAX_NODES all >>= λ b. Ok (of_statements b.0))
 alone_fault all = program_steps 0 all ∙ told of_statements (statements_from (statement_at MAX_DEPTH) 0 MAX_NODES all)
 
-listing : List (List ℕ) → Block → ProgramTree
+abbrev listing : List (List ℕ) → Block → ProgramTree
 listing keys b = record { statements = b; prefetch = keys }
 
 -- behind a list that was read, or the fault of the list

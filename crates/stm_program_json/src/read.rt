@@ -16,7 +16,7 @@ mod statements;
 
 use serde_json::Value;
 use std::alloc::Global;
-use stm_json::{Cause, ReadError, fault, within};
+use stm_json::{Cause, ReadError, fault};
 use stm_program::{MAX_DEPTH, MAX_NODES, Program};
 
 /// The program that a JSON value spells, or the first fault.
@@ -60,7 +60,7 @@ pub fn first_statement(value: &Value) -> usize
 fn program_behind(alloc: Global, parts: &[Value], rest: &[Value]) -> Result<Program, ReadError>
     ensures { (all : Items) → Tells (λ p. p) result (program_after (Some (items_view parts.now)) all (items_view rest.now)) }
 {
-    let keys = within(alloc, 0, list::list_keys(alloc, parts))?;
+    let keys = list::list_part(alloc, parts)?;
     let (statements, _left) = statements::statement_list(alloc, rest, 1, MAX_DEPTH, MAX_NODES)?;
     Ok(Program::with_list(keys, statements))
 }

@@ -52,6 +52,13 @@ fn next_key(alloc: Global, earlier: &[String], value: &Value) -> Result<String, 
     }
 }
 
+/// The same, of the next element of an array. A fault's place is that in the array.
+fn key_part(alloc: Global, earlier: &[String], value: &Value) -> Result<String, ReadError>
+    ensures { Tells string_bytes result (within_lem (length earlier.now) (key_at (map string_bytes earlier.now) (view value.now))) }
+{
+    within(alloc, earlier.len(), next_key(alloc, earlier, value))
+}
+
 /// These keys, and the others behind them.
 #[tactic(auto, unfolding(crate::specs::Reading::keys_from))]
 fn with_keys(
@@ -65,8 +72,7 @@ fn with_keys(
     match values {
         [] => Ok(keys),
         [first, rest @ ..] => {
-            let key = next_key(alloc, keys.as_slice(), first);
-            let key = within(alloc, keys.len(), key)?;
+            let key = key_part(alloc, keys.as_slice(), first)?;
             keys.push(key)?;
             with_keys(alloc, keys, rest)
         }
@@ -84,11 +90,18 @@ fn keys(alloc: Global, value: &Value) -> Result<Vec<String>, ReadError>
 }
 
 /// The keys behind the word of a list: nothing but their array stands there.
-pub(crate) fn list_keys(alloc: Global, parts: &[Value]) -> Result<Vec<String>, ReadError>
+fn list_keys(alloc: Global, parts: &[Value]) -> Result<Vec<String>, ReadError>
     ensures { Tells (λ keys. map string_bytes keys.items) result (list_of (one_of (items_view parts.now))) }
 {
     match one(parts) {
         Some(value) => within(alloc, 1, keys(alloc, value)),
         None => Err(fault(alloc, Cause::Shape)),
     }
+}
+
+/// The same, where the list is the first element of an array. A fault's place is that in the array.
+pub(crate) fn list_part(alloc: Global, parts: &[Value]) -> Result<Vec<String>, ReadError>
+    ensures { Tells (λ keys. map string_bytes keys.items) result (within_lem 0 (list_of (one_of (items_view parts.now)))) }
+{
+    within(alloc, 0, list_keys(alloc, parts))
 }

@@ -2,4 +2,5 @@ pub mod AskingLemmas
 pub mod LineLemmas
 pub mod NoFloats
 pub mod ReadingLemmas
+pub mod PlaceLemmas
 pub mod ScheduledSpells

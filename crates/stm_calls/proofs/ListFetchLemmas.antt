@@ -1,8 +1,9 @@
 -- What the transaction that fetches a list comes to.
-use Rattle.std.proofs.Common.{◌≡◌, ◌⊎◌, inl, inr, ℕ, ◌<◌, Bool, true, false, cond, List, [], ◌∷◌, ◌++◌, length, map, Option, Some, None, Ok, Err, refl, sym, ◌∙◌, ap, subst, arith, All}
+use Rattle.std.proofs.Common.{◌≡◌, ◌⊎◌, inl, inr, ℕ, ◌<◌, Bool, true, false, cond, List, [], ◌∷◌, ◌++◌, ◌+◌, length, map, take, get_or, Option, Some, None, Ok, Err, refl, sym, ◌∙◌, ap, subst, arith, All}
 use Rattle.std.specs.Prelude.{◌||◌, nat_eq, nat_lt, IfErr, Result}
 use Rattle.std.specs.List.{list_any}
 use Rattle.std.proofs.lemmas.Bool.{ne_eqb, le-ltb}
+use Rattle.std.proofs.lemmas.List.{take_more}
 use Rattle.stm_history.specs.declared.key_state.KeyState.{KeyState}
 use Rattle.stm_history.specs.declared.key_state.ReadAnswer.{ReadAnswer}
 use Rattle.stm_history.specs.History.{History, now}
@@ -17,7 +18,7 @@ use Rattle.stm_outcome.specs.declared.refusal.Refusal.TheVariants.{OutOfMemory, 
 use Rattle.stm_outcome.specs.Operations.{key_of_op, clash}
 use Rattle.stm_outcome.specs.Checks.{has_too_many, has_empty_key, is_empty_key, has_clash, fault_of}
 use Rattle.stm_outcome.specs.Outcome.{unless, branch_outcome, outcome}
-use Rattle.stm_outcome.specs.Commits.{read_op, read_out, reads_now, shown, AreReached, AreNamed}
+use Rattle.stm_outcome.specs.Commits.{read_op, read_out, read_now, reads_now, shown, AreReached, AreNamed}
 use Rattle.stm_outcome.specs.Terms.{Terms}
 use Rattle.stm_outcome.proofs.Applying.{reads_change_nothing}
 use Rattle.stm_txn.specs.Standing.{Standing, Step, IsRefusalOf, step_of, transacted, terms_of}
@@ -88,6 +89,19 @@ shown_now h (key ∷ keys) =
     ap (λ (kv : Option KeyState). GetAnswer (record { key = key; kv = kv; of_rev = now h; revision = now h }) ∷ map (shown h) (reads_now keys))
     (last_revision_is_now h key (now h) (omega arith))
     ∙ ap (λ (later : List OpAnswer). GetAnswer (answer_now h key) ∷ later) (shown_now h keys)
+
+reads_push : (keys : List (List ℕ)) (key : List ℕ) → map read_op (reads_now (keys ++ key ∷ [])) ≡ map read_op (reads_now keys) ++ read_now key ∷ []
+reads_push [] key = refl
+reads_push (k ∷ keys) key = ap (λ (later : List Op). read_now k ∷ later) (reads_push keys key)
+
+-- one key more is read
+pub one_more_read : (keys : List (List ℕ)) (i : ℕ) (key : List ℕ) (ops after : List Op) (op : Op) → i < length keys → key ≡ get_or keys i key
+    → ops ≡ map read_op (reads_now (take i keys)) → op ≡ read_now key → after ≡ ops ++ op ∷ [] → after ≡ map read_op (reads_now (take (i + 1) keys))
+one_more_read keys i key ops after op below at so_far is pushed =
+    let more : take (i + 1) keys ≡ take i keys ++ key ∷ [] =
+    take_more keys i key below ∙ ap (λ (k : List ℕ). take i keys ++ k ∷ []) (sym at) in
+    pushed ∙ ap (λ (l : List Op). l ++ op ∷ []) so_far ∙ ap (λ (o : Op). map read_op (reads_now (take i keys)) ++ o ∷ []) is
+    ∙ sym (reads_push (take i keys) key) ∙ ap (λ (ks : List (List ℕ)). map read_op (reads_now ks)) (sym more)
 
 -- in any store
 pub all_come : (terms : Terms) (keys : List (List ℕ)) → AreNamed keys → nat_lt terms.limit (length keys) ≡ false

@@ -1,7 +1,7 @@
 -- Worked examples of the check: the report of two programs that each set a key to 0 where the sum of both is above 1.
 use Rattle.std.proofs.Common.{◌≡◌, refl, inl, inr, ℕ, pos, true, false, List, [], ◌∷◌}
 use Rattle.std.specs.Prelude.{codes}
-use Rattle.stm_program.specs.Syntax.{ProgramTree, End as EndBlock, Then, Expression}
+use Rattle.stm_program.specs.Syntax.{ProgramTree, of_statements, End as EndBlock, Then, Expression}
 use Rattle.stm_program.specs.Syntax.{Put as PutStatement, If, Less, Number, Text, Get, NumOf, Arithmetic}
 use Rattle.stm_program.specs.declared.operator.Operator.TheVariants.{Add}
 use Rattle.stm_program.specs.declared.level.Level.TheVariants.{Serializable}
@@ -34,10 +34,9 @@ number_in key = NumOf (Get (Text key))
 
 -- sets a key to 0 where x and y are more than 1
 abbrev setting : List ℕ → ProgramTree
-setting key = record {
-  statements = Then (If (Less (Number (pos 1)) (Arithmetic Add (number_in (codes "x")) (number_in (codes "y"))))
-      (Then (PutStatement (Text key) (Text (codes "0")) 0) EndBlock) EndBlock) EndBlock;
-}
+setting key =
+    of_statements (Then (If (Less (Number (pos 1)) (Arithmetic Add (number_in (codes "x")) (number_in (codes "y"))))
+    (Then (PutStatement (Text key) (Text (codes "0")) 0) EndBlock) EndBlock) EndBlock)
 
 abbrev skew : List WorldEvent
 skew =
@@ -83,6 +82,15 @@ own_runner = refl
 -- runner 2 at a step of runner 1 is Event
 other_runner : fits 5 started.runners (Step 1) (line.Fetched 5 2 (codes "x") 2 3 3) ≡ false
 other_runner = refl
+
+own_list : fits 5 started.runners (Step 1) (line.Prefetched 5 1 3 (record { key = codes "x"; mod_rev = 2 } ∷ [])) ≡ true
+own_list = refl
+
+other_list : fits 5 started.runners (Step 1) (line.Prefetched 5 2 3 (record { key = codes "x"; mod_rev = 2 } ∷ [])) ≡ false
+other_list = refl
+
+list_is_of_a_step : fits 5 started.runners (Poll 1 0) (line.Prefetched 5 1 3 []) ≡ false
+list_is_of_a_step = refl
 
 other_number : fits 5 started.runners (Step 1) (line.Fetched 6 1 (codes "x") 2 3 3) ≡ false
 other_number = refl

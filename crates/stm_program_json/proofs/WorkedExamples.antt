@@ -1,7 +1,8 @@
 -- Worked examples of the grammar and of the first fault.
-use Rattle.std.proofs.Common.{◌≡◌, inl, [], ◌∷◌, suc, None, refl, codes}
+use Rattle.std.proofs.Common.{◌≡◌, inl, inr, List, [], ◌∷◌, suc, None, refl, codes}
 use Rattle.std.specs.Fmt.{digits}
-use Rattle.serde_json.specs.Data.{Data, number, unsigned, string, array, no_items, item}
+use Rattle.serde_json.specs.Data.{Data, number, unsigned, string, array, Items, no_items, item}
+use Rattle.serde_json.specs.View.{items_of}
 use Rattle.stm_json.specs.declared.cause.Cause.TheVariants.{Shape, Range}
 use Rattle.stm_program.specs.Syntax.{ProgramTree, of_statements, Get, Text, Emit, End, Then}
 use Rattle.stm_json.specs.Parts.{spelled}
@@ -47,3 +48,47 @@ pub element_too_many : first_fault (array (item (spelled (codes "emit") (number 
     ≡ fault_at (codes "/0") Shape
 unfolding first_fault parts_behind digits
 element_too_many = refl
+
+-- ---- a list
+
+abbrev list_of : List Data → Data
+list_of keys = spelled (codes "prefetch") (array (items_of keys) ∷ [])
+
+-- [["prefetch",["p","q"]],["emit",["get","k"]]]
+pub list_is_spelled : SpellsProgram (array (item (list_of (string (codes "p") ∷ string (codes "q") ∷ [])) (item emit_of_get no_items)))
+    (record { statements = emits_k.statements; prefetch = codes "p" ∷ codes "q" ∷ [] })
+list_is_spelled =
+    let keys : Items = items_of (string (codes "p") ∷ string (codes "q") ∷ []) in (
+      item (list_of (string (codes "p") ∷ string (codes "q") ∷ [])) (item emit_of_get no_items),
+      refl,
+      inr (
+        list_of (string (codes "p") ∷ string (codes "q") ∷ []),
+        item emit_of_get no_items,
+        refl,
+        (keys, refl, (item (string (codes "q")) no_items, refl, (no_items, refl, refl))),
+        (emit_of_get, no_items, refl, (get_of_k, refl, (string (codes "k"), refl, refl)), refl),
+      ),
+    )
+
+-- a key a second time: [["prefetch",["p","p"]]]
+pub key_repeated : first_fault (array (item (list_of (string (codes "p") ∷ string (codes "p") ∷ [])) no_items)) ≡ fault_at (codes "/0/1/1") Shape
+unfolding first_fault digits
+key_repeated = refl
+
+-- an empty key, before a number in a key's place: [["prefetch",["p","",7]]]
+pub key_empty : first_fault (array (item (list_of (string (codes "p") ∷ string [] ∷ number (unsigned 7) ∷ [])) no_items)) ≡ fault_at (codes "/0/1/1") Shape
+unfolding first_fault digits
+key_empty = refl
+
+-- a list behind a statement: [["emit",1],["prefetch",["p"]]]
+pub list_too_late : first_fault (array (item (spelled (codes "emit") (number (unsigned 1) ∷ [])) (item (list_of (string (codes "p") ∷ [])) no_items)))
+    ≡ fault_at (codes "/1") Shape
+unfolding first_fault parts_behind digits
+list_too_late = refl
+
+-- two elements behind the word: [["prefetch",["p"],["q"]]]
+pub two_lists : first_fault (array (item (spelled (codes "prefetch")
+    (array (item (string (codes "p")) no_items) ∷ array (item (string (codes "q")) no_items) ∷ [])) no_items))
+    ≡ fault_at (codes "/0") Shape
+unfolding first_fault digits
+two_lists = refl

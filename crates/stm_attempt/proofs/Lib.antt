@@ -5,6 +5,7 @@ pub mod DistinctLemmas
 pub mod EnteringLemmas
 pub mod TakingLemmas
 pub mod NextLemmas
+pub mod ReadsBegin
 pub mod ProgressLemmas
 pub mod AttemptLemmas
 pub mod WorkedExamples

@@ -1,7 +1,7 @@
 -- The list of a program, which enters an attempt before the first statement, and what the attempt has read once it went on.
 --
--- The documentation of the Go package `clientv3/concurrency`, "WithPrefetch", reads these keys at the start of each attempt, and of the
--- keys that a failed commit has prefetched takes the answers one by one. That a list is taken whole or fetched whole is our own.
+-- The documentation of the Go package `clientv3/concurrency`, "WithPrefetch", calls it a hint to fetch a list of keys before a transaction
+-- is tried. That its answers are reads of the attempt, and that a list is taken whole or fetched whole, is our own.
 use Rattle.std.specs.Prelude.{ℕ, Bool, true, false, if◌then◌else◌, List, [], ◌∷◌, Option, None, Some}
 use Rattle.stm_history.specs.declared.key_state.ReadAnswer.{ReadAnswer}
 use Rattle.stm_program.specs.Syntax.{ProgramTree}

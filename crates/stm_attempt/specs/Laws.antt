@@ -12,7 +12,7 @@ use Rattle.stm_attempt.specs.Settled.{served, settled}
 use Rattle.stm_attempt.specs.Entering.{gone_on}
 use Rattle.stm_attempt.specs.Fetches.{at_of, ShowOneRevision, HaveOneBase}
 use Rattle.stm_attempt.specs.ReadyRun.{ReadyRun, IsRunOnItsAnswers}
-use Rattle.stm_attempt.specs.AttemptState.{with_reads}
+use Rattle.stm_attempt.specs.AttemptState.{AttemptState, with_reads, supplied, supplied_all, awaited, list_awaited}
 use Rattle.stm_attempt.specs.Next.{next_of}
 
 -- A key that is wanted after settling is served by no prefetched answer.
@@ -44,9 +44,28 @@ abbrev pub BeginsWithList : List (List ℕ) → List ReadAnswer → Type 0
 BeginsWithList keys [] = Unit {0}
 BeginsWithList keys (a ∷ reads) = BeginsWith keys (a ∷ reads)
 
+-- Going on keeps that.
 abbrev pub ReadsBeginWithTheList : Type 0
 ReadsBeginWithTheList =
     (program : ProgramTree) (known : Known) → BeginsWithList program.prefetch known.reads → BeginsWithList program.prefetch (gone_on program known)
+
+-- The answers to the list that is awaited are it.
+abbrev pub SuppliedListComesFirst : Type 0
+SuppliedListComesFirst =
+    (program : ProgramTree) (attempt : AttemptState) (answers : List ReadAnswer) → attempt.program ≡ Some program
+    → list_awaited attempt ≡ Some (map (λ a. a.key) answers) → BeginsWithList program.prefetch (supplied_all answers attempt).known.reads
+
+-- The answer to a key that is awaited stands behind it.
+abbrev pub SuppliedKeyComesBehind : Type 0
+SuppliedKeyComesBehind =
+    (program : ProgramTree) (attempt : AttemptState) (answer : ReadAnswer) → attempt.program ≡ Some program → awaited attempt ≡ Some answer.key
+    → BeginsWithList program.prefetch attempt.known.reads → BeginsWithList program.prefetch (supplied answer attempt).known.reads
+
+-- So an attempt that is ready has read the whole list, first.
+abbrev pub ReadyBeginsWithTheList : Type 0
+ReadyBeginsWithTheList =
+    (program : ProgramTree) (level : Level) (known : Known) (ready : ReadyRun) → BeginsWithList program.prefetch known.reads
+    → next_of program level known ≡ Ready ready → BeginsWith ready.program.prefetch ready.answers
 
 -- Going on keeps the base, where the prefetched answers have one.
 abbrev pub GoingOnKeepsTheBase : Type 0

@@ -1,5 +1,6 @@
 //! The laws of attempts. Each function does nothing: its contract is the law.
 ghost use Rattle.stm_attempt.specs.Laws.{NothingServesTheSettled, SettledIsSettled, RepeatingAnswersTheSame, WhatServesIsTaken, SettlingAddsPrefetched, GoneOnIsGoneOn, ReadsBeginWithTheList, GoingOnKeepsTheBase};
+ghost use Rattle.stm_attempt.specs.Laws.{SuppliedListComesFirst, SuppliedKeyComesBehind, ReadyBeginsWithTheList};
 ghost use Rattle.stm_attempt.specs.Laws.{SettlingKeepsTheBase, FetchingKeepsTheBase, ReadyIsTheRun};
 
 /// A key that an attempt wants after settling is served by no prefetched answer.
@@ -37,9 +38,24 @@ pub fn gone_on_is_gone_on()
     ensures { GoneOnIsGoneOn }
 {}
 
-/// What an attempt has read begins with its program's list, in the list's order.
+/// Where what an attempt has read begins with its program's list, in the list's order, it still does once the attempt went on.
 pub fn reads_begin_with_the_list()
     ensures { ReadsBeginWithTheList }
+{}
+
+/// It does once the answers to the list were supplied.
+pub fn supplied_list_comes_first()
+    ensures { SuppliedListComesFirst }
+{}
+
+/// It still does once the answer to a key was supplied.
+pub fn supplied_key_comes_behind()
+    ensures { SuppliedKeyComesBehind }
+{}
+
+/// So an attempt that is ready has read its program's whole list, before any other key.
+pub fn ready_begins_with_the_list()
+    ensures { ReadyBeginsWithTheList }
 {}
 
 /// Answers that show one revision still do after going on.

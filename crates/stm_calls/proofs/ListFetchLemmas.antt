@@ -24,7 +24,7 @@ use Rattle.stm_outcome.proofs.Applying.{reads_change_nothing}
 use Rattle.stm_txn.specs.Standing.{Standing, Step, IsRefusalOf, step_of, transacted, terms_of}
 use Rattle.stm_compile.specs.Answers.{answer_now}
 use Rattle.stm_calls.specs.Reads.{reads_in}
-use Rattle.stm_calls.specs.Fetched.{fetch_all_of, fetch_all_told, IsRefusalOfAll}
+use Rattle.stm_calls.specs.Fetched.{fetch_all_of, fetch_all_told, IsRefusalOfAll, reads_told, only_reads, ListIsOneTransaction}
 use Rattle.stm_calls.proofs.ReadLemmas.{all_reads}
 
 -- ---- the whole transaction
@@ -137,6 +137,31 @@ too_many_come_to s keys txn is named many =
     ap (transacted s) is
     ∙ ap (λ (fault : Option Refusal). step_of s (unless fault (branch_outcome (terms_of s) None (map read_op (reads_now keys)))))
     (fault_is s.limit keys named ∙ ap (λ (b : Bool). (let o : Option Refusal = cond b (Some TooManyOps) None in o)) many)
+
+-- ---- the transaction is the fetch
+
+told_by : (s : Standing) (keys : List (List ℕ)) (many : Bool) → nat_lt s.limit (length keys) ≡ many
+    → fetch_all_told s keys ≡ cond many (Err TooManyOps) (Ok (map (answer_now s.history) keys))
+told_by s keys many is = ap (λ (b : Bool). (let r : Result (List ReadAnswer) Refusal = cond b (Err TooManyOps) (Ok (map (answer_now s.history) keys)) in r)) is
+
+-- reads in the form of a transaction's answers
+abbrev answered : Standing → List OpAnswer → Step TxnAnswer
+answered s answers = record { answer = record { succeeded = true; revision = now s.history; answers = answers; failed = None }; next = s }
+
+read_alone : (s : Standing) (keys : List (List ℕ)) → nat_lt s.limit (length keys) ≡ false → Ok (step_alone s keys) ≡ only_reads s (fetch_all_told s keys)
+unfolding step_alone
+read_alone s keys few =
+    ap (λ (answers : List OpAnswer). (let r : Result (Step TxnAnswer) Refusal = Ok (answered s answers) in r)) (shown_now s.history keys)
+    ∙ ap (only_reads s) (sym (told_by s keys false few))
+
+list_by : (s : Standing) (keys : List (List ℕ)) (many : Bool) → nat_lt s.limit (length keys) ≡ many → AreNamed keys
+    → transacted s (fetch_all_of keys) ≡ only_reads s (fetch_all_told s keys)
+list_by s keys true many named =
+    too_many_come_to s keys (fetch_all_of keys) refl named many ∙ ap (only_reads s) (sym (told_by s keys true many))
+list_by s keys false few named = all_come_to s keys (fetch_all_of keys) refl named few ∙ read_alone s keys few
+
+pub list_is_one_transaction : ListIsOneTransaction
+list_is_one_transaction s keys named = list_by s keys (nat_lt s.limit (length keys)) refl named
 
 -- ---- what was told
 

@@ -12,9 +12,9 @@ use Rattle.stm_outcome.specs.declared.answer.OpAnswer.TheVariants.{Get}
 use Rattle.stm_outcome.specs.declared.answer.TxnAnswer.{TxnAnswer}
 use Rattle.stm_outcome.specs.declared.refusal.Refusal.TheVariants.{OutOfMemory, EmptyKey, TooManyOps, FutureRevision, Compacted}
 use Rattle.stm_outcome.specs.Terms.{is_below_floor}
-use Rattle.stm_outcome.specs.Commits.{Read, read_op, reads_now, revision_read}
+use Rattle.stm_outcome.specs.Commits.{AreNamed, Read, read_op, reads_now, revision_read}
 use Rattle.stm_compile.specs.Answers.{answer_now}
-use Rattle.stm_txn.specs.Standing.{Standing}
+use Rattle.stm_txn.specs.Standing.{Standing, Step, transacted}
 
 -- the key at the revision that the fetch names; the answer carries the store's revision
 abbrev pub fetched : History → List ℕ → ℕ → ReadAnswer
@@ -70,3 +70,17 @@ fetch_all_told s keys = if nat_lt s.limit (length keys) then Err TooManyOps else
 -- The refusal of the fetch of a list is its own, or memory ran out.
 abbrev pub IsRefusalOfAll : Standing → List (List ℕ) → Refusal → Type 0
 IsRefusalOfAll s keys cause = (cause ≡ OutOfMemory) ⊎ (fetch_all_told s keys ≡ Err cause)
+
+-- the answer to a transaction that reads and does nothing else
+abbrev pub reads_told : Standing → List ReadAnswer → TxnAnswer
+reads_told s reads = record { succeeded = true; revision = now s.history; answers = map (λ a. Get a) reads; failed = None }
+
+-- with the store as it was
+abbrev pub only_reads : Standing → Result (List ReadAnswer) Refusal → Result (Step TxnAnswer) Refusal
+only_reads s (Ok reads) = Ok record { answer = reads_told s reads; next = s }
+only_reads s (Err cause) = Err cause
+
+-- It is what the store does with that transaction.
+abbrev pub ListIsOneTransaction : Type 0
+ListIsOneTransaction =
+    (s : Standing) (keys : List (List ℕ)) → AreNamed keys → transacted s (fetch_all_of keys) ≡ only_reads s (fetch_all_told s keys)

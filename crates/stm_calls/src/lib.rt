@@ -1,10 +1,11 @@
-//! What an attempt asks of a store: the fetch of a key, and the commit, which is one transaction. Beside them what those who
-//! keep such a store have in common: copies of what a commit tells, and the store's present keys and its state.
+//! What an attempt asks of a store: the fetch of a key, or of a list of keys, and the commit. A list is one transaction, and so is a commit.
+//! Beside them what those who keep such a store have in common: copies of what a commit tells, and the store's present keys and its state.
 #![tactic(auto)]
 
 mod answers;
 mod copies;
 mod fetching;
+pub mod laws;
 mod present;
 mod sending;
 mod sent;

@@ -88,8 +88,8 @@ pub fn conflict(
 /// applied. `Failed` says that one did, and the store is as it was. Its answers may be prefetched for the next
 /// attempt: they are of keys that differ, and all of one revision.
 ///
-/// A refusal leaves the store as it was too. `TooManyOps`: the attempt compares or writes more keys than a
-/// transaction may. Where no compare fails, `LeaseNotFound`: a put names a lease that is not live; then
+/// A refusal leaves the store as it was too. `TooManyOps`: the attempt compares or writes more keys than the
+/// store takes operations. Where no compare fails, `LeaseNotFound`: a put names a lease that is not live; then
 /// `RevisionsUsedUp`: something would change at the highest revision. `OutOfMemory` may come before each of
 /// these. (The Go package `clientv3/concurrency`, "STM"; the order of the refusals is this store's own.)
 pub fn commit(alloc: Global, store: &mut Store, ready: &Ready) -> Result<Sent, Refusal>

@@ -103,7 +103,7 @@ fn foreign_of(txn: &Txn) -> Result<Entry, AllocError>
     Ok(Entry::Foreign { txn })
 }
 
-/// The copy is the same entry. It shares all but the outermost statements of a program.
+/// The copy is the same entry. It shares all of a program but its outermost statements and the keys of its list.
 impl Clone for Entry {
     ghost is_clone = { λ entry copy. copy ≡ entry };
 

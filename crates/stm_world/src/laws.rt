@@ -12,7 +12,7 @@ ghost use Rattle.stm_world.specs.WrongFailures.{WrongFailures, WrongRuns};
 ghost use Rattle.stm_world.specs.WrongLogs.{WrongLogs};
 
 /// The headline. Over every list of events, in any interleaving of any number of runners, from every
-/// opening revision: each event has its reply, and nothing else was replied; each reply is right after the lines
+/// opening, its revision and its limit of operations: each event has its reply, and nothing else was replied; each reply is right after the lines
 /// before it, the store and the runners are what the log says, and the entries replay to its history and live leases,
 /// each legal at its point.
 ///

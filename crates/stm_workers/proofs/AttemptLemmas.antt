@@ -15,7 +15,7 @@ use Rattle.stm_job.specs.declared.job.Job.{Job}
 use Rattle.stm_job.specs.declared.job_end.JobEnd.{JobEnd}
 use Rattle.stm_workers.specs.declared.stop.Stop.{Stop}
 use Rattle.stm_workers.specs.declared.stop.Stop.TheVariants.{OutOfMemory}
-use Rattle.stm_workers.specs.Calls.{committed_by, JudgedInSomeHall}
+use Rattle.stm_workers.specs.Calls.{committed_by, HasKeptStore, JudgedInSomeHall}
 use Rattle.stm_workers.specs.AttemptOutcomes.{IfEnded, IfAgain}
 use Rattle.stm_workers.specs.Attempts.{JobState, state_of, job_end_told, end_after, IsUnanswered, AreUnanswered, IsTurnedAway, IsFetch, HasFetched, IsEvaluated, HasTried}
 use Rattle.stm_workers.specs.Attempts.{IsStop, HasStopped, IsNextAttempt, HasFailed, HaveFailed, HasEnded, ComesTo, EndsByVerdict}
@@ -24,11 +24,12 @@ use Rattle.stm_workers.specs.Attempts.{EndsByStop, HasCome}
 -- ---- one attempt
 
 -- it has fetched nothing yet
-pub none_fetched : (job : Job) (state : JobState) → HasFetched job state state
-none_fetched job state = (zero, refl)
+pub none_fetched : (handed : HallState) (job : Job) (state : JobState) → HasFetched handed job state state
+none_fetched handed job state = (zero, refl)
 
-pub one_fetched : (job : Job) (before between after : JobState) → HasFetched job before between → IsFetch job between after → HasFetched job before after
-one_fetched job before between after so_far fetch = (suc so_far.0, (between, so_far.1, fetch))
+pub one_fetched : (handed : HallState) (job : Job) (before between after : JobState) → HasFetched handed job before between →
+    IsFetch handed job between after → HasFetched handed job before after
+one_fetched handed job before between after so_far fetch = (suc so_far.0, (between, so_far.1, fetch))
 
 -- ---- an attempt that goes no further
 
@@ -37,47 +38,50 @@ pub told_out : {A : Type 0} (result : Result A Stop) (P : Stop → Type 0) (made
 told_out {A} result P made given is same holds = subst (λ (r : Result A Stop). IfErr r P) (sym is) (subst P (sym same) holds)
 
 -- the key that it wants was refused, and nothing was seen
-pub fetch_stops : (job : Job) (at : JobState) (key : List ℕ) (of_rev : ℕ) (stop : Stop) (seen : ℕ) →
-    next_of job.program at.attempt.level at.attempt.known ≡ Fetch key of_rev → (stop ≡ OutOfMemory) ⊎ IsUnanswered at.seen key of_rev stop →
-    seen ≡ at.seen → (stop ≡ OutOfMemory) ⊎ (IsStop job at stop × (seen ≡ at.seen))
-fetch_stops job at key of_rev stop seen wants (inl want) same = inl want
-fetch_stops job at key of_rev stop seen wants (inr refused) same =
+pub fetch_stops : (handed : HallState) (job : Job) (at : JobState) (key : List ℕ) (of_rev : ℕ) (stop : Stop) (seen : ℕ) →
+    next_of job.program at.attempt.level at.attempt.known ≡ Fetch key of_rev → (stop ≡ OutOfMemory) ⊎ IsUnanswered handed at.seen key of_rev stop →
+    seen ≡ at.seen → (stop ≡ OutOfMemory) ⊎ (IsStop handed job at stop × (seen ≡ at.seen))
+fetch_stops handed job at key of_rev stop seen wants (inl want) same = inl want
+fetch_stops handed job at key of_rev stop seen wants (inr refused) same =
     inr (inr (inl (inl (record { key = key; of_rev = of_rev; wants = wants; refused = refused }))), same)
 
 -- or its list was
-pub list_stops : (job : Job) (at : JobState) (keys : List (List ℕ)) (of_rev : ℕ) (stop : Stop) (seen : ℕ) →
-    next_of job.program at.attempt.level at.attempt.known ≡ FetchAll keys of_rev → (stop ≡ OutOfMemory) ⊎ AreUnanswered at.seen keys stop →
-    seen ≡ at.seen → (stop ≡ OutOfMemory) ⊎ (IsStop job at stop × (seen ≡ at.seen))
-list_stops job at keys of_rev stop seen wants (inl want) same = inl want
-list_stops job at keys of_rev stop seen wants (inr refused) same =
+pub list_stops : (handed : HallState) (job : Job) (at : JobState) (keys : List (List ℕ)) (of_rev : ℕ) (stop : Stop) (seen : ℕ) →
+    next_of job.program at.attempt.level at.attempt.known ≡ FetchAll keys of_rev → (stop ≡ OutOfMemory) ⊎ AreUnanswered handed at.seen keys stop →
+    seen ≡ at.seen → (stop ≡ OutOfMemory) ⊎ (IsStop handed job at stop × (seen ≡ at.seen))
+list_stops handed job at keys of_rev stop seen wants (inl want) same = inl want
+list_stops handed job at keys of_rev stop seen wants (inr refused) same =
     inr (inr (inl (inr (record { keys = keys; of_rev = of_rev; wants = wants; refused = refused }))), same)
 
 -- it goes no further from where its fetches lead
-pub stops_there : (job : Job) (before at : JobState) (stop : Stop) (seen : ℕ) → HasFetched job before at →
-    (stop ≡ OutOfMemory) ⊎ (IsStop job at stop × (seen ≡ at.seen)) → HasStopped job before stop seen
-stops_there job before at stop seen fetches (inl want) = inl want
-stops_there job before at stop seen fetches (inr told) = inr (record { at = at; fetches = fetches; is_stop = told.0; sees = told.1 })
+pub stops_there : (handed : HallState) (job : Job) (before at : JobState) (stop : Stop) (seen : ℕ) → HasFetched handed job before at →
+    (stop ≡ OutOfMemory) ⊎ (IsStop handed job at stop × (seen ≡ at.seen)) → HasStopped handed job before stop seen
+stops_there handed job before at stop seen fetches (inl want) = inl want
+stops_there handed job before at stop seen fetches (inr told) = inr (record { at = at; fetches = fetches; is_stop = told.0; sees = told.1 })
 
 -- a hall's refusal of a commit, as it is handed on
-pub refused_so : (ready : ReadyRun) (before after : HallState) (result : Result Verdict CommitRefusal) (made given : CommitRefusal) → result ≡ Err made →
-    made ≡ given → CommitTells (verdict_of before ready) before (Err given) after → JudgedInSomeHall ready result
-refused_so ready before after result made given is same told = (
+pub refused_so : (handed : HallState) (ready : ReadyRun) (before after : HallState) (result : Result Verdict CommitRefusal) (made given : CommitRefusal) → result ≡ Err made →
+    made ≡ given → HasKeptStore handed before → CommitTells (verdict_of before ready) before (Err given) after → JudgedInSomeHall handed ready result
+refused_so handed ready before after result made given is same kept told = (
   before,
   after,
+  kept,
   subst (λ (r : Result Verdict CommitRefusal). CommitTells (verdict_of before ready) before r after)
       (sym (is ∙ ap (λ (cause : CommitRefusal). Err cause) same)) told,
 )
 
 -- what a hall answered to a commit
-pub judged_so : (ready : ReadyRun) (result outcome : Result Verdict CommitRefusal) → result ≡ outcome → JudgedInSomeHall ready result →
-    JudgedInSomeHall ready outcome
-judged_so ready result outcome is judged = subst (λ (r : Result Verdict CommitRefusal). JudgedInSomeHall ready r) is judged
+pub judged_so : (handed : HallState) (ready : ReadyRun) (result outcome : Result Verdict CommitRefusal) → result ≡ outcome →
+    JudgedInSomeHall handed ready result →
+    JudgedInSomeHall handed ready outcome
+judged_so handed ready result outcome is judged = subst (λ (r : Result Verdict CommitRefusal). JudgedInSomeHall handed ready r) is judged
 
 -- its commit is refused
-pub commit_stops : (job : Job) (before : JobState) (ready : ReadyRun) (stop : Stop) (seen : ℕ) → IsEvaluated job before ready seen →
-    (stop ≡ OutOfMemory) ⊎ IsTurnedAway ready stop → HasStopped job before stop seen
-commit_stops job before ready stop seen evaluated (inl want) = inl want
-commit_stops job before ready stop seen evaluated (inr refused) = inr (record {
+pub commit_stops : (handed : HallState) (job : Job) (before : JobState) (ready : ReadyRun) (stop : Stop) (seen : ℕ) →
+    IsEvaluated handed job before ready seen →
+    (stop ≡ OutOfMemory) ⊎ IsTurnedAway handed ready stop → HasStopped handed job before stop seen
+commit_stops handed job before ready stop seen evaluated (inl want) = inl want
+commit_stops handed job before ready stop seen evaluated (inr refused) = inr (record {
   at = evaluated.at;
   fetches = evaluated.fetches;
   is_stop = inr (inr (record { ready = ready; is_ready = evaluated.is_ready; refused = refused }));
@@ -86,25 +90,26 @@ commit_stops job before ready stop seen evaluated (inr refused) = inr (record {
 
 -- ---- what comes of its verdict
 
-pub ends_by : (job : Job) (before : JobState) (is_last : Bool) (verdict : Verdict) (seen : ℕ) (result : Result AttemptOutcome Stop) →
-    HasTried job before verdict seen →
+pub ends_by : (handed : HallState) (job : Job) (before : JobState) (is_last : Bool) (verdict : Verdict) (seen : ℕ) (result : Result AttemptOutcome Stop) →
+    HasTried handed job before verdict seen →
     IfOk result (IfEnded (λ (end : JobEnd). (end ≡ end_after verdict) × (committed_by verdict ≡ 0 → is_last ≡ true))) →
-    IfOk result (IfEnded (λ (end : JobEnd). HasEnded job before is_last end seen))
-ends_by job before is_last verdict seen (Ok (Ended end)) tried told = record { verdict = verdict; tried = tried; told = told.0; last = told.1 }
-ends_by job before is_last verdict seen (Ok (Again next)) tried told = tt
-ends_by job before is_last verdict seen (Err stop) tried told = tt
+    IfOk result (IfEnded (λ (end : JobEnd). HasEnded handed job before is_last end seen))
+ends_by handed job before is_last verdict seen (Ok (Ended end)) tried told = record { verdict = verdict; tried = tried; told = told.0; last = told.1 }
+ends_by handed job before is_last verdict seen (Ok (Again next)) tried told = tt
+ends_by handed job before is_last verdict seen (Err stop) tried told = tt
 
-pub fails_by : (job : Job) (before : JobState) (is_last : Bool) (verdict : Verdict) (seen : ℕ) (result : Result AttemptOutcome Stop) →
-    HasTried job before verdict seen → IfOk result (IfAgain (λ (next : AttemptState). (is_last ≡ false) × IsNextAttempt job verdict next)) →
-    IfOk result (IfAgain (λ (next : AttemptState). (is_last ≡ false) × HasFailed job before (state_of next seen)))
-fails_by job before is_last verdict seen (Ok (Ended end)) tried next = tt
-fails_by job before is_last verdict seen (Ok (Again attempt)) tried next = (next.0, record { verdict = verdict; tried = tried; next = next.1 })
-fails_by job before is_last verdict seen (Err stop) tried next = tt
+pub fails_by : (handed : HallState) (job : Job) (before : JobState) (is_last : Bool) (verdict : Verdict) (seen : ℕ) (result : Result AttemptOutcome Stop) →
+    HasTried handed job before verdict seen → IfOk result (IfAgain (λ (next : AttemptState). (is_last ≡ false) × IsNextAttempt job verdict next)) →
+    IfOk result (IfAgain (λ (next : AttemptState). (is_last ≡ false) × HasFailed handed job before (state_of next seen)))
+fails_by handed job before is_last verdict seen (Ok (Ended end)) tried next = tt
+fails_by handed job before is_last verdict seen (Ok (Again attempt)) tried next = (next.0, record { verdict = verdict; tried = tried; next = next.1 })
+fails_by handed job before is_last verdict seen (Err stop) tried next = tt
 
-pub stops_by : (job : Job) (before : JobState) (seen : ℕ) (result : Result AttemptOutcome Stop) → IfErr result (λ (stop : Stop). stop ≡ OutOfMemory) →
-    IfErr result (λ (stop : Stop). HasStopped job before stop seen)
-stops_by job before seen (Ok tried) want = tt
-stops_by job before seen (Err stop) want = inl want
+pub stops_by : (handed : HallState) (job : Job) (before : JobState) (seen : ℕ) (result : Result AttemptOutcome Stop) →
+    IfErr result (λ (stop : Stop). stop ≡ OutOfMemory) →
+    IfErr result (λ (stop : Stop). HasStopped handed job before stop seen)
+stops_by handed job before seen (Ok tried) want = tt
+stops_by handed job before seen (Err stop) want = inl want
 
 -- a verdict after which the job goes on
 pub at_again : (P : AttemptState → Type 0) (tried : AttemptOutcome) (next : AttemptState) → tried ≡ Again next → IfAgain P tried → P next
@@ -116,47 +121,55 @@ at_ended P tried end is holds = subst (λ (t : AttemptOutcome). IfEnded P t) is 
 -- ---- a job
 
 -- where its attempts stand before the one with this number, from 1
-abbrev pub HasLost : Job → ℕ → ℕ → JobState → Type 0
-HasLost job seen number last = (failed : ℕ) × (number ≡ failed + 1) × HaveFailed job failed (state_of (begun job.level []) seen) last
+abbrev pub HasLost : HallState → Job → ℕ → ℕ → JobState → Type 0
+HasLost handed job seen number last = (failed : ℕ) × (number ≡ failed + 1) × HaveFailed handed job failed (state_of (begun job.level []) seen) last
 
-pub first_is_next : (job : Job) (seen : ℕ) (attempt : AttemptState) → attempt ≡ begun job.level [] → HasLost job seen 1 (state_of attempt seen)
-first_is_next job seen attempt is = (zero, refl, ap (λ (a : AttemptState). state_of a seen) is)
+pub first_is_next : (handed : HallState) (job : Job) (seen : ℕ) (attempt : AttemptState) → attempt ≡ begun job.level [] →
+    HasLost handed job seen 1 (state_of attempt seen)
+first_is_next handed job seen attempt is = (zero, refl, ap (λ (a : AttemptState). state_of a seen) is)
 
-pub one_lost : (job : Job) (seen number : ℕ) (before after : JobState) → HasLost job seen number before → HasFailed job before after →
-    HasLost job seen (number + 1) after
-one_lost job seen number before after lost fails = (suc lost.0, let n = lost.1 in omega (arith, n), (before, lost.2, fails))
+pub one_lost : (handed : HallState) (job : Job) (seen number : ℕ) (before after : JobState) → HasLost handed job seen number before →
+    HasFailed handed job before after →
+    HasLost handed job seen (number + 1) after
+one_lost handed job seen number before after lost fails = (suc lost.0, let n = lost.1 in omega (arith, n), (before, lost.2, fails))
 
-comes_to : (job : Job) (seen number : ℕ) (last : JobState) (Then : JobState → Type 0) → HasLost job seen number last → number ≤ job.limit → Then last →
-    ComesTo job seen number Then
-comes_to job seen number last Then lost within is =
+comes_to : (handed : HallState) (job : Job) (seen number : ℕ) (last : JobState) (Then : JobState → Type 0) → HasLost handed job seen number last →
+    number ≤ job.limit → Then last →
+    ComesTo handed job seen number Then
+comes_to handed job seen number last Then lost within is =
     record { failed = lost.0; counted = lost.1; within = within; last = last; failures = lost.2; then_is = is }
 
 -- the attempt with this number ends the job by its verdict; the last one has the number of the limit
-pub ends_at : (job : Job) (seen number after : ℕ) (last : JobState) (is_last : Bool) (end : JobEnd) → HasLost job seen number last → number ≤ job.limit →
-    (is_last ≡ true → number ≡ job.limit) → HasEnded job last is_last end after → ComesTo job seen number (EndsByVerdict job end after number)
-ends_at job seen number after last is_last end lost within of_last ended =
-    comes_to job seen number last (EndsByVerdict job end after number) lost within
+pub ends_at : (handed : HallState) (job : Job) (seen number after : ℕ) (last : JobState) (is_last : Bool) (end : JobEnd) →
+    HasLost handed job seen number last → number ≤ job.limit →
+    (is_last ≡ true → number ≡ job.limit) → HasEnded handed job last is_last end after →
+    ComesTo handed job seen number (EndsByVerdict handed job end after number)
+ends_at handed job seen number after last is_last end lost within of_last ended =
+    comes_to handed job seen number last (EndsByVerdict handed job end after number) lost within
     (record { verdict = ended.verdict; tried = ended.tried; told = ended.told; last = λ none. of_last (ended.last none) })
 
 -- it goes no further
-pub stops_at : (job : Job) (seen number after : ℕ) (last : JobState) (stop : Stop) → HasLost job seen number last → number ≤ job.limit →
-    HasStopped job last stop after → ComesTo job seen number (λ at. HasStopped job at stop after)
-stops_at job seen number after last stop lost within stopped = comes_to job seen number last (λ at. HasStopped job at stop after) lost within stopped
+pub stops_at : (handed : HallState) (job : Job) (seen number after : ℕ) (last : JobState) (stop : Stop) → HasLost handed job seen number last →
+    number ≤ job.limit →
+    HasStopped handed job last stop after → ComesTo handed job seen number (λ at. HasStopped handed job at stop after)
+stops_at handed job seen number after last stop lost within stopped =
+    comes_to handed job seen number last (λ at. HasStopped handed job at stop after) lost within stopped
 
 -- which is the job's end, unless it was for want of memory
-stop_ends : (job : Job) (end : JobEnd) (after : ℕ) (last : JobState) (stop : Stop) → job_end_told stop ≡ Some end → HasStopped job last stop after →
-    EndsByStop job end after last
-stop_ends job end after last stop told (inl want) =
+stop_ends : (handed : HallState) (job : Job) (end : JobEnd) (after : ℕ) (last : JobState) (stop : Stop) → job_end_told stop ≡ Some end →
+    HasStopped handed job last stop after →
+    EndsByStop handed job end after last
+stop_ends handed job end after last stop told (inl want) =
     let none : None ≡ Some end = sym (ap job_end_told want) ∙ told in absurd (cc)
-stop_ends job end after last stop told (inr stopped) = record { stop = stop; stopped = stopped; told = told }
+stop_ends handed job end after last stop told (inr stopped) = record { stop = stop; stopped = stopped; told = told }
 
-pub ends_by_stop : (job : Job) (seen after attempts : ℕ) (stop : Stop) (end : JobEnd) → job_end_told stop ≡ Some end →
-    ComesTo job seen attempts (λ last. HasStopped job last stop after) → HasCome job seen end after attempts
-ends_by_stop job seen after attempts stop end told came = inr (record {
+pub ends_by_stop : (handed : HallState) (job : Job) (seen after attempts : ℕ) (stop : Stop) (end : JobEnd) → job_end_told stop ≡ Some end →
+    ComesTo handed job seen attempts (λ last. HasStopped handed job last stop after) → HasCome handed job seen end after attempts
+ends_by_stop handed job seen after attempts stop end told came = inr (record {
   failed = came.failed;
   counted = came.counted;
   within = came.within;
   last = came.last;
   failures = came.failures;
-  then_is = stop_ends job end after came.last stop told came.then_is;
+  then_is = stop_ends handed job end after came.last stop told came.then_is;
 })

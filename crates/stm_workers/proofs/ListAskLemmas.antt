@@ -22,6 +22,7 @@ use Rattle.stm_calls.proofs.ReadLemmas.{reads_fit}
 use Rattle.stm_hall.specs.declared.refusal.FetchRefusal.{FetchRefusal}
 use Rattle.stm_hall.specs.declared.refusal.FetchRefusal.TheVariants.{Behind}
 use Rattle.stm_hall.specs.Fetching.{OnlyReads, is_read, answered}
+use Rattle.stm_hall.specs.HallState.{HallState}
 use Rattle.stm_workers.specs.Calls.{AnswersInSomeHall}
 use Rattle.stm_workers.proofs.AskLemmas.{of_answered, of_test}
 
@@ -44,14 +45,14 @@ shown_by_count terms keys done false few named came =
     }
 
 -- a fetch that is answered, in whichever hall it was made
-pub shows_keys : (seen : ℕ) (keys : List (List ℕ)) (txn : Txn) (result : Result TxnAnswer FetchRefusal) (answer : TxnAnswer) → txn ≡ fetch_all_of keys →
-    AreNamed keys → AnswersInSomeHall seen txn result → result ≡ Ok answer → ShowsKeys keys answer
-shows_keys seen keys txn result answer is named told came =
-    let here : AnswersInSomeHall seen (fetch_all_of keys) (Ok answer) =
-    subst (λ (t : Txn). AnswersInSomeHall seen t (Ok answer)) is
-    (subst (λ (r : Result TxnAnswer FetchRefusal). AnswersInSomeHall seen txn r) came told) in
-    let s : Standing = here.0 in
-    let alone = of_test (nat_lt (now s.history) seen) (Behind seen (now s.history)) (answered (outcome (terms_of s) (fetch_all_of keys))) answer here.1 in
+pub shows_keys : (handed : HallState) (seen : ℕ) (keys : List (List ℕ)) (txn : Txn) (result : Result TxnAnswer FetchRefusal) (answer : TxnAnswer) → txn ≡ fetch_all_of keys →
+    AreNamed keys → AnswersInSomeHall handed seen txn result → result ≡ Ok answer → ShowsKeys keys answer
+shows_keys handed seen keys txn result answer is named told came =
+    let here : AnswersInSomeHall handed seen (fetch_all_of keys) (Ok answer) =
+    subst (λ (t : Txn). AnswersInSomeHall handed seen t (Ok answer)) is
+    (subst (λ (r : Result TxnAnswer FetchRefusal). AnswersInSomeHall handed seen txn r) came told) in
+    let s : Standing = here.0.standing in
+    let alone = of_test (nat_lt (now s.history) seen) (Behind seen (now s.history)) (answered (outcome (terms_of s) (fetch_all_of keys))) answer here.2 in
     let d = of_answered (outcome (terms_of s) (fetch_all_of keys)) answer alone in
     subst (ShowsKeys keys) d.2 (shown_by_count (terms_of s) keys d.0 (nat_lt s.limit (length keys)) refl named d.1)
 
@@ -90,7 +91,7 @@ pub all_taken_fit : (answer : TxnAnswer) (answers : List ReadAnswer) → AnswerF
 all_taken_fit answer answers fits taken = subst (All ReadFits) (sym taken) (reads_fit answer.answers fits.answers)
 
 -- the fetch of a list, as it was asked for
-pub list_in_some_hall : (seen : ℕ) (keys : List (List ℕ)) (txn : Txn) (result came : Result TxnAnswer FetchRefusal) → txn ≡ fetch_all_of keys →
-    AnswersInSomeHall seen txn result → result ≡ came → AnswersInSomeHall seen (fetch_all_of keys) came
-list_in_some_hall seen keys txn result came is by same =
-    subst (λ (t : Txn). AnswersInSomeHall seen t came) is (subst (λ (r : Result TxnAnswer FetchRefusal). AnswersInSomeHall seen txn r) same by)
+pub list_in_some_hall : (handed : HallState) (seen : ℕ) (keys : List (List ℕ)) (txn : Txn) (result came : Result TxnAnswer FetchRefusal) → txn ≡ fetch_all_of keys →
+    AnswersInSomeHall handed seen txn result → result ≡ came → AnswersInSomeHall handed seen (fetch_all_of keys) came
+list_in_some_hall handed seen keys txn result came is by same =
+    subst (λ (t : Txn). AnswersInSomeHall handed seen t came) is (subst (λ (r : Result TxnAnswer FetchRefusal). AnswersInSomeHall handed seen txn r) same by)

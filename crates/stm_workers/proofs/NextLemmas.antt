@@ -35,6 +35,27 @@ next_behind : (program : ProgramTree) (level : Level) (known : Known) (next : Ne
 next_behind program level known next no_list told =
     behind_by program level (gone_on program known) next (is_due program.prefetch (gone_on program known)) no_list told
 
+not_due_by : (program : ProgramTree) (level : Level) (reads : List ReadAnswer) (next : Next) (due : Bool) → is_due program.prefetch reads ≡ due →
+    list_asked next ≡ None → cond due (FetchAll program.prefetch 0) (next_after program level reads (run_on program reads)) ≡ next →
+    is_due program.prefetch reads ≡ false
+not_due_by program level reads next true due no_list told =
+    let both : Some program.prefetch ≡ None = ap list_asked told ∙ no_list in absurd (cc both)
+not_due_by program level reads next false not no_list told = not
+
+not_due : (program : ProgramTree) (level : Level) (known : Known) (next : Next) → list_asked next ≡ None → next_of program level known ≡ next →
+    is_due program.prefetch (gone_on program known) ≡ false
+not_due program level known next no_list told =
+    not_due_by program level (gone_on program known) next (is_due program.prefetch (gone_on program known)) refl no_list told
+
+-- a run that has ended is one of an attempt that has its list
+pub aborted_has_list : (program : ProgramTree) (level : Level) (known : Known) (run : Run) → next_of program level known ≡ Aborted run →
+    is_due program.prefetch (gone_on program known) ≡ false
+aborted_has_list program level known run told = not_due program level known (Aborted run) refl told
+
+pub faulted_has_list : (program : ProgramTree) (level : Level) (known : Known) (run : Run) → next_of program level known ≡ Faulted run →
+    is_due program.prefetch (gone_on program known) ≡ false
+faulted_has_list program level known run told = not_due program level known (Faulted run) refl told
+
 aborted_at_end : (program : ProgramTree) (level : Level) (reads : List ReadAnswer) (run aborted : Run) (end : End) → run.end ≡ end →
     next_at_end program level reads run end ≡ Aborted aborted → aborted.end ≢ DoneEnd
 aborted_at_end program level reads run aborted DoneEnd ended told = absurd (cc)

@@ -24,7 +24,7 @@ use Rattle.stm_workers.proofs.LockedLemmas.{goes_on, has_not_gone, took_commits,
 pub ran_to : (before after : HallState) (jobs : List Job) (ends : List JobEnd) (attempts : List ℕ) (begun : StartPoint) (committed : ℕ) →
     begun ≡ start_point before → HasGoneOn before after → HasKeptStore before after → TookCommitsOf jobs before after →
     (length ends ≡ length jobs) × (length attempts ≡ length jobs) → commits_in after.entries ≡ commits_in before.entries + count_by is_committed ends →
-    committed ≡ count_by is_committed ends → AllStand begun after jobs ends → HaveTheirRuns jobs ends attempts →
+    committed ≡ count_by is_committed ends → AllStand begun after jobs ends → HaveTheirRuns before jobs ends attempts →
     RanTo before jobs ends attempts committed after
 ran_to before after jobs ends attempts begun committed began gone kept takes places commits counted stand ran = record {
   places = places.0;

@@ -83,15 +83,16 @@ no_commit (Aborted text reads) end cause tells told = absurd (cc)
 no_commit (Faulted fault reads) end cause tells told = absurd (cc)
 no_commit (Refused refusal) end cause tells told = absurd (cc)
 
-by_stop : (job : Job) (at : JobState) (stop : Stop) (reads : List ReadAnswer) (end : End) → end_told stop ≡ Some end → reads_told stop ≡ Some reads →
-    IsStop job at stop → RunsTo (run_on job.program reads) end
-by_stop job at stop reads end tells on (inl ended) = (
+by_stop : (handed : HallState) (job : Job) (at : JobState) (stop : Stop) (reads : List ReadAnswer) (end : End) → end_told stop ≡ Some end →
+    reads_told stop ≡ Some reads →
+    IsStop handed job at stop → RunsTo (run_on job.program reads) end
+by_stop handed job at stop reads end tells on (inl ended) = (
   ended.run,
   subst (λ (rs : List ReadAnswer). run_on job.program rs ≡ EndedRun ended.run) (some_of _ _ (sym ended.reads ∙ on)) ended.is_run,
   some_of _ _ (sym ended.told ∙ tells),
 )
-by_stop job at stop reads end tells on (inr (inl refused)) = absurd (no_fetch stop end refused.refused.cause tells refused.refused.told)
-by_stop job at stop reads end tells on (inr (inr refused)) = absurd (no_commit stop end refused.refused.cause tells refused.refused.told)
+by_stop handed job at stop reads end tells on (inr (inl refused)) = absurd (no_fetch stop end refused.refused.cause tells refused.refused.told)
+by_stop handed job at stop reads end tells on (inr (inr refused)) = absurd (no_commit stop end refused.refused.cause tells refused.refused.told)
 
 -- ---- the run that an end of a job tells
 
@@ -125,13 +126,14 @@ same_told (Faulted fault reads) job_end told =
 same_told (Refused refusal) job_end told =
     let same = some_of _ _ told in (ap told_end same, ap told_reads same)
 
-by_come : (job : Job) (seen : ℕ) (job_end : JobEnd) (after attempts : ℕ) (end : End) (reads : List ReadAnswer) → told_end job_end ≡ Some end →
-    told_reads job_end ≡ Some reads → HasCome job seen job_end after attempts → RunsTo (run_on job.program reads) end
-by_come job seen job_end after attempts end reads tells on (inl came) =
+by_come : (handed : HallState) (job : Job) (seen : ℕ) (job_end : JobEnd) (after attempts : ℕ) (end : End) (reads : List ReadAnswer) →
+    told_end job_end ≡ Some end →
+    told_reads job_end ≡ Some reads → HasCome handed job seen job_end after attempts → RunsTo (run_on job.program reads) end
+by_come handed job seen job_end after attempts end reads tells on (inl came) =
     absurd (not_by_verdict came.then_is.verdict end (sym (ap told_end came.then_is.told) ∙ tells))
-by_come job seen job_end after attempts end reads tells on (inr came) =
+by_come handed job seen job_end after attempts end reads tells on (inr came) =
     let same = same_told came.then_is.stop job_end came.then_is.told in
-    by_stop job came.then_is.stopped.at came.then_is.stop reads end (same.0 ∙ tells) (same.1 ∙ on) came.then_is.stopped.is_stop
+    by_stop handed job came.then_is.stopped.at came.then_is.stop reads end (same.0 ∙ tells) (same.1 ∙ on) came.then_is.stopped.is_stop
 
 -- a run that is known to be there is there: it is the one that the program has
 the_run : {A : Type 0} (x : Answered) (end : End) → ∥ A ∥₁ → (A → RunsTo x end) → RunsTo x end
@@ -151,10 +153,10 @@ the_run {A} (EndedRun own) end some is = (own, refl, ∥∥₁_elim some (Coded-
         run_of : (x y : Run) → EndedRun x ≡ EndedRun y → x ≡ y
         run_of x y told = ap (run_or x) told
 
-runs_to : (job : Job) (job_end : JobEnd) (attempts : ℕ) (end : End) (reads : List ReadAnswer) → told_end job_end ≡ Some end →
-    told_reads job_end ≡ Some reads → HasSomeRun job job_end attempts → RunsTo (run_on job.program reads) end
-runs_to job job_end attempts end reads tells on some =
-    the_run (run_on job.program reads) end some (λ came. by_come job came.0 job_end came.1 attempts end reads tells on came.2)
+runs_to : (handed : HallState) (job : Job) (job_end : JobEnd) (attempts : ℕ) (end : End) (reads : List ReadAnswer) → told_end job_end ≡ Some end →
+    told_reads job_end ≡ Some reads → HasSomeRun handed job job_end attempts → RunsTo (run_on job.program reads) end
+runs_to handed job job_end attempts end reads tells on some =
+    the_run (run_on job.program reads) end some (λ came. by_come handed job came.0 job_end came.1 attempts end reads tells on came.2)
 
 -- ---- the law
 
@@ -170,18 +172,18 @@ ends_alone begun hall job reads end one ran = record {
   ends = ran.2;
 }
 
-on_stop : (begun : StartPoint) (hall : HallState) (job : Job) (job_end : JobEnd) (attempts : ℕ) → is_serializable job.level ≡ true →
-    HasSomeRun job job_end attempts → IsBorneOut begun hall job job_end → OnStop job_end (IsEndAlone begun hall job)
-on_stop begun hall job (CommittedJob index revision) attempts serializable some borne = tt
-on_stop begun hall job (AbortedJob text reads) attempts serializable some borne =
-    ends_alone begun hall job reads (AbortedEnd text) (borne serializable) (runs_to job (AbortedJob text reads) attempts (AbortedEnd text) reads refl refl some)
-on_stop begun hall job (FaultedJob fault reads) attempts serializable some borne =
-    ends_alone begun hall job reads (FaultedEnd fault) (borne serializable) (runs_to job (FaultedJob fault reads) attempts (FaultedEnd fault) reads refl refl some)
-on_stop begun hall job (RefusedJob cause) attempts serializable some borne = tt
-on_stop begun hall job (GaveUp key) attempts serializable some borne = tt
+on_stop : (handed : HallState) (begun : StartPoint) (hall : HallState) (job : Job) (job_end : JobEnd) (attempts : ℕ) → is_serializable job.level ≡ true →
+    HasSomeRun handed job job_end attempts → IsBorneOut begun hall job job_end → OnStop job_end (IsEndAlone begun hall job)
+on_stop handed begun hall job (CommittedJob index revision) attempts serializable some borne = tt
+on_stop handed begun hall job (AbortedJob text reads) attempts serializable some borne =
+    ends_alone begun hall job reads (AbortedEnd text) (borne serializable) (runs_to handed job (AbortedJob text reads) attempts (AbortedEnd text) reads refl refl some)
+on_stop handed begun hall job (FaultedJob fault reads) attempts serializable some borne =
+    ends_alone begun hall job reads (FaultedEnd fault) (borne serializable) (runs_to handed job (FaultedJob fault reads) attempts (FaultedEnd fault) reads refl refl some)
+on_stop handed begun hall job (RefusedJob cause) attempts serializable some borne = tt
+on_stop handed begun hall job (GaveUp key) attempts serializable some borne = tt
 
 pub stops_are_of_one_state : StopsAreOfOneState
 stops_are_of_one_state before jobs ends attempts committed after ran place job job_end job_is end_is serializable =
     let made = there attempts place (subst (λ (n : ℕ). place < n) (sym ran.attempted) (within jobs place job job_is)) in
-    on_stop (start_point before) after job job_end made.item serializable (ran.ran place job job_end made.item job_is end_is made.is)
+    on_stop before (start_point before) after job job_end made.item serializable (ran.ran place job job_end made.item job_is end_is made.is)
     (ran.stand place job job_end job_is end_is).borne_out

@@ -1,9 +1,9 @@
 -- What a worker does for a job, from its first attempt to its end: between its calls of the hall, of which each is made in some hall, since others come to it
--- in between.
+-- in between. That hall has the store of the one that was handed in, `handed`, but for its history: its limit of operations and its floor are the same.
 --
 -- The documentation of the Go package `clientv3/concurrency`, "STM": a transaction whose commit fails is run again, on what was read again then. That a fetch
 -- says what its worker has seen, how many commits a job may send, and what its end tells, is our own.
-use Rattle.std.specs.Prelude.{◌≡◌, ◌⊎◌, ℕ, zero, suc, ◌+◌, ◌≤◌, Bool, true, List, [], ◌∷◌, if◌then◌else◌, Option, None, Some, Ok, Err}
+use Rattle.std.specs.Prelude.{◌≡◌, ◌⊎◌, ℕ, zero, suc, ◌+◌, ◌≤◌, Bool, true, false, List, [], ◌∷◌, if◌then◌else◌, Option, None, Some, Ok, Err}
 use Rattle.stm_history.specs.declared.key_state.ReadAnswer.{ReadAnswer}
 use Rattle.stm_meaning.specs.declared.run.End.{End}
 use Rattle.stm_meaning.specs.declared.run.End.TheVariants.{Aborted as AbortedEnd, Faulted as FaultedEnd}
@@ -18,13 +18,14 @@ use Rattle.stm_attempt.specs.AttemptState.{AttemptState, begun, advanced, suppli
 use Rattle.stm_attempt.specs.Next.{next_of}
 use Rattle.stm_attempt.specs.ReadyRun.{ReadyRun}
 use Rattle.stm_attempt.specs.Settled.{run_on}
-use Rattle.stm_attempt.specs.Entering.{gone_on}
+use Rattle.stm_attempt.specs.Entering.{is_due, gone_on}
 use Rattle.stm_calls.specs.Fetched.{fetch_of, fetch_all_of}
 use Rattle.stm_calls.specs.Reads.{reads_in}
 use Rattle.stm_hall.specs.declared.refusal.FetchRefusal.{FetchRefusal}
 use Rattle.stm_hall.specs.declared.refusal.FetchRefusal.TheVariants.{Behind as FetchBehind, Store as FetchRefused}
 use Rattle.stm_hall.specs.declared.refusal.CommitRefusal.{CommitRefusal}
 use Rattle.stm_hall.specs.declared.refusal.CommitRefusal.TheVariants.{Unvouched as CommitUnvouched, Store as CommitRefused}
+use Rattle.stm_hall.specs.HallState.{HallState}
 use Rattle.stm_hall.specs.declared.verdict.Verdict.{Verdict}
 use Rattle.stm_hall.specs.declared.verdict.Verdict.TheVariants.{Committed, Failed}
 use Rattle.stm_job.specs.declared.job.Job.{Job}
@@ -93,131 +94,132 @@ abbrev pub state_of : AttemptState → ℕ → JobState
 state_of attempt seen = record { attempt = attempt; seen = seen }
 
 -- a hall that was asked for a key at a revision, by who has seen this, answered so
-pub record IsAnswered (seen : ℕ) (key : List ℕ) (at : ℕ) (answer : ReadAnswer) : Type 0 where
+pub record IsAnswered (handed : HallState) (seen : ℕ) (key : List ℕ) (at : ℕ) (answer : ReadAnswer) : Type 0 where
   pub told : TxnAnswer
-  pub by_hall : AnswersInSomeHall seen (fetch_of key at) (Ok told)
+  pub by_hall : AnswersInSomeHall handed seen (fetch_of key at) (Ok told)
   pub is_read : told.answers ≡ GetAnswer answer ∷ []
 
 -- it refused, as the stop tells
-pub record IsUnanswered (seen : ℕ) (key : List ℕ) (at : ℕ) (stop : Stop) : Type 0 where
+pub record IsUnanswered (handed : HallState) (seen : ℕ) (key : List ℕ) (at : ℕ) (stop : Stop) : Type 0 where
   pub cause : FetchRefusal
-  pub by_hall : AnswersInSomeHall seen (fetch_of key at) (Err cause)
+  pub by_hall : AnswersInSomeHall handed seen (fetch_of key at) (Err cause)
   pub told : fetch_refusal_told stop ≡ Some cause
 
 -- a hall that was asked for the keys of a list, by who has seen this, answered so, and carried this revision
-pub record AreAnswered (seen : ℕ) (keys : List (List ℕ)) (answers : List ReadAnswer) (revision : ℕ) : Type 0 where
+pub record AreAnswered (handed : HallState) (seen : ℕ) (keys : List (List ℕ)) (answers : List ReadAnswer) (revision : ℕ) : Type 0 where
   pub told : TxnAnswer
-  pub by_hall : AnswersInSomeHall seen (fetch_all_of keys) (Ok told)
+  pub by_hall : AnswersInSomeHall handed seen (fetch_all_of keys) (Ok told)
   pub are_read : answers ≡ reads_in told.answers
   pub carries : revision ≡ told.revision
 
 -- it refused, as the stop tells
-pub record AreUnanswered (seen : ℕ) (keys : List (List ℕ)) (stop : Stop) : Type 0 where
+pub record AreUnanswered (handed : HallState) (seen : ℕ) (keys : List (List ℕ)) (stop : Stop) : Type 0 where
   pub cause : FetchRefusal
-  pub by_hall : AnswersInSomeHall seen (fetch_all_of keys) (Err cause)
+  pub by_hall : AnswersInSomeHall handed seen (fetch_all_of keys) (Err cause)
   pub told : fetch_refusal_told stop ≡ Some cause
 
 -- a hall refused the commit of a ready attempt, as the stop tells
-pub record IsTurnedAway (ready : ReadyRun) (stop : Stop) : Type 0 where
+pub record IsTurnedAway (handed : HallState) (ready : ReadyRun) (stop : Stop) : Type 0 where
   pub cause : CommitRefusal
-  pub by_hall : JudgedInSomeHall ready (Err cause)
+  pub by_hall : JudgedInSomeHall handed ready (Err cause)
   pub told : commit_refusal_told stop ≡ Some cause
 
 -- A fetch of a key: the attempt wants a key at a revision; that is asked for, with exactly what was seen; and the attempt goes on with the answer, whose revision is
 -- what was seen then.
-pub record IsKeyFetch (job : Job) (before after : JobState) : Type 0 where
+pub record IsKeyFetch (handed : HallState) (job : Job) (before after : JobState) : Type 0 where
   pub key : List ℕ
   pub at : ℕ
   pub wants : next_of job.program before.attempt.level before.attempt.known ≡ Fetch key at
   pub answer : ReadAnswer
-  pub answered : IsAnswered before.seen key at answer
+  pub answered : IsAnswered handed before.seen key at answer
   pub goes_on : after.attempt ≡ supplied answer (advanced job.program before.attempt)
   pub sees : after.seen ≡ answer.revision
 
 -- A fetch of a list: the attempt wants its keys; all are asked for at once, with exactly what was seen; and the attempt goes on with the answers.
-pub record IsListFetch (job : Job) (before after : JobState) : Type 0 where
+pub record IsListFetch (handed : HallState) (job : Job) (before after : JobState) : Type 0 where
   pub keys : List (List ℕ)
   pub at : ℕ
   pub wants : next_of job.program before.attempt.level before.attempt.known ≡ FetchAll keys at
   pub answers : List ReadAnswer
-  pub answered : AreAnswered before.seen keys answers after.seen
+  pub answered : AreAnswered handed before.seen keys answers after.seen
   pub goes_on : after.attempt ≡ supplied_all answers (advanced job.program before.attempt)
 
-abbrev pub IsFetch : Job → JobState → JobState → Type 0
-IsFetch job before after = IsKeyFetch job before after ⊎ IsListFetch job before after
+abbrev pub IsFetch : HallState → Job → JobState → JobState → Type 0
+IsFetch handed job before after = IsKeyFetch handed job before after ⊎ IsListFetch handed job before after
 
 -- so many fetches, one after the other
-abbrev pub AreFetches : Job → ℕ → JobState → JobState → Type 0
-AreFetches job zero before after = after ≡ before
-AreFetches job (suc n) before after = (between : JobState) × AreFetches job n before between × IsFetch job between after
+abbrev pub AreFetches : HallState → Job → ℕ → JobState → JobState → Type 0
+AreFetches handed job zero before after = after ≡ before
+AreFetches handed job (suc n) before after = (between : JobState) × AreFetches handed job n before between × IsFetch handed job between after
 
-abbrev pub HasFetched : Job → JobState → JobState → Type 0
-HasFetched job before after = (n : ℕ) × AreFetches job n before after
+abbrev pub HasFetched : HallState → Job → JobState → JobState → Type 0
+HasFetched handed job before after = (n : ℕ) × AreFetches handed job n before after
 
 -- the attempt is ready to commit
 abbrev pub IsReadyAt : Job → JobState → ReadyRun → Type 0
 IsReadyAt job at ready = next_of job.program at.attempt.level at.attempt.known ≡ Ready ready
 
 -- after some fetches it is
-pub record IsEvaluated (job : Job) (before : JobState) (ready : ReadyRun) (seen : ℕ) : Type 0 where
+pub record IsEvaluated (handed : HallState) (job : Job) (before : JobState) (ready : ReadyRun) (seen : ℕ) : Type 0 where
   pub at : JobState
-  pub fetches : HasFetched job before at
+  pub fetches : HasFetched handed job before at
   pub is_ready : IsReadyAt job at ready
   pub sees : seen ≡ at.seen
 
 -- and this is the verdict on it, of which the revisions are seen
-pub record HasTried (job : Job) (before : JobState) (verdict : Verdict) (seen : ℕ) : Type 0 where
+pub record HasTried (handed : HallState) (job : Job) (before : JobState) (verdict : Verdict) (seen : ℕ) : Type 0 where
   pub ready : ReadyRun
   pub fetched : ℕ
-  pub evaluated : IsEvaluated job before ready fetched
-  pub by_hall : JudgedInSomeHall ready (Ok verdict)
+  pub evaluated : IsEvaluated handed job before ready fetched
+  pub by_hall : JudgedInSomeHall handed ready (Ok verdict)
   pub sees : seen ≡ seen_after fetched verdict
 
 -- ---- an attempt without a verdict
 
--- the program has come to an end other than its last statement, on what the attempt has read
+-- the program has come to an end other than its last statement, on what the attempt has read, which has its list
 pub record IsEndOfRun (job : Job) (at : JobState) (stop : Stop) : Type 0 where
   pub run : Run
+  pub has_list : is_due job.program.prefetch (gone_on job.program at.attempt.known) ≡ false
   pub is_run : run_on job.program (gone_on job.program at.attempt.known) ≡ EndedRun run
   pub told : end_told stop ≡ Some run.end
   pub reads : reads_told stop ≡ Some (gone_on job.program at.attempt.known)
 
 -- the key that it wants is refused
-pub record IsKeyRefused (job : Job) (at : JobState) (stop : Stop) : Type 0 where
+pub record IsKeyRefused (handed : HallState) (job : Job) (at : JobState) (stop : Stop) : Type 0 where
   pub key : List ℕ
   pub of_rev : ℕ
   pub wants : next_of job.program at.attempt.level at.attempt.known ≡ Fetch key of_rev
-  pub refused : IsUnanswered at.seen key of_rev stop
+  pub refused : IsUnanswered handed at.seen key of_rev stop
 
 -- or its list
-pub record IsListRefused (job : Job) (at : JobState) (stop : Stop) : Type 0 where
+pub record IsListRefused (handed : HallState) (job : Job) (at : JobState) (stop : Stop) : Type 0 where
   pub keys : List (List ℕ)
   pub of_rev : ℕ
   pub wants : next_of job.program at.attempt.level at.attempt.known ≡ FetchAll keys of_rev
-  pub refused : AreUnanswered at.seen keys stop
+  pub refused : AreUnanswered handed at.seen keys stop
 
-abbrev pub IsFetchRefused : Job → JobState → Stop → Type 0
-IsFetchRefused job at stop = IsKeyRefused job at stop ⊎ IsListRefused job at stop
+abbrev pub IsFetchRefused : HallState → Job → JobState → Stop → Type 0
+IsFetchRefused handed job at stop = IsKeyRefused handed job at stop ⊎ IsListRefused handed job at stop
 
 -- its commit is
-pub record IsCommitRefused (job : Job) (at : JobState) (stop : Stop) : Type 0 where
+pub record IsCommitRefused (handed : HallState) (job : Job) (at : JobState) (stop : Stop) : Type 0 where
   pub ready : ReadyRun
   pub is_ready : IsReadyAt job at ready
-  pub refused : IsTurnedAway ready stop
+  pub refused : IsTurnedAway handed ready stop
 
 -- it goes no further from here, for one of these
-abbrev pub IsStop : Job → JobState → Stop → Type 0
-IsStop job at stop = IsEndOfRun job at stop ⊎ IsFetchRefused job at stop ⊎ IsCommitRefused job at stop
+abbrev pub IsStop : HallState → Job → JobState → Stop → Type 0
+IsStop handed job at stop = IsEndOfRun job at stop ⊎ IsFetchRefused handed job at stop ⊎ IsCommitRefused handed job at stop
 
-pub record StopsAt (job : Job) (before : JobState) (stop : Stop) (seen : ℕ) : Type 0 where
+pub record StopsAt (handed : HallState) (job : Job) (before : JobState) (stop : Stop) (seen : ℕ) : Type 0 where
   pub at : JobState
-  pub fetches : HasFetched job before at
-  pub is_stop : IsStop job at stop
+  pub fetches : HasFetched handed job before at
+  pub is_stop : IsStop handed job at stop
   pub sees : seen ≡ at.seen
 
 -- after some fetches it goes no further, or memory was wanted somewhere
-abbrev pub HasStopped : Job → JobState → Stop → ℕ → Type 0
-HasStopped job before stop seen = (stop ≡ OutOfMemory) ⊎ StopsAt job before stop seen
+abbrev pub HasStopped : HallState → Job → JobState → Stop → ℕ → Type 0
+HasStopped handed job before stop seen = (stop ≡ OutOfMemory) ⊎ StopsAt handed job before stop seen
 
 -- ---- a job
 
@@ -230,52 +232,52 @@ IsNextAttempt job (Committed index revision) next = ⊥
 IsNextAttempt job (Failed key seen modified answers) next = next ≡ next_attempt job answers
 
 -- an attempt whose commit failed, and where the next one begins
-pub record HasFailed (job : Job) (before after : JobState) : Type 0 where
+pub record HasFailed (handed : HallState) (job : Job) (before after : JobState) : Type 0 where
   pub verdict : Verdict
-  pub tried : HasTried job before verdict after.seen
+  pub tried : HasTried handed job before verdict after.seen
   pub next : IsNextAttempt job verdict after.attempt
 
 -- so many, one after the other
-abbrev pub HaveFailed : Job → ℕ → JobState → JobState → Type 0
-HaveFailed job zero before after = after ≡ before
-HaveFailed job (suc n) before after = (between : JobState) × HaveFailed job n before between × HasFailed job between after
+abbrev pub HaveFailed : HallState → Job → ℕ → JobState → JobState → Type 0
+HaveFailed handed job zero before after = after ≡ before
+HaveFailed handed job (suc n) before after = (between : JobState) × HaveFailed handed job n before between × HasFailed handed job between after
 
 -- an attempt, the last one or not, that ends its job by the verdict on its commit: the commit was made, or no attempt comes after it
-pub record HasEnded (job : Job) (before : JobState) (is_last : Bool) (end : JobEnd) (seen : ℕ) : Type 0 where
+pub record HasEnded (handed : HallState) (job : Job) (before : JobState) (is_last : Bool) (end : JobEnd) (seen : ℕ) : Type 0 where
   pub verdict : Verdict
-  pub tried : HasTried job before verdict seen
+  pub tried : HasTried handed job before verdict seen
   pub told : end ≡ end_after verdict
   pub last : committed_by verdict ≡ 0 → is_last ≡ true
 
 -- A job has come to an attempt with this number, from 1 on, of which this is so: that is one more than the commits of it that failed before, and at most the
 -- commits that it may send. The first attempt begins with nothing prefetched.
-pub record ComesTo (job : Job) (seen attempts : ℕ) (Then : JobState → Type 0) : Type 0 where
+pub record ComesTo (handed : HallState) (job : Job) (seen attempts : ℕ) (Then : JobState → Type 0) : Type 0 where
   pub failed : ℕ
   pub counted : attempts ≡ failed + 1
   pub within : attempts ≤ job.limit
   pub last : JobState
-  pub failures : HaveFailed job failed (state_of (begun job.level []) seen) last
+  pub failures : HaveFailed handed job failed (state_of (begun job.level []) seen) last
   pub then_is : Then last
 
 -- the end by the verdict on a commit: it was made, or it failed and was the last one that the job may send
-pub record EndsByVerdict (job : Job) (end : JobEnd) (seen attempts : ℕ) (before : JobState) : Type 0 where
+pub record EndsByVerdict (handed : HallState) (job : Job) (end : JobEnd) (seen attempts : ℕ) (before : JobState) : Type 0 where
   pub verdict : Verdict
-  pub tried : HasTried job before verdict seen
+  pub tried : HasTried handed job before verdict seen
   pub told : end ≡ end_after verdict
   pub last : committed_by verdict ≡ 0 → attempts ≡ job.limit
 
 -- the end by an attempt that goes no further
-pub record EndsByStop (job : Job) (end : JobEnd) (seen : ℕ) (before : JobState) : Type 0 where
+pub record EndsByStop (handed : HallState) (job : Job) (end : JobEnd) (seen : ℕ) (before : JobState) : Type 0 where
   pub stop : Stop
-  pub stopped : StopsAt job before stop seen
+  pub stopped : StopsAt handed job before stop seen
   pub told : job_end_told stop ≡ Some end
 
 -- A job that was begun by who had seen the one revision has come to this end after so many attempts, and the other was seen then. It has sent at most as many
 -- commits as it may; and it gave up only where it has sent exactly so many, which all failed.
-abbrev pub HasCome : Job → ℕ → JobEnd → ℕ → ℕ → Type 0
-HasCome job seen end after attempts =
-    ComesTo job seen attempts (EndsByVerdict job end after attempts) ⊎ ComesTo job seen attempts (EndsByStop job end after)
+abbrev pub HasCome : HallState → Job → ℕ → JobEnd → ℕ → ℕ → Type 0
+HasCome handed job seen end after attempts =
+    ComesTo handed job seen attempts (EndsByVerdict handed job end after attempts) ⊎ ComesTo handed job seen attempts (EndsByStop handed job end after)
 
 -- the same, whatever its worker had seen before and after
-abbrev pub HasSomeRun : Job → JobEnd → ℕ → Type 0
-HasSomeRun job end attempts = ∥ ((seen : ℕ) × (after : ℕ) × HasCome job seen end after attempts) ∥₁
+abbrev pub HasSomeRun : HallState → Job → JobEnd → ℕ → Type 0
+HasSomeRun handed job end attempts = ∥ ((seen : ℕ) × (after : ℕ) × HasCome handed job seen end after attempts) ∥₁

@@ -9,7 +9,7 @@ use Rattle.stm_program.specs.declared.level.Level.{Level}
 use Rattle.stm_program.specs.declared.level.Level.TheVariants.{SerializableSnapshot, Serializable, RepeatableReads, ReadCommitted}
 use Rattle.stm_outcome.specs.declared.txn.Txn.{Txn}
 use Rattle.stm_outcome.specs.declared.answer.TxnAnswer.{TxnAnswer}
-use Rattle.stm_txn.specs.Standing.{Standing, opening, at_revision, with_history}
+use Rattle.stm_txn.specs.Standing.{opening, at_revision, with_history}
 use Rattle.stm_attempt.specs.AttemptState.{AttemptState, IsOf}
 use Rattle.stm_attempt.specs.ReadyRun.{ReadyRun}
 use Rattle.stm_entries.specs.declared.entry.Entry.{Entry}
@@ -32,7 +32,8 @@ HasGoneOn before after =
     (take (length before.entries) after.entries ≡ before.entries) × (after.start ≡ before.start) × ((opening_of after).history ≡ (opening_of before).history)
     × ((id : ℕ) → (opening_of after).is_live id ≡ (opening_of before).is_live id)
 
--- the store of a hall is as another's but for its history: the floor, the leases with their terms, the moment and the watchers are the same
+-- the store of a hall is as another's but for its history: the floor, the limit of operations, the leases with their terms, the moment and the watchers are the
+-- same
 abbrev pub HasKeptStore : HallState → HallState → Type 0
 HasKeptStore before after = after ≡ hall_of (with_history before.standing after.standing.history) after.entries after.start
 
@@ -95,13 +96,14 @@ shown_at at revision = if nat_eq at 0 then revision else at
 
 -- ---- in some hall
 
--- what a fetch answered, in whichever hall it was made
-abbrev pub AnswersInSomeHall : ℕ → Txn → Result TxnAnswer FetchRefusal → Type 0
-AnswersInSomeHall seen txn result = (s : Standing) × FetchTells (fetched s seen txn) result
+-- What a fetch answered, in whichever hall it was made: one whose store is that of the hall handed in, but for its history.
+abbrev pub AnswersInSomeHall : HallState → ℕ → Txn → Result TxnAnswer FetchRefusal → Type 0
+AnswersInSomeHall handed seen txn result = (hall : HallState) × HasKeptStore handed hall × FetchTells (fetched hall.standing seen txn) result
 
--- the verdict on a ready attempt, or its refusal, in whichever hall it was sent
-abbrev pub JudgedInSomeHall : ReadyRun → Result Verdict CommitRefusal → Type 0
-JudgedInSomeHall ready result = (before : HallState) × (after : HallState) × CommitTells (verdict_of before ready) before result after
+-- the verdict on a ready attempt, or its refusal, in whichever such hall it was sent
+abbrev pub JudgedInSomeHall : HallState → ReadyRun → Result Verdict CommitRefusal → Type 0
+JudgedInSomeHall handed ready result =
+    (before : HallState) × (after : HallState) × HasKeptStore handed before × CommitTells (verdict_of before ready) before result after
 
 -- how many commits a verdict counts
 abbrev pub committed_by : Verdict → ℕ

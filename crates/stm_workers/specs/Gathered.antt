@@ -17,14 +17,14 @@ use Rattle.stm_workers.specs.Runs.{HaveTheirRuns}
 
 -- The jobs were run on this hall: each has its end at its place, to which it has come after so many attempts as stand there, and each end stands. The commits
 -- among the entries are those that were there and one for each job that committed. The entries that were there and the opening state stay, and the others are
--- commits of the jobs. Of the store the history alone has changed: the floor, the leases, their terms, the moment and the watchers stay.
+-- commits of the jobs. Of the store the history alone has changed: the floor, the limit of operations, the leases, their terms, the moment and the watchers stay.
 pub record RanTo (before : HallState) (jobs : List Job) (ends : List JobEnd) (attempts : List ℕ) (committed : ℕ) (after : HallState) : Type 0 where
   pub places : length ends ≡ length jobs
   pub attempted : length attempts ≡ length jobs
   pub counted : committed ≡ count_by is_committed ends
   pub commits : commits_in after.entries ≡ commits_in before.entries + committed
   pub stand : AllStand (start_point before) after jobs ends
-  pub ran : HaveTheirRuns jobs ends attempts
+  pub ran : HaveTheirRuns before jobs ends attempts
   pub takes : TookCommitsOf jobs before after
   pub goes_on : GoesOn before after
   pub keeps : HasKeptStore before after

@@ -122,9 +122,9 @@ impl<'a, R: RunOfJobs, W: Wait, G: Gate> Executor<'a, R, W, G> {
         ensures attempt { OnOk result (IsOfJob job.now attempt.new) }
         ensures ready { IfOk result (λ found. IfSome found (λ ready. IsRunOfJob job.now ready)) }
         ensures never_falls { seen.old ≤ seen.new }
-        ensures fetch { IfOk result (λ found. found ≡ None → IsFetch job.now (state_of attempt.old seen.old) (state_of attempt.new seen.new)) }
+        ensures fetch { IfOk result (λ found. found ≡ None → IsFetch R.before job.now (state_of attempt.old seen.old) (state_of attempt.new seen.new)) }
         ensures is_ready { IfOk result (λ found. IfSome found (λ ready. IsReadyAt job.now (state_of attempt.old seen.old) ready × (seen.new ≡ seen.old))) }
-        ensures stops { IfErr result (λ stop. (stop ≡ OutOfMemory) ⊎ (IsStop job.now (state_of attempt.old seen.old) stop × (seen.new ≡ seen.old))) }
+        ensures stops { IfErr result (λ stop. (stop ≡ OutOfMemory) ⊎ (IsStop R.before job.now (state_of attempt.old seen.old) stop × (seen.new ≡ seen.old))) }
     {
         // No key of a list is empty.
         job.program.prefetch();
@@ -164,8 +164,8 @@ impl<'a, R: RunOfJobs, W: Wait, G: Gate> Executor<'a, R, W, G> {
         ensures attempt { OnOk result (IsOfJob job.now attempt.new) }
         ensures ready { IfOk result (λ ready. IsRunOfJob job.now ready) }
         ensures never_falls { seen.old ≤ seen.new }
-        ensures evaluated { IfOk result (λ ready. IsEvaluated job.now (state_of attempt.old seen.old) ready seen.new) }
-        ensures stops { IfErr result (λ stop. HasStopped job.now (state_of attempt.old seen.old) stop seen.new) }
+        ensures evaluated { IfOk result (λ ready. IsEvaluated R.before job.now (state_of attempt.old seen.old) ready seen.new) }
+        ensures stops { IfErr result (λ stop. HasStopped R.before job.now (state_of attempt.old seen.old) stop seen.new) }
     {
         for _ in self.rt.forever() {
             if let Some(ready) = self.go_on(place, job, attempt, seen)? {
@@ -194,8 +194,8 @@ impl<'a, R: RunOfJobs, W: Wait, G: Gate> Executor<'a, R, W, G> {
         ensures answers { IfOk result CanGoOn }
         ensures carried { IfOk result (λ verdict. (before : ℕ) × (seen.old ≤ before) × (seen.new ≡ seen_after before verdict)) }
         ensures never_falls { seen.old ≤ seen.new }
-        ensures tried { IfOk result (λ verdict. HasTried job.now (state_of attempt.old seen.old) verdict seen.new) }
-        ensures stops { IfErr result (λ stop. HasStopped job.now (state_of attempt.old seen.old) stop seen.new) }
+        ensures tried { IfOk result (λ verdict. HasTried R.before job.now (state_of attempt.old seen.old) verdict seen.new) }
+        ensures stops { IfErr result (λ stop. HasStopped R.before job.now (state_of attempt.old seen.old) stop seen.new) }
     {
         let ready = self.evaluate(place, job, attempt, seen)?;
         let verdict = self.send(place, share, ready)?;
@@ -221,9 +221,9 @@ impl<'a, R: RunOfJobs, W: Wait, G: Gate> Executor<'a, R, W, G> {
         ensures again { IfOk result (IfAgain (λ next. IsOfJob job.now next × (share.new.amount ≡ share.old.amount))) }
         ensures stopped { OnErr result (share.new.amount ≡ share.old.amount) }
         ensures never_falls { seen.old ≤ seen.new }
-        ensures ends { IfOk result (IfEnded (λ end. HasEnded job.now (state_of attempt.old seen.old) is_last end seen.new)) }
-        ensures fails { IfOk result (IfAgain (λ next. (is_last ≡ false) × HasFailed job.now (state_of attempt.old seen.old) (state_of next seen.new))) }
-        ensures stops { IfErr result (λ stop. HasStopped job.now (state_of attempt.old seen.old) stop seen.new) }
+        ensures ends { IfOk result (IfEnded (λ end. HasEnded R.before job.now (state_of attempt.old seen.old) is_last end seen.new)) }
+        ensures fails { IfOk result (IfAgain (λ next. (is_last ≡ false) × HasFailed R.before job.now (state_of attempt.old seen.old) (state_of next seen.new))) }
+        ensures stops { IfErr result (λ stop. HasStopped R.before job.now (state_of attempt.old seen.old) stop seen.new) }
     {
         let verdict = self.try_once(place, job, share, attempt, seen)?;
         after_verdict(self.alloc, job, verdict, is_last)
@@ -247,9 +247,9 @@ impl<'a, R: RunOfJobs, W: Wait, G: Gate> Executor<'a, R, W, G> {
         ensures again { IfOk result (IfAgain (λ next. IsOfJob job.now next × (share.new.amount ≡ share.old.amount))) }
         ensures stopped { OnErr result (share.new.amount ≡ share.old.amount) }
         ensures never_falls { seen.old ≤ seen.new }
-        ensures ends { IfOk result (IfEnded (λ end. HasEnded job.now (state_of attempt seen.old) is_last end seen.new)) }
-        ensures fails { IfOk result (IfAgain (λ next. (is_last ≡ false) × HasFailed job.now (state_of attempt seen.old) (state_of next seen.new))) }
-        ensures stops { IfErr result (λ stop. HasStopped job.now (state_of attempt seen.old) stop seen.new) }
+        ensures ends { IfOk result (IfEnded (λ end. HasEnded R.before job.now (state_of attempt seen.old) is_last end seen.new)) }
+        ensures fails { IfOk result (IfAgain (λ next. (is_last ≡ false) × HasFailed R.before job.now (state_of attempt seen.old) (state_of next seen.new))) }
+        ensures stops { IfErr result (λ stop. HasStopped R.before job.now (state_of attempt seen.old) stop seen.new) }
     {
         let mut attempt = attempt;
         let outcome = self.try_by_verdict(place, job, share, &mut attempt, seen, is_last);
@@ -272,8 +272,8 @@ impl<'a, R: RunOfJobs, W: Wait, G: Gate> Executor<'a, R, W, G> {
         ensures counted { IfOk result (λ end. share.new.amount ≡ share.old.amount + counted_end end) }
         ensures stopped { OnErr result (share.new.amount ≡ share.old.amount) }
         ensures never_falls { seen.old ≤ seen.new }
-        ensures ends { IfOk result (λ end. ComesTo job.now seen.old attempts.new (EndsByVerdict job.now end seen.new attempts.new)) }
-        ensures stops { IfErr result (λ stop. ComesTo job.now seen.old attempts.new (λ last. HasStopped job.now last stop seen.new)) }
+        ensures ends { IfOk result (λ end. ComesTo R.before job.now seen.old attempts.new (EndsByVerdict R.before job.now end seen.new attempts.new)) }
+        ensures stops { IfErr result (λ stop. ComesTo R.before job.now seen.old attempts.new (λ last. HasStopped R.before job.now last stop seen.new)) }
     {
         let mut attempt = first_attempt(self.alloc, job);
         for number in 1..job.limit {
@@ -307,7 +307,7 @@ impl<'a, R: RunOfJobs, W: Wait, G: Gate> Executor<'a, R, W, G> {
         ensures parts { share.new.parts ≡ share.old.parts }
         ensures counted { IfOk result (λ end. share.new.amount ≡ share.old.amount + counted_end end) }
         ensures never_falls { seen.old ≤ seen.new }
-        ensures came { IfOk result (λ end. HasCome job.now seen.old end seen.new attempts.new) }
+        ensures came { IfOk result (λ end. HasCome R.before job.now seen.old end seen.new attempts.new) }
     {
         match self.attempt(place, job, share, seen, attempts) {
             Ok(end) => Ok(end),

@@ -38,8 +38,8 @@ impl<'a, R: RunOfJobs, W: Wait, G: Gate> Executor<'a, R, W, G> {
         ensures seen { IfOk result (λ answer. (seen.old ≤ answer.revision) × (seen.new ≡ answer.revision)) }
         ensures stopped { OnErr result (seen.new ≡ seen.old) }
         ensures never_falls { seen.old ≤ seen.new }
-        ensures answered { IfOk result (IsAnswered seen.old key.now at) }
-        ensures refused { IfErr result (λ stop. (stop ≡ OutOfMemory) ⊎ IsUnanswered seen.old key.now at stop) }
+        ensures answered { IfOk result (IsAnswered R.before seen.old key.now at) }
+        ensures refused { IfErr result (λ stop. (stop ≡ OutOfMemory) ⊎ IsUnanswered R.before seen.old key.now at stop) }
     {
         // Under the lock: one key is looked up, and its value copied.
         let told = self.locked.lock(self.rt).fetch(*seen, key.as_str(), at);
@@ -61,8 +61,8 @@ impl<'a, R: RunOfJobs, W: Wait, G: Gate> Executor<'a, R, W, G> {
         ensures one_revision { IfOk result (λ answers. ShowOneRevision answers.items) }
         ensures stopped { OnErr result (seen.new ≡ seen.old) }
         ensures never_falls { seen.old ≤ seen.new }
-        ensures answered { IfOk result (λ answers. AreAnswered seen.old keys.now answers.items seen.new) }
-        ensures refused { IfErr result (λ stop. (stop ≡ OutOfMemory) ⊎ AreUnanswered seen.old keys.now stop) }
+        ensures answered { IfOk result (λ answers. AreAnswered R.before seen.old keys.now answers.items seen.new) }
+        ensures refused { IfErr result (λ stop. (stop ≡ OutOfMemory) ⊎ AreUnanswered R.before seen.old keys.now stop) }
     {
         let reading = read_all(self.alloc, keys)?;
         // Under the lock: the keys are looked up, and their values copied.
@@ -92,8 +92,8 @@ impl<'a, R: RunOfJobs, W: Wait, G: Gate> Executor<'a, R, W, G> {
         ensures committed { IfOk result (λ verdict. share.new.amount ≡ share.old.amount + committed_by verdict) }
         ensures stopped { OnErr result (share.new.amount ≡ share.old.amount) }
         ensures answers { IfOk result CanGoOn }
-        ensures judged { IfOk result (λ verdict. JudgedInSomeHall ready (Ok verdict)) }
-        ensures refused { IfErr result (λ stop. (stop ≡ OutOfMemory) ⊎ IsTurnedAway ready stop) }
+        ensures judged { IfOk result (λ verdict. JudgedInSomeHall R.before ready (Ok verdict)) }
+        ensures refused { IfErr result (λ stop. (stop ≡ OutOfMemory) ⊎ IsTurnedAway R.before ready stop) }
     {
         let prepared = prepare(self.alloc, ready)?;
         self.gate.before_commit(place);

@@ -82,7 +82,7 @@ impl<R: RunOfJobs> Locked<R> {
 
     /// Fetches a key for a worker that has seen this revision, as the hall does.
     pub fn fetch(&self, seen: u64, key: &str, at: u64) -> Result<ReadAnswer, FetchRefusal>
-        ensures answer { AnswersInSomeHall seen (fetch_of key.now at) (told_alone result) }
+        ensures answer { AnswersInSomeHall R.before seen (fetch_of key.now at) (told_alone result) }
         ensures seen { IfOk result (λ answer. seen ≤ answer.revision) }
         ensures numbers { IfOk result ReadFits }
     {
@@ -92,7 +92,8 @@ impl<R: RunOfJobs> Locked<R> {
     /// Answers reads for a worker that has seen this revision, as the hall does. It changes nothing.
     pub fn fetch_all(&mut self, seen: u64, txn: &Txn) -> Result<TxnAnswer, FetchRefusal>
         requires { OnlyReads txn.now }
-        ensures answer { AnswersInSomeHall seen txn.now result }
+        ensures same { self.new.hall ≡ self.old.hall }
+        ensures answer { AnswersInSomeHall R.before seen txn.now result }
         ensures seen { IfOk result (λ answer. seen ≤ answer.revision) }
         ensures numbers { IfOk result AnswerFits }
     {
@@ -108,7 +109,7 @@ impl<R: RunOfJobs> Locked<R> {
         requires part { 0 < mine.old.parts }
         requires of_a_job { is_run_of_some R.jobs prepared.program prepared.level ≡ true }
         ensures told { CommitTells (verdict_of self.old.hall prepared) self.old.hall result self.new.hall }
-        ensures judged { JudgedInSomeHall prepared result }
+        ensures judged { JudgedInSomeHall R.before prepared result }
         ensures parts { mine.new.parts ≡ mine.old.parts }
         ensures committed { IfOk result (λ verdict. mine.new.amount ≡ mine.old.amount + committed_by verdict) }
         ensures refused { OnErr result (mine.new.amount ≡ mine.old.amount) }

@@ -55,7 +55,7 @@ fn run_on<R: RunOfJobs + Send + Sync, W: Threads + Wait + Sync, G: Gate + Sync>(
     ensures takes { TookCommitsOf jobs.now hall result.1 }
     ensures places { IfOk result.0 (λ placed. (length placed.ends.items ≡ length jobs.now) × (length placed.attempts.items ≡ length jobs.now)) }
     ensures commits { IfOk result.0 (λ placed. commits_in result.1.entries ≡ commits_in hall.entries + count_by is_committed placed.ends.items) }
-    ensures ran { IfOk result.0 (λ placed. HaveTheirRuns jobs.now placed.ends.items placed.attempts.items) }
+    ensures ran { IfOk result.0 (λ placed. HaveTheirRuns hall jobs.now placed.ends.items placed.attempts.items) }
     ensures drawn { IfOk result.0 (λ placed. HasDrawnAll (size_of (length jobs.now) (workers + 1)) placed.seat) }
 {
     let (book, share) = blank.open::<R>();
@@ -191,10 +191,10 @@ fn start_of(hall: &Hall) -> StartPoint
 /// attempted again, until it has sent as many commits as it may.
 ///
 /// At `Ok` each job was drawn once and none is left out, as the seat that is handed back knows. Each job has its end at its place, to which it has come
-/// as it should: each fetch was asked for with what its worker had seen, it sent at most as many commits as it may, and it gave up only where so many
-/// failed (`HasCome` of the specs). The number of its attempts, at least one and at most that limit, is one more than the commits that failed before the
+/// as it should: each fetch was asked for with what its worker had seen, a program's list before anything else; it sent at most as many commits as it may,
+/// and it gave up only where so many failed; what it was refused, a store with the limit of operations of the one handed in refused (`HasCome` of the specs). The number of its attempts, at least one and at most that limit, is one more than the commits that failed before the
 /// last of them (`laws::attempts_are_counted`). Each end stands in the hall, and the hall has the entries that it had, with one commit for each job that
-/// committed, and nothing else; of its store the history alone has changed: floor, leases, their terms, the moment and the watchers are as they were. What a job
+/// committed, and nothing else; of its store the history alone has changed: floor, limit, leases, their terms, the moment and the watchers are as they were. What a job
 /// at a serializable level had read when it aborted or came to a fault is of one state of the hall's history since it was handed in, and its program, run
 /// alone on that state, ends so (`laws::stops_are_of_one_state`).
 ///

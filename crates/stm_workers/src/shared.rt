@@ -90,9 +90,9 @@ impl<'a, R: RunOfJobs, W: Wait, G: Gate> Shared<'a, R, W, G> {
         requires seated { IsSeatAt R.table R.size seat }
         requires drawn { seat_view seat ≡ drew (drawing R.size (jobs_of ended.items)) job }
         requires counted { (share.parts ≡ 1) × (share.amount ≡ committed_in ended.items) }
-        requires ran { All (HasItsRun R.jobs) ended.items }
+        requires ran { All (HasItsRun R.before R.jobs) ended.items }
         ensures seen { IfOk result (λ worker. seen ≤ worker.seen) }
-        ensures came { IfOk result (λ worker. BringsToEnd self.now.jobs.now job seen ended.items worker.seen worker.ended.items) }
+        ensures came { IfOk result (λ worker. BringsToEnd R.before self.now.jobs.now job seen ended.items worker.seen worker.ended.items) }
     {
         let mut share = share;
         let mut most = seen;

@@ -32,7 +32,7 @@ pub(crate) struct Worker<R: RunOfJobs> {
     ghost seated: { IsSeatAt R.table R.size seat },
     ghost one_left: { seat_view seat ≡ drawing R.size (jobs_of ended.items) },
     ghost counted: { (share.parts ≡ 1) × (share.amount ≡ committed_in ended.items) },
-    ghost ran: { All (HasItsRun R.jobs) ended.items },
+    ghost ran: { All (HasItsRun R.before R.jobs) ended.items },
 }
 
 /// A worker that found no job left.
@@ -44,7 +44,7 @@ pub(crate) struct RetiredWorker<R: RunOfJobs> {
     ghost seated: { IsSeatAt R.table R.size seat },
     ghost none_left: { seat_view seat ≡ used_up R.size (jobs_of ended.items) },
     ghost counted: { (share.parts ≡ 1) × (share.amount ≡ committed_in ended.items) },
-    ghost ran: { All (HasItsRun R.jobs) ended.items },
+    ghost ran: { All (HasItsRun R.before R.jobs) ended.items },
 }
 
 /// A worker after it looked for a job.
@@ -66,7 +66,7 @@ pub(crate) struct Coordinator<R: RunOfJobs> {
     ghost seated: { IsSeatAt R.table R.size seat },
     ghost drawn: { (seat_view seat).drawn ≡ jobs_of ended.items },
     ghost counted: { share.amount ≡ committed_in ended.items },
-    ghost ran: { All (HasItsRun R.jobs) ended.items },
+    ghost ran: { All (HasItsRun R.before R.jobs) ended.items },
     ghost even: { (seat_view seat).past + (seat_view seat).left ≡ share.parts },
 }
 
@@ -84,7 +84,7 @@ impl<R: RunOfJobs> Worker<R> {
         requires seated { IsSeatAt R.table R.size seat }
         requires one_left { seat_view seat ≡ drawing R.size (jobs_of ended.items) }
         requires counted { (share.parts ≡ 1) × (share.amount ≡ committed_in ended.items) }
-        requires ran { All (HasItsRun R.jobs) ended.items }
+        requires ran { All (HasItsRun R.before R.jobs) ended.items }
         ensures seen { result.seen ≡ seen }
         ensures ended { result.ended.items ≡ ended.items }
     {
@@ -103,7 +103,7 @@ impl<R: RunOfJobs> RetiredWorker<R> {
         requires seated { IsSeatAt R.table R.size seat }
         requires none_left { seat_view seat ≡ used_up R.size (jobs_of ended.items) }
         requires counted { (share.parts ≡ 1) × (share.amount ≡ committed_in ended.items) }
-        requires ran { All (HasItsRun R.jobs) ended.items }
+        requires ran { All (HasItsRun R.before R.jobs) ended.items }
     {
         RetiredWorker { seat, share, ended }
     }
@@ -169,7 +169,7 @@ impl<R: RunOfJobs> Collected<R> {
         ensures share { (result.0.parts ≡ R.size.seats) × (result.0.amount ≡ committed_in result.1.items) }
         ensures each_once { EachOnce R.size.jobs (jobs_of result.1.items) }
         ensures drawn { HasDrawnAll R.size result.2 }
-        ensures ran { All (HasItsRun R.jobs) result.1.items }
+        ensures ran { All (HasItsRun R.before R.jobs) result.1.items }
     {
         let Collected { coordinator } = self;
         let Coordinator { seat, share, ended } = coordinator;

@@ -26,7 +26,7 @@ returns-in-Ok-gather-clause-ok g c =
     run.ensures.places)
     (at_ok (λ p. commits_in run.result.1.entries ≡ commits_in c.args.hall.entries + count_by is_committed p.ends.items) run.result.0 placed
     c.in-Ok-placed.is run.ensures.commits) told.committed told.stand
-    (at_ok (λ p. HaveTheirRuns c.args.jobs.now p.ends.items p.attempts.items) run.result.0 placed c.in-Ok-placed.is run.ensures.ran))
+    (at_ok (λ p. HaveTheirRuns c.args.hall c.args.jobs.now p.ends.items p.attempts.items) run.result.0 placed c.in-Ok-placed.is run.ensures.ran))
 
 -- and each job was drawn once
 pub returns-in-Ok-gather-clause-drawn : goal.returns-in-Ok-gather-clause-drawn

@@ -10,7 +10,7 @@ fetch_all-told-requires g c = list_only_reads _ _ c.in_ok-reading.ensures
 
 pub returns-in_ok-answers-in-Ok-clause-keys : goal.returns-in_ok-answers-in-Ok-clause-keys
 returns-in_ok-answers-in-Ok-clause-keys g c =
-    taken_keys _ _ _ (shows_keys _ _ _ _ c.in-Ok.told c.in_ok-reading.ensures c.requires c.fetch_all-told.ensures.answer c.in-Ok.is)
+    taken_keys _ _ _ (shows_keys g.R.RunOfJobs.before _ _ _ _ c.in-Ok.told c.in_ok-reading.ensures c.requires c.fetch_all-told.ensures.answer c.in-Ok.is)
     c.in_ok-answers-in-Ok.ensures
 
 pub returns-in_ok-answers-in-Ok-clause-in_range : goal.returns-in_ok-answers-in-Ok-clause-in_range
@@ -18,7 +18,7 @@ returns-in_ok-answers-in-Ok-clause-in_range g c = all_taken_fit _ _ c.in-Ok.ensu
 
 pub returns-in_ok-answers-in-Ok-clause-one_revision : goal.returns-in_ok-answers-in-Ok-clause-one_revision
 returns-in_ok-answers-in-Ok-clause-one_revision g c =
-    taken_show_one _ _ _ (shows_keys _ _ _ _ c.in-Ok.told c.in_ok-reading.ensures c.requires c.fetch_all-told.ensures.answer c.in-Ok.is)
+    taken_show_one _ _ _ (shows_keys g.R.RunOfJobs.before _ _ _ _ c.in-Ok.told c.in_ok-reading.ensures c.requires c.fetch_all-told.ensures.answer c.in-Ok.is)
     c.in_ok-answers-in-Ok.ensures
 
 pub returns-in_ok-answers-in-Ok-clause-never_falls : goal.returns-in_ok-answers-in-Ok-clause-never_falls
@@ -27,7 +27,7 @@ returns-in_ok-answers-in-Ok-clause-never_falls g c = c.in-Ok.ensures.seen
 pub returns-in_ok-answers-in-Ok-clause-answered : goal.returns-in_ok-answers-in-Ok-clause-answered
 returns-in_ok-answers-in-Ok-clause-answered g c = record {
   told = c.in-Ok.told;
-  by_hall = list_in_some_hall _ _ _ _ _ c.in_ok-reading.ensures c.fetch_all-told.ensures.answer c.in-Ok.is;
+  by_hall = list_in_some_hall g.R.RunOfJobs.before _ _ _ _ _ c.in_ok-reading.ensures c.fetch_all-told.ensures.answer c.in-Ok.is;
   are_read = c.in_ok-answers-in-Ok.ensures;
   carries = refl;
 }
@@ -36,7 +36,7 @@ returns-in_ok-answers-in-Ok-clause-answered g c = record {
 pub returns-in-Err-clause-refused : goal.returns-in-Err-clause-refused
 returns-in-Err-clause-refused g c = inr (record {
   cause = c.in-Err.refusal;
-  by_hall = list_in_some_hall _ _ _ _ _ c.in_ok-reading.ensures c.fetch_all-told.ensures.answer c.in-Err.is;
+  by_hall = list_in_some_hall g.R.RunOfJobs.before _ _ _ _ _ c.in_ok-reading.ensures c.fetch_all-told.ensures.answer c.in-Err.is;
   told = c.of_fetch.ensures;
 })
 

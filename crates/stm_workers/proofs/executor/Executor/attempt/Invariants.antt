@@ -11,5 +11,5 @@ invariant-loop-number g l = record {
   parts : l.share.parts ≡ l.initial.share.parts;
   amount : l.share.amount ≡ l.initial.share.amount;
   seen : l.initial.seen ≤ l.seen;
-  lost : HasLost l.job l.initial.seen l.number (state_of l.attempt l.seen);
+  lost : HasLost g.R.RunOfJobs.before l.job l.initial.seen l.number (state_of l.attempt l.seen);
 }

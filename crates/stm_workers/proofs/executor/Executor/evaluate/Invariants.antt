@@ -8,5 +8,5 @@ abbrev pub invariant-loop : goal.invariant-loop
 invariant-loop g l = record {
   attempt : IsOfJob l.job l.attempt;
   seen : l.initial.seen ≤ l.seen;
-  fetched : HasFetched l.job (state_of l.initial.attempt l.initial.seen) (state_of l.attempt l.seen);
+  fetched : HasFetched g.R.RunOfJobs.before l.job (state_of l.initial.attempt l.initial.seen) (state_of l.attempt l.seen);
 }

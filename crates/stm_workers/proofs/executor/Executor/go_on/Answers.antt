@@ -1,5 +1,5 @@
 use Rattle.stm_workers.proofs.NextLemmas.{aborted_is_not_done, faulted_is_not_done, ready_is_of, advanced_is_of, supplied_is_of, all_supplied_is_of, waits_for, waits_for_list, list_is_named}
-use Rattle.stm_workers.proofs.NextLemmas.{aborted_is_run, faulted_is_run, reads_taken}
+use Rattle.stm_workers.proofs.NextLemmas.{aborted_is_run, faulted_is_run, aborted_has_list, faulted_has_list, reads_taken}
 use Rattle.std.proofs.Common.{◌≡◌, ◌⊎◌, ℕ, List, Some, inl, inr, refl, ap, subst, sym, ◌∙◌}
 use Rattle.stm_history.specs.declared.key_state.ReadAnswer.{ReadAnswer}
 use Rattle.std.proofs.lemmas.Result.{err_from_is_err_and}
@@ -75,7 +75,7 @@ returns-in_ok-supply_all-in-FetchAll-clause-fetch g c = λ none. inr (record {
   at = _;
   wants = sym c.in_ok-next.ensures.next ∙ c.in-FetchAll.is;
   answers = c.in_ok-answers-in-FetchAll.answers.items;
-  answered = subst (λ (l : List (List ℕ)). AreAnswered c.args.seen.now l c.in_ok-answers-in-FetchAll.answers.items c.ask_all-asked.new.seen) c.as_slice.ensures
+  answered = subst (λ (l : List (List ℕ)). AreAnswered g.R.RunOfJobs.before c.args.seen.now l c.in_ok-answers-in-FetchAll.answers.items c.ask_all-asked.new.seen) c.as_slice.ensures
       c.in_ok-answers-in-FetchAll.ensures.answered;
   goes_on = c.in_ok-supply_all-in-FetchAll.ensures.ok
       ∙ ap (λ (a : AttemptState). supplied_all c.in_ok-answers-in-FetchAll.answers.items a) c.in_ok-next.ensures.ok;
@@ -93,6 +93,7 @@ pub returns-in-Aborted-clause-stops : goal.returns-in-Aborted-clause-stops
 returns-in-Aborted-clause-stops g c = inr (
   inl (record {
     run = c.in-Aborted.run';
+    has_list = aborted_has_list _ _ _ _ (sym c.in_ok-next.ensures.next ∙ c.in-Aborted.is);
     is_run = aborted_is_run _ _ _ _ (sym c.in_ok-next.ensures.next ∙ c.in-Aborted.is);
     told = c.of_run.ensures.end;
     reads = c.of_run.ensures.reads ∙ ap (λ (rs : List ReadAnswer). Some rs) (reads_taken c.args.job.now.program c.args.attempt.now c.advance.new.self
@@ -105,6 +106,7 @@ pub returns-in-Faulted-clause-stops : goal.returns-in-Faulted-clause-stops
 returns-in-Faulted-clause-stops g c = inr (
   inl (record {
     run = c.in-Faulted.run';
+    has_list = faulted_has_list _ _ _ _ (sym c.in_ok-next.ensures.next ∙ c.in-Faulted.is);
     is_run = faulted_is_run _ _ _ _ (sym c.in_ok-next.ensures.next ∙ c.in-Faulted.is);
     told = c.of_run-in-Faulted.ensures.end;
     reads = c.of_run-in-Faulted.ensures.reads
@@ -123,7 +125,7 @@ pub returns-in_err-answer-in-Fetch-clause-stops : goal.returns-in_err-answer-in-
 returns-in_err-answer-in-Fetch-clause-stops g c =
     let exit = err_from_is_err_and c.from_residual-in_err-answer-in-Fetch.result c.from_residual-in_err-answer-in-Fetch.ensures.1 in
     told_out c.from_residual-in_err-answer-in-Fetch.result _ exit.0 c.in_err-answer-in-Fetch.field-0.0 exit.1 exit.2
-    (fetch_stops c.args.job.now (state_of c.args.attempt.now c.args.seen.now) c.in-Fetch.key c.in-Fetch.at _ _ (sym c.in_ok-next.ensures.next ∙ c.in-Fetch.is)
+    (fetch_stops g.R.RunOfJobs.before c.args.job.now (state_of c.args.attempt.now c.args.seen.now) c.in-Fetch.key c.in-Fetch.at _ _ (sym c.in_ok-next.ensures.next ∙ c.in-Fetch.is)
     c.in_err-answer-in-Fetch.ensures.refused c.in_err-answer-in-Fetch.ensures.stopped)
 
 pub returns-in_err-supply-in-Fetch-clause-stops : goal.returns-in_err-supply-in-Fetch-clause-stops
@@ -135,8 +137,8 @@ pub returns-in_err-answers-in-FetchAll-clause-stops : goal.returns-in_err-answer
 returns-in_err-answers-in-FetchAll-clause-stops g c =
     let exit = err_from_is_err_and c.from_residual-in_err-answers-in-FetchAll.result c.from_residual-in_err-answers-in-FetchAll.ensures.1 in
     told_out c.from_residual-in_err-answers-in-FetchAll.result _ exit.0 c.in_err-answers-in-FetchAll.field-0.0 exit.1 exit.2
-    (list_stops c.args.job.now (state_of c.args.attempt.now c.args.seen.now) c.in-FetchAll.keys _ _ _ (sym c.in_ok-next.ensures.next ∙ c.in-FetchAll.is)
-    (subst (λ (l : List (List ℕ)). (c.in_err-answers-in-FetchAll.field-0.0 ≡ OutOfMemory) ⊎ AreUnanswered c.args.seen.now l c.in_err-answers-in-FetchAll.field-0.0)
+    (list_stops g.R.RunOfJobs.before c.args.job.now (state_of c.args.attempt.now c.args.seen.now) c.in-FetchAll.keys _ _ _ (sym c.in_ok-next.ensures.next ∙ c.in-FetchAll.is)
+    (subst (λ (l : List (List ℕ)). (c.in_err-answers-in-FetchAll.field-0.0 ≡ OutOfMemory) ⊎ AreUnanswered g.R.RunOfJobs.before c.args.seen.now l c.in_err-answers-in-FetchAll.field-0.0)
     c.as_slice.ensures c.in_err-answers-in-FetchAll.ensures.refused)
     c.in_err-answers-in-FetchAll.ensures.stopped)
 

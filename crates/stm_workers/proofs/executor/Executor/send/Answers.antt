@@ -18,14 +18,14 @@ returns-in_err-prepared-clause-refused g c =
 
 pub returns-in-Ok-clause-judged : goal.returns-in-Ok-clause-judged
 returns-in-Ok-clause-judged g c =
-    judged_so c.args.ready c.commit-verdict.result (Ok c.in-Ok.verdict) c.in-Ok.is
-    (subst (λ (r : ReadyRun). JudgedInSomeHall r c.commit-verdict.result) c.in_ok-prepared.ensures c.commit-verdict.ensures.judged)
+    judged_so g.R.RunOfJobs.before c.args.ready c.commit-verdict.result (Ok c.in-Ok.verdict) c.in-Ok.is
+    (subst (λ (r : ReadyRun). JudgedInSomeHall g.R.RunOfJobs.before r c.commit-verdict.result) c.in_ok-prepared.ensures c.commit-verdict.ensures.judged)
 
 -- the hall's refusal is told
 pub returns-in-Err-clause-refused : goal.returns-in-Err-clause-refused
 returns-in-Err-clause-refused g c = inr (record {
   cause = c.in-Err.refusal;
-  by_hall = judged_so c.args.ready c.commit-verdict.result (Err c.in-Err.refusal) c.in-Err.is
-      (subst (λ (r : ReadyRun). JudgedInSomeHall r c.commit-verdict.result) c.in_ok-prepared.ensures c.commit-verdict.ensures.judged);
+  by_hall = judged_so g.R.RunOfJobs.before c.args.ready c.commit-verdict.result (Err c.in-Err.refusal) c.in-Err.is
+      (subst (λ (r : ReadyRun). JudgedInSomeHall g.R.RunOfJobs.before r c.commit-verdict.result) c.in_ok-prepared.ensures c.commit-verdict.ensures.judged);
   told = c.of_commit.ensures;
 })

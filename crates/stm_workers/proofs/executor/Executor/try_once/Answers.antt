@@ -27,5 +27,5 @@ pub returns-in_err-verdict-clause-stops : goal.returns-in_err-verdict-clause-sto
 returns-in_err-verdict-clause-stops g c =
     let exit = err_from_is_err_and c.from_residual-in_err-verdict.result c.from_residual-in_err-verdict.ensures.1 in
     told_out c.from_residual-in_err-verdict.result _ exit.0 c.in_err-verdict.field-0.0 exit.1 exit.2
-    (commit_stops c.args.job.now (state_of c.args.attempt.now c.args.seen.now) c.in_ok-ready.ready c.in_err-verdict.field-0.0 c.evaluate.new.seen
+    (commit_stops g.R.RunOfJobs.before c.args.job.now (state_of c.args.attempt.now c.args.seen.now) c.in_ok-ready.ready c.in_err-verdict.field-0.0 c.evaluate.new.seen
     c.in_ok-ready.ensures.evaluated c.in_err-verdict.ensures.refused)

@@ -35,8 +35,8 @@ invariant_of-self-2 g c =
 pub returns-in_err-verdict-clause-judged : goal.returns-in_err-verdict-clause-judged
 returns-in_err-verdict-clause-judged g c =
     let exit = err_from_is_err_and c.from_residual.result c.from_residual.ensures.1 in
-    refused_so c.args.prepared c.args.self.now.hall c.commit_prepared.new.self c.from_residual.result exit.0 c.in_err-verdict.field-0.0 exit.1 exit.2
-    c.in_err-verdict.ensures.verdict
+    refused_so g.R.RunOfJobs.before c.args.prepared c.args.self.now.hall c.commit_prepared.new.self c.from_residual.result exit.0 c.in_err-verdict.field-0.0 exit.1
+    exit.2 c.args.self.now.kept c.in_err-verdict.ensures.verdict
 
 pub returns-clause-judged : goal.returns-clause-judged
-returns-clause-judged g c = (c.args.self.now.hall, c.commit_prepared.new.self, c.in_ok-verdict.ensures.verdict)
+returns-clause-judged g c = (c.args.self.now.hall, c.commit_prepared.new.self, c.args.self.now.kept, c.in_ok-verdict.ensures.verdict)

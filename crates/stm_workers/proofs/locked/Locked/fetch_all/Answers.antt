@@ -13,4 +13,4 @@ invariant_of-self g c =
     }
 
 pub returns-clause-answer : goal.returns-clause-answer
-returns-clause-answer g c = (c.args.self.now.hall.standing, c.fetch.ensures.answer)
+returns-clause-answer g c = (c.args.self.now.hall, c.args.self.now.kept, c.fetch.ensures.answer)

@@ -31,9 +31,9 @@ at_work-requires-clause-counted g c =
 pub at_work-requires-clause-ran : goal.at_work-requires-clause-ran
 at_work-requires-clause-ran g c =
     let last : EndOf = record { job = c.args.job; end = c.in_ok-end.end; attempts = c.run_job.new.attempts } in
-    All-same (HasItsRun g.R.RunOfJobs.jobs) _ _ c.in_ok-push.ensures.items
-    (All-push (HasItsRun g.R.RunOfJobs.jobs) c.args.ended.items last c.requires.ran
-    (some_run c.args.self.now.jobs.now g.R.RunOfJobs.jobs c.job_at-it.result.now last c.args.seen c.run_job.new.seen c.args.self.now.are_its c.job_at-it.ensures
+    All-same (HasItsRun g.R.RunOfJobs.before g.R.RunOfJobs.jobs) _ _ c.in_ok-push.ensures.items
+    (All-push (HasItsRun g.R.RunOfJobs.before g.R.RunOfJobs.jobs) c.args.ended.items last c.requires.ran
+    (some_run g.R.RunOfJobs.before c.args.self.now.jobs.now g.R.RunOfJobs.jobs c.job_at-it.result.now last c.args.seen c.run_job.new.seen c.args.self.now.are_its c.job_at-it.ensures
     c.in_ok-end.ensures.came))
 
 pub returns-clause-came : goal.returns-clause-came
@@ -41,8 +41,8 @@ returns-clause-came g c = record {
   end = c.in_ok-end.end;
   attempts = c.run_job.new.attempts;
   ended = c.at_work.ensures.ended ∙ c.in_ok-push.ensures.items;
-  came = subst (λ (then : ℕ). (job : Job) → slice_get c.args.self.now.jobs.now c.args.job ≡ Some job → HasCome job c.args.seen c.in_ok-end.end then
+  came = subst (λ (then : ℕ). (job : Job) → slice_get c.args.self.now.jobs.now c.args.job ≡ Some job → HasCome g.R.RunOfJobs.before job c.args.seen c.in_ok-end.end then
       c.run_job.new.attempts) (sym c.at_work.ensures.seen)
-      (come_there c.args.self.now.jobs.now c.args.job c.job_at-it.result.now c.args.seen c.in_ok-end.end c.run_job.new.seen c.run_job.new.attempts
+      (come_there g.R.RunOfJobs.before c.args.self.now.jobs.now c.args.job c.job_at-it.result.now c.args.seen c.in_ok-end.end c.run_job.new.seen c.run_job.new.attempts
       c.job_at-it.ensures c.in_ok-end.ensures.came);
 }

@@ -27,7 +27,7 @@ at_work-requires-clause-counted g c = (
 )
 
 pub at_work-requires-clause-ran : goal.at_work-requires-clause-ran
-at_work-requires-clause-ran g c = All-same (HasItsRun g.R.RunOfJobs.jobs) _ _ c.new.ensures.items (All-nil (HasItsRun g.R.RunOfJobs.jobs))
+at_work-requires-clause-ran g c = All-same (HasItsRun g.R.RunOfJobs.before g.R.RunOfJobs.jobs) _ _ c.new.ensures.items (All-nil (HasItsRun g.R.RunOfJobs.before g.R.RunOfJobs.jobs))
 
 -- a pass and a part less
 pub invariant_of-self : goal.invariant_of-self

@@ -17,7 +17,7 @@ invariant_of-self g c =
       drawn = old.drawn ∙ sym (ap jobs_of same);
       counted = old.counted ∙ sym (ap committed_in same);
       even = old.even;
-      ran = All-same (HasItsRun g.R.RunOfJobs.jobs) _ _ same old.ran;
+      ran = All-same (HasItsRun g.R.RunOfJobs.before g.R.RunOfJobs.jobs) _ _ same old.ran;
     }
 
 -- its draws, its commits and its passes are more by those of the worker
@@ -34,8 +34,8 @@ invariant_of-self-2 g c =
           c.merge.ensures.amount
           ∙ sym (ap (λ (es : List EndOf). committed_in es) c.in_ok-append.ensures.items);
       even = even_together _ _ _ _ _ _ _ _ old.even retired.none_left c.join.ensures.view retired.counted.0 c.merge.ensures.parts;
-      ran = All-same (HasItsRun g.R.RunOfJobs.jobs) _ _ c.in_ok-append.ensures.items
-          (All-append (HasItsRun g.R.RunOfJobs.jobs) old.ended.items retired.ended.items old.ran retired.ran);
+      ran = All-same (HasItsRun g.R.RunOfJobs.before g.R.RunOfJobs.jobs) _ _ c.in_ok-append.ensures.items
+          (All-append (HasItsRun g.R.RunOfJobs.before g.R.RunOfJobs.jobs) old.ended.items retired.ended.items old.ran retired.ran);
     }
 
 pub returns-clause-past : goal.returns-clause-past

@@ -1,5 +1,5 @@
--- What runners ask of a store, a fetch and a commit, comes to the same once the revisions below the floor are dropped.
-use Rattle.std.proofs.Common.{◌≡◌, ℕ, ◌-◌, ◌≤◌, Bool, true, false, cond, List, [], ◌∷◌, map, Option, Some, None, refl, ◌∙◌, ap, arith}
+-- What runners ask of a store, the fetch of a key or of a list and the commit, comes to the same once the revisions below the floor are dropped.
+use Rattle.std.proofs.Common.{◌≡◌, ℕ, ◌-◌, ◌≤◌, Bool, true, false, cond, List, [], ◌∷◌, length, map, Option, Some, None, refl, ◌∙◌, ap, arith}
 use Rattle.std.specs.Prelude.{nat_eq, nat_lt, slice_get, Result, Ok, Err}
 use Rattle.stm_history.specs.declared.key_state.KeyState.{KeyState}
 use Rattle.stm_history.specs.declared.key_state.ReadAnswer.{ReadAnswer}
@@ -28,7 +28,7 @@ use Rattle.stm_compile.specs.Conflicts.{seen_by}
 use Rattle.stm_calls.specs.declared.sent.Sent.{Sent}
 use Rattle.stm_calls.specs.declared.sent.Sent.TheVariants.{Committed}
 use Rattle.stm_calls.specs.Sent.{seen_in, failed_at, decided, sent_as, sent}
-use Rattle.stm_calls.specs.Fetched.{fetched, fetch_told}
+use Rattle.stm_calls.specs.Fetched.{fetched, fetch_told, fetch_all_told}
 use Rattle.stm_compaction.specs.Kept.{kept_step, kept_done, kept_terms}
 use Rattle.stm_compaction.proofs.Alike.{IsAlike, cut_is_alike}
 use Rattle.stm_compaction.proofs.Transactions.{Grows, applied_kept, applied_grows, not_below}
@@ -128,6 +128,13 @@ pub sent_kept : (s : Standing) → HasReached s → (level : Level) (reads : Lis
 sent_kept s reached level reads run =
     ap (sent_as (kept s) level reads (latest_writes run.writes)) (committed_kept (terms_of s) reached level reads run)
     ∙ sent_by s reached level reads (latest_writes run.writes) (committed (terms_of s) level reads run) (committed_grows (terms_of s) level reads run)
+
+-- ---- a list
+
+pub listed_kept : (s : Standing) → HasReached s → (keys : List (List ℕ)) → fetch_all_told (kept s) keys ≡ fetch_all_told s keys
+listed_kept s reached keys =
+    ap (λ (answers : List ReadAnswer). (let o : Result (List ReadAnswer) Refusal = cond (nat_lt s.limit (length keys)) (Err TooManyOps) (Ok answers) in o))
+    (answers_alike s.floor (cut (s.floor - 1) s.history) s.history (cut_is_alike s.floor s.history reached) reached keys)
 
 -- ---- a fetch
 

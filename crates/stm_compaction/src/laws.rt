@@ -1,5 +1,5 @@
 //! The laws of stores that have dropped their revisions below the floor. Each function does nothing: its contract is the law.
-ghost use Rattle.stm_compaction.specs.Laws.{KeptShowsTheSame, KeptTransacts, KeptWrites, KeptFetches, KeptCommits};
+ghost use Rattle.stm_compaction.specs.Laws.{KeptShowsTheSame, KeptTransacts, KeptWrites, KeptFetches, KeptListFetches, KeptCommits};
 ghost use Rattle.stm_compaction.specs.Laws.{KeptGrants, KeptRenews, KeptRevokes, KeptExpires, KeptAdvances, KeptAdvanceComes, KeptAdvanceIsCutShort};
 ghost use Rattle.stm_compaction.specs.Laws.{KeptWatches, KeptPolls, KeptPollRefused, KeptCancels, KeptCompacts};
 
@@ -15,9 +15,10 @@ pub fn kept_transacts()
     ensures written { KeptWrites }
 {}
 
-/// What a program asks of a store comes to the same: the fetch of a key, and the commit.
+/// What a program asks of a store comes to the same: the fetch of a key, that of a list of keys, and the commit.
 pub fn kept_serves_runs()
     ensures fetched { KeptFetches }
+    ensures listed { KeptListFetches }
     ensures sent { KeptCommits }
 {}
 

@@ -89,6 +89,7 @@ real_failure start log id runner task key seen now_modified runs same c =
     (record {
       task = task;
       runs = runs;
+      has_list = c.commits.has_list;
       run = c.commits.run;
       is_run = c.commits.is_run;
       is_done = c.commits.is_done;
@@ -172,6 +173,7 @@ of_its_state start log id task end w f some runs serializable ends =
     let truth : AreTrue h reads = (f.at.truth id r found).0 in
     let at = alone_at h task reads ends.run one truth ends.is_run in
     record {
+      has_list = ends.has_list;
       state = are_of_one_state h task reads one truth;
       reached = at.0;
       run = ends.run;

@@ -4,12 +4,15 @@ use Rattle.std.proofs.Common.{refl, sym, ◌∙◌, ap, subst, arith}
 use Rattle.std.specs.Prelude.{nat_eq, nat_lt, slice_set, Result}
 use Rattle.std.proofs.lemmas.Bool.{le-leb}
 use Rattle.std.specs.Cmp.{unsigned_Decides}
+use Rattle.stm_history.specs.declared.key_state.ReadAnswer.{ReadAnswer}
 use Rattle.stm_program.specs.Syntax.{ProgramTree}
 use Rattle.stm_program.specs.declared.level.Level.{Level}
 use Rattle.stm_meaning.specs.declared.run.End.TheVariants.{Done as DoneEnd, Aborted as AbortedEnd}
 use Rattle.stm_meaning.specs.declared.run.Run.{Run}
 use Rattle.stm_meaning.specs.declared.run.Answered.TheVariants.{Ended as EndedRun, Wants}
 use Rattle.stm_meaning.specs.declared.trace_item.TraceItem.{TraceItem}
+use Rattle.stm_meaning.specs.declared.value.Value.{Value}
+use Rattle.stm_steps.specs.declared.fault.Fault.{Fault}
 use Rattle.stm_attempt.specs.Settled.{run_on}
 use Rattle.stm_attempt.specs.Entering.{is_due}
 use Rattle.std.proofs.lemmas.List.{length-map}
@@ -323,6 +326,44 @@ abort_before_list start log id task text runs due right =
     let ends = (is_listed start log id task (Aborted id text) runs right).1 in
     let both : true ≡ false = sym due ∙ ends.has_list in absurd (cc)
 
+fault_before_list : (start : Setup) (log : List Line) (id : ℕ) (task : Task) (fault : Fault) → running id log ≡ Some task
+    → is_due task.program.prefetch (told start id task log).reads ≡ true → IsRight start log (Step id) (Ok (Faulted id fault)) → ⊥
+fault_before_list start log id task fault runs due right =
+    let ends = (is_listed start log id task (Faulted id fault) runs right).1 in
+    let both : true ≡ false = sym due ∙ ends.has_list in absurd (cc)
+
+commit_before_list : (start : Setup) (log : List Line) (id : ℕ) (task : Task) (revision attempts : ℕ) (output : List Value) (trace : List TraceItem)
+    (answers : List ReadAnswer) → running id log ≡ Some task → is_due task.program.prefetch (told start id task log).reads ≡ true
+    → IsRight start log (Step id) (Ok (Committed id revision attempts output trace answers)) → ⊥
+commit_before_list start log id task revision attempts output trace answers runs due right =
+    let commit = (is_listed start log id task (Committed id revision attempts output trace answers) runs right).3 in
+    let both : true ≡ false = sym due ∙ commit.commits.has_list in absurd (cc)
+
+conflict_before_list : (start : Setup) (log : List Line) (id : ℕ) (task : Task) (key : List ℕ) (seen now_modified : ℕ) → running id log ≡ Some task
+    → is_due task.program.prefetch (told start id task log).reads ≡ true → IsRight start log (Step id) (Ok (Conflict id key seen now_modified)) → ⊥
+conflict_before_list start log id task key seen now_modified runs due right =
+    let conflict = (is_listed start log id task (Conflict id key seen now_modified) runs right).2 in
+    let both : true ≡ false = sym due ∙ conflict.commits.has_list in absurd (cc)
+
+give_up_before_list : (start : Setup) (log : List Line) (id : ℕ) (task : Task) (attempts : ℕ) (key : List ℕ) (seen now_modified : ℕ)
+    → running id log ≡ Some task → is_due task.program.prefetch (told start id task log).reads ≡ true
+    → IsRight start log (Step id) (Ok (GaveUp id attempts key seen now_modified)) → ⊥
+give_up_before_list start log id task attempts key seen now_modified runs due right =
+    let conflict = (is_listed start log id task (GaveUp id attempts key seen now_modified) runs right).3 in
+    let both : true ≡ false = sym due ∙ conflict.commits.has_list in absurd (cc)
+
+none_refused_list : (at : Situation) (cause : StoreRefusal) → is_due at.task.program.prefetch at.reads ≡ true
+    → length at.task.program.prefetch ≤ at.store.limit → IsRefused at cause → ⊥
+none_refused_list at cause due few (inl c) = let both : true ≡ false = sym due ∙ c.has_list in absurd (cc)
+none_refused_list at cause due few (inr (inl (same, behind))) = let both : true ≡ false = sym due ∙ behind.has_list in absurd (cc)
+none_refused_list at cause due few (inr (inr (same, overfull))) = let many = overfull.many in omega (arith, few, many)
+
+refused_list : (start : Setup) (log : List Line) (id : ℕ) (task : Task) (cause : StoreRefusal) → running id log ≡ Some task
+    → is_due task.program.prefetch (told start id task log).reads ≡ true → length task.program.prefetch ≤ (store start log).limit
+    → IsRight start log (Step id) (Ok (Ended id cause)) → ⊥
+refused_list start log id task cause runs due few right =
+    none_refused_list (situation start log id task) cause due few (is_listed start log id task (Ended id cause) runs right).1
+
 -- ---- events without a reply ----
 
 no_answer : (start : Setup) (event : WorldEvent) (events : List WorldEvent) (w : World) → Holds start (event ∷ events) [] w → ⊥
@@ -352,5 +393,10 @@ wrong_logs = record {
   part_of_list = part_of_list;
   read_before_list = read_before_list;
   abort_before_list = abort_before_list;
+  fault_before_list = fault_before_list;
+  commit_before_list = commit_before_list;
+  conflict_before_list = conflict_before_list;
+  give_up_before_list = give_up_before_list;
+  refused_list = refused_list;
   compacted_again = compacted_again;
 }

@@ -22,6 +22,7 @@ use Rattle.stm_compile.specs.Committed.{conflict_now}
 use Rattle.stm_compile.specs.Answers.{state_as_of}
 use Rattle.stm_compile.specs.Conflicts.{Seen, seen_by, IsChangedAbove}
 use Rattle.stm_attempt.specs.Settled.{run_on}
+use Rattle.stm_attempt.specs.Entering.{is_due}
 use Rattle.stm_attempt.specs.Fetches.{base_of}
 use Rattle.stm_world.specs.declared.reply.Reply.{Reply}
 use Rattle.stm_world.specs.declared.reply.Reply.TheVariants.{Conflict, GaveUp, Aborted, Faulted}
@@ -63,11 +64,12 @@ pub record NamesAConflict (h : History) (level : Level) (reads : List ReadAnswer
   pub is : failed.now_modified ≡ mod_of (key_now h failed.key)
   pub changed : IsChangedAbove h seen.at failed.key
 
--- The commit of a runner that runs after these lines and whose program is done on what it has read, which failed by a conflict with the
--- store that the lines lead to.
+-- The commit of a runner that runs after these lines and whose program is done on what it has read, its list first, which failed by a conflict
+-- with the store that the lines lead to.
 pub record IsRealFailure (start : Setup) (log : List Line) (failed : FailedCommit) : Type 0 where
   pub task : Task
   pub runs : running failed.runner log ≡ Some task
+  pub has_list : is_due task.program.prefetch (told start failed.runner task log).reads ≡ false
   pub run : Run
   pub is_run : run_on task.program (told start failed.runner task log).reads ≡ EndedRun run
   pub is_done : run.end ≡ DoneEnd
@@ -94,9 +96,10 @@ stopped (Ok (Aborted runner text)) = Some record { runner = runner; end = Aborte
 stopped (Ok (Faulted runner fault)) = Some record { runner = runner; end = FaultedEnd fault }
 stopped other = None
 
--- The attempt has come to this end on what it has read. That is of one state, the current one where nothing was read, and the program run
+-- The attempt has come to this end on what it has read, its list first. That is of one state, the current one where nothing was read, and the program run
 -- alone on this state comes to the same end.
 pub record IsEndOnOneState (h : History) (task : Task) (reads : List ReadAnswer) (end : End) : Type 0 where
+  pub has_list : is_due task.program.prefetch reads ≡ false
   pub state : AreOfOneState h task reads
   pub reached : revision_read h (base_of reads) ≤ now h
   pub run : Run

@@ -1,11 +1,14 @@
 -- Logs that are wrong, so that it shows what being right rules out.
 use Rattle.std.specs.Prelude.{◌≡◌, ◌≢◌, ℕ, ◌≤◌, true, false, List, [], ◌∷◌, length, Option, Some, None, Result, Ok, Err}
+use Rattle.stm_history.specs.declared.key_state.ReadAnswer.{ReadAnswer}
 use Rattle.stm_program.specs.Syntax.{ProgramTree}
 use Rattle.stm_program.specs.declared.level.Level.{Level}
+use Rattle.stm_steps.specs.declared.fault.Fault.{Fault}
 use Rattle.stm_meaning.specs.declared.run.End.TheVariants.{Done}
 use Rattle.stm_meaning.specs.declared.run.Run.{Run}
 use Rattle.stm_meaning.specs.declared.run.Answered.TheVariants.{Ended, Wants}
 use Rattle.stm_meaning.specs.declared.trace_item.TraceItem.{TraceItem}
+use Rattle.stm_meaning.specs.declared.value.Value.{Value}
 use Rattle.stm_outcome.specs.declared.refusal.Refusal.{Refusal as StoreRefusal}
 use Rattle.stm_outcome.specs.Terms.{is_below_floor}
 use Rattle.stm_keys.specs.declared.event.Event.{Event}
@@ -106,6 +109,23 @@ pub record WrongLogs : Type 0 where
   -- and it does not abort
   pub abort_before_list : (start : Setup) (log : List Line) (id : ℕ) (task : Task) (text : List ℕ) → running id log ≡ Some task
       → is_due task.program.prefetch (told start id task log).reads ≡ true → IsRight start log (Step id) (Ok (Aborted id text)) → ⊥
+  -- nor come to a fault
+  pub fault_before_list : (start : Setup) (log : List Line) (id : ℕ) (task : Task) (fault : Fault) → running id log ≡ Some task
+      → is_due task.program.prefetch (told start id task log).reads ≡ true → IsRight start log (Step id) (Ok (Faulted id fault)) → ⊥
+  -- nor commit
+  pub commit_before_list : (start : Setup) (log : List Line) (id : ℕ) (task : Task) (revision attempts : ℕ) (output : List Value) (trace : List TraceItem)
+      (answers : List ReadAnswer) → running id log ≡ Some task → is_due task.program.prefetch (told start id task log).reads ≡ true
+      → IsRight start log (Step id) (Ok (Committed id revision attempts output trace answers)) → ⊥
+  -- nor is it told a conflict, whether it goes on or not
+  pub conflict_before_list : (start : Setup) (log : List Line) (id : ℕ) (task : Task) (key : List ℕ) (seen now_modified : ℕ) → running id log ≡ Some task
+      → is_due task.program.prefetch (told start id task log).reads ≡ true → IsRight start log (Step id) (Ok (Conflict id key seen now_modified)) → ⊥
+  pub give_up_before_list : (start : Setup) (log : List Line) (id : ℕ) (task : Task) (attempts : ℕ) (key : List ℕ) (seen now_modified : ℕ)
+      → running id log ≡ Some task → is_due task.program.prefetch (told start id task log).reads ≡ true
+      → IsRight start log (Step id) (Ok (GaveUp id attempts key seen now_modified)) → ⊥
+  -- and a list that has no more keys than the store takes operations is not refused
+  pub refused_list : (start : Setup) (log : List Line) (id : ℕ) (task : Task) (cause : StoreRefusal) → running id log ≡ Some task
+      → is_due task.program.prefetch (told start id task log).reads ≡ true → length task.program.prefetch ≤ (store start log).limit
+      → IsRight start log (Step id) (Ok (EndedReply id cause)) → ⊥
   -- no compaction goes back
   pub compacted_again : (start : Setup) (log : List Line) (revision at : ℕ) → revision ≤ (store start log).floor
       → IsRight start log (Compact revision) (Ok (Compacted at)) → ⊥

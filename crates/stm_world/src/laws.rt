@@ -80,7 +80,8 @@ pub fn keys_are_read_once()
 /// told to have aborted; a poll of a watcher that is there is refused, or one of a watcher that is not there
 /// is answered; a poll tells another watcher's batch, or an event where none is pending; a watcher that is lost is told a batch, or one
 /// that is not is told to be lost; a step fetches at a base that is compacted, or the store refuses one that is not; a list is fetched again or
-/// in part, or is refused though the store takes it, or a program reads, commits, fails or ends before its list is read; a compaction at or below the floor is taken.
+/// in part, or is refused though the store takes it, or a program reads, commits, fails or ends before its list is read; a compaction at or below the
+/// floor is taken.
 pub fn wrong_logs_are_none()
     ensures { WrongLogs }
 {}

@@ -10,13 +10,17 @@ use stm_program::Level;
 use stm_txn::{Op, ShortList, Store, Txn};
 use stm_workers::{Gathered, Hall, Job, JobEnd, JobRefusal, NoGate, ReadAnswer, run_workers};
 
-/// Two of the five jobs commit, and each other one ends in a way of its own.
-const JOBS: [(Level, &str); 5] = [
+/// Two of the six jobs commit, and each other one ends in a way of its own. The last one aborts before it looks up a key, on its list.
+const JOBS: [(Level, &str); 6] = [
     (Level::Serializable, r#"[["put","b",["get","a"],0]]"#),
     (Level::Serializable, r#"[["abort",["get","a"]]]"#),
     (Level::RepeatableReads, r#"[["emit",["div",1,0]]]"#),
     (Level::ReadCommitted, r#"[["put","c","1",9]]"#),
     (Level::SerializableSnapshot, r#"[["del","x"]]"#),
+    (
+        Level::Serializable,
+        r#"[["prefetch",["a","y"]],["abort","unread"]]"#,
+    ),
 ];
 
 /// Adds these jobs, each of which may send one commit.
@@ -137,8 +141,8 @@ fn tell_jobs<W: Threads + Wait + Sync>(
     }
 }
 
-/// Adds the five jobs, and tells what they came to.
-fn tell_five<W: Threads + Wait + Sync>(
+/// Adds the six jobs, and tells what they came to.
+fn tell_six<W: Threads + Wait + Sync>(
     rt: &W,
     alloc: Global,
     told: &mut String,
@@ -148,10 +152,10 @@ fn tell_five<W: Threads + Wait + Sync>(
     tell_jobs(rt, alloc, told, jobs.as_slice())
 }
 
-fn told_of_five<W: Threads + Wait + Sync>(rt: &W, alloc: Global) -> Result<String, Fail> {
+fn told_of_six<W: Threads + Wait + Sync>(rt: &W, alloc: Global) -> Result<String, Fail> {
     let mut told = String::new(alloc);
     let mut jobs = Vec::new(alloc);
-    let done = tell_five(rt, alloc, &mut told, &mut jobs);
+    let done = tell_six(rt, alloc, &mut told, &mut jobs);
     drop(jobs);
     done?;
     Ok(told)
@@ -160,10 +164,10 @@ fn told_of_five<W: Threads + Wait + Sync>(rt: &W, alloc: Global) -> Result<Strin
 // The entry that was there stays the first; each commit stands behind it.
 #[test]
 fn ends_stand_at_the_places_of_their_jobs(rt: HostRuntime) -> Result<(), Fail> {
-    let told = told_of_five(&rt, rt.alloc())?;
+    let told = told_of_six(&rt, rt.alloc())?;
     assert_eq!(rt;
         told.as_str(),
-        "commit 1 at 3; abort 1 on a of 3; ZeroDivisor on 0; refused LeaseNotFound; commit 2 at 3; 2 committed, 3 entries"
+        "commit 1 at 3; abort 1 on a of 3; ZeroDivisor on 0; refused LeaseNotFound; commit 2 at 3; abort unread on a of 3 on y of 3; 2 committed, 3 entries"
     );
     Ok(())
 }

@@ -10,6 +10,7 @@ const (
 	deepestNode = 32
 	longestText = 65536
 	mostTurns   = 10000
+	mostListed  = 128
 )
 
 // node is a statement, an expression or a condition of a program.
@@ -56,9 +57,52 @@ type programReader struct {
 	nodes int
 }
 
-// readProgram reads a program that stands at a place.
-func readProgram(value interface{}, place string) ([]*node, error) {
-	return new(programReader).block(value, place, 1)
+// readProgram reads a program that stands at a place: the keys of its list, and its statements.
+func readProgram(value interface{}, place string) ([]string, []*node, error) {
+	elements, err := arrayIn(value, place)
+	if err != nil {
+		return nil, nil, err
+	}
+	var keys []string
+	first := 0
+	if len(elements) > 0 && beginsWith(elements[0], "prefetch") {
+		if keys, err = readList(elements[0], within(place, 0)); err != nil {
+			return nil, nil, err
+		}
+		first = 1
+	}
+	statements, err := new(programReader).statements(elements, first, place, 1)
+	return keys, statements, err
+}
+
+// readList reads the list of a program: the keys that each attempt reads first.
+func readList(value interface{}, place string) ([]string, error) {
+	_, elements, err := wordIn(value, place, map[string]int{"prefetch": 2})
+	if err != nil {
+		return nil, err
+	}
+	listed, err := arrayIn(elements[1], within(place, 1))
+	if err != nil {
+		return nil, err
+	}
+	keys := make([]string, 0, len(listed))
+	isListed := map[string]bool{}
+	for i, element := range listed {
+		at := within(within(place, 1), i)
+		if i == mostListed {
+			return nil, &fault{at, "TooMany"}
+		}
+		key, isText := element.(string)
+		if !isText || key == "" || isListed[key] {
+			return nil, &fault{at, "Shape"}
+		}
+		if len(key) > longestText {
+			return nil, &fault{at, "TooLong"}
+		}
+		isListed[key] = true
+		keys = append(keys, key)
+	}
+	return keys, nil
 }
 
 func (r *programReader) block(value interface{}, place string, depth int) ([]*node, error) {
@@ -66,12 +110,17 @@ func (r *programReader) block(value interface{}, place string, depth int) ([]*no
 	if err != nil {
 		return nil, err
 	}
+	return r.statements(elements, 0, place, depth)
+}
+
+// statements reads the elements of an array from the one with this index on.
+func (r *programReader) statements(elements []interface{}, first int, place string, depth int) ([]*node, error) {
 	statements := make([]*node, 0, len(elements))
-	for i, element := range elements {
+	for i := first; i < len(elements); i++ {
 		if err := r.enter(within(place, i), depth); err != nil {
 			return nil, err
 		}
-		statement, err := r.worded(element, within(place, i), depth, statementForms, statementLengths)
+		statement, err := r.worded(elements[i], within(place, i), depth, statementForms, statementLengths)
 		if err != nil {
 			return nil, err
 		}

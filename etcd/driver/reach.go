@@ -25,6 +25,9 @@ func checkReach(s *scenario) error {
 	if s.begin == 2 || s.begin > highestReach {
 		return &outOfReach{"/0/1", "Begin", "an empty etcd can be brought to revision 1 and to those from 3 to 1000"}
 	}
+	if s.operations != mostOperations {
+		return &outOfReach{"/0/2", "Limit", "the driver starts etcd with its own limit of 128 operations"}
+	}
 	for i, one := range s.events {
 		if err := checkEvent(one, s.places[i]); err != nil {
 			return err
@@ -35,6 +38,10 @@ func checkReach(s *scenario) error {
 
 func checkEvent(one event, place string) error {
 	switch e := one.(type) {
+	case *startEvent:
+		if len(e.list) > 0 {
+			return &outOfReach{within(within(place, 3), 0), "List", "the driver hands the Go client no keys to prefetch"}
+		}
 	case *grantEvent:
 		if e.id == 0 {
 			return &outOfReach{within(place, 1), "LeaseIdOutOfRange", "etcd picks an id of its own for 0"}

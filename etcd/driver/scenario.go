@@ -8,10 +8,11 @@ import (
 )
 
 const (
-	mostEvents    = 100000
-	highestBegin  = math.MaxInt64 - 1
-	mostCommits   = math.MaxUint32
-	mostLeaseTime = 9000000000
+	mostEvents     = 100000
+	highestBegin   = math.MaxInt64 - 1
+	mostOperations = 128
+	mostCommits    = math.MaxUint32
+	mostLeaseTime  = 9000000000
 )
 
 // event is one of a scenario: taking it gives its line of the report.
@@ -22,6 +23,7 @@ type event interface {
 type startEvent struct {
 	level   concurrency.Isolation
 	limit   int64
+	list    []string
 	program []*node
 }
 type stepEvent struct{ runner int64 }
@@ -42,11 +44,12 @@ type compactEvent struct{ revision int64 }
 type pollEvent struct{ watcher, most int64 }
 type cancelEvent struct{ watcher int64 }
 
-// scenario is where the store opens, and the events with their places in the text.
+// scenario is where the store opens, how many operations it takes, and the events with their places in the text.
 type scenario struct {
-	begin  int64
-	events []event
-	places []string
+	begin      int64
+	operations int64
+	events     []event
+	places     []string
 }
 
 var levels = map[string]concurrency.Isolation{
@@ -71,11 +74,11 @@ func readScenario(text []byte) (*scenario, error) {
 	if err != nil {
 		return nil, err
 	}
-	read := &scenario{begin: 1}
+	read := &scenario{begin: 1, operations: mostOperations}
 	for i, element := range elements {
 		place := within("", i)
 		if i == 0 && beginsWith(element, "begin") {
-			if read.begin, err = readBegin(element, place); err != nil {
+			if err = read.open(element, place); err != nil {
 				return nil, err
 			}
 			continue
@@ -98,12 +101,21 @@ func beginsWith(value interface{}, word string) bool {
 	return isArray && len(elements) > 0 && elements[0] == word
 }
 
-func readBegin(value interface{}, place string) (int64, error) {
-	_, elements, err := wordIn(value, place, map[string]int{"begin": 2})
-	if err != nil {
-		return 0, err
+// open reads where the store opens, and how many operations it takes, where that is said.
+func (s *scenario) open(value interface{}, place string) error {
+	length := 2
+	if elements, isArray := value.([]interface{}); isArray && len(elements) == 3 {
+		length = 3
 	}
-	return numberIn(elements[1], within(place, 1), 1, highestBegin)
+	_, elements, err := wordIn(value, place, map[string]int{"begin": length})
+	if err != nil {
+		return err
+	}
+	if s.begin, err = numberIn(elements[1], within(place, 1), 1, highestBegin); err != nil || length == 2 {
+		return err
+	}
+	s.operations, err = numberIn(elements[2], within(place, 2), 1, mostOperations)
+	return err
 }
 
 func readEvent(value interface{}, place string) (event, error) {
@@ -132,8 +144,8 @@ func readStart(elements []interface{}, place string) (event, error) {
 	if err != nil {
 		return nil, err
 	}
-	program, err := readProgram(elements[3], within(place, 3))
-	return &startEvent{level, limit, program}, err
+	list, program, err := readProgram(elements[3], within(place, 3))
+	return &startEvent{level, limit, list, program}, err
 }
 
 func readWatch(elements []interface{}, place string) (event, error) {

@@ -80,7 +80,7 @@ const VERSION: &str = "0.1.0 (rattle-kit-13f)";
 const EXAMPLE: &str = "A scenario is a JSON array of events, in their order:
 
   [\"start\",LEVEL,LIMIT,PROGRAM]       a runner gets the program, whose run may send so many commits
-  [\"step\",RUNNER]                     the runner fetches a key, or commits
+  [\"step\",RUNNER]                     the runner fetches its list or a key, or commits
   [\"txn\",[CMP,..],[OP,..],[OP,..]]    another client's transaction: compares, success, failure
   [\"grant\",ID,TTL]                    a lease is granted for so many seconds
   [\"keep\",ID] and [\"revoke\",ID]       a lease is renewed, or ends with its keys
@@ -91,8 +91,8 @@ const EXAMPLE: &str = "A scenario is a JSON array of events, in their order:
   [\"cancel\",WATCHER]                  a watcher is given up
 
 LEVEL is ReadCommitted, RepeatableReads, Serializable or SerializableSnapshot. PROGRAM is an array of
-statements; stmrun recipe prints ready ones. This scenario starts a program that puts a key, and lets it
-take a step:
+statements, which may begin with a list of keys to read first, [\"prefetch\",[KEY,..]]; stmrun recipe prints
+ready ones. This scenario starts a program that puts a key, and lets it take a step:
 
   [[\"start\",\"Serializable\",1,[[\"put\",\"a\",\"1\",0]]],[\"step\",1]]
 
@@ -135,7 +135,7 @@ The place is a JSON Pointer: the indices of the arrays around it, counted from 0
   Shape          another word, kind of value or length of an array is wanted there; a number is whole
                  and of 64 bits
   Range          the number is outside its range
-  TooMany        it is event 100001
+  TooMany        it is event 100001, or key 129 of a program's list
   TooLong        the scenario has more than 16777216 bytes, or a text of a program more than 65536
   TooDeep        it is at depth 33 of a program
   TooManyNodes   it is node 4097 of a program
@@ -154,7 +154,7 @@ In a report the line refused says why an event was refused, and the line ended w
 
   BadLimit            the limit is 0
   NoRunner            there is no such runner, or its run is over
-  TooManyOps          a list of the transaction, or of the commit, has more elements than the store takes
+  TooManyOps          a list of the transaction or the commit, or a program's list, has more elements than the store takes
   EmptyKey            a key is empty
   DuplicateKey        a list of the transaction puts a key twice, or puts and deletes it
   FutureRevision      a read is of a revision that the store has not reached

@@ -140,7 +140,7 @@ begins (Some p) = if same p.0 (codes "begin") then Some p.1 else None
 abbrev pub opening_at : ℕ → ℕ → Opening
 opening_at revision operations = record { revision = revision; operations = operations }
 
--- a revision alone, whose limit is the highest, or a revision and a limit
+-- a revision alone, and then the limit is the highest, or a revision and a limit
 abbrev pub opening_by : Option Data → Option (Data × Data) → Outcome Opening
 opening_by (Some r) two = within 1 (number_in 1 HIGHEST_REVISION r) >>= λ revision. Ok (opening_at revision most_operations)
 opening_by None (Some p) =

@@ -1,4 +1,4 @@
--- How the jobs of a list came to their ends.
+-- How the jobs of a list came to their ends, on the hall that was handed in (`handed`).
 use Rattle.std.specs.Prelude.{◌≡◌, ℕ, List, [], ◌∷◌, ◌++◌, Some, slice_get}
 use Rattle.stm_hall.specs.HallState.{HallState}
 use Rattle.stm_job.specs.declared.job.Job.{Job}

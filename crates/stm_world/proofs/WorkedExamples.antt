@@ -243,6 +243,7 @@ unfolding settle run_over run_block evaluate key_in num_of written_number arithm
 conflict_is_real = record {
   task = record { program = quotient; level = Serializable; limit = 2 };
   runs = refl;
+  has_list = refl;
   run = quotient_run;
   is_run = refl;
   is_done = refl;
@@ -319,6 +320,7 @@ earlier_abort_is_real = record {
   task = abort_task;
   runs = refl;
   of_one_state = λ serializable. record {
+    has_list = refl;
     state = record {
       one_revision = (one_of_two, tt);
       truth = (record { reached = two_of_three; shown = refl }, tt);

@@ -43,17 +43,17 @@ pub fn reads_begin_with_the_list()
     ensures { ReadsBeginWithTheList }
 {}
 
-/// It does once the answers to the list were supplied.
+/// Once the answers to its program's list were supplied, what an attempt has read begins with the list.
 pub fn supplied_list_comes_first()
     ensures { SuppliedListComesFirst }
 {}
 
-/// It still does once the answer to a key was supplied.
+/// Where what an attempt has read begins with its program's list, it still does once the answer to a key was supplied.
 pub fn supplied_key_comes_behind()
     ensures { SuppliedKeyComesBehind }
 {}
 
-/// So an attempt that is ready has read its program's whole list, before any other key.
+/// An attempt that is ready has read its program's whole list, before any other key, where what it had read began with the list.
 pub fn ready_begins_with_the_list()
     ensures { ReadyBeginsWithTheList }
 {}

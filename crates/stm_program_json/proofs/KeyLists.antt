@@ -1,8 +1,7 @@
 -- The list of a program as it is read, and as it is spelled.
-use Rattle.std.proofs.Common.{◌≡◌, ℕ, ◌+◌, ◌-◌, ◌<◌, ◌≤◌, Bool, true, false, cond, List, [], ◌∷◌, ◌++◌, length, map, take, drop, get_or, String, Option, Some, None, Ok, Err, refl, sym, ap, subst, ◌∙◌, arith, ltb, ltb-true, lt-ltb, append_assoc, codes}
+use Rattle.std.proofs.Common.{◌≡◌, ℕ, ◌+◌, ◌-◌, ◌<◌, ◌≤◌, Bool, true, false, cond, List, [], ◌∷◌, ◌++◌, length, map, take, drop, get_or, String, Option, Some, None, Ok, Err, refl, sym, ap, subst, ◌∙◌, arith, ltb-true, lt-ltb, append_assoc, codes}
 use Rattle.std.specs.Prelude.{◌||◌, nat_eq, nat_lt, bytes_eq, string_bytes}
 use Rattle.std.specs.List.{list_any}
-use Rattle.std.proofs.lemmas.Bool.{le-ltb, ltb-false}
 use Rattle.std.proofs.lemmas.List.{append-nil, length-map, map_push, take_rest}
 use Rattle.std.proofs.lemmas.Slice.Eq.{bytes_eq-Decides}
 use Rattle.serde_json.specs.Data.{Data, null, boolean, number, string, array, object, Items, no_items, item}
@@ -12,7 +11,7 @@ use Rattle.serde_json.specs.declared.value.Value.{Value}
 use Rattle.stm_json.specs.declared.cause.Cause.TheVariants.{Shape, TooLong, TooMany}
 use Rattle.stm_json.specs.declared.read_error.ReadError.{ReadError}
 use Rattle.stm_json.specs.declared.read_error.ReadError.TheVariants as error
-use Rattle.stm_json.specs.Outcome.{Outcome, bad, ◌>>=◌, within}
+use Rattle.stm_json.specs.Outcome.{Outcome, bad, within}
 use Rattle.stm_json.specs.Tells.{TellsFault}
 use Rattle.stm_json.specs.Elements.{worded, one_of}
 use Rattle.stm_json.specs.Parts.{same, spelled}
@@ -122,7 +121,7 @@ keys_sound earlier (item d ds) keys parts h =
 
 -- ---- the keys of an array as a function reads them: a key, and then the others
 
-pub no_keys : (earlier : List (List ℕ)) (vs : List Value) → length vs ≡ 0 → keys_from earlier (items_view vs) ≡ Ok earlier
+pub no_keys : (earlier : List (List ℕ)) (vs : List Value) → length vs < 1 → keys_from earlier (items_view vs) ≡ Ok earlier
 unfolding keys_from
 no_keys earlier [] none = refl
 no_keys earlier (v ∷ vs) none = absurd (omega arith)

@@ -1,16 +1,16 @@
 -- The marks of a list beside what is read of it.
-use Rattle.std.proofs.Common.{◌≡◌, ℕ, suc, ◌+◌, Bool, true, false, cond, List, [], ◌∷◌, ◌++◌, length, Option, Some, None, Ok, Err, refl, sym, ap, subst, ◌∙◌, arith}
+use Rattle.std.proofs.Common.{◌≡◌, ℕ, suc, Bool, true, false, cond, List, [], ◌∷◌, ◌++◌, length, Ok, refl, ap, ◌∙◌, arith}
 use Rattle.std.specs.Prelude.{◌||◌, nat_eq, nat_lt, bytes_eq}
 use Rattle.std.specs.List.{list_any}
 use Rattle.serde_json.specs.Data.{Data, string, array, Items, no_items, item}
 use Rattle.serde_json.specs.Find.{as_str, as_array}
 use Rattle.stm_json.specs.declared.cause.Cause.TheVariants.{Shape, TooLong, TooMany}
-use Rattle.stm_json.specs.Outcome.{Outcome, bad, ◌>>=◌, within}
+use Rattle.stm_json.specs.Outcome.{bad}
 use Rattle.stm_json.specs.Elements.{one_of}
 use Rattle.stm_json.specs.Faults.{at}
 use Rattle.stm_program.specs.declared.limits.TheConstants.{MAX_PREFETCH, MAX_TEXT}
 use Rattle.stm_program_json.specs.Reading.{key_told, key_at, keys_from, keys_array, list_of}
-use Rattle.stm_program_json.specs.FirstFault.{Mark, wrong, first_of_marks, with_text, text_marks, key_marks, marks_of_keys, marks_of_list}
+use Rattle.stm_program_json.specs.FirstFault.{Mark, wrong, first_of_marks, with_text, key_marks, marks_of_keys, marks_of_list}
 use Rattle.stm_program_json.proofs.MarkLemmas.{after_number, wrong_is, alone_then, within_alone, behind}
 use Rattle.stm_program_json.proofs.KeyLists.{KeyRead, key_read, longer}
 
@@ -64,4 +64,5 @@ pub list_marked : (p : List ℕ) (room : ℕ) (parts : Items) (rest : List Mark)
     → first_of_marks room (marks_of_list p parts ++ rest) ≡ after_number p room (list_of (one_of parts)) rest
 list_marked p room no_items rest = wrong_is p Shape room rest
 list_marked p room (item d no_items) rest = within_alone p 1 room (keys_array (as_array d)) _ rest (array_marked p room d rest)
-list_marked p room (item d (item e ds)) rest = wrong_is p Shape room rest
+list_marked p room (item (array ks) (item e ds)) rest = wrong_is p Shape room rest
+list_marked p room (item _ (item e ds)) rest = wrong_is p Shape room rest

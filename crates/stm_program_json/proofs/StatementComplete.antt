@@ -1,6 +1,6 @@
 -- What data spell of a statement is read, where it is within the limits.
 use Rattle.std.proofs.Common.{◌≡◌, inl, inr, ℕ, zero, suc, ◌+◌, ◌-◌, ◌≤◌, List, [], ◌∷◌, Option, Some, None, Ok, refl, sym, ap, ◌∙◌, arith, lit<}
-use Rattle.serde_json.specs.Data.{Data, array, Items, no_items, item}
+use Rattle.serde_json.specs.Data.{Data, array, Items, item}
 use Rattle.serde_json.specs.View.{items_of}
 use Rattle.stm_program_json.specs.declared.words.StmtWord.{StmtWord}
 use Rattle.stm_program_json.specs.declared.words.StmtWord.TheVariants as word

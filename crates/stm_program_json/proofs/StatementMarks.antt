@@ -178,8 +178,7 @@ listing keys b = record { statements = b; prefetch = keys }
 -- behind a list that was read, or the fault of the list
 behind_fault : (ds : Items) (reading : Outcome (List (List ℕ))) (first : Option BadInput)
     → first ≡ after_number (at [] 0) MAX_NODES reading (marks_of_steps 1 [] 1 ds)
-    → first ≡ fault_of (within 0 reading >>= λ keys. statements_from (statement_at MAX_DEPTH) 1 MAX_NODES ds >>= λ b. Ok
-    (record { statements = b.0; prefetch = keys }))
+    → first ≡ fault_of (within 0 reading >>= λ keys. statements_from (statement_at MAX_DEPTH) 1 MAX_NODES ds >>= λ b. Ok (listing keys b.0))
 behind_fault ds (Ok keys) first h = h ∙ program_steps 1 ds ∙ told (listing keys) (statements_from (statement_at MAX_DEPTH) 1 MAX_NODES ds)
 behind_fault ds (Err f) first h = h
 

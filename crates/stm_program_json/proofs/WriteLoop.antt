@@ -1,16 +1,15 @@
 -- Writing statements one after the other, as a loop does.
-use Rattle.std.proofs.Common.{◌≡◌, ℕ, zero, suc, ◌+◌, ◌-◌, ◌<◌, ◌≤◌, List, [], ◌∷◌, ◌++◌, length, take, drop, get_or, map, String, refl, sym, ap, ◌∙◌, arith, add-one, codes}
+use Rattle.std.proofs.Common.{◌≡◌, ℕ, zero, suc, ◌+◌, ◌-◌, ◌<◌, ◌≤◌, List, [], ◌∷◌, ◌++◌, length, take, drop, get_or, map, String, refl, sym, ap, ◌∙◌, arith, add-one}
 use Rattle.std.specs.Prelude.{string_bytes}
 use Rattle.std.proofs.lemmas.List.{drop_all, map_push, take_rest}
 use Rattle.std.proofs.Math.Seq.{drop-cons}
-use Rattle.serde_json.specs.Data.{Data, string, array, Items, no_items, item}
-use Rattle.stm_json.specs.Parts.{spelled}
+use Rattle.serde_json.specs.Data.{Data, string, Items, no_items, item}
 use Rattle.serde_json.specs.View.{view, items_of, items_view}
 use Rattle.serde_json.specs.declared.value.Value.{Value}
 use Rattle.stm_program.specs.Syntax.{Statement}
 use Rattle.stm_program.specs.BlockView.{block_of}
 use Rattle.stm_program.specs.Weight.{statement_weight, block_weight, block_weight-positive}
-use Rattle.stm_program_json.specs.Writing.{items_after, written_statement, written_statements, written_keys, behind_list}
+use Rattle.stm_program_json.specs.Writing.{items_after, written_statement, written_statements, written_keys}
 use Rattle.stm_program.proofs.WeightLemmas.{statement_weight-positive}
 
 pub items_after-none : (ds : List Data) → items_after ds no_items ≡ items_of ds
@@ -41,8 +40,10 @@ is_done vs ss i total h so_far =
 
 -- ---- keys, one after the other
 
-pub keys_end : (vs : List Value) → items_view vs ≡ items_after (map view vs) no_items
-keys_end vs = sym (items_after-none (map view vs))
+pub texts_end : {A : Type 0} (vs : List Value) (keys : List (String A)) → length keys < 1
+    → items_view vs ≡ items_after (map view vs) (written_keys (map string_bytes keys))
+texts_end vs [] none = sym (items_after-none (map view vs))
+texts_end vs (key ∷ keys) none = absurd (omega arith)
 
 keys_more : (vs ws : List Value) (v : Value) (key : List ℕ) (keys : List (List ℕ)) (out : Items) → ws ≡ vs ++ v ∷ [] → view v ≡ string key
     → out ≡ items_after (map view ws) (written_keys keys) → out ≡ items_after (map view vs) (written_keys (key ∷ keys))
@@ -67,12 +68,6 @@ pub texts_more : {A : Type 0} (vs ws : List Value) (v : Value) (keys : List (Str
 texts_more vs ws v keys key text out some first told pushed is others =
     keys_more vs ws v (string_bytes key) (map string_bytes (take (length keys - 1) (drop 1 keys))) out pushed (is ∙ ap string told) others
     ∙ ap (λ (ks : List (List ℕ)). items_after (map view vs) (written_keys ks)) (sym (first_text keys key some first))
-
--- a list that has keys stands before the statements
-pub list_first : (keys : List (List ℕ)) (d : Data) (ds : Items) → 0 < length keys → d ≡ spelled (codes "prefetch") (array (written_keys keys) ∷ [])
-    → item d ds ≡ behind_list keys ds
-list_first [] d ds some is = absurd (omega arith)
-list_first (key ∷ keys) d ds some is = ap (λ (x : Data). item x ds) is
 
 -- each statement weighs less than its block
 pub item_weight : (ss : List Statement) (i : ℕ) (s : Statement) → i < length ss → s ≡ get_or ss i s → statement_weight s + 1 ≤ block_weight (block_of ss)

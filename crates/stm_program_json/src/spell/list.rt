@@ -8,7 +8,7 @@ ghost use Rattle.stm_program_json.specs.Writing.{items_after, written_keys, writ
 
 use crate::spell::arrays::one_part;
 use crate::spell::statements::{statements_behind, statements_value};
-use serde_json::{Value, json};
+use serde_json::Value;
 use std::alloc::{AllocError, Global};
 use stm_program::Stmt;
 
@@ -20,7 +20,7 @@ fn with_keys(alloc: Global, values: Vec<Value>, keys: &[String]) -> Result<Vec<V
     match keys {
         [] => Ok(values),
         [first, rest @ ..] => {
-            let key = json!(in alloc; first.as_str())?;
+            let key = Value::try_from_str(alloc, first.as_str())?;
             values.push(key)?;
             with_keys(alloc, values, rest)
         }

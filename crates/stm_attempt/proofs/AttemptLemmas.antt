@@ -196,6 +196,13 @@ pub awaits_list : (old : AttemptState) (before : Option ProgramTree) (level : Le
     seen_as before level reads prefetched ≡ old → list_awaited old ≡ Some keys → (program : ProgramTree) × (before ≡ Some program) × (program.prefetch ≡ keys)
 awaits_list old before level reads prefetched keys view asked = list_at before level reads prefetched keys (ap list_awaited view ∙ asked)
 
+pub list_is : (old : AttemptState) (before : Option ProgramTree) (level : Level) (reads prefetched : List ReadAnswer) (keys : List (List ℕ))
+    (program : ProgramTree) → seen_as before level reads prefetched ≡ old → list_awaited old ≡ Some keys → before ≡ Some program → program.prefetch ≡ keys
+list_is old before level reads prefetched keys program view asked is =
+    let w = awaits_list old before level reads prefetched keys view asked in
+    let same : program ≡ w.0 = cc (is, w.1) in
+    ap (λ (p : ProgramTree). p.prefetch) same ∙ w.2
+
 pub awaits_none : (old : AttemptState) (before : Option ProgramTree) (level : Level) (reads prefetched : List ReadAnswer) (keys : List (List ℕ)) →
     seen_as before level reads prefetched ≡ old → list_awaited old ≡ Some keys → before ≡ None → ⊥
 awaits_none old before level reads prefetched keys view asked none =

@@ -1,6 +1,6 @@
 -- The list of a program: when it is due, what is taken for it, and what going on makes of what an attempt knows.
 use Rattle.std.proofs.Common.{◌≡◌, inl, inr, ◌⊎◌, ◌<◌, ◌≤◌, ℕ, zero, suc, Bool, true, false, cond, List, [], ◌∷◌, ◌++◌, length, map, refl, sym, ◌∙◌, ap, subst, arith, append_assoc}
-use Rattle.std.specs.Prelude.{bytes_eq, ◌||◌, nat_eq, nat_lt, Option, None, Some, option_map, take, All}
+use Rattle.std.specs.Prelude.{bytes_eq, ◌||◌, nat_eq, nat_lt, Option, None, Some, option_map, take}
 use Rattle.std.specs.List.{AllByRecursion, list_any}
 use Rattle.std.proofs.lemmas.List.Elements.{recursion_from_All}
 use Rattle.std.proofs.lemmas.Slice.Eq.{bytes_eq-Decides}
@@ -22,7 +22,7 @@ use Rattle.stm_attempt.specs.Fetches.{AllShow, ShowOneRevision, HaveOneBase}
 use Rattle.stm_attempt.specs.Next.{next_after, next_settled, next_on, next_of}
 use Rattle.stm_attempt.specs.AttemptState.{with_reads}
 use Rattle.stm_attempt.specs.Progress.{Extends}
-use Rattle.stm_attempt.specs.Laws.{AddsPrefetched, GoneOnIsGoneOn, BeginsWith, BeginsWithList, ReadsBeginWithTheList, GoingOnKeepsTheBase}
+use Rattle.stm_attempt.specs.Laws.{AddsPrefetched, GoneOnIsGoneOn, BeginsWithList, ReadsBeginWithTheList, GoingOnKeepsTheBase}
 use Rattle.stm_attempt.proofs.Unread.{found_key}
 use Rattle.stm_attempt.proofs.SettleLemmas.{nothing_serves_the_settled, settled_is_settled, settling_adds_prefetched, found_is_one}
 use Rattle.stm_attempt.proofs.BaseLemmas.{settling_keeps_the_base}

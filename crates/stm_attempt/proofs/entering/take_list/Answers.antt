@@ -1,9 +1,6 @@
 use Rattle.std.proofs.lemmas.Result.{IfOk-weaker}
-use Rattle.stm_attempt.proofs.TakingLemmas.{starts_once, starts_taking}
+use Rattle.stm_attempt.proofs.TakingLemmas.{starts_taking}
 use Rattle.stm_attempt.proofs.entering.take_list.Goals as goal
-
-pub take_each-requires-clause-once : goal.take_each-requires-clause-once
-take_each-requires-clause-once c = starts_once c.args.program.now c.new.result _ c.new.ensures c.prefetch.ensures.same c.prefetch.ensures.fits
 
 pub returns : goal.returns
 returns c =

@@ -1,18 +1,6 @@
-use Rattle.std.proofs.Common.{◌∙◌, sym, ap}
-use Rattle.std.specs.Prelude.{ℕ, List}
-use Rattle.stm_attempt.specs.declared.next.Next.TheVariants.{FetchAll}
-use Rattle.stm_attempt.specs.Known.{known_of}
-use Rattle.stm_attempt.proofs.EnteringLemmas.{due_next, behind_next, behind_reads, behind_gone, extends_further}
+use Rattle.std.proofs.Common.{◌∙◌}
+use Rattle.stm_attempt.proofs.EnteringLemmas.{behind_next, behind_reads, behind_gone, extends_further}
 use Rattle.stm_attempt.proofs.progress.go_on.Goals as goal
-
-pub returns-in_ok-keys-then-due-clause-reads : goal.returns-in_ok-keys-then-due-clause-reads
-returns-in_ok-keys-then-due-clause-reads c = sym (c.in_ok-due.ensures.stays c.if-due.true)
-
-pub returns-in_ok-keys-then-due-clause-next : goal.returns-in_ok-keys-then-due-clause-next
-returns-in_ok-keys-then-due-clause-next c =
-    ap (λ (keys : List (List ℕ)). FetchAll keys 0) c.in_ok-keys.ensures
-    ∙ due_next c.args.program.now c.args.level (known_of c.args.reads.now c.args.prefetched.now) c.enter.new.reads
-    (c.in_ok-due.ensures.stays c.if-due.true) (c.in_ok-due.ensures.due ∙ c.if-due.true)
 
 pub returns-in_err-next-clause-settles : goal.returns-in_err-next-clause-settles
 returns-in_err-next-clause-settles c =

@@ -1,6 +1,6 @@
 -- What the transaction that fetches a list comes to.
-use Rattle.std.proofs.Common.{◌≡◌, ◌⊎◌, inl, inr, ℕ, ◌<◌, Bool, true, false, cond, List, [], ◌∷◌, ◌++◌, ◌+◌, length, map, take, get_or, Option, Some, None, Ok, Err, refl, sym, ◌∙◌, ap, subst, arith, All}
-use Rattle.std.specs.Prelude.{◌||◌, nat_eq, nat_lt, IfErr, Result}
+use Rattle.std.proofs.Common.{◌≡◌, inl, inr, ℕ, ◌<◌, Bool, true, false, cond, List, [], ◌∷◌, ◌++◌, ◌+◌, length, map, take, get_or, Option, Some, None, Ok, Err, refl, sym, ◌∙◌, ap, subst, arith}
+use Rattle.std.specs.Prelude.{◌||◌, nat_lt, IfErr, Result}
 use Rattle.std.specs.List.{list_any}
 use Rattle.std.proofs.lemmas.Bool.{ne_eqb, le-ltb}
 use Rattle.std.proofs.lemmas.List.{take_more}
@@ -14,9 +14,9 @@ use Rattle.stm_outcome.specs.declared.answer.OpAnswer.{OpAnswer}
 use Rattle.stm_outcome.specs.declared.answer.OpAnswer.TheVariants.{Get as GetAnswer}
 use Rattle.stm_outcome.specs.declared.answer.TxnAnswer.{TxnAnswer}
 use Rattle.stm_outcome.specs.declared.refusal.Refusal.{Refusal}
-use Rattle.stm_outcome.specs.declared.refusal.Refusal.TheVariants.{OutOfMemory, EmptyKey, DuplicateKey, TooManyOps}
+use Rattle.stm_outcome.specs.declared.refusal.Refusal.TheVariants.{EmptyKey, DuplicateKey, TooManyOps}
 use Rattle.stm_outcome.specs.Operations.{key_of_op, clash}
-use Rattle.stm_outcome.specs.Checks.{has_too_many, has_empty_key, is_empty_key, has_clash, fault_of}
+use Rattle.stm_outcome.specs.Checks.{has_too_many, is_empty_key, has_clash, fault_of}
 use Rattle.stm_outcome.specs.Outcome.{unless, branch_outcome, outcome}
 use Rattle.stm_outcome.specs.Commits.{read_op, read_out, read_now, reads_now, shown, AreReached, AreNamed}
 use Rattle.stm_outcome.specs.Terms.{Terms}
@@ -24,7 +24,7 @@ use Rattle.stm_outcome.proofs.Applying.{reads_change_nothing}
 use Rattle.stm_txn.specs.Standing.{Standing, Step, IsRefusalOf, step_of, transacted, terms_of}
 use Rattle.stm_compile.specs.Answers.{answer_now}
 use Rattle.stm_calls.specs.Reads.{reads_in}
-use Rattle.stm_calls.specs.Fetched.{fetch_all_of, fetch_all_told, IsRefusalOfAll, reads_told, only_reads, ListIsOneTransaction}
+use Rattle.stm_calls.specs.Fetched.{fetch_all_of, fetch_all_told, IsRefusalOfAll, only_reads, ListIsOneTransaction}
 use Rattle.stm_calls.proofs.ReadLemmas.{all_reads}
 
 -- ---- the whole transaction
@@ -212,5 +212,5 @@ all_told s after keys answers reads x same = x.told ∙ ap (λ (l : List ReadAns
 -- the exit of a refusal
 pub refused_with_all : {A : Type 0} (s : Standing) (keys : List (List ℕ)) (result : Result A Refusal) (given cause : Refusal) → result ≡ Err given
     → given ≡ cause → IsRefusalOfAll s keys cause → IfErr result (IsRefusalOfAll s keys)
-refused_with_all s keys result given cause is same told =
+refused_with_all {A = A} s keys result given cause is same told =
     subst (λ (r : Result A Refusal). IfErr r (IsRefusalOfAll s keys)) (sym (is ∙ ap (λ (y : Refusal). Err y) same)) told

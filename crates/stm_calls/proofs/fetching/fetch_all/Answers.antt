@@ -1,7 +1,6 @@
 use Rattle.std.proofs.Common.{inl, refl, subst, sym}
 use Rattle.std.specs.Prelude.{All}
 use Rattle.std.proofs.lemmas.Result.{err_from_is_err_and}
-use Rattle.stm_history.specs.declared.key_state.ReadAnswer.{ReadAnswer}
 use Rattle.stm_outcome.specs.Numbers.{ReadFits}
 use Rattle.stm_outcome.specs.declared.refusal.Refusal.TheVariants.{OutOfMemory}
 use Rattle.stm_calls.proofs.ReadLemmas.{reads_fit}
@@ -21,6 +20,11 @@ pub returns-in_err-reads-clause-refused : goal.returns-in_err-reads-clause-refus
 returns-in_err-reads-clause-refused c =
     let exit = err_from_is_err_and c.from_residual-in_err-reads.result c.from_residual-in_err-reads.ensures.1 in
     refused_with_all c.args.store.now.standing c.args.keys.now c.from_residual-in_err-reads.result exit.0 OutOfMemory exit.1 exit.2 (inl refl)
+
+pub returns-in_err-reads-clause-store : goal.returns-in_err-reads-clause-store
+returns-in_err-reads-clause-store c =
+    (are_read c.args.store.now.standing c.txn-told.new.self.standing c.args.keys.now c.in_ok-txn.txn c.in_ok-answer.answer c.in_ok-txn.ensures c.requires
+    c.in_ok-answer.ensures.step).unchanged
 
 pub returns-clause-told : goal.returns-clause-told
 returns-clause-told c =

@@ -4,4 +4,4 @@ use Rattle.stm_calls.proofs.fetching.read_all.Given as goal
 
 -- the keys so far are read
 abbrev pub invariant-loop-key : goal.invariant-loop-key
-invariant-loop-key l = l.success ≡ map read_op (reads_now (take l.key-index l.key-items))
+invariant-loop-key l = l.success ≡ map read_op (reads_now (take l.key-index l.keys))

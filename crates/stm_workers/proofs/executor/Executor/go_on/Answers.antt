@@ -18,13 +18,13 @@ returns-in-Ready-clause-attempt g c = advanced_is_of c.args.job.now _ _ c.in_ok-
 
 -- it is a run of the job
 pub returns-in-Ready-clause-ready : goal.returns-in-Ready-clause-ready
-returns-in-Ready-clause-ready g c = ready_is_of c.args.job.now _ _ c.requires (sym c.in_ok-next.ensures.next ∙ c.in-Ready.is)
+returns-in-Ready-clause-ready g c = ready_is_of c.args.job.now c.args.attempt.now c.in-Ready.ready c.requires (sym c.in_ok-next.ensures.next ∙ c.in-Ready.is)
 
 pub of_run-requires : goal.of_run-requires
-of_run-requires g c = aborted_is_not_done _ _ _ _ (sym c.in_ok-next.ensures.next ∙ c.in-Aborted.is)
+of_run-requires g c = aborted_is_not_done c.args.job.now.program c.args.attempt.now.level c.args.attempt.now.known c.in-Aborted.run' (sym c.in_ok-next.ensures.next ∙ c.in-Aborted.is)
 
 pub of_run-requires-in-Faulted : goal.of_run-requires-in-Faulted
-of_run-requires-in-Faulted g c = faulted_is_not_done _ _ _ _ (sym c.in_ok-next.ensures.next ∙ c.in-Faulted.is)
+of_run-requires-in-Faulted g c = faulted_is_not_done c.args.job.now.program c.args.attempt.now.level c.args.attempt.now.known c.in-Faulted.run' (sym c.in_ok-next.ensures.next ∙ c.in-Faulted.is)
 
 -- the answer is for the key that the attempt waits for
 pub supply-requires-clause-asked : goal.supply-requires-clause-asked
@@ -93,8 +93,8 @@ pub returns-in-Aborted-clause-stops : goal.returns-in-Aborted-clause-stops
 returns-in-Aborted-clause-stops g c = inr (
   inl (record {
     run = c.in-Aborted.run';
-    has_list = aborted_has_list _ _ _ _ (sym c.in_ok-next.ensures.next ∙ c.in-Aborted.is);
-    is_run = aborted_is_run _ _ _ _ (sym c.in_ok-next.ensures.next ∙ c.in-Aborted.is);
+    has_list = aborted_has_list c.args.job.now.program c.args.attempt.now.level c.args.attempt.now.known c.in-Aborted.run' (sym c.in_ok-next.ensures.next ∙ c.in-Aborted.is);
+    is_run = aborted_is_run c.args.job.now.program c.args.attempt.now.level c.args.attempt.now.known c.in-Aborted.run' (sym c.in_ok-next.ensures.next ∙ c.in-Aborted.is);
     told = c.of_run.ensures.end;
     reads = c.of_run.ensures.reads ∙ ap (λ (rs : List ReadAnswer). Some rs) (reads_taken c.args.job.now.program c.args.attempt.now c.advance.new.self
         c.take_reads.result c.in_ok-next.ensures.ok c.take_reads.ensures.reads);
@@ -106,8 +106,8 @@ pub returns-in-Faulted-clause-stops : goal.returns-in-Faulted-clause-stops
 returns-in-Faulted-clause-stops g c = inr (
   inl (record {
     run = c.in-Faulted.run';
-    has_list = faulted_has_list _ _ _ _ (sym c.in_ok-next.ensures.next ∙ c.in-Faulted.is);
-    is_run = faulted_is_run _ _ _ _ (sym c.in_ok-next.ensures.next ∙ c.in-Faulted.is);
+    has_list = faulted_has_list c.args.job.now.program c.args.attempt.now.level c.args.attempt.now.known c.in-Faulted.run' (sym c.in_ok-next.ensures.next ∙ c.in-Faulted.is);
+    is_run = faulted_is_run c.args.job.now.program c.args.attempt.now.level c.args.attempt.now.known c.in-Faulted.run' (sym c.in_ok-next.ensures.next ∙ c.in-Faulted.is);
     told = c.of_run-in-Faulted.ensures.end;
     reads = c.of_run-in-Faulted.ensures.reads
         ∙ ap (λ (rs : List ReadAnswer). Some rs) (reads_taken c.args.job.now.program c.args.attempt.now c.advance.new.self

@@ -26,7 +26,7 @@ use Rattle.stm_faulted_runs.specs.Places.{BeginsBelow, behind}
 
 -- ---- how many statements a block has
 
-count_of : Block → ℕ
+abbrev count_of : Block → ℕ
 count_of End = 0
 count_of (Then s b) = suc (count_of b)
 

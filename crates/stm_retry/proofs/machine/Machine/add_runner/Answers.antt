@@ -1,6 +1,6 @@
-use Rattle.std.proofs.Common.{◌≡◌, ◌∙◌, rules, ap}
+use Rattle.std.proofs.Common.{◌∙◌, rules, ap}
 use Rattle.stm_world.specs.Task.{Task}
-use Rattle.stm_world.specs.World.{World, Slot, Live}
+use Rattle.stm_world.specs.World.{World, Live}
 use Rattle.stm_retry.specs.RunnerView.{RunnerView, task_of}
 use Rattle.stm_retry.proofs.StepLemmas.{added_number, added_world}
 use Rattle.stm_retry.proofs.machine.Machine.add_runner.Goals as goal

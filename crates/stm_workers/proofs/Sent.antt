@@ -6,6 +6,7 @@ use denote.Struct.Declared.{shape}
 use Rattle.std.specs.declared.sync.ledger.Ledger as Ledger
 use Rattle.stm_workers.specs.declared.locked.RunOfJobs as RunOfJobs
 use Rattle.std.proofs.Crossing.{Arc-send, Arc-sync, Vec-send, Vec-sync}
+use Rattle.std.proofs.MapsCrossing.{String-send, String-sync}
 use Rattle.stm_program.specs.contracts.expression.Expr as Expr
 use Rattle.stm_program.specs.contracts.condition.Cond as Cond
 use Rattle.stm_program.specs.contracts.statement.Block as Block
@@ -80,10 +81,10 @@ statement_sync =
     (search parts depth 12) (search parts depth 12)
 
 pub program_send : IsSend Program.the_row
-program_send = let statements = Vec-send Stmt.the_row statement_send in search sendable depth 12
+program_send = let keys = Vec-send _ String-send in let statements = Vec-send Stmt.the_row statement_send in search sendable depth 12
 
 pub program_sync : IsSync Program.the_row
-program_sync = let statements = Vec-sync Stmt.the_row statement_sync in search sendable depth 12
+program_sync = let keys = Vec-sync _ String-sync in let statements = Vec-sync Stmt.the_row statement_sync in search sendable depth 12
 
 -- ---- what an entry holds
 

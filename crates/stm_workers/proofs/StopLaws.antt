@@ -91,7 +91,8 @@ by_stop handed job at stop reads end tells on (inl ended) = (
   subst (λ (rs : List ReadAnswer). run_on job.program rs ≡ EndedRun ended.run) (some_of _ _ (sym ended.reads ∙ on)) ended.is_run,
   some_of _ _ (sym ended.told ∙ tells),
 )
-by_stop handed job at stop reads end tells on (inr (inl refused)) = absurd (no_fetch stop end refused.refused.cause tells refused.refused.told)
+by_stop handed job at stop reads end tells on (inr (inl (inl refused))) = absurd (no_fetch stop end refused.refused.cause tells refused.refused.told)
+by_stop handed job at stop reads end tells on (inr (inl (inr refused))) = absurd (no_fetch stop end refused.refused.cause tells refused.refused.told)
 by_stop handed job at stop reads end tells on (inr (inr refused)) = absurd (no_commit stop end refused.refused.cause tells refused.refused.told)
 
 -- ---- the run that an end of a job tells

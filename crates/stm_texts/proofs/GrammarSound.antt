@@ -14,7 +14,7 @@ use Rattle.stm_program.specs.declared.level.Level.{Level}
 use Rattle.stm_program.specs.declared.level.Level.TheVariants.{SerializableSnapshot, Serializable, RepeatableReads, ReadCommitted}
 use Rattle.stm_program_json.specs.Reading.{program_of}
 use Rattle.stm_program_json.proofs.ProgramLemmas.{program_sound}
-use Rattle.stm_json.specs.Parts.{spelled, SpellsEach, same}
+use Rattle.stm_json.specs.Parts.{SpellsEach, same}
 use Rattle.stm_txn_json.specs.Reading.{txn_of}
 use Rattle.stm_txn_json.proofs.GrammarSound.{txn_sound}
 use Rattle.stm_json.proofs.PartLemmas.{on_text-is, list_is, number_is, up_to_is, word_and}

@@ -1,7 +1,7 @@
 -- Counting texts, one after the other.
 use Rattle.std.proofs.Common.{◌≡◌, ℕ, ◌+◌, ◌≤◌, Bool, true, false, List, [], ◌∷◌, ◌++◌, length, cond, Option, None, Some, unwrap_or, is_eq, nat_cmp}
 use Rattle.std.proofs.Common.{refl, sym, ◌∙◌, ap, subst, arith, length-append}
-use Rattle.std.specs.Prelude.{All, bytes_eq, count_by, option_map, sum}
+use Rattle.std.specs.Prelude.{All, bytes_eq, option_map, sum}
 use Rattle.std.specs.BTreeMap.{insert_entry, is_at}
 use Rattle.std.specs.Cmp.Lexicographic.{slice_cmp, bytes_decides}
 use Rattle.std.specs.List.Sorted.{IsStrictlySortedBy}

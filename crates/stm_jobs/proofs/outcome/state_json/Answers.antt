@@ -1,4 +1,4 @@
-use Rattle.std.proofs.Common.{◌++◌, List, map, refl, arith, ap, ◌∙◌}
+use Rattle.std.proofs.Common.{List, map, refl, arith, ap, ◌∙◌}
 use Rattle.serde_json.specs.Data.{Data}
 use Rattle.serde_json.specs.View.{view}
 use Rattle.serde_json.proofs.Views.{view-Array}

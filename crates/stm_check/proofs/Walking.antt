@@ -1,5 +1,5 @@
 -- A walk along the events' lines, and along those of the end.
-use Rattle.std.proofs.Common.{◌≡◌, inr, ℕ, ◌+◌, ◌<◌, ◌≤◌, suc, List, [], ◌∷◌, length, drop, Ok, Err, refl, ◌∙◌, ap, subst, arith}
+use Rattle.std.proofs.Common.{◌≡◌, inr, ℕ, ◌+◌, ◌<◌, ◌≤◌, suc, List, [], ◌∷◌, length, drop, get_or, Ok, Err, refl, sym, ◌∙◌, ap, subst, arith}
 use Rattle.std.specs.Prelude.{Result, IfOk}
 use Rattle.std.specs.declared.alloc.AllocError.{AllocError}
 use Rattle.std.proofs.lemmas.List.{drop_all, length-drop}
@@ -13,6 +13,7 @@ use Rattle.stm_check.specs.Point.{Point, after}
 use Rattle.stm_check.specs.StoreLines.{final_lines}
 use Rattle.stm_check.specs.Wrong.{IsRight, AreRight, IsOff, IsFirstWrong, point_after}
 use Rattle.stm_check.specs.Judged.{IsJudgedFrom, IsJudgedEnd, AreRightEvents}
+use Rattle.stm_check.proofs.Fronts.{left_at}
 
 -- ---- events
 
@@ -35,6 +36,20 @@ walked_one n p events lines m q event events_left l lines_left so_far right = re
   wrong = λ line cause rest. so_far.wrong line cause (inr (right, rest));
   point = so_far.point;
 }
+
+-- one line further, where the line of this event is right
+pub walked_more : (p : Point) (events : List WorldEvent) (lines : List ReportLine) (i : ℕ) (q next : Point) (event : WorldEvent) (l : ReportLine) →
+    i < length events → event ≡ get_or events i event → i < length lines → l ≡ get_or lines i l →
+    HasWalked 1 p events lines (i + 1) q (drop i events) (drop i lines) → IsRight (i + 1) q event l → next ≡ after q event l →
+    HasWalked 1 p events lines (i + 1 + 1) next (drop (i + 1) events) (drop (i + 1) lines)
+walked_more p events lines i q next event l within is within_lines is_line so_far right reached =
+    let here : HasWalked 1 p events lines (i + 1) q (event ∷ drop (i + 1) events) (l ∷ drop (i + 1) lines) =
+    subst (λ (ls : List ReportLine). HasWalked 1 p events lines (i + 1) q (event ∷ drop (i + 1) events) ls) (left_at lines i l within_lines is_line)
+    (subst (λ (es : List WorldEvent). HasWalked 1 p events lines (i + 1) q es (drop i lines)) (left_at events i event within is) so_far) in
+    let one = walked_one 1 p events lines (i + 1) q event (drop (i + 1) events) l (drop (i + 1) lines) here right in
+    let count : suc (i + 1) ≡ i + 1 + 1 = omega arith in
+    subst (λ (r : Point). HasWalked 1 p events lines (i + 1 + 1) r (drop (i + 1) events) (drop (i + 1) lines)) (sym reached)
+    (subst (λ (m : ℕ). HasWalked 1 p events lines m (after q event l) (drop (i + 1) events) (drop (i + 1) lines)) count one)
 
 -- ---- both parts
 

@@ -1,7 +1,7 @@
 -- The tables of words have the words that the readers know.
-use Rattle.std.proofs.Common.{◌≡◌, ◌||◌, ℕ, List, [], Bool, true, false, cond, Option, Some, None, Result, Ok, Err, is_some, is_ok, refl, ap, true≢false, codes}
+use Rattle.std.proofs.Common.{◌≡◌, ◌||◌, ℕ, List, Bool, true, false, cond, Option, Some, None, Result, Ok, is_some, is_ok, refl, ap, true≢false, codes}
 use Rattle.serde_json.specs.Data.{Data, Items}
-use Rattle.stm_json.specs.Outcome.{Outcome, bad}
+use Rattle.stm_json.specs.Outcome.{bad}
 use Rattle.stm_json.specs.declared.cause.Cause.TheVariants.{Shape}
 use Rattle.stm_program_json.specs.Words.{statement_word, expression_word, condition_word}
 use Rattle.stm_json.specs.Parts.{same}

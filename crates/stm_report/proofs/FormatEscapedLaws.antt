@@ -1,5 +1,5 @@
 -- What stands escaped has none of the bytes that open or close an element or end an attribute.
-use Rattle.std.proofs.Common.{◌≡◌, ℕ, Bool, true, false, cond, ◌||◌, List, [], ◌∷◌, ◌++◌, nat_eq, codes, refl, sym, ap, ◌∙◌}
+use Rattle.std.proofs.Common.{◌≡◌, ℕ, Bool, true, false, cond, ◌||◌, List, [], ◌∷◌, ◌++◌, nat_eq, codes, refl, ◌∙◌}
 use Rattle.stm_report.specs.FormatEscaped.{entity, escaped}
 use Rattle.stm_report.specs.FormatLaws.{has, NothingUnescaped}
 

@@ -1,5 +1,5 @@
 -- Columns: which one a row stands in, and how wide they are.
-use Rattle.std.specs.Prelude.{ℕ, ◌+◌, ◌-◌, zero, suc, max, min, List, [], ◌∷◌, ◌++◌, length, nat_eq, nat_lt, if◌then◌else◌, codes, decimal}
+use Rattle.std.specs.Prelude.{ℕ, max, min, List, [], ◌∷◌, length}
 use Rattle.stm_report.specs.declared.format_row.Lane.{Lane}
 use Rattle.stm_report.specs.declared.format_row.Lane.TheVariants.{Store, Runner}
 use Rattle.stm_report.specs.declared.format_row.Row.{Row}

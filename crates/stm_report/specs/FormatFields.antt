@@ -1,11 +1,10 @@
 -- The lines of a report as objects: each element of a line under the name of its field. A name says what docs/FORMATS.md says of the element.
 use Rattle.std.specs.Prelude.{ℕ, suc, List, [], ◌∷◌, ◌++◌, length, map, Option, Some, None, Result, Ok, Err, codes}
 use Rattle.std.specs.FinMap as finmap
-use Rattle.serde_json.specs.Data.{Data, null, boolean, number, string, array, object, Items, no_items, item, Members, no_members, put}
+use Rattle.serde_json.specs.Data.{Data, array, object, Items, no_items, item, Members, no_members, put}
 use Rattle.stm_history.specs.declared.key_state.KeyState.{KeyState}
 use Rattle.stm_history.specs.History.{History, now, key_now}
 use Rattle.stm_leases.specs.LeaseLog.{Term}
-use Rattle.stm_leases.specs.Live.{Live}
 use Rattle.stm_txn.specs.PresentKeys.{keys_present}
 use Rattle.stm_world.specs.declared.reply.Reply.{Reply}
 use Rattle.stm_world.specs.declared.reply.Reply.TheVariants.{Started, Prefetched, Fetched, Committed, Conflict, GaveUp, Aborted, Faulted, Ended}

@@ -1,5 +1,5 @@
 -- A report as text: a header with the titles of the columns, a row for each event, and behind an empty line what is left.
-use Rattle.std.specs.Prelude.{ℕ, ◌+◌, ◌-◌, ◌*◌, zero, suc, List, [], ◌∷◌, ◌++◌, map, nat_eq, if◌then◌else◌, codes, decimal, replicate}
+use Rattle.std.specs.Prelude.{ℕ, ◌+◌, ◌-◌, ◌*◌, zero, suc, List, [], ◌∷◌, ◌++◌, map, nat_eq, if◌then◌else◌, codes, replicate}
 use Rattle.stm_report.specs.declared.format_row.Row.{Row}
 use Rattle.stm_report.specs.FormatPieces.{joined, padded, title, tag_text}
 use Rattle.stm_report.specs.FormatColumns.{column, last_column, width}

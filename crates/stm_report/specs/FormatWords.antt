@@ -1,6 +1,5 @@
 -- What a row tells of an event and its reply. A revision stands behind `@`, 0 where the key is absent.
 use Rattle.std.specs.Prelude.{ℕ, List, [], ◌∷◌, length, Bool, if◌then◌else◌, Result, Ok, Err, codes, decimal}
-use Rattle.stm_program.specs.declared.level.Level.{Level}
 use Rattle.stm_meaning.specs.Faults.{fault_name}
 use Rattle.stm_outcome.specs.Names.{refusal_name as store_refusal_name}
 use Rattle.stm_world.specs.declared.event.WorldEvent.{WorldEvent}

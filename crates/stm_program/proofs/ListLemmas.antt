@@ -123,9 +123,10 @@ same_keys (l ∷ ls) (r ∷ rs) f g first other same some others is is_other byt
     let one : string_bytes l ≡ string_bytes r =
     ap string_bytes (sym is) ∙ sym bytes ∙ bytes_eq-same first other equal ∙ other_bytes ∙ ap string_bytes is_other in
     let left : map string_bytes (take (length (l ∷ ls) - 1) (drop 1 (l ∷ ls))) ≡ map string_bytes ls = ap (map string_bytes) (take_rest (l ∷ ls) 1) in
-    let right : map string_bytes (take (length (r ∷ rs) - 1) (drop 1 (r ∷ rs))) ≡ map string_bytes rs = ap (map string_bytes) (take_rest (r ∷ rs) 1) in
-    (λ holds. let tails : map string_bytes ls ≡ map string_bytes rs = sym left ∙ rest.0 holds ∙ right in λ i. one i ∷ tails i,
-      λ e. rest.1 (left ∙ ap (drop 1) e ∙ sym right))
+    let right : map string_bytes (take (length (r ∷ rs) - 1) (drop 1 (r ∷ rs))) ≡ map string_bytes rs = ap (map string_bytes) (take_rest (r ∷ rs) 1) in (
+      λ holds. let tails : map string_bytes ls ≡ map string_bytes rs = sym left ∙ rest.0 holds ∙ right in λ i. one i ∷ tails i,
+      λ e. rest.1 (left ∙ ap (drop 1) e ∙ sym right),
+    )
 
 -- programs of the same list are the same where their statements are
 pub same_behind : (b : Bool) (p q : ProgramTree) → p.prefetch ≡ q.prefetch → IsTrue b ↔ (p.statements ≡ q.statements) → IsTrue b ↔ (p ≡ q)

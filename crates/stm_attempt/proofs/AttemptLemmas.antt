@@ -6,18 +6,24 @@ use Rattle.std.proofs.Math.Seq.{take-length}
 use Rattle.stm_history.specs.declared.key_state.ReadAnswer.{ReadAnswer}
 use Rattle.stm_program.specs.Syntax.{ProgramTree}
 use Rattle.stm_program.specs.declared.level.Level.{Level}
+use Rattle.stm_meaning.specs.declared.run.Run.{Run}
 use Rattle.stm_compile.specs.Answers.{answer_in}
 use Rattle.stm_attempt.specs.declared.next.Next.{Next}
+use Rattle.stm_attempt.specs.declared.next.Next.TheVariants.{FetchAll, Fetch, Ready, Aborted, Faulted}
+use Rattle.stm_attempt.specs.declared.wanted.Wanted.{Wanted}
+use Rattle.stm_attempt.specs.declared.wanted.Wanted.TheVariants.{List as ListWanted, Key as KeyWanted}
+use Rattle.stm_attempt.specs.Wanted.{next_wanted}
+use Rattle.stm_attempt.specs.Leaving.{left_by}
 use Rattle.stm_attempt.specs.declared.progress.Progress.{Progress}
 use Rattle.stm_attempt.specs.declared.progress.Progress.TheVariants.{Fresh, Started, Ended}
 use Rattle.stm_attempt.specs.Known.{known_of, serving}
 use Rattle.stm_attempt.specs.Settled.{run_on, wanted}
 use Rattle.stm_attempt.specs.Entering.{is_due, gone_on}
-use Rattle.stm_attempt.specs.AttemptState.{AttemptState, advanced, supplied, supplied_all, awaited, list_awaited}
-use Rattle.stm_attempt.specs.Next.{next_on, next_of, key_asked, list_asked}
-use Rattle.stm_attempt.specs.Progress.{HasNotBegun, IsUnderWay, IsAttempt, Extends}
+use Rattle.stm_attempt.specs.AttemptState.{AttemptState, begun, advanced, supplied, supplied_all, awaited, list_awaited}
+use Rattle.stm_attempt.specs.Next.{next_at_end, next_after, next_on, next_of, key_asked, list_asked}
+use Rattle.stm_attempt.specs.Progress.{HasNotBegun, HasCome, HasEnded, IsUnderWay, IsAttempt, Extends, IsLeftAtEnd}
 use Rattle.stm_attempt.proofs.NextLemmas.{seen_as, wanted_by, asked_is_awaited, list_is_awaited, awaits_unserved, awaited_is_new}
-use Rattle.stm_attempt.proofs.ProgressLemmas.{nothing_ahead, front_stays, under_way, come_with_more}
+use Rattle.stm_attempt.proofs.ProgressLemmas.{nothing_ahead, front_stays, under_way, come_with_more, end_is}
 
 -- ---- whether there is a program
 
@@ -222,3 +228,100 @@ pub all_supplied_attempt : (old : AttemptState) (before : Option ProgramTree) (l
 all_supplied_attempt old before level reads prefetched more count keys view asked whole =
     let w = awaits_list old before level reads prefetched keys view asked in
     attempt_of w.0 before more prefetched count Fresh w.1 (under_way w.0 more prefetched count Fresh whole tt)
+
+-- ---- an attempt whose end is given away
+
+pub fetch_leaves : (wanted : Wanted) (attempt : AttemptState) → left_by (next_wanted wanted) attempt ≡ attempt
+fetch_leaves (ListWanted keys) attempt = refl
+fetch_leaves (KeyWanted key at) attempt = refl
+
+-- what is asked for is awaited then, too
+pub left_asked : (program : ProgramTree) (old : AttemptState) (next : Next) → next ≡ next_of program old.level old.known →
+    awaited (left_by next (advanced program old)) ≡ key_asked next
+left_asked program old (FetchAll keys at) told = asked_is_awaited program old ∙ ap key_asked (sym told)
+left_asked program old (Fetch key at) told = asked_is_awaited program old ∙ ap key_asked (sym told)
+left_asked program old (Ready ready) told = refl
+left_asked program old (Aborted run) told = asked_is_awaited program old ∙ ap key_asked (sym told)
+left_asked program old (Faulted run) told = asked_is_awaited program old ∙ ap key_asked (sym told)
+
+pub left_list : (program : ProgramTree) (old : AttemptState) (next : Next) → next ≡ next_of program old.level old.known →
+    list_awaited (left_by next (advanced program old)) ≡ list_asked next
+left_list program old (FetchAll keys at) told = list_is_awaited program old ∙ ap list_asked (sym told)
+left_list program old (Fetch key at) told = list_is_awaited program old ∙ ap list_asked (sym told)
+left_list program old (Ready ready) told = refl
+left_list program old (Aborted run) told = list_is_awaited program old ∙ ap list_asked (sym told)
+left_list program old (Faulted run) told = list_is_awaited program old ∙ ap list_asked (sym told)
+
+pub left_asked_told : (program : ProgramTree) (old new : AttemptState) (told : Result Next AllocError) →
+    IfOk told (λ next. new ≡ left_by next (advanced program old)) → IfOk told (λ next. next ≡ next_of program old.level old.known) →
+    IfOk told (λ next. awaited new ≡ key_asked next)
+left_asked_told program old new (Ok next) left is = ap awaited left ∙ left_asked program old next is
+left_asked_told program old new (Err error) left is = tt
+
+pub left_list_told : (program : ProgramTree) (old new : AttemptState) (told : Result Next AllocError) →
+    IfOk told (λ next. new ≡ left_by next (advanced program old)) → IfOk told (λ next. next ≡ next_of program old.level old.known) →
+    IfOk told (λ next. list_awaited new ≡ list_asked next)
+left_list_told program old new (Ok next) left is = ap list_awaited left ∙ left_list program old next is
+left_list_told program old new (Err error) left is = tt
+
+-- what is left where the end of the run was given away
+pub given_is : (program : ProgramTree) (old : AttemptState) (before kept : Option ProgramTree) (level : Level) (first read reads front prefetched : List ReadAnswer) (told : ℕ)
+    (next : Next) (progress : Progress) → seen_as before level front prefetched ≡ old →
+    gone_on program (known_of first prefetched) ≡ gone_on program (known_of front prefetched) → before ≡ Some program →
+    read ≡ gone_on program (known_of first prefetched) → told ≡ length reads → IsLeftAtEnd next before read kept reads progress →
+    seen_as kept level (take told reads) prefetched ≡ left_by next (advanced program old)
+given_is program old before kept level first read reads front prefetched told (Ready ready) progress view ahead kept_is settles whole left =
+    ap (λ (o : Option ProgramTree). seen_as o level (take told reads) prefetched) left.no_program
+    ∙ ap (λ (l : List ReadAnswer). seen_as None level l prefetched) (all_told told reads whole ∙ left.no_reads)
+    ∙ ap (λ (v : AttemptState). begun v.level v.known.prefetched) view
+given_is program old before kept level first read reads front prefetched told (Aborted run) progress view ahead kept_is settles whole left =
+    left_from program old before kept level first front prefetched reads told view ahead (left.keeps ∙ kept_is) whole (left.same_reads ∙ settles)
+given_is program old before kept level first read reads front prefetched told (Faulted run) progress view ahead kept_is settles whole left =
+    left_from program old before kept level first front prefetched reads told view ahead (left.keeps ∙ kept_is) whole (left.same_reads ∙ settles)
+given_is program old before kept level first read reads front prefetched told (FetchAll keys at) progress view ahead kept_is settles whole left = absurd left
+given_is program old before kept level first read reads front prefetched told (Fetch key at) progress view ahead kept_is settles whole left = absurd left
+
+-- its invariant
+pub given_attempt : (program : ProgramTree) (before kept : Option ProgramTree) (read reads prefetched : List ReadAnswer) (told : ℕ) (next : Next)
+    (progress : Progress) → before ≡ Some program → told ≡ length reads → IsLeftAtEnd next before read kept reads progress →
+    IsAttempt kept reads prefetched told progress
+given_attempt program before kept read reads prefetched told (Ready ready) progress is whole left =
+    subst (λ (o : Option ProgramTree). IsAttempt o reads prefetched told progress) (sym left.no_program)
+    (subst (λ (p : Progress). HasNotBegun reads p) (sym left.fresh) left.no_reads)
+given_attempt program before kept read reads prefetched told (Aborted run) progress is whole left =
+    attempt_of program kept reads prefetched told progress (left.keeps ∙ is)
+    (under_way program reads prefetched told progress whole (subst (λ (p : Progress). HasCome program reads p) (sym left.fresh) tt))
+given_attempt program before kept read reads prefetched told (Faulted run) progress is whole left =
+    attempt_of program kept reads prefetched told progress (left.keeps ∙ is)
+    (under_way program reads prefetched told progress whole (subst (λ (p : Progress). HasCome program reads p) (sym left.fresh) tt))
+given_attempt program before kept read reads prefetched told (FetchAll keys at) progress is whole left = absurd left
+given_attempt program before kept read reads prefetched told (Fetch key at) progress is whole left = absurd left
+
+-- the program that it keeps
+pub kept_program : (program : ProgramTree) (old : AttemptState) (before : Option ProgramTree) (level : Level) (front prefetched : List ReadAnswer) →
+    seen_as before level front prefetched ≡ old → old.program ≡ Some program → before ≡ Some program
+kept_program program old before level front prefetched view is = ap (λ (v : AttemptState). v.program) view ∙ is
+
+-- the end that is told is the attempt's answer
+pub end_told : (program : ProgramTree) (old : AttemptState) (before : Option ProgramTree) (level : Level) (first front reads prefetched : List ReadAnswer)
+    (next : Next) (progress : Progress) → seen_as before level front prefetched ≡ old →
+    gone_on program (known_of first prefetched) ≡ gone_on program (known_of front prefetched) → HasEnded progress → HasCome program reads progress →
+    next_of program level (known_of first prefetched) ≡ next_after program level reads (run_on program reads) →
+    ((run : Run) → progress ≡ Ended run → next ≡ next_at_end program level reads run run.end) → next ≡ next_of program old.level old.known
+end_told program old before level first front reads prefetched next progress view ahead ended come at_end told =
+    next_from program old before level first front prefetched next view ahead (end_is program level reads progress next ended come told ∙ sym at_end)
+
+-- so is what is waited for
+pub wanted_told : (program : ProgramTree) (old : AttemptState) (before : Option ProgramTree) (level : Level) (first front prefetched : List ReadAnswer)
+    (found : Option Wanted) (w : Wanted) (next : Next) → seen_as before level front prefetched ≡ old →
+    gone_on program (known_of first prefetched) ≡ gone_on program (known_of front prefetched) → found ≡ Some w →
+    IfSome found (λ x. next_wanted x ≡ next_of program level (known_of first prefetched)) → next ≡ next_wanted w →
+    next ≡ next_of program old.level old.known
+wanted_told program old before level first front prefetched found w next view ahead found_is told next_is =
+    next_from program old before level first front prefetched next view ahead
+    (next_is ∙ subst (λ (o : Option Wanted). IfSome o (λ x. next_wanted x ≡ next_of program level (known_of first prefetched))) found_is told)
+
+pub wanted_left : (program : ProgramTree) (old new : AttemptState) (w : Wanted) (next : Next) → new ≡ advanced program old → next ≡ next_wanted w →
+    new ≡ left_by next (advanced program old)
+wanted_left program old new w next left next_is =
+    left ∙ sym (ap (λ (n : Next). left_by n (advanced program old)) next_is ∙ fetch_leaves w (advanced program old))

@@ -1,6 +1,6 @@
 -- The list of a program: when it is due, what is taken for it, and what going on makes of what an attempt knows.
 use Rattle.std.proofs.Common.{◌≡◌, inl, inr, ◌⊎◌, ◌<◌, ◌≤◌, ℕ, zero, suc, Bool, true, false, cond, List, [], ◌∷◌, ◌++◌, length, map, refl, sym, ◌∙◌, ap, subst, arith, append_assoc}
-use Rattle.std.specs.Prelude.{bytes_eq, ◌||◌, nat_eq, nat_lt, Option, None, Some, option_map, take}
+use Rattle.std.specs.Prelude.{bytes_eq, ◌||◌, nat_eq, nat_lt, Option, None, Some, IfSome, option_map, take}
 use Rattle.std.specs.List.{AllByRecursion, list_any}
 use Rattle.std.proofs.lemmas.List.Elements.{recursion_from_All}
 use Rattle.std.proofs.lemmas.Slice.Eq.{bytes_eq-Decides}
@@ -14,6 +14,8 @@ use Rattle.stm_program.proofs.ListLemmas.{list_parts, list_of_program}
 use Rattle.stm_outcome.specs.Commits.{AreNamed}
 use Rattle.stm_compile.specs.Answers.{answer_in}
 use Rattle.stm_attempt.specs.declared.next.Next.{Next}
+use Rattle.stm_attempt.specs.declared.wanted.Wanted.{Wanted}
+use Rattle.stm_attempt.specs.Wanted.{next_wanted}
 use Rattle.stm_attempt.specs.declared.next.Next.TheVariants.{FetchAll}
 use Rattle.stm_attempt.specs.Known.{Known, known_of, HaveDistinctKeys}
 use Rattle.stm_attempt.specs.Settled.{run_on, served, settled}
@@ -280,6 +282,24 @@ pub behind_gone : (program : ProgramTree) (before entered prefetched after : Lis
 behind_gone program before entered prefetched after gone not more settles =
     gone_settled program (known_of after prefetched) (not_due_after program.prefetch entered after not more)
     ∙ settles ∙ sym (gone_settled program (known_of entered prefetched) not) ∙ gone
+
+-- what is waited for
+pub behind_wanted : (program : ProgramTree) (level : Level) (before entered prefetched : List ReadAnswer) (found : Option Wanted)
+    → gone_on program (known_of entered prefetched) ≡ gone_on program (known_of before prefetched) → is_due program.prefetch entered ≡ false
+    → IfSome found (λ w. next_wanted w ≡ next_settled program level (known_of entered prefetched))
+    → IfSome found (λ w. next_wanted w ≡ next_of program level (known_of before prefetched))
+behind_wanted program level before entered prefetched None gone not told = tt
+behind_wanted program level before entered prefetched (Some w) gone not told =
+    behind_next program level before entered prefetched (next_wanted w) gone not told
+
+-- at the end of the run, which is the one that is told
+pub behind_end : (program : ProgramTree) (level : Level) (before entered prefetched after : List ReadAnswer)
+    → gone_on program (known_of entered prefetched) ≡ gone_on program (known_of before prefetched) → is_due program.prefetch entered ≡ false
+    → after ≡ settled program (known_of entered prefetched)
+    → next_of program level (known_of before prefetched) ≡ next_after program level after (run_on program after)
+behind_end program level before entered prefetched after gone not settles =
+    sym (behind_next program level before entered prefetched (next_after program level after (run_on program after)) gone not
+    (ap (λ (l : List ReadAnswer). next_after program level l (run_on program l)) settles))
 
 pub extends_further : (before entered after : List ReadAnswer) → Extends before entered → Extends entered after → Extends before after
 extends_further before entered after first more = record {

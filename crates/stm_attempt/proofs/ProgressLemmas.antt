@@ -3,10 +3,13 @@ use Rattle.std.proofs.Common.{◌≡◌, refl, sym, ◌∙◌, ap, subst, ℕ, B
 use Rattle.std.proofs.Common.{length-append, length-take-le, append_assoc, append-nil, arith}
 use Rattle.std.proofs.Math.Seq.{take-length}
 use Rattle.std.proofs.lemmas.List.{take-append-le}
-use Rattle.std.specs.Prelude.{bytes_eq, Option, None, Some, option_map, is_some, IsSome}
+use Rattle.std.specs.Prelude.{bytes_eq, Option, None, Some, Result, Ok, Err, IfOk, OnOk, option_map, is_some, IsSome}
+use Rattle.std.specs.declared.alloc.AllocError.{AllocError}
 use Rattle.std.proofs.lemmas.Slice.Eq.{bytes_eq-Decides}
 use Rattle.stm_history.specs.declared.key_state.ReadAnswer.{ReadAnswer}
 use Rattle.stm_program.specs.Syntax.{ProgramTree}
+use Rattle.stm_meaning.specs.declared.run.End.{End}
+use Rattle.stm_meaning.specs.declared.run.End.TheVariants.{Done, Aborted as AbortedEnd, Faulted as FaultedEnd}
 use Rattle.stm_meaning.specs.declared.run.Run.{Run}
 use Rattle.stm_meaning.specs.declared.run.Answered.{Answered}
 use Rattle.stm_meaning.specs.declared.run.Answered.TheVariants.{Ended, Wants}
@@ -30,7 +33,7 @@ use Rattle.stm_attempt.specs.declared.progress.Progress.TheVariants.{Fresh, Star
 use Rattle.stm_attempt.specs.Fetches.{at_of}
 use Rattle.stm_attempt.specs.Next.{next_at_end, next_after, next_settled}
 use Rattle.stm_attempt.specs.Entering.{is_due, gone_on}
-use Rattle.stm_attempt.specs.Progress.{FinishesAs, HasCome, HasEnded, Extends, IsUnderWay, has_ended}
+use Rattle.stm_attempt.specs.Progress.{FinishesAs, HasCome, HasEnded, Extends, IsUnderWay, has_ended, IsLeftAtEnd}
 use Rattle.stm_attempt.proofs.Unread.{unread, fewer, found_key}
 use Rattle.stm_attempt.proofs.SettleLemmas.{no_answer, for_new, settle_stays, what_serves_is_taken, settling_adds_prefetched}
 use Rattle.stm_attempt.proofs.EnteringLemmas.{gone_settled, not_due_whole}
@@ -216,6 +219,22 @@ pub next_of_settled : (program : ProgramTree) (level : Level) (before prefetched
     next ≡ next_settled program level (known_of before prefetched)
 next_of_settled program level before prefetched reads next settles told =
     told ∙ ap (λ (l : List ReadAnswer). next_after program level l (run_on program l)) settles
+
+-- ---- what is left where the end of a run that is not done was told
+
+left_at : (program : ProgramTree) (level : Level) (reads : List ReadAnswer) (run : Run) (end : End) (kept : Option ProgramTree) (after : Progress) →
+    (end ≡ Done → ⊥) → after ≡ Fresh → IsLeftAtEnd (next_at_end program level reads run end) kept reads kept reads after
+left_at program level reads run Done kept after not fresh = absurd (not refl)
+left_at program level reads run (AbortedEnd text) kept after not fresh = record { keeps = refl; same_reads = refl; fresh = fresh }
+left_at program level reads run (FaultedEnd fault) kept after not fresh = record { keeps = refl; same_reads = refl; fresh = fresh }
+
+pub left_untold : (program : ProgramTree) (level : Level) (reads : List ReadAnswer) (run : Run) (kept : Option ProgramTree) (before after : Progress)
+    (told : Result Next AllocError) → before ≡ EndedProgress run → (run.end ≡ Done → ⊥) →
+    IfOk told (λ next. (r : Run) → before ≡ EndedProgress r → next ≡ next_at_end program level reads r r.end) → OnOk told (after ≡ Fresh) →
+    IfOk told (λ next. IsLeftAtEnd next kept reads kept reads after)
+left_untold program level reads run kept before after (Err error) is not next fresh = tt
+left_untold program level reads run kept before after (Ok told) is not next fresh =
+    subst (λ (n : Next). IsLeftAtEnd n kept reads kept reads after) (sym (next run is)) (left_at program level reads run run.end kept after not fresh)
 
 -- ---- an attempt under way
 

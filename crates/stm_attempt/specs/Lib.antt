@@ -10,3 +10,5 @@ pub mod Laws
 pub use Rattle.stm_compile.specs.Levels
 pub use Rattle.stm_compile.specs.Answers
 pub use Rattle.stm_outcome.specs.Numbers
+pub mod Leaving
+pub mod Wanted

@@ -2,6 +2,8 @@
 use Rattle.std.specs.Prelude.{◌≡◌, ℕ, ◌≤◌, Bool, true, false, List, [], ◌++◌, length, take, Option, None, Some}
 use Rattle.stm_history.specs.declared.key_state.ReadAnswer.{ReadAnswer}
 use Rattle.stm_program.specs.Syntax.{ProgramTree}
+use Rattle.stm_program.specs.declared.write.Write.{Write}
+use Rattle.stm_program.specs.Writes.{latest_writes}
 use Rattle.stm_meaning.specs.declared.run.Run.{Run}
 use Rattle.stm_meaning.specs.declared.run.Answered.TheVariants.{Ended as EndedRun}
 use Rattle.stm_meaning.specs.Answer.{Lookup}
@@ -12,6 +14,8 @@ use Rattle.stm_machine.specs.Finish.{finish}
 use Rattle.stm_compile.specs.Answers.{look_up}
 use Rattle.stm_attempt.specs.declared.progress.Progress.{Progress}
 use Rattle.stm_attempt.specs.declared.progress.Progress.TheVariants.{Fresh, Started, Ended}
+use Rattle.stm_attempt.specs.declared.next.Next.{Next}
+use Rattle.stm_attempt.specs.declared.next.Next.TheVariants.{FetchAll, Fetch, Ready, Aborted, Faulted}
 use Rattle.stm_attempt.specs.Known.{known_of}
 use Rattle.stm_attempt.specs.Settled.{run_on}
 use Rattle.stm_attempt.specs.Entering.{gone_on}
@@ -67,3 +71,28 @@ pub record IsUnderWay (program : ProgramTree) (reads prefetched : List ReadAnswe
 abbrev pub IsAttempt : Option ProgramTree → List ReadAnswer → List ReadAnswer → ℕ → Progress → Type 0
 IsAttempt None reads prefetched told progress = HasNotBegun reads progress
 IsAttempt (Some program) reads prefetched told progress = IsUnderWay program reads prefetched told progress
+
+-- The last writes of a run: these, or, where there are no others, its writes themselves.
+abbrev pub AreLatest : List Write → Option (List Write) → Type 0
+AreLatest writes None = latest_writes writes ≡ writes
+AreLatest writes (Some latest) = latest ≡ latest_writes writes
+
+-- an attempt from which program, reads and run were taken
+pub record HasGiven (kept : Option ProgramTree) (reads : List ReadAnswer) (progress : Progress) : Type 0 where
+  pub no_program : kept ≡ None
+  pub no_reads : reads ≡ []
+  pub fresh : progress ≡ Fresh
+
+-- one from which the run alone was taken
+pub record HasToldEnd (before : Option ProgramTree) (read : List ReadAnswer) (kept : Option ProgramTree) (reads : List ReadAnswer) (progress : Progress) : Type 0 where
+  pub keeps : kept ≡ before
+  pub same_reads : reads ≡ read
+  pub fresh : progress ≡ Fresh
+
+-- what is left where the end of the run was given away
+abbrev pub IsLeftAtEnd : Next → Option ProgramTree → List ReadAnswer → Option ProgramTree → List ReadAnswer → Progress → Type 0
+IsLeftAtEnd (Ready ready) before read kept reads progress = HasGiven kept reads progress
+IsLeftAtEnd (Aborted run) before read kept reads progress = HasToldEnd before read kept reads progress
+IsLeftAtEnd (Faulted run) before read kept reads progress = HasToldEnd before read kept reads progress
+IsLeftAtEnd (FetchAll keys at) before read kept reads progress = ⊥
+IsLeftAtEnd (Fetch key at) before read kept reads progress = ⊥

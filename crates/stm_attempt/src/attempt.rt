@@ -7,7 +7,7 @@ ghost use Rattle.stm_attempt.specs.Known.{HaveDistinctKeys};
 ghost use Rattle.stm_attempt.specs.Fetches.{ShowOneRevision};
 
 use crate::next::Next;
-use crate::progress::{Progress, go_on, put};
+use crate::progress::{Progress, come_on, give_end, go_on, put};
 use std::alloc::{AllocError, Global};
 use std::marker::Model;
 use std::mem;
@@ -99,6 +99,7 @@ fn copy_program(program: &Option<Program>) -> Result<Option<Program>, AllocError
 impl Attempt {
     ghost use Rattle.stm_attempt.specs.AttemptState.{begun, IsOf, advanced, supplied, supplied_all, awaited, list_awaited};
     ghost use Rattle.stm_attempt.specs.Next.{next_of, key_asked, list_asked};
+    ghost use Rattle.stm_attempt.specs.Leaving.{left_by};
 
     /// An attempt that has read nothing.
     fn begin(alloc: Global, level: Level, prefetched: ReadSet) -> Attempt
@@ -216,6 +217,71 @@ impl Attempt {
             self.first_advance(program)
         } else {
             self.next_advance(program)
+        }
+    }
+
+    /// The first `advance_to_end`. Where a growth is refused, the attempt is set back to what it was.
+    fn first_to_end(&mut self, program: &Program) -> Result<Next, AllocError>
+        requires { self.old.program ≡ None }
+        ensures next { IfOk result (λ next. next ≡ next_of program.now self.old.level self.old.known) }
+        ensures left { IfOk result (λ next. self.new ≡ left_by next (advanced program.now self.old)) }
+        ensures err { OnErr result (self.new ≡ self.old) }
+    {
+        let kept = program.clone()?;
+        self.set_out(kept);
+        let next = self.next_to_end(program);
+        if next.is_err() {
+            self.start_anew();
+        }
+        next
+    }
+
+    /// Each later `advance_to_end`. Where a growth is refused, the prefetched answers that were taken stay behind those told.
+    fn next_to_end(&mut self, program: &Program) -> Result<Next, AllocError>
+        requires { self.old.program ≡ Some program.now }
+        ensures next { IfOk result (λ next. next ≡ next_of program.now self.old.level self.old.known) }
+        ensures left { IfOk result (λ next. self.new ≡ left_by next (advanced program.now self.old)) }
+        ensures err { OnErr result (self.new ≡ self.old) }
+    {
+        let found = come_on(
+            self.alloc,
+            program,
+            self.level,
+            &self.prefetched,
+            &mut self.reads,
+            &mut self.progress,
+        )?;
+        let Some(wanted) = found else {
+            let next = give_end(
+                self.alloc,
+                program,
+                self.level,
+                &mut self.program,
+                &mut self.reads,
+                &mut self.progress,
+            )?;
+            self.told = self.reads.len();
+            return Ok(next);
+        };
+        self.told = self.reads.len();
+        Ok(wanted.into_next())
+    }
+
+    /// Goes on as `advance` does, for who commits the attempt once it is ready: it goes into the answer then, and is itself as before its first `advance`.
+    ///
+    /// Want of memory is the only refusal, and leaves the attempt as it was.
+    pub fn advance_to_end(&mut self, program: &Program) -> Result<Next, AllocError>
+        requires { IsOf program.now self.old }
+        ensures next { IfOk result (λ next. next ≡ next_of program.now self.old.level self.old.known) }
+        ensures left { IfOk result (λ next. self.new ≡ left_by next (advanced program.now self.old)) }
+        ensures asked { IfOk result (λ next. awaited self.new ≡ key_asked next) }
+        ensures list { IfOk result (λ next. list_awaited self.new ≡ list_asked next) }
+        ensures err { OnErr result (self.new ≡ self.old) }
+    {
+        if self.program.is_none() {
+            self.first_to_end(program)
+        } else {
+            self.next_to_end(program)
         }
     }
 

@@ -11,6 +11,7 @@ mod next;
 mod progress;
 mod ready;
 mod settle;
+mod wanted;
 
 pub use attempt::Attempt;
 pub use next::Next;

@@ -1,5 +1,5 @@
 //! How far an attempt has run its program.
-ghost use Rattle.std.specs.Prelude.{◌≡◌, true, List, None, Some, IfOk, OnOk, OnErr, IsSome};
+ghost use Rattle.std.specs.Prelude.{◌≡◌, true, List, None, Some, IfOk, IfSome, OnOk, OnErr, IsSome};
 ghost use Rattle.stm_history.specs.declared.key_state.ReadAnswer.{ReadAnswer};
 ghost use Rattle.stm_program.specs.Syntax.{ProgramTree};
 ghost use Rattle.stm_program.specs.Writes.{latest_writes};
@@ -12,21 +12,23 @@ ghost use Rattle.stm_compile.specs.Answers.{look_up};
 ghost use Rattle.stm_attempt.specs.Known.{known_of, serving, HaveDistinctKeys};
 ghost use Rattle.stm_attempt.specs.Settled.{run_on, wanted, answer_for, settled};
 ghost use Rattle.stm_attempt.specs.ReadyRun.{ready_run};
-ghost use Rattle.stm_attempt.specs.Next.{next_at_end, next_settled, next_of};
+ghost use Rattle.stm_attempt.specs.Next.{next_at_end, next_after, next_settled, next_of};
 ghost use Rattle.stm_attempt.specs.Entering.{gone_on};
-ghost use Rattle.stm_attempt.specs.Progress.{FinishesAs, HasCome, HasEnded, Extends, has_begun, has_ended, run_of_progress};
+ghost use Rattle.stm_attempt.specs.Wanted.{next_wanted};
+ghost use Rattle.stm_attempt.specs.Progress.{FinishesAs, HasCome, HasEnded, Extends, has_begun, has_ended, run_of_progress, AreLatest, HasGiven, IsLeftAtEnd};
 
 use crate::entering::{enter, list_of};
 use crate::next::Next;
 use crate::ready::Ready;
 use crate::settle::{fetch_revision, take_serving};
+use crate::wanted::Wanted;
 use std::alloc::{AllocError, Global};
 use std::mem;
 use stm_compile::{ReadSet, WriteBuffer};
-use stm_history::Text;
+use stm_history::{Sequence, Text};
 use stm_machine::Machine;
 use stm_meaning::{End, Run};
-use stm_program::{Level, Program};
+use stm_program::{Level, Program, Write};
 
 /// How far an attempt has run its program.
 #[derive(Drop)]
@@ -262,41 +264,72 @@ fn come_to_fetch(
     Ok(None)
 }
 
-/// Goes on with a program from where it stands, behind its list.
+/// Goes on with a program from where it stands, behind its list, to the key that is to be fetched. `None` where its run has come to its end, which is kept.
 ///
 /// Where a growth is refused, the program stands where it came to, from where the call can be repeated: it answers then
 /// what it would have answered.
-fn go_behind(
+fn come_behind(
     alloc: Global,
     program: &Program,
     level: Level,
     prefetched: &ReadSet,
     reads: &mut ReadSet,
     progress: &mut Progress,
-) -> Result<Next, AllocError>
+) -> Result<Option<Wanted>, AllocError>
     requires distinct { HaveDistinctKeys prefetched.now }
     requires come { HasCome program.now reads.old progress.old }
     ensures come { HasCome program.now reads.new progress.new }
     ensures settles { settled program.now (known_of reads.new prefetched.now) ≡ settled program.now (known_of reads.old prefetched.now) }
     ensures extends { Extends reads.old reads.new }
     ensures reads { OnOk result (reads.new ≡ settled program.now (known_of reads.old prefetched.now)) }
-    ensures next { IfOk result (λ next. next ≡ next_settled program.now level (known_of reads.old prefetched.now)) }
+    ensures next { IfOk result (λ found. IfSome found (λ w. next_wanted w ≡ next_settled program.now level (known_of reads.old prefetched.now))) }
+    ensures ended { IfOk result (λ found. found ≡ None → HasEnded progress.new) }
 {
     begin(alloc, program, progress)?;
     let wanted = come_to_fetch(prefetched, reads, progress)?;
     match wanted {
         Some(key) => {
             let at = fetch_revision(level, reads);
-            Ok(Next::Fetch { key, at })
+            Ok(Some(Wanted::Key(key, at)))
         }
-        None => {
-            let next = tell_end(alloc, program, level, reads, progress)?;
-            Ok(next)
-        }
+        None => Ok(None),
     }
 }
 
-/// Goes on with a program from where it stands: with its list first, where that is due.
+/// Goes on with a program from where it stands, with its list first, where that is due, to what is to be fetched. `None` where its run has come to its end,
+/// which is kept.
+///
+/// Where a growth is refused, the program stands where it came to, from where the call can be repeated: it answers then
+/// what it would have answered.
+pub(crate) fn come_on(
+    alloc: Global,
+    program: &Program,
+    level: Level,
+    prefetched: &ReadSet,
+    reads: &mut ReadSet,
+    progress: &mut Progress,
+) -> Result<Option<Wanted>, AllocError>
+    requires distinct { HaveDistinctKeys prefetched.now }
+    requires come { HasCome program.now reads.old progress.old }
+    ensures come { HasCome program.now reads.new progress.new }
+    ensures settles { gone_on program.now (known_of reads.new prefetched.now) ≡ gone_on program.now (known_of reads.old prefetched.now) }
+    ensures extends { Extends reads.old reads.new }
+    ensures reads { OnOk result (reads.new ≡ gone_on program.now (known_of reads.old prefetched.now)) }
+    ensures next { IfOk result (λ found. IfSome found (λ w. next_wanted w ≡ next_of program.now level (known_of reads.old prefetched.now))) }
+    ensures ended { IfOk result (λ found. found ≡ None → HasEnded progress.new) }
+    ensures at_end { IfOk result (λ found. found ≡ None →
+        next_of program.now level (known_of reads.old prefetched.now) ≡ next_after program.now level reads.new (run_on program.now reads.new)) }
+{
+    let due = enter(alloc, program, prefetched, reads, progress)?;
+    if due {
+        let keys = list_of(alloc, program)?;
+        return Ok(Some(Wanted::List(keys)));
+    }
+    let found = come_behind(alloc, program, level, prefetched, reads, progress)?;
+    Ok(found)
+}
+
+/// Goes on with a program from where it stands, to what is to be fetched, or to its end.
 ///
 /// Where a growth is refused, the program stands where it came to, from where the call can be repeated: it answers then
 /// what it would have answered.
@@ -316,11 +349,137 @@ pub(crate) fn go_on(
     ensures reads { OnOk result (reads.new ≡ gone_on program.now (known_of reads.old prefetched.now)) }
     ensures next { IfOk result (λ next. next ≡ next_of program.now level (known_of reads.old prefetched.now)) }
 {
-    let due = enter(alloc, program, prefetched, reads, progress)?;
-    if due {
-        let keys = list_of(alloc, program)?;
-        return Ok(Next::FetchAll { keys, at: 0 });
+    match come_on(alloc, program, level, prefetched, reads, progress)? {
+        Some(wanted) => Ok(wanted.into_next()),
+        None => {
+            let next = tell_end(alloc, program, level, reads, progress)?;
+            Ok(next)
+        }
     }
-    let next = go_behind(alloc, program, level, prefetched, reads, progress)?;
-    Ok(next)
+}
+
+/// The last writes of a run as copies; `None` where they are its writes. The one refusal is want of memory.
+fn latest_if_others(alloc: Global, run: &Run) -> Result<Option<WriteBuffer>, AllocError>
+    ensures { IfOk result (AreLatest run.now.writes) }
+{
+    let writes = run.writes.as_slice();
+    if WriteBuffer::are_latest(writes) {
+        return Ok(None);
+    }
+    Ok(Some(WriteBuffer::of(alloc, writes)?))
+}
+
+/// The last writes of a run: these, or, where there are no others, its writes. It takes no memory.
+fn latest_from(latest: Option<WriteBuffer>, writes: Sequence<Write>) -> WriteBuffer
+    requires { AreLatest writes latest }
+    ensures { result ≡ latest_writes writes }
+{
+    match latest {
+        Some(latest) => latest,
+        None => WriteBuffer::of_latest(writes),
+    }
+}
+
+/// A run that is done, ready to commit: with its program, what that read, and its last writes, which are its writes where there are no others. It takes no memory.
+fn ready_from(
+    program: Program,
+    level: Level,
+    answers: ReadSet,
+    latest: Option<WriteBuffer>,
+    run: Run,
+) -> Ready
+    requires come { run_on program answers ≡ EndedRun run }
+    requires done { run.end ≡ Done }
+    requires latest { AreLatest run.writes latest }
+    ensures { result ≡ ready_run program level answers run }
+{
+    let Run {
+        end: _,
+        output,
+        trace,
+        writes,
+        reads: _,
+    } = run;
+    let writes = latest_from(latest, writes);
+    Ready {
+        program,
+        level,
+        answers,
+        output,
+        trace,
+        writes,
+    }
+}
+
+/// Takes out the program that an attempt keeps.
+fn take_kept(kept: &mut Option<Program>) -> Program
+    requires { IsSome kept.old }
+    ensures taken { kept.old ≡ Some result }
+    ensures left { kept.new ≡ None }
+{
+    match kept.take() {
+        Some(program) => program,
+        None => unreachable!(),
+    }
+}
+
+/// A run that is done goes into what is ready to commit, with the program that is kept and what that read. Want of memory leaves all in its place.
+fn give_ready(
+    alloc: Global,
+    program: &Program,
+    level: Level,
+    kept: &mut Option<Program>,
+    reads: &mut ReadSet,
+    progress: &mut Progress,
+) -> Result<Ready, AllocError>
+    requires kept { kept.old ≡ Some program.now }
+    requires ended { HasEnded progress.old }
+    requires come { HasCome program.now reads.old progress.old }
+    requires done { (run : FinishedRun) → progress.old ≡ Progress.Ended run → run.end ≡ Done }
+    ensures ready { IfOk result (λ ready. (run : FinishedRun) → progress.old ≡ Progress.Ended run → ready ≡ ready_run program.now level reads.old run) }
+    ensures left { OnOk result (HasGiven kept.new reads.new progress.new) }
+    ensures kept_err { OnErr result (kept.new ≡ kept.old) }
+    ensures reads_err { OnErr result (reads.new ≡ reads.old) }
+    ensures err { OnErr result (progress.new ≡ progress.old) }
+{
+    let Progress::Ended(run) = &*progress else {
+        unreachable!();
+    };
+    let latest = latest_if_others(alloc, run)?;
+    let own = take_kept(kept);
+    let answers = mem::replace(reads, ReadSet::new(alloc));
+    Ok(ready_from(own, level, answers, latest, take_run(progress)))
+}
+
+/// What an attempt answers at the end of its run, for who commits it then: a run that is done goes into the answer, with the program that is kept and what that
+/// read. Want of memory leaves all in its place.
+pub(crate) fn give_end(
+    alloc: Global,
+    program: &Program,
+    level: Level,
+    kept: &mut Option<Program>,
+    reads: &mut ReadSet,
+    progress: &mut Progress,
+) -> Result<Next, AllocError>
+    requires kept { kept.old ≡ Some program.now }
+    requires ended { HasEnded progress.old }
+    requires come { HasCome program.now reads.old progress.old }
+    ensures next { IfOk result (λ next. (run : FinishedRun) → progress.old ≡ Progress.Ended run
+        → next ≡ next_at_end program.now level reads.old run run.end) }
+    ensures left { IfOk result (λ next. IsLeftAtEnd next kept.old reads.old kept.new reads.new progress.new) }
+    ensures kept_err { OnErr result (kept.new ≡ kept.old) }
+    ensures reads_err { OnErr result (reads.new ≡ reads.old) }
+    ensures err { OnErr result (progress.new ≡ progress.old) }
+{
+    let Progress::Ended(run) = &*progress else {
+        unreachable!();
+    };
+    match &run.end {
+        End::Done => {
+            let ready = give_ready(alloc, program, level, kept, reads, progress)?;
+            Ok(Next::Ready(ready))
+        }
+        End::Aborted(_) => tell_end(alloc, program, level, reads, progress),
+        End::Faulted(_) => tell_end(alloc, program, level, reads, progress),
+    }
 }

@@ -1,10 +1,11 @@
 -- The writes of a write buffer, as a write is added, and what the latest writes of latest writes are.
 use Rattle.std.proofs.Common.{◌≡◌, ℕ, List, [], ◌∷◌, ◌++◌, Bool, true, false, cond, map, Option, None, Some, refl, sym, ◌∙◌, ap, subst}
-use Rattle.std.proofs.Common.{suc, ◌+◌, ◌<◌, length, set, take, get_or, arith}
+use Rattle.std.proofs.Common.{suc, ◌+◌, ◌-◌, ◌<◌, ◌≤◌, length, set, take, drop, get_or, arith}
 use Rattle.std.proofs.Math.Seq.{take-suc}
+use Rattle.std.proofs.lemmas.List.{take_rest}
 use Rattle.std.proofs.lemmas.Option.{same_Some}
 use Rattle.std.proofs.lemmas.Iterator.Adapters.{position_from-zero}
-use Rattle.std.specs.Prelude.{bytes_eq, ◌||◌, is_some}
+use Rattle.std.specs.Prelude.{bytes_eq, ◌||◌, not, is_some}
 use Rattle.std.specs.List.{IsDistinct, AllByRecursion, position, position_from}
 use Rattle.stm_program.specs.declared.write.Write.{Write}
 use Rattle.stm_program.specs.Writes.{key_of, last_write, is_written, latest_of, latest_after, latest_writes}
@@ -133,3 +134,48 @@ distinct_latest ws latest same = subst (λ (l : List Write). IsDistinct bytes_eq
 pub distinct_none : (ws : List Write) → ws ≡ [] → IsDistinct bytes_eq (map key_of ws)
 unfolding IsDistinct
 distinct_none ws none = subst (λ (l : List Write). IsDistinct bytes_eq (map key_of l)) (sym none) tt
+
+-- ---- whether writes are of distinct keys
+
+-- a key that none of these writes has is new among theirs
+new_among : (key : List ℕ) (ws : List Write) (j : ℕ) → position_from (λ w. bytes_eq (key_of w) key) j ws ≡ None → IsNew key ws
+new_among key [] j none = tt
+new_among key (w ∷ ws) j none = by (bytes_eq (key_of w) key) (bytes_eq-flip key (key_of w)) (new_among key ws (j + 1)) none
+  where
+    by : (b : Bool) → bytes_eq key (key_of w) ≡ b → (position_from (λ v. bytes_eq (key_of v) key) (j + 1) ws ≡ None → IsNew key ws) →
+        cond b (Some j) (position_from (λ v. bytes_eq (key_of v) key) (j + 1) ws) ≡ None → IsNew key (w ∷ ws)
+    by true same rest none = absurd (cc)
+    by false other rest none = (other, rest none)
+
+apart_from : (w : Write) (ws : List Write) → position (λ v. bytes_eq (key_of v) (key_of w)) ws ≡ None → IsDistinct bytes_eq (map key_of ws) →
+    IsDistinct bytes_eq (map key_of (w ∷ ws))
+unfolding IsDistinct
+apart_from w ws none distinct = (
+  new_among (key_of w) ws 0 (sym (position_from-zero (λ x. bytes_eq (key_of x) (key_of w)) ws) ∙ none),
+  distinct,
+)
+
+-- the first write and the others
+split : (ws : List Write) (first : Write) → 1 ≤ length ws → first ≡ get_or ws 0 first → first ∷ take (length ws - 1) (drop 1 ws) ≡ ws
+split [] first some is = absurd (omega arith)
+split (w ∷ ws) first some is =
+    let rest : take (length (w ∷ ws) - 1) (drop 1 (w ∷ ws)) ≡ ws = take_rest (w ∷ ws) 1 in
+    λ i. is i ∷ rest i
+
+-- the first write is of no other's key, and the others are of distinct keys
+pub apart_with_first : (ws : List Write) (first : Write) (key : List ℕ) → 1 ≤ length ws → first ≡ get_or ws 0 first → key ≡ key_of first →
+    position (λ v. bytes_eq (key_of v) key) (take (length ws - 1) (drop 1 ws)) ≡ None →
+    IsDistinct bytes_eq (map key_of (take (length ws - 1) (drop 1 ws))) → IsDistinct bytes_eq (map key_of ws)
+apart_with_first ws first key some is same none distinct =
+    let rest : List Write = take (length ws - 1) (drop 1 ws) in
+    subst (λ (l : List Write). IsDistinct bytes_eq (map key_of l)) (split ws first some is)
+    (apart_from first rest (ap (λ (k : List ℕ). position (λ v. bytes_eq (key_of v) k) rest) (sym same) ∙ none) distinct)
+
+pub apart_where_none : (ws : List Write) → length ws < 1 → IsDistinct bytes_eq (map key_of ws)
+unfolding IsDistinct
+apart_where_none [] short = tt
+apart_where_none (w ∷ ws) short = absurd (omega arith)
+
+pub none_found : (o : Option ℕ) (b : Bool) → is_some o ≡ not b → b ≡ true → o ≡ None
+none_found None b is holds = refl
+none_found (Some n) b is holds = let none : true ≡ false = is ∙ ap (λ (x : Bool). not x) holds in absurd (cc)

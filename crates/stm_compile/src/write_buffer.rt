@@ -1,11 +1,12 @@
 //! What an attempt has written.
-ghost use Rattle.std.specs.Prelude.{◌≡◌, ◌<◌, [], ◌∷◌, ◌++◌, None, Some, bytes_eq, length, slice_get, option_copied, OnOk, OnErr, IfOk};
-ghost use Rattle.std.specs.List.{position};
+ghost use Rattle.std.specs.Prelude.{◌≡◌, ◌<◌, [], ◌∷◌, ◌++◌, None, Some, true, map, bytes_eq, length, slice_get, option_copied, OnOk, OnErr, IfOk};
+ghost use Rattle.std.specs.List.{position, IsDistinct};
 ghost use Rattle.stm_program.specs.Writes.{key_of, last_write as last_of_key, latest_writes as latest_of_each};
 
 use crate::read_set::MOST_SEARCHED;
 use std::alloc::{AllocError, Global};
 use std::marker::Model;
+use stm_history::Sequence;
 use stm_program::{Write, last_write, latest_writes};
 
 /// The last write of each key, in the order of first writes. Contracts see the list of them.
@@ -40,6 +41,16 @@ fn place_of(writes: &[Write], key: &str) -> Option<usize>
     ensures { result ≡ position (λ w. bytes_eq (key_of w) key.now) writes.now }
 {
     writes.iter().position(|write| write.key() == key)
+}
+
+/// Whether no two of these writes are of one key.
+fn are_apart(writes: &[Write]) -> bool
+    ensures { result ≡ true → IsDistinct bytes_eq (map key_of writes.now) }
+{
+    match writes {
+        [] => true,
+        [first, rest @ ..] => place_of(rest, first.key()).is_none() && are_apart(rest),
+    }
 }
 
 /// The last write of each key, for writes that are few: each is searched for.
@@ -89,6 +100,23 @@ impl WriteBuffer {
             search_latest(alloc, writes)
         } else {
             tabulate_latest(alloc, writes)
+        }
+    }
+
+    /// Whether each of these writes of a run is the last of its key. They are searched: where they are too many for that, the answer is no.
+    pub fn are_latest(writes: &[Write]) -> bool
+        ensures { result ≡ true → latest_of_each writes.now ≡ writes.now }
+    {
+        writes.len() <= MOST_SEARCHED && are_apart(writes)
+    }
+
+    /// The writes of a run, of which each is the last of its key. It takes no memory.
+    pub fn of_latest(writes: Sequence<Write>) -> WriteBuffer
+        requires { latest_of_each writes ≡ writes }
+        ensures { result ≡ writes }
+    {
+        WriteBuffer {
+            writes: writes.into_vec(),
         }
     }
 

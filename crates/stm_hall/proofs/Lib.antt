@@ -12,3 +12,4 @@ pub mod Judging
 pub mod WholeFaults
 pub mod FirstFailed
 pub mod Copies
+pub mod StillLemmas

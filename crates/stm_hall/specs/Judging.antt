@@ -4,7 +4,7 @@
 -- and, behind its compares, this hall's own.
 use Rattle.std.specs.Prelude.{◌≡◌, ℕ, List, Option, None, Some, Result}
 use Rattle.stm_history.specs.declared.key_state.ReadAnswer.{ReadAnswer}
-use Rattle.stm_history.specs.History.{History, key_now}
+use Rattle.stm_history.specs.History.{History, key_now, mod_of, value_of}
 use Rattle.stm_outcome.specs.declared.answer.FailedCompare.{FailedCompare}
 use Rattle.stm_outcome.specs.declared.answer.OpAnswer.{OpAnswer}
 use Rattle.stm_outcome.specs.declared.answer.OpAnswer.TheVariants.{Get as GetAnswer}
@@ -37,6 +37,11 @@ cause_wrong (Some fault) next = Some (Wrong fault)
 abbrev pub cause_compared : History → ReadyRun → Option Cause
 cause_compared h ready =
     cause_failed (first_failed (key_now h) 0 (txn_of ready).compares) (cause_unvouched (first_unvouched h ready.level ready.answers))
+
+-- a key has still the modification revision and the value that an answer says
+pub record IsStill (h : History) (a : ReadAnswer) : Type 0 where
+  pub modified : mod_of (key_now h a.key) ≡ mod_of a.kv
+  pub value : value_of (key_now h a.key) ≡ value_of a.kv
 
 -- of a commit to a store: what is wrong with its transaction as a whole at the store's limit of operations, else that
 abbrev pub cause_of : Standing → ReadyRun → Option Cause

@@ -8,6 +8,7 @@ ghost use Rattle.stm_hall.specs.Verdicts.{txn_of, first_unvouched};
 
 use crate::conflicts::find_conflict;
 use crate::faults::find_fault;
+use crate::still::is_clear;
 use crate::vouching::find_unvouched;
 use stm_attempt::Ready;
 use stm_keys::Keys;
@@ -35,10 +36,15 @@ fn find_false_value(keys: &Keys, ready: &Ready) -> Option<Cause>
 }
 
 /// Why a commit is turned down with which nothing is wrong as a whole. Its compares are no more than any store takes.
+///
+/// Most are turned down for nothing, which is told by one look-up of each key.
 fn find_failure(keys: &Keys, ready: &Ready) -> Option<Cause>
     requires { length (txn_of ready.now).compares ≤ most_operations }
     ensures { result ≡ cause_compared keys.now.history ready.now }
 {
+    if is_clear(keys, ready) {
+        return None;
+    }
     match find_conflict(keys, ready) {
         None => find_false_value(keys, ready),
         Some(failed) => Some(Cause::Fails(failed)),

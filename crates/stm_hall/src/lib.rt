@@ -20,6 +20,7 @@ mod prepared;
 mod refusal;
 mod rereads;
 mod showing;
+mod still;
 mod verdict;
 mod vouching;
 

@@ -11,6 +11,7 @@ ghost use Rattle.stm_keys.specs.Chains.{without_oldest, forgotten, no_versions, 
 use crate::chain::{Chain, Version};
 use crate::event::{Event, find_event_at};
 use crate::events::{Events, Held};
+use crate::hints::Hints;
 use indexmap::IndexMap;
 use std::alloc::{AllocError, Global};
 use std::collections::VecDeque;
@@ -243,20 +244,22 @@ fn make_room_of(
     }
 }
 
-/// Makes room for one more version in the chain of each event's key, which is looked for at the hint first. Want of
+/// Makes room for one more version in the chain of each event's key, which is looked for at its hint first. Want of
 /// memory leaves every version as it was.
 pub(crate) fn make_room(
     chains: &mut Chains,
     alloc: Global,
     events: &[Event],
-    hint: usize,
+    hints: Hints,
 ) -> Result<(), AllocError>
     ensures versions { (k : List ℕ) → versions_in (get_by_text chains.new k) ≡ versions_in (get_by_text chains.old k) }
     ensures room { OnOk result ((k : List ℕ) → is_some (event_about k events.now) ≡ true → 0 < room_in (get_by_text chains.new k)) }
     ensures present { KeepsPresent (λ k. versions_in (get_by_text chains.old k)) (names_of chains.old) (names_of chains.new) }
 {
+    let mut spot: usize = 0;
     for event in events {
-        make_room_of(chains, alloc, event.key(), hint)?;
+        make_room_of(chains, alloc, event.key(), hints.at(spot))?;
+        spot = spot.saturating_add(1);
     }
     Ok(())
 }
@@ -343,13 +346,13 @@ fn add_version(
     }
 }
 
-/// Adds a version to the chain of each event's key. Each has room for it, and is looked for at the hint first.
+/// Adds a version to the chain of each event's key. Each has room for it, and is looked for at its hint first.
 pub(crate) fn add_versions(
     chains: &mut Chains,
     present: &mut usize,
     events: &[Event],
     number: u64,
-    hint: usize,
+    hints: Hints,
 )
     requires room { (k : List ℕ) → is_some (event_about k events.now) ≡ true → 0 < room_in (get_by_text chains.old k) }
     requires apart { AreApart events.now }
@@ -361,7 +364,8 @@ pub(crate) fn add_versions(
 {
     let mut spot: usize = 0;
     for event in events {
-        add_version(chains, present, event, Version { number, spot }, hint);
+        let version = Version { number, spot };
+        add_version(chains, present, event, version, hints.at(spot));
         spot = spot.saturating_add(1);
     }
 }

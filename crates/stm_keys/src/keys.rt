@@ -12,11 +12,12 @@ ghost use Rattle.stm_keys.specs.Keys.{key_read, DeletePresent, HasSmallNumbers, 
 
 use crate::chains::{
     Chains, NO_HINT, Revisions, add_versions, find_before, find_newest, find_now, find_number_from,
-    find_present, find_state, forget_events, hint_of, make_room,
+    find_present, find_state, forget_events, make_room,
 };
 use crate::copies::{copy_chains, copy_revisions};
 use crate::event::Event;
 use crate::events::Events;
+use crate::hints::Hints;
 use crate::refusal::{ApplyRefusal, ReadRefusal};
 use crate::shared_text::SharedText;
 use indexmap::IndexMap;
@@ -139,7 +140,7 @@ fn make_room_in(revisions: &mut Revisions) -> Result<(), AllocError>
     Ok(())
 }
 
-/// Adds a recorded revision, and its number to the chains of its keys, which are looked for at the hint first. Every
+/// Adds a recorded revision, and its number to the chains of its keys, which are looked for at the hints first. Every
 /// growth comes before the first change.
 fn add_recorded(
     revisions: &mut Revisions,
@@ -147,7 +148,7 @@ fn add_recorded(
     present: &mut usize,
     events: Events,
     number: u64,
-    hint: usize,
+    hints: Hints,
 ) -> Result<(), AllocError>
     requires apart { AreApart events }
     requires bound { present.old ≤ length chains.old.entries }
@@ -162,9 +163,9 @@ fn add_recorded(
     ensures same { OnErr result ((k : List ℕ) → versions_in (get_by_text chains.new k) ≡ versions_in (get_by_text chains.old k)) }
     ensures kept { OnErr result (KeepsPresent (λ k. versions_in (get_by_text chains.old k)) (names_of chains.old) (names_of chains.new)) }
 {
-    make_room(chains, *revisions.allocator(), events.as_slice(), hint)?;
+    make_room(chains, *revisions.allocator(), events.as_slice(), hints)?;
     make_room_in(revisions)?;
-    add_versions(chains, present, events.as_slice(), number, hint);
+    add_versions(chains, present, events.as_slice(), number, hints);
     revisions.push_back_reserved(events);
     Ok(())
 }
@@ -338,43 +339,35 @@ impl Keys {
         }
     }
 
-    /// Where the chain of the first changed key stands. A revision of one change, as most are, needs one look-up by
-    /// text then.
-    fn first_hint(&self, changes: &[Change]) -> usize {
-        match changes.first() {
-            Some(change) => hint_of(&self.chains, change.key().as_str()),
-            None => NO_HINT,
-        }
-    }
-
     /// What the only change of the next revision shows.
-    fn show_only(&self, changes: Vec<Change>, hint: usize) -> Result<Events, AllocError>
+    fn show_only(&self, changes: Vec<Change>, hints: Hints) -> Result<Events, AllocError>
         requires { length changes.items ≡ 1 }
         ensures { IfOk result (λ events. events ≡ map (event_of (now self.now.history + 1) (key_now self.now.history)) changes.items) }
     {
-        let event = self.show_change(take_only(changes), hint)?;
+        let event = self.show_change(take_only(changes), hints.at(0))?;
         Ok(Events::one(event))
     }
 
     /// What each change of the next revision shows, in their order.
-    fn show_each(&self, changes: Vec<Change>, hint: usize) -> Result<Events, AllocError>
+    fn show_each(&self, changes: Vec<Change>, hints: Hints) -> Result<Events, AllocError>
         ensures { IfOk result (λ events. events ≡ map (event_of (now self.now.history + 1) (key_now self.now.history)) changes.items) }
     {
         let mut events = Vec::with_capacity(*self.revisions.allocator(), changes.len())?;
         for change in changes {
-            events.push(self.show_change(change, hint)?)?;
+            let event = self.show_change(change, hints.at(events.len()))?;
+            events.push(event)?;
         }
         Ok(Events::of(events))
     }
 
     /// What the changes of the next revision show, in their order. Their values are moved, and the text of a key that has no event yet.
-    fn show_changes(&self, changes: Vec<Change>, hint: usize) -> Result<Events, AllocError>
+    fn show_changes(&self, changes: Vec<Change>, hints: Hints) -> Result<Events, AllocError>
         ensures { IfOk result (λ events. events ≡ map (event_of (now self.now.history + 1) (key_now self.now.history)) changes.items) }
     {
         if changes.len() == 1 {
-            self.show_only(changes, hint)
+            self.show_only(changes, hints)
         } else {
-            self.show_each(changes, hint)
+            self.show_each(changes, hints)
         }
     }
 
@@ -396,15 +389,15 @@ impl Keys {
         if before == HIGHEST_REVISION {
             return Err(ApplyRefusal::RevisionsUsedUp);
         }
-        let hint = self.first_hint(changes.as_slice());
-        let events = self.show_changes(changes, hint)?;
+        let hints = Hints::of(&self.chains, changes.as_slice());
+        let events = self.show_changes(changes, hints)?;
         add_recorded(
             &mut self.revisions,
             &mut self.chains,
             &mut self.present,
             events,
             before + 1,
-            hint,
+            hints,
         )?;
         Ok(before + 1)
     }

@@ -9,6 +9,7 @@ mod chains;
 mod copies;
 mod event;
 mod events;
+mod hints;
 mod keys;
 pub mod laws;
 mod refusal;

@@ -4,5 +4,7 @@ pub mod TakeLemmas
 pub mod StepLemmas
 pub mod StepsLeft
 pub mod PartLemmas
+pub mod DirectLemmas
+pub mod JumpLemmas
 pub mod RunLemmas
 pub mod WorkedExamples

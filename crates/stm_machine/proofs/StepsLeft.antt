@@ -1,7 +1,7 @@
 -- How many steps a machine has left, at most: a number that each step makes smaller. A node of an expression or a condition counts three, a part
 -- that waits counts one besides what it still has to do, and a loop counts its limit times its body.
-use Rattle.std.proofs.Common.{◌≡◌, refl, ap, ℕ, zero, suc, ◌+◌, ◌*◌, ◌<◌, ◌≤◌, Bool, true, false, List, [], ◌∷◌, arith}
-use Rattle.std.specs.Prelude.{pos, negsuc, nat_le, if◌then◌else◌, Result, Ok, Err, Some}
+use Rattle.std.proofs.Common.{◌≡◌, refl, ap, ℕ, zero, suc, ◌+◌, ◌*◌, ◌<◌, ◌≤◌, Bool, true, false, List, [], ◌∷◌, inl, inr, arith}
+use Rattle.std.specs.Prelude.{◌⊎◌, pos, negsuc, nat_le, if◌then◌else◌, Result, Ok, Err, Some}
 use Rattle.std.proofs.Math.Nat.{mul-le-mul_left}
 use Rattle.std.proofs.lemmas.Bool.{leb-true}
 use Rattle.stm_program.specs.Syntax as tree
@@ -35,7 +35,8 @@ use Rattle.stm_machine.specs.declared.frame.TruthFrame.TheVariants.{Not, And, Or
 use Rattle.stm_machine.specs.declared.frame.NextFrame.{NextFrame}
 use Rattle.stm_machine.specs.declared.frame.NextFrame.TheVariants.{Rest, Loop}
 use Rattle.stm_machine.specs.Moves.{Move}
-use Rattle.stm_machine.specs.Parts.{turns_from}
+use Rattle.stm_machine.specs.Parts.{first_of, behind_first, turns_from}
+use Rattle.stm_machine.specs.Direct.{IsPast, JumpsExpression, JumpsStatement}
 use Rattle.stm_machine.specs.State.{MachineState, state_of}
 use Rattle.stm_machine.specs.Moves.{goes, at_value, at_truth, at_get, at_rev, at_abort, frames_after, begin_expression, begin_condition, begin_statement}
 use Rattle.stm_machine.specs.Moves.{begin_block, take_operand, take_compared, take_truth, write_moved, begin_loop, take_argument, turn_moved, take_turn}
@@ -302,3 +303,59 @@ step_falls look (Ended end) frames s n is = absurd (cc)
 -- Each step leaves fewer.
 pub steps_fall : (look : Lookup) (m n : MachineState) → step_of look m ≡ Some n → steps_left n < steps_left m
 steps_fall look m n is = step_falls look m.focus m.frames m.session n is
+
+-- ---- jumps
+
+some_nodes : (e : Expression) → 1 ≤ expression_nodes e
+some_nodes (tree.Text t) = omega arith
+some_nodes (tree.Number n) = omega arith
+some_nodes (tree.Variable v) = omega arith
+some_nodes (tree.Get e) = omega arith
+some_nodes (tree.Rev e) = omega arith
+some_nodes (tree.Arithmetic operator e f) = omega arith
+some_nodes (tree.Cat e f) = omega arith
+some_nodes (tree.TextOf e) = omega arith
+some_nodes (tree.NumOf e) = omega arith
+
+some_steps : (statement : Statement) → 1 ≤ statement_steps statement
+some_steps (tree.Set v e) = omega arith
+some_steps (tree.Put e f lease) = omega arith
+some_steps (tree.Del e) = omega arith
+some_steps (tree.If c then_block else_block) = omega arith
+some_steps (tree.For v e limit body) = omega arith
+some_steps (tree.Emit e) = omega arith
+some_steps (tree.Abort e) = omega arith
+
+few_steps : (focus : Focus) → IsPast focus → focus_steps focus ≤ 2
+few_steps (Evaluate e) past = absurd past
+few_steps (Test c) past = absurd past
+few_steps (Get key) past = omega arith
+few_steps (Rev key) past = omega arith
+few_steps (Give item) past = omega arith
+few_steps (Ended end) past = omega arith
+
+fewer_behind : (block left : Block) (first : Statement) → first_of block ≡ Some first → left ≡ behind_first block → block_steps left < block_steps block
+fewer_behind End left first is_first behind = absurd (cc)
+fewer_behind (Then p rest) left first is_first behind =
+    let count : block_steps left ≡ block_steps rest = ap block_steps behind in omega (arith, count, some_steps p)
+
+expression_jumps : (m n : MachineState) → JumpsExpression m n → steps_left n < steps_left m
+expression_jumps m n j =
+    let after : steps_left n ≡ focus_steps j.focus + stack_steps m.frames = ap steps_left j.left in
+    let before : focus_steps m.focus ≡ 3 * expression_nodes j.expression = ap focus_steps j.stands in
+    omega (arith, after, before, few_steps j.focus j.leads.past, some_nodes j.expression)
+
+statement_jumps : (m n : MachineState) → JumpsStatement m n → steps_left n < steps_left m
+statement_jumps m n j =
+    let p = j.passes in
+    let after : steps_left n ≡ 1 + (1 + frame_steps j.after + stack_steps j.frames) = ap steps_left j.left in
+    let before : focus_steps m.focus ≡ 1 = ap focus_steps j.stands in
+    let waiting : stack_steps m.frames ≡ 1 + frame_steps j.before + stack_steps j.frames = ap stack_steps j.waits in
+    let left : frame_steps j.after ≡ block_steps p.left = ap frame_steps p.remains in
+    let block : frame_steps j.before ≡ block_steps p.block = ap frame_steps p.waits in
+    omega (arith, after, before, waiting, left, block, fewer_behind p.block p.left p.passes.first p.passes.is_first p.passes.behind)
+
+-- Each jump leaves fewer, too.
+pub jumps_fall : (m n : MachineState) → JumpsExpression m n ⊎ JumpsStatement m n → steps_left n < steps_left m
+jumps_fall m n (inl j) = expression_jumps m n j
+jumps_fall m n (inr j) = statement_jumps m n j

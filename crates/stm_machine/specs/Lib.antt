@@ -5,3 +5,4 @@ pub mod Finish
 pub mod Moves
 pub mod Steps
 pub mod Laws
+pub mod Direct

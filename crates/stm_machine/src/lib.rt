@@ -5,9 +5,11 @@
 #![tactic(auto)]
 
 mod conditions;
+mod direct;
 mod expressions;
 mod focus;
 mod frame;
+mod jumps;
 pub mod laws;
 mod machine;
 mod moves;

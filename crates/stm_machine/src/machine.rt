@@ -2,10 +2,12 @@
 ghost use Rattle.std.specs.Prelude.{◌≡◌, None, Some, IfOk, OnOk, OnErr, IsFalse, IsSome, if◌then◌else◌};
 ghost use Rattle.std.specs.Option.{option_copied};
 ghost use Rattle.stm_machine.specs.Steps.{step_of, Stands};
+ghost use Rattle.stm_machine.specs.Direct.{GoesOrStands};
 ghost use Rattle.stm_machine.specs.Laws.{FinishAlike};
 
 use crate::focus::Focus;
 use crate::frame::{Frame, NextFrame};
+use crate::jumps::jump;
 use crate::moves::nothing;
 use crate::parts::Remaining;
 use crate::stack::Stack;
@@ -13,9 +15,8 @@ use crate::steps::go_on;
 use std::alloc::{AllocError, Global};
 use std::marker::Model;
 use std::mem;
-use std::sync::Arc;
 use stm_history::Text;
-use stm_program::{Block, Program};
+use stm_program::Program;
 use stm_steps::{Lookup, Run, Session};
 
 /// A run of a program on its way, which can stand still at a key that its look-up does not know.
@@ -59,11 +60,7 @@ impl Machine {
     pub fn new(alloc: Global, program: &Program) -> Result<Machine, AllocError>
         ensures { IfOk result (λ m. m ≡ started program.now.statements) }
     {
-        let statements = program.statements().to_vec(alloc)?;
-        let block = Block {
-            statements: Arc::new(alloc, statements)?,
-        };
-        let block = Remaining::of(&block)?;
+        let block = Remaining::all(program.block(alloc)?);
         let mut stack = Stack::with_room(alloc)?;
         stack.push(Frame::Next(NextFrame::Rest(block)));
         let session = Session::new(alloc)?;
@@ -99,6 +96,24 @@ impl Machine {
         Ok(true)
     }
 
+    /// Jumps over what is run at once, or else makes one step, and answers whether there was one to make. Want of memory leaves the machine as it was.
+    fn go<L: Lookup>(&mut self, lookup: &L) -> Result<bool, AllocError>
+        ensures ok { IfOk result (λ made. GoesOrStands (L.answers lookup.now) made self.old self.new) }
+        ensures err { OnErr result (self.new ≡ self.old) }
+    {
+        self.stack.make_room()?;
+        let jumped = jump(
+            self.alloc,
+            &mut self.focus,
+            &mut self.stack,
+            &mut self.session,
+        )?;
+        if jumped {
+            return Ok(jumped);
+        }
+        self.step(lookup)
+    }
+
     /// Goes on until the run ends or wants a key that the look-up does not know.
     ///
     /// Whatever is looked up later, finishing the run comes to the same as before, where the later look-up knows what
@@ -108,7 +123,7 @@ impl Machine {
         ensures finish { FinishAlike (L.answers lookup.now) self.old self.new }
         ensures stands { OnOk result (Stands (L.answers lookup.now) self.new) }
     {
-        'steps: while self.step(lookup)? {}
+        'steps: while self.go(lookup)? {}
         Ok(())
     }
 

@@ -112,6 +112,17 @@ impl Model for Remaining {
 }
 
 impl Remaining {
+    /// This whole block.
+    pub(crate) fn all(block: Block) -> Remaining
+        ensures { result ≡ block }
+    {
+        let Block { statements } = block;
+        Remaining {
+            statements,
+            next: 0,
+        }
+    }
+
     /// A whole block.
     pub(crate) fn of(block: &Block) -> Result<Remaining, AllocError>
         ensures { IfOk result (λ r. r ≡ block.now) }
@@ -149,6 +160,16 @@ impl Remaining {
             statements,
             next: self.next,
         })
+    }
+
+    /// Passes the first statement, where one is left.
+    pub(crate) fn pass_first(&mut self)
+        ensures { self.new ≡ behind_first self.old }
+    {
+        if self.next >= self.statements.len() {
+            return;
+        }
+        self.next += 1;
     }
 }
 

@@ -62,6 +62,11 @@ impl Stack {
         self.frames.push_reserved(frame);
     }
 
+    /// The innermost part, where there is one. It is only looked at, and no contract speaks of it.
+    pub(crate) fn top(&self) -> Option<&Frame> {
+        self.frames.as_slice().last()
+    }
+
     /// Takes out the innermost part, where there is one.
     pub(crate) fn take(&mut self) -> Option<Frame>
         ensures taken { result ≡ top_of self.old.frames }

@@ -1,11 +1,11 @@
 -- The list of a program: its limits, its copies, and when two programs are the same.
 use Rattle.std.proofs.Common.{◌≡◌, ℕ, ◌≤◌, ◌-◌, Bool, true, false, not, List, [], ◌∷◌, ◌++◌, length, map, take, drop, get_or, String, refl, sym, ap, ◌∙◌, ◌↔◌, IsTrue, arith}
 use Rattle.std.specs.Prelude.{◌&&◌, ◌||◌, nat_lt, bytes_eq, string_bytes}
-use Rattle.std.specs.List.{AllZip, IsDistinct, AllByRecursion, list_any, each_same}
+use Rattle.std.specs.List.{AllZip, IsDistinct, AllByRecursion, list_any}
 use Rattle.std.proofs.lemmas.List.{take_rest}
 use Rattle.std.proofs.lemmas.Bool.{le-ltb, ltb-false}
 use Rattle.stm_program.specs.declared.limits.TheConstants.{MAX_PREFETCH}
-use Rattle.stm_program.specs.Syntax.{Statement, ProgramTree}
+use Rattle.stm_program.specs.Syntax.{Block, ProgramTree}
 use Rattle.stm_program.specs.BlockView.{block_of}
 use Rattle.stm_program.specs.Limits.{is_no_key, has_repeat, ListFits, fits_with}
 use Rattle.stm_program.proofs.WriteLemmas.{bytes_eq-flip, bytes_eq-same}
@@ -96,8 +96,8 @@ named-push key (k ∷ later) new named =
 
 -- ---- copies, and equal programs
 
-abbrev pub tree_of : {A : Type 0} → List (String A) → List Statement → ProgramTree
-tree_of keys statements = record { statements = block_of statements; prefetch = map string_bytes keys }
+abbrev pub tree_held : {A : Type 0} → List (String A) → Block → ProgramTree
+tree_held keys statements = record { statements = statements; prefetch = map string_bytes keys }
 
 pub keys_copied : {A : Type 0} (es fs : List (String A)) → AllZip (λ e f. string_bytes f ≡ string_bytes e) es fs → map string_bytes fs ≡ map string_bytes es
 keys_copied [] [] p = refl
@@ -106,11 +106,15 @@ keys_copied (e ∷ es) [] p = absurd p
 keys_copied (e ∷ es) (f ∷ fs) p = λ i. p.0 i ∷ keys_copied es fs p.1 i
 
 -- a copy of a program
-pub program_copied : {A : Type 0} (keys copies : List (String A)) (statements others : List Statement)
-    → AllZip (λ e f. string_bytes f ≡ string_bytes e) keys copies → AllZip (λ s t. t ≡ s) statements others
-    → tree_of copies others ≡ tree_of keys statements
-program_copied keys copies statements others lists same =
-    λ i. record { statements = block_of (each_same statements others same i); prefetch = keys_copied keys copies lists i }
+pub program_copied : {A : Type 0} (keys copies : List (String A)) (statements others : Block)
+    → AllZip (λ e f. string_bytes f ≡ string_bytes e) keys copies → others ≡ statements
+    → tree_held copies others ≡ tree_held keys statements
+program_copied keys copies statements others lists same = λ i. record { statements = same i; prefetch = keys_copied keys copies lists i }
+
+-- the same program, whose statements stand elsewhere
+pub program_shared : {A : Type 0} (keys : List (String A)) (statements others : Block) → others ≡ statements →
+    tree_held keys others ≡ tree_held keys statements
+program_shared keys statements others same = ap (tree_held keys) same
 
 -- two lists of which the first keys are the same are the same where the others are
 pub same_keys : {A : Type 0} (ls rs : List (String A)) (f g : String A) (first other : List ℕ) (same : Bool) → 1 ≤ length ls → 1 ≤ length rs

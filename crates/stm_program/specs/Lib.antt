@@ -5,6 +5,7 @@ pub mod ExpressionView
 pub mod ConditionView
 pub mod StatementView
 pub mod BlockView
+pub mod Held
 pub mod Weight
 pub mod Limits
 pub mod Writes

@@ -3,6 +3,7 @@
 
 mod condition;
 mod expression;
+mod held;
 mod latest;
 pub mod laws;
 mod level;

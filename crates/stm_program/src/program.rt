@@ -1,13 +1,14 @@
 //! Programs.
-ghost use Rattle.std.specs.Prelude.{◌≡◌, ◌↔◌, IsTrue, map, string_bytes};
+ghost use Rattle.std.specs.Prelude.{◌≡◌, ◌↔◌, IsTrue, IfOk, map, string_bytes};
 ghost use Rattle.stm_program.specs.BlockView.{block_of};
 ghost use Rattle.stm_program.specs.Limits.{Fits};
 ghost use Rattle.stm_program.specs.Syntax.{of_statements};
 
+use crate::held::{Held, block_held, copy_held, share, slice_held};
 use crate::list::are_same_keys;
 use crate::same::are_same_statements;
-use crate::statement::Stmt;
-use std::alloc::AllocError;
+use crate::statement::{Block, Stmt};
+use std::alloc::{AllocError, Global};
 use std::marker::Model;
 
 /// A program: statements within the limits, and before them the keys of its list, whether the statements read them or not. Those enter
@@ -19,7 +20,7 @@ use std::marker::Model;
 #[derive(Debug)]
 pub struct Program {
     prefetch: Vec<String>,
-    statements: Vec<Stmt>,
+    statements: Held,
 }
 
 impl Drop for Program {
@@ -40,12 +41,12 @@ impl Model for Program {
 
     ghost coded = { coded_program };
 
-    ghost use Rattle.stm_program.specs.BlockView.{block_of};
+    ghost use Rattle.stm_program.specs.Held.{statements_held};
     ghost use Rattle.stm_program.specs.Limits.{Fits};
 
-    ghost view = { λ p. record { statements = block_of p.statements.items; prefetch = map string_bytes p.prefetch.items } };
+    ghost view = { λ p. record { statements = statements_held p.statements; prefetch = map string_bytes p.prefetch.items } };
 
-    ghost invariant = { λ p. Fits (record { statements = block_of p.statements.items; prefetch = map string_bytes p.prefetch.items }) };
+    ghost invariant = { λ p. Fits (record { statements = statements_held p.statements; prefetch = map string_bytes p.prefetch.items }) };
 }
 
 impl Program {
@@ -57,7 +58,7 @@ impl Program {
         let prefetch = Vec::new(*statements.allocator());
         Program {
             prefetch,
-            statements,
+            statements: Held::Own(statements),
         }
     }
 
@@ -69,8 +70,35 @@ impl Program {
     {
         Program {
             prefetch,
-            statements,
+            statements: Held::Own(statements),
         }
+    }
+
+    /// The same program, whose copies share its statements from now on: a copy costs one step then, and one for each key of the list.
+    ///
+    /// Want of memory is the only refusal, and drops the program.
+    pub fn share(self, alloc: Global) -> Result<Program, AllocError>
+        ensures { IfOk result (λ program. program ≡ self) }
+    {
+        let Program {
+            prefetch,
+            statements,
+        } = self;
+        let Ok(statements) = share(alloc, statements) else {
+            drop(prefetch);
+            return Err(AllocError);
+        };
+        Ok(Program {
+            prefetch,
+            statements,
+        })
+    }
+
+    /// The statements as a block: the one that is shared, which takes no memory, or one of copies. Want of memory is the only refusal.
+    pub fn block(&self, alloc: Global) -> Result<Block, AllocError>
+        ensures { IfOk result (λ block. block ≡ self.now.statements) }
+    {
+        block_held(alloc, &self.statements)
     }
 
     /// Whether it is the same program as another one. `==` answers this.
@@ -99,17 +127,18 @@ impl Program {
         ensures same { block_of result.now ≡ self.now.statements }
         ensures fits { Fits self.now }
     {
-        self.statements.as_slice()
+        slice_held(&self.statements)
     }
 }
 
-/// A copy shares all but the outermost statements with its source: it costs one step for each of these and for each key of the list.
+/// A copy shares all but the outermost statements with its source, and these too where they are shared: else it costs one step for each of them. It costs
+/// one for each key of the list.
 impl Clone for Program {
     ghost is_clone = { λ p copy. copy ≡ p };
 
     fn clone(&self) -> Result<Program, AllocError> {
         let prefetch = self.prefetch.clone()?;
-        let statements = self.statements.clone()?;
+        let statements = copy_held(&self.statements)?;
         Ok(Program {
             prefetch,
             statements,

@@ -62,7 +62,9 @@ fn program_behind(alloc: Global, parts: &[Value], rest: &[Value]) -> Result<Prog
 {
     let keys = list::list_part(alloc, parts)?;
     let (statements, _left) = statements::statement_list(alloc, rest, 1, MAX_DEPTH, MAX_NODES)?;
-    Ok(Program::with_list(keys, statements))
+    // Its copies share it.
+    let program = Program::with_list(keys, statements).share(alloc)?;
+    Ok(program)
 }
 
 /// The program of statements.
@@ -70,7 +72,8 @@ fn program_alone(alloc: Global, values: &[Value]) -> Result<Program, ReadError>
     ensures { (rest : Items) → Tells (λ p. p) result (program_after None (items_view values.now) rest) }
 {
     let (statements, _left) = statements::statement_list(alloc, values, 0, MAX_DEPTH, MAX_NODES)?;
-    Ok(Program::of(statements))
+    let program = Program::of(statements).share(alloc)?;
+    Ok(program)
 }
 
 #[tactic(auto, unfolding(crate::specs::Reading::program_of))]

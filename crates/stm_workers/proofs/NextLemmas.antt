@@ -13,6 +13,7 @@ use Rattle.stm_attempt.specs.declared.next.Next.{Next}
 use Rattle.stm_attempt.specs.declared.next.Next.TheVariants.{FetchAll, Fetch, Ready, Aborted, Faulted}
 use Rattle.stm_attempt.specs.AttemptState.{AttemptState, begun, advanced, supplied, supplied_all, awaited, list_awaited}
 use Rattle.stm_attempt.specs.Known.{Known}
+use Rattle.stm_attempt.specs.Leaving.{left_by}
 use Rattle.stm_attempt.specs.ReadyRun.{ReadyRun, ready_run}
 use Rattle.stm_attempt.specs.Settled.{run_on}
 use Rattle.stm_attempt.specs.Entering.{is_due, gone_on}
@@ -164,6 +165,30 @@ supplied_is_of job answer old new is of = subst (IsOfJob job) (sym is) of
 
 pub begun_is_of : (job : Job) (answers : List ReadAnswer) (new : AttemptState) → new ≡ begun job.level answers → IsOfJob job new
 begun_is_of job answers new is = subst (IsOfJob job) (sym is) (tt, refl)
+
+-- ---- what an attempt is left as by an answer
+
+left_by_is_of : (job : Job) (old : AttemptState) (next : Next) → IsOfJob job old → IsOfJob job (left_by next (advanced job.program old))
+left_by_is_of job old (FetchAll keys at) of = (refl, of.1)
+left_by_is_of job old (Fetch key at) of = (refl, of.1)
+left_by_is_of job old (Ready ready) of = (tt, of.1)
+left_by_is_of job old (Aborted run) of = (refl, of.1)
+left_by_is_of job old (Faulted run) of = (refl, of.1)
+
+pub left_is_of : (job : Job) (old new : AttemptState) (next : Next) → new ≡ left_by next (advanced job.program old) → IsOfJob job old → IsOfJob job new
+left_is_of job old new next left of = subst (IsOfJob job) (sym left) (left_by_is_of job old next of)
+
+pub left_at_fetch : (old new : AttemptState) (next : Next) (key : List ℕ) (at : ℕ) → new ≡ left_by next old → next ≡ Fetch key at → new ≡ old
+left_at_fetch old new next key at left is = left ∙ ap (λ (n : Next). left_by n old) is
+
+pub left_at_list : (old new : AttemptState) (next : Next) (keys : List (List ℕ)) (at : ℕ) → new ≡ left_by next old → next ≡ FetchAll keys at → new ≡ old
+left_at_list old new next keys at left is = left ∙ ap (λ (n : Next). left_by n old) is
+
+pub left_at_abort : (old new : AttemptState) (next : Next) (run : Run) → new ≡ left_by next old → next ≡ Aborted run → new ≡ old
+left_at_abort old new next run left is = left ∙ ap (λ (n : Next). left_by n old) is
+
+pub left_at_fault : (old new : AttemptState) (next : Next) (run : Run) → new ≡ left_by next old → next ≡ Faulted run → new ≡ old
+left_at_fault old new next run left is = left ∙ ap (λ (n : Next). left_by n old) is
 
 -- the key that is fetched is the one that the attempt waits for
 pub waits_for : (attempt : AttemptState) (next : Next) (key : List ℕ) (at : ℕ) (answer : ReadAnswer) → awaited attempt ≡ key_asked next →

@@ -81,10 +81,10 @@ statement_sync =
     (search parts depth 12) (search parts depth 12)
 
 pub program_send : IsSend Program.the_row
-program_send = let keys = Vec-send _ String-send in let statements = Vec-send Stmt.the_row statement_send in search sendable depth 12
+program_send = let keys = Vec-send _ String-send in let statements = Vec-send Stmt.the_row statement_send in search (block_send, sendable) depth 12
 
 pub program_sync : IsSync Program.the_row
-program_sync = let keys = Vec-sync _ String-sync in let statements = Vec-sync Stmt.the_row statement_sync in search sendable depth 12
+program_sync = let keys = Vec-sync _ String-sync in let statements = Vec-sync Stmt.the_row statement_sync in search (block_sync, sendable) depth 12
 
 -- ---- what an entry holds
 

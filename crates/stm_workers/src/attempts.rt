@@ -128,7 +128,7 @@ impl<'a, R: RunOfJobs, W: Wait, G: Gate> Executor<'a, R, W, G> {
     {
         // No key of a list is empty.
         job.program.prefetch();
-        let next = attempt.advance(&job.program)?;
+        let next = attempt.advance_to_end(&job.program)?;
         match next {
             Next::Ready(ready) => Ok(Some(ready)),
             Next::Aborted(run) => Err(Stop::of_run(run, attempt.take_reads())),

@@ -1,31 +1,18 @@
-use Rattle.std.proofs.Common.{◌∙◌}
-use Rattle.stm_attempt.proofs.EnteringLemmas.{behind_next, behind_reads, behind_gone, extends_further}
+use Rattle.std.proofs.Common.{◌∙◌, sym, subst}
+use Rattle.stm_attempt.specs.declared.progress.Progress.{Progress}
+use Rattle.stm_attempt.specs.Progress.{HasCome}
+use Rattle.stm_attempt.proofs.ProgressLemmas.{end_is}
 use Rattle.stm_attempt.proofs.progress.go_on.Goals as goal
 
-pub returns-in_err-next-clause-settles : goal.returns-in_err-next-clause-settles
-returns-in_err-next-clause-settles c =
-    behind_gone c.args.program.now c.args.reads.now c.enter.new.reads c.args.prefetched.now c.go_behind.new.reads c.enter.ensures.gone
-    (c.in_ok-due.ensures.due ∙ c.if-due.false) c.go_behind.ensures.extends c.go_behind.ensures.settles
+pub tell_end-requires-clause-ended : goal.tell_end-requires-clause-ended
+tell_end-requires-clause-ended c = c.in_ok-wanted.ensures.ended c.in-None.is
 
-pub returns-in_err-next-clause-extends : goal.returns-in_err-next-clause-extends
-returns-in_err-next-clause-extends c =
-    extends_further c.args.reads.now c.enter.new.reads c.go_behind.new.reads c.enter.ensures.extends c.go_behind.ensures.extends
+pub returns-in_err-next-in-None-clause-come : goal.returns-in_err-next-in-None-clause-come
+returns-in_err-next-in-None-clause-come c =
+    subst (λ (p : Progress). HasCome c.args.program.now c.come_on.new.reads p) (sym c.in_err-next-in-None.ensures.err) c.come_on.ensures.come
 
-pub returns-clause-settles : goal.returns-clause-settles
-returns-clause-settles c =
-    behind_gone c.args.program.now c.args.reads.now c.enter.new.reads c.args.prefetched.now c.go_behind.new.reads c.enter.ensures.gone
-    (c.in_ok-due.ensures.due ∙ c.if-due.false) c.go_behind.ensures.extends c.go_behind.ensures.settles
-
-pub returns-clause-extends : goal.returns-clause-extends
-returns-clause-extends c =
-    extends_further c.args.reads.now c.enter.new.reads c.go_behind.new.reads c.enter.ensures.extends c.go_behind.ensures.extends
-
-pub returns-clause-reads : goal.returns-clause-reads
-returns-clause-reads c =
-    behind_reads c.args.program.now c.args.reads.now c.enter.new.reads c.args.prefetched.now c.go_behind.new.reads c.enter.ensures.gone
-    (c.in_ok-due.ensures.due ∙ c.if-due.false) c.in_ok-next.ensures.reads
-
-pub returns-clause-next : goal.returns-clause-next
-returns-clause-next c =
-    behind_next c.args.program.now c.args.level c.args.reads.now c.enter.new.reads c.args.prefetched.now c.in_ok-next.next c.enter.ensures.gone
-    (c.in_ok-due.ensures.due ∙ c.if-due.false) c.in_ok-next.ensures.next
+pub returns-in_ok-next-in-None-clause-next : goal.returns-in_ok-next-in-None-clause-next
+returns-in_ok-next-in-None-clause-next c =
+    end_is c.args.program.now c.args.level c.come_on.new.reads c.come_on.new.progress c.in_ok-next-in-None.next
+    (c.in_ok-wanted.ensures.ended c.in-None.is) c.come_on.ensures.come c.in_ok-next-in-None.ensures.next
+    ∙ sym (c.in_ok-wanted.ensures.at_end c.in-None.is)

@@ -18,3 +18,7 @@ returns-in-Some c =
     let ready : ReadyRun = c.args.ready.now in
     ap (λ (o : Option FailedCompare). cause_failed o (cause_unvouched (first_unvouched c.args.keys.now.history ready.level ready.answers)))
     (sym c.in-Some.is ∙ c.find_conflict.ensures)
+
+-- every key is still as it was read
+pub returns-then-is_clear : goal.returns-then-is_clear
+returns-then-is_clear c = sym (c.is_clear.ensures c.if-is_clear.true)

@@ -7,7 +7,7 @@ use Rattle.stm_program.proofs.program.ProgramClone.clone.Goals as goal
 pub invariant_of-result : goal.invariant_of-result
 invariant_of-result c =
     subst (λ (p : ProgramTree). Fits p)
-    (sym (program_copied _ _ _ _ c.in_ok-prefetch.ensures.cases.0 c.in_ok-statements.ensures.cases.0)) c.self.invariant
+    (sym (program_copied _ _ _ _ c.in_ok-prefetch.ensures.cases.0 c.in_ok-statements.ensures)) c.self.invariant
 
 pub returns : goal.returns
-returns c = record { cases = program_copied _ _ _ _ c.in_ok-prefetch.ensures.cases.0 c.in_ok-statements.ensures.cases.0 ∙ c.self.view_is }
+returns c = record { cases = program_copied _ _ _ _ c.in_ok-prefetch.ensures.cases.0 c.in_ok-statements.ensures ∙ c.self.view_is }

@@ -1,20 +1,20 @@
-use Rattle.stm_workers.proofs.NextLemmas.{aborted_is_not_done, faulted_is_not_done, ready_is_of, advanced_is_of, supplied_is_of, all_supplied_is_of, waits_for, waits_for_list, list_is_named}
+use Rattle.stm_workers.proofs.NextLemmas.{aborted_is_not_done, faulted_is_not_done, ready_is_of, left_is_of, left_at_fetch, left_at_list, left_at_abort, left_at_fault, supplied_is_of, all_supplied_is_of, waits_for, waits_for_list, list_is_named}
 use Rattle.stm_workers.proofs.NextLemmas.{aborted_is_run, faulted_is_run, aborted_has_list, faulted_has_list, reads_taken}
 use Rattle.std.proofs.Common.{◌≡◌, ◌⊎◌, ℕ, List, Some, inl, inr, refl, ap, subst, sym, ◌∙◌}
 use Rattle.stm_history.specs.declared.key_state.ReadAnswer.{ReadAnswer}
 use Rattle.std.proofs.lemmas.Result.{err_from_is_err_and}
-use Rattle.stm_attempt.specs.AttemptState.{AttemptState, supplied, supplied_all}
+use Rattle.stm_attempt.specs.AttemptState.{AttemptState, advanced, supplied, supplied_all}
 use Rattle.stm_workers.specs.declared.stop.Stop.TheVariants.{OutOfMemory}
 use Rattle.stm_outcome.specs.Commits.{AreNamed}
 use Rattle.stm_workers.specs.Attempts.{state_of, AreAnswered, AreUnanswered}
 use Rattle.stm_workers.proofs.AttemptLemmas.{told_out, fetch_stops, list_stops}
 use Rattle.stm_workers.proofs.executor.Executor.go_on.Goals as goal
 
-pub advance-requires : goal.advance-requires
-advance-requires g c = c.requires.0
+pub advance_to_end-requires : goal.advance_to_end-requires
+advance_to_end-requires g c = c.requires.0
 
 pub returns-in-Ready-clause-attempt : goal.returns-in-Ready-clause-attempt
-returns-in-Ready-clause-attempt g c = advanced_is_of c.args.job.now _ _ c.in_ok-next.ensures.ok c.requires
+returns-in-Ready-clause-attempt g c = left_is_of c.args.job.now c.args.attempt.now c.advance_to_end.new.self c.in_ok-next.next c.in_ok-next.ensures.left c.requires
 
 -- it is a run of the job
 pub returns-in-Ready-clause-ready : goal.returns-in-Ready-clause-ready
@@ -29,13 +29,13 @@ of_run-requires-in-Faulted g c = faulted_is_not_done c.args.job.now.program c.ar
 -- the answer is for the key that the attempt waits for
 pub supply-requires-clause-asked : goal.supply-requires-clause-asked
 supply-requires-clause-asked g c =
-    waits_for c.advance.new.self c.in_ok-next.next c.in-Fetch.key c.in-Fetch.at c.in_ok-answer-in-Fetch.answer c.in_ok-next.ensures.asked c.in-Fetch.is
+    waits_for c.advance_to_end.new.self c.in_ok-next.next c.in-Fetch.key c.in-Fetch.at c.in_ok-answer-in-Fetch.answer c.in_ok-next.ensures.asked c.in-Fetch.is
     c.in_ok-answer-in-Fetch.ensures.key
 
 pub returns-in_ok-supply-in-Fetch-clause-attempt : goal.returns-in_ok-supply-in-Fetch-clause-attempt
 returns-in_ok-supply-in-Fetch-clause-attempt g c =
-    supplied_is_of c.args.job.now c.in_ok-answer-in-Fetch.answer c.advance.new.self _ c.in_ok-supply-in-Fetch.ensures.ok
-    (advanced_is_of c.args.job.now _ _ c.in_ok-next.ensures.ok c.requires)
+    supplied_is_of c.args.job.now c.in_ok-answer-in-Fetch.answer c.advance_to_end.new.self _ c.in_ok-supply-in-Fetch.ensures.ok
+    (left_is_of c.args.job.now c.args.attempt.now c.advance_to_end.new.self c.in_ok-next.next c.in_ok-next.ensures.left c.requires)
 
 -- ---- a fetch
 
@@ -47,7 +47,8 @@ returns-in_ok-supply-in-Fetch-clause-fetch g c = λ none. inl (record {
   answer = c.in_ok-answer-in-Fetch.answer;
   answered = c.in_ok-answer-in-Fetch.ensures.answered;
   goes_on = c.in_ok-supply-in-Fetch.ensures.ok
-      ∙ ap (λ (a : AttemptState). supplied c.in_ok-answer-in-Fetch.answer a) c.in_ok-next.ensures.ok;
+      ∙ ap (λ (a : AttemptState). supplied c.in_ok-answer-in-Fetch.answer a)
+      (left_at_fetch (advanced c.args.job.now.program c.args.attempt.now) c.advance_to_end.new.self c.in_ok-next.next c.in-Fetch.key c.in-Fetch.at c.in_ok-next.ensures.left c.in-Fetch.is);
   sees = c.in_ok-answer-in-Fetch.ensures.seen.1;
 })
 
@@ -61,13 +62,13 @@ ask_all-asked-requires g c =
 
 pub supply_all-requires-clause-asked : goal.supply_all-requires-clause-asked
 supply_all-requires-clause-asked g c =
-    waits_for_list c.advance.new.self c.in_ok-next.next c.in-FetchAll.keys _ c.in_ok-answers-in-FetchAll.answers.items c.in_ok-next.ensures.list
+    waits_for_list c.advance_to_end.new.self c.in_ok-next.next c.in-FetchAll.keys _ c.in_ok-answers-in-FetchAll.answers.items c.in_ok-next.ensures.list
     c.in-FetchAll.is (c.in_ok-answers-in-FetchAll.ensures.keys ∙ c.as_slice.ensures)
 
 pub returns-in_ok-supply_all-in-FetchAll-clause-attempt : goal.returns-in_ok-supply_all-in-FetchAll-clause-attempt
 returns-in_ok-supply_all-in-FetchAll-clause-attempt g c =
-    all_supplied_is_of c.args.job.now c.in_ok-answers-in-FetchAll.answers.items c.advance.new.self _ c.in_ok-supply_all-in-FetchAll.ensures.ok
-    (advanced_is_of c.args.job.now _ _ c.in_ok-next.ensures.ok c.requires)
+    all_supplied_is_of c.args.job.now c.in_ok-answers-in-FetchAll.answers.items c.advance_to_end.new.self _ c.in_ok-supply_all-in-FetchAll.ensures.ok
+    (left_is_of c.args.job.now c.args.attempt.now c.advance_to_end.new.self c.in_ok-next.next c.in_ok-next.ensures.left c.requires)
 
 pub returns-in_ok-supply_all-in-FetchAll-clause-fetch : goal.returns-in_ok-supply_all-in-FetchAll-clause-fetch
 returns-in_ok-supply_all-in-FetchAll-clause-fetch g c = λ none. inr (record {
@@ -78,7 +79,8 @@ returns-in_ok-supply_all-in-FetchAll-clause-fetch g c = λ none. inr (record {
   answered = subst (λ (l : List (List ℕ)). AreAnswered g.R.RunOfJobs.before c.args.seen.now l c.in_ok-answers-in-FetchAll.answers.items c.ask_all-asked.new.seen) c.as_slice.ensures
       c.in_ok-answers-in-FetchAll.ensures.answered;
   goes_on = c.in_ok-supply_all-in-FetchAll.ensures.ok
-      ∙ ap (λ (a : AttemptState). supplied_all c.in_ok-answers-in-FetchAll.answers.items a) c.in_ok-next.ensures.ok;
+      ∙ ap (λ (a : AttemptState). supplied_all c.in_ok-answers-in-FetchAll.answers.items a)
+      (left_at_list (advanced c.args.job.now.program c.args.attempt.now) c.advance_to_end.new.self c.in_ok-next.next c.in-FetchAll.keys _ c.in_ok-next.ensures.left c.in-FetchAll.is);
 })
 
 pub returns-in-Ready-clause-fetch : goal.returns-in-Ready-clause-fetch
@@ -96,8 +98,8 @@ returns-in-Aborted-clause-stops g c = inr (
     has_list = aborted_has_list c.args.job.now.program c.args.attempt.now.level c.args.attempt.now.known c.in-Aborted.run' (sym c.in_ok-next.ensures.next ∙ c.in-Aborted.is);
     is_run = aborted_is_run c.args.job.now.program c.args.attempt.now.level c.args.attempt.now.known c.in-Aborted.run' (sym c.in_ok-next.ensures.next ∙ c.in-Aborted.is);
     told = c.of_run.ensures.end;
-    reads = c.of_run.ensures.reads ∙ ap (λ (rs : List ReadAnswer). Some rs) (reads_taken c.args.job.now.program c.args.attempt.now c.advance.new.self
-        c.take_reads.result c.in_ok-next.ensures.ok c.take_reads.ensures.reads);
+    reads = c.of_run.ensures.reads ∙ ap (λ (rs : List ReadAnswer). Some rs) (reads_taken c.args.job.now.program c.args.attempt.now c.advance_to_end.new.self
+        c.take_reads.result (left_at_abort (advanced c.args.job.now.program c.args.attempt.now) c.advance_to_end.new.self c.in_ok-next.next c.in-Aborted.run' c.in_ok-next.ensures.left c.in-Aborted.is) c.take_reads.ensures.reads);
   }),
   refl,
 )
@@ -110,8 +112,9 @@ returns-in-Faulted-clause-stops g c = inr (
     is_run = faulted_is_run c.args.job.now.program c.args.attempt.now.level c.args.attempt.now.known c.in-Faulted.run' (sym c.in_ok-next.ensures.next ∙ c.in-Faulted.is);
     told = c.of_run-in-Faulted.ensures.end;
     reads = c.of_run-in-Faulted.ensures.reads
-        ∙ ap (λ (rs : List ReadAnswer). Some rs) (reads_taken c.args.job.now.program c.args.attempt.now c.advance.new.self
-        c.take_reads-in-Faulted.result c.in_ok-next.ensures.ok c.take_reads-in-Faulted.ensures.reads);
+        ∙ ap (λ (rs : List ReadAnswer). Some rs) (reads_taken c.args.job.now.program c.args.attempt.now c.advance_to_end.new.self
+        c.take_reads-in-Faulted.result (left_at_fault (advanced c.args.job.now.program c.args.attempt.now) c.advance_to_end.new.self c.in_ok-next.next c.in-Faulted.run' c.in_ok-next.ensures.left c.in-Faulted.is)
+        c.take_reads-in-Faulted.ensures.reads);
   }),
   refl,
 )
